@@ -6,7 +6,8 @@
  *
  * What C owes, since nothing checks it:
  * - A channel begins as DRAMSIM_CLOSED_CHANNEL, and nothing but these calls reads or writes it; it is not copied while it is open.
- * - No pointer is null, and each leads to one value of its type (a text: `length` bytes), which nothing else uses during the call.
+ * - No pointer is null, and each leads to one value of its type (a text: `length` bytes, room for one: `room` bytes), which nothing else uses
+ *   during the call.
  * - One call at a time for each channel; any number of channels, each in the thread that opened it.
  * - malloc, realloc and free are those of the C library. No call comes from a signal handler.
  */
@@ -27,7 +28,7 @@ enum dramsim_status {
     DRAMSIM_MEMORY = 1,          /* memory was refused */
     DRAMSIM_CLOSED = 2,          /* the channel is closed */
     DRAMSIM_ALREADY_OPEN = 3,    /* the channel is open already */
-    DRAMSIM_CONFIGURATION = 4,   /* the configuration is refused: `dramsim check` and `dramsim run` say why */
+    DRAMSIM_CONFIGURATION = 4,   /* the configuration is refused: dramsim_fault_text says why */
     DRAMSIM_NO_SUCH_CHANNEL = 5, /* the machine has no channel with this number */
     DRAMSIM_NO_SUCH_CORE = 6,    /* the machine has no core with this number */
     DRAMSIM_OTHER_CHANNEL = 7,   /* the address lies in another channel */
@@ -36,8 +37,15 @@ enum dramsim_status {
     DRAMSIM_ENTRY_PASSED = 10,   /* this entry of the core, or a later one, was asked for already; or it is 2^64 - 1 */
     DRAMSIM_NO_CREDIT = 11,      /* as many requests wait or are on their way as there are credits of all cores */
     DRAMSIM_END_PASSED = 12,     /* the run would end in a cycle that is over */
-    DRAMSIM_END_TOO_LATE = 13    /* the run would end after cycle 2^62 */
+    DRAMSIM_END_TOO_LATE = 13,   /* the run would end after cycle 2^62 */
+    DRAMSIM_NO_SUCH_PLACE = 14,  /* the memory has no such place */
+    DRAMSIM_TOO_SHORT = 15,      /* the room for a text is too short */
+    DRAMSIM_BREAKS_RULE = 16,    /* a table of commands breaks a rule of DDR4 */
+    DRAMSIM_MALFORMED = 17       /* a table of commands has a row that is none, or no header */
 };
+
+/* The greatest length of the line of a fault, in bytes. */
+#define DRAMSIM_FAULT_ROOM 100
 
 /* A channel. */
 struct dramsim_channel {
@@ -80,6 +88,13 @@ struct dramsim_statistics {
     uint64_t act, rd, wr, pre, prea, refs, hits, queued_low, queued_high, queued_max, idle, refreshing, draining;
 };
 
+/* What is at fault in a table of commands: the first row at fault, counted from 1, and 0 for the header; and the lowest rule that it breaks
+ * (docs/RULES.md), from 1 to 21, and 0 where the row is none. Both are 0 where nothing is. */
+struct dramsim_verdict {
+    uint64_t row;
+    uint8_t rule;
+};
+
 /* Opens a closed channel: the one with a number, of the machine whose configuration a text states (docs/CONFIG.md), before its first
  * cycle. OK, MEMORY, ALREADY_OPEN, CONFIGURATION or NO_SUCH_CHANNEL; where it is not OK the channel is as it was. */
 uint32_t dramsim_open(const uint8_t *text, size_t length, uint32_t number, struct dramsim_channel *channel);
@@ -102,11 +117,29 @@ uint64_t dramsim_now(struct dramsim_channel *channel);
  * `channel`. False where it is closed. */
 bool dramsim_place(struct dramsim_channel *channel, uint64_t address, struct dramsim_line_place *row);
 
+/* The next cycle, from the one where an open channel stands on, in which it acts, if nothing more is sent to it: it issues nothing before
+ * that cycle, and in it, it issues a command or a request that was sent arrives. So a host that has nothing to send before may run the
+ * channel up to that cycle, and then beyond it. False where there is none, or the channel is closed; the cycle is left as it was then. */
+bool dramsim_next_act(struct dramsim_channel *channel, uint64_t *cycle);
+
+/* The least address of the line at a place in the memory of an open channel's machine. OK, CLOSED or NO_SUCH_PLACE; where it is not OK the
+ * address is left as it was. */
+uint32_t dramsim_address(struct dramsim_channel *channel, const struct dramsim_line_place *place, uint64_t *address);
+
 /* The statistics of an open channel. False where it is closed. */
 bool dramsim_stats(struct dramsim_channel *channel, struct dramsim_statistics *row);
 
 /* Closes a channel, whether it is open or not, and frees all of its memory. */
 void dramsim_close(struct dramsim_channel *channel);
+
+/* The line for which `dramsim run` refuses a configuration, as `fault 3: configuration range nCL`, without its end and without a 0, and its
+ * length; the length is 0 where the configuration is not refused. OK; TOO_SHORT, where the line is longer than `room`, which writes the length
+ * alone; or MEMORY, which writes nothing. DRAMSIM_FAULT_ROOM bytes are enough for each. */
+uint32_t dramsim_fault_text(const uint8_t *text, size_t length, uint8_t *into, size_t room, size_t *wanted);
+
+/* Judges a table of commands (docs/FORMATS.md) under a configuration, as `dramsim check` does. OK: each row is well formed and keeps every
+ * rule; BREAKS_RULE or MALFORMED, with what is at fault; or CONFIGURATION or MEMORY, which leave the verdict as it was. */
+uint32_t dramsim_check(const uint8_t *text, size_t length, const uint8_t *table, size_t table_length, struct dramsim_verdict *verdict);
 
 #ifdef __cplusplus
 }

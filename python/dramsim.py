@@ -1,6 +1,6 @@
-"""dramsim for Python: a channel of DDR4 memory that a program drives, and whole runs.
+"""dramsim for Python: DDR4 memory that a program drives, channel by channel or whole, and whole runs.
 
-A `Channel` stands on the shared library that `./dramsim --library DIR` makes (`libdramsim.so`), which is found in `DRAMSIM_LIBRARY`, or
+A `Channel` and a `Memory` stand on the shared library that `./dramsim --library DIR` makes (`libdramsim.so`), which is found in `DRAMSIM_LIBRARY`, or
 beside this file. A run calls the program `dramsim`, which is found in `DRAMSIM`, or on the path. `configure` calls `machines/configure` of
 the repository, which is found in `DRAMSIM_HOME`, or around this file.
 """
@@ -17,7 +17,10 @@ import tempfile
 from pathlib import Path
 from typing import Iterable, Iterator, NamedTuple, Sequence
 
-__all__ = ["Channel", "Command", "Kind", "Place", "Reply", "ReplyKind", "Refused", "Statistics", "Status", "Tables", "configure", "run"]
+__all__ = [
+    "Channel", "Command", "Kind", "Memory", "Place", "Reply", "ReplyKind", "Refused", "Statistics", "Status", "Tables", "Verdict",
+    "check", "configure", "run",
+]
 
 
 class Status(enum.IntEnum):
@@ -37,13 +40,22 @@ class Status(enum.IntEnum):
     NO_CREDIT = 11
     END_PASSED = 12
     END_TOO_LATE = 13
+    NO_SUCH_PLACE = 14
+    TOO_SHORT = 15
+    BREAKS_RULE = 16
+    MALFORMED = 17
 
 
 class Refused(Exception):
-    """A call or a run was refused. `status` is the library's, or that of the program, and `lines` is what the program told."""
+    """A call or a run was refused.
+
+    `status` is the library's, or that of the program. `lines` is what the program told, or, where a configuration is refused, the line that it
+    tells, as `fault 3: configuration range nCL`.
+    """
 
     def __init__(self, status: int, lines: str = "") -> None:
-        super().__init__(lines or Status(status).name.lower().replace("_", " "))
+        known = status in Status._value2member_map_
+        super().__init__(lines or (Status(status).name.lower().replace("_", " ") if known else f"status {status}"))
         self.status = status
         self.lines = lines
 
@@ -118,7 +130,19 @@ class Statistics(NamedTuple):
     draining: int
 
 
-class _Channel(ctypes.Structure):
+class Verdict(NamedTuple):
+    """What is at fault in a table of commands: the first row at fault, and the lowest rule that it breaks; 0 where the row is none.
+
+    Rows are counted from 1, and 0 is the header.
+    """
+
+    row: int
+    rule: int
+
+
+class _Handle(ctypes.Structure):
+    """A channel."""
+
     _fields_ = [("is_open", ctypes.c_bool), ("at", ctypes.c_void_p)]
 
 
@@ -159,6 +183,10 @@ class _Place(ctypes.Structure):
     _fields_ = [(name, ctypes.c_uint32) for name in Place._fields]
 
 
+class _Verdict(ctypes.Structure):
+    _fields_ = [("row", ctypes.c_uint64), ("rule", ctypes.c_uint8)]
+
+
 class _Stats(ctypes.Structure):
     _fields_ = [
         (name, ctypes.c_uint64)
@@ -171,6 +199,31 @@ class _Stats(ctypes.Structure):
 
 _loaded = None
 
+# The room for the line of a fault, in bytes.
+_FAULT_ROOM = 100
+
+
+def _calls() -> dict[str, tuple]:
+    """The calls of the library: what each answers, and what it takes."""
+    status, flag, cycle, number = ctypes.c_uint32, ctypes.c_bool, ctypes.c_uint64, ctypes.c_uint32
+    text, length, handle = ctypes.c_char_p, ctypes.c_size_t, ctypes.POINTER(_Handle)
+    to = ctypes.POINTER
+    return {
+        "open": (status, text, length, number, handle),
+        "send": (status, handle, to(_Request)),
+        "run": (status, handle, cycle),
+        "next_command": (flag, handle, to(_Command)),
+        "next_reply": (flag, handle, to(_Reply)),
+        "next_act": (flag, handle, to(cycle)),
+        "now": (cycle, handle),
+        "place": (flag, handle, ctypes.c_uint64, to(_Place)),
+        "address": (status, handle, to(_Place), to(ctypes.c_uint64)),
+        "stats": (flag, handle, to(_Stats)),
+        "close": (None, handle),
+        "fault_text": (status, text, length, ctypes.c_char_p, length, to(length)),
+        "check": (status, text, length, text, length, to(_Verdict)),
+    }
+
 
 def _library() -> ctypes.CDLL:
     """The shared library, with the types of its calls."""
@@ -178,24 +231,41 @@ def _library() -> ctypes.CDLL:
     if _loaded is None:
         path = os.environ.get("DRAMSIM_LIBRARY") or str(Path(__file__).with_name("libdramsim.so"))
         library = ctypes.CDLL(path)
-        channel = ctypes.POINTER(_Channel)
-        library.dramsim_open.argtypes = [ctypes.c_char_p, ctypes.c_size_t, ctypes.c_uint32, channel]
-        library.dramsim_send.argtypes = [channel, ctypes.POINTER(_Request)]
-        library.dramsim_run.argtypes = [channel, ctypes.c_uint64]
-        library.dramsim_next_command.argtypes = [channel, ctypes.POINTER(_Command)]
-        library.dramsim_next_reply.argtypes = [channel, ctypes.POINTER(_Reply)]
-        library.dramsim_now.argtypes = [channel]
-        library.dramsim_place.argtypes = [channel, ctypes.c_uint64, ctypes.POINTER(_Place)]
-        library.dramsim_stats.argtypes = [channel, ctypes.POINTER(_Stats)]
-        library.dramsim_close.argtypes = [channel]
-        for call in (library.dramsim_open, library.dramsim_send, library.dramsim_run):
-            call.restype = ctypes.c_uint32
-        for call in (library.dramsim_next_command, library.dramsim_next_reply, library.dramsim_place, library.dramsim_stats):
-            call.restype = ctypes.c_bool
-        library.dramsim_now.restype = ctypes.c_uint64
-        library.dramsim_close.restype = None
+        for name, (answer, *words) in _calls().items():
+            call = getattr(library, f"dramsim_{name}")
+            call.restype, call.argtypes = answer, words
         _loaded = library
     return _loaded
+
+
+def _text_of(file: str | os.PathLike[str] | bytes) -> bytes:
+    return file if isinstance(file, bytes) else Path(file).read_bytes()
+
+
+def _check(status: int, configuration: bytes | None = None) -> None:
+    """Raises `Refused` where a call was refused, with the line of the fault where its configuration was."""
+    if status == Status.CONFIGURATION and configuration is not None:
+        line, length = ctypes.create_string_buffer(_FAULT_ROOM), ctypes.c_size_t()
+        _check(_library().dramsim_fault_text(configuration, len(configuration), line, _FAULT_ROOM, ctypes.byref(length)))
+        raise Refused(status, line.raw[: length.value].decode())
+    if status != Status.OK:
+        raise Refused(status)
+
+
+def _command_of(row: _Command) -> Command:
+    return Command(row.cycle, Kind(row.kind), row.rank, row.group, row.bank, row.row, row.column, row.core, row.entry)
+
+
+def _reply_of(row: _Reply) -> Reply:
+    return Reply(row.arrival, ReplyKind(row.kind), row.core, row.entry)
+
+
+def _statistics_of(row: _Stats) -> Statistics:
+    queued = row.queued_high << 64 | row.queued_low
+    return Statistics(
+        row.act, row.rd, row.wr, row.pre, row.prea, row.refs, row.hits, queued, row.queued_max,
+        row.idle, row.refreshing, row.draining,
+    )
 
 
 class Channel:
@@ -206,15 +276,13 @@ class Channel:
 
     def __init__(self, configuration: str | os.PathLike[str] | bytes, number: int = 0) -> None:
         """Opens the channel with a number. `configuration` is a path, or the text of a file as bytes."""
-        text = configuration if isinstance(configuration, bytes) else Path(configuration).read_bytes()
+        text = _text_of(configuration)
         self._library = _library()
-        self._channel = _Channel()
-        self._check(self._library.dramsim_open(text, len(text), number, ctypes.byref(self._channel)))
+        self._handle = _Handle()
+        _check(self._library.dramsim_open(text, len(text), number, ctypes.byref(self._handle)), text)
 
-    @staticmethod
-    def _check(status: int) -> None:
-        if status != Status.OK:
-            raise Refused(status)
+    def _call(self, name: str, *words: object) -> int:
+        return getattr(self._library, f"dramsim_{name}")(ctypes.byref(self._handle), *words)
 
     def __enter__(self) -> Channel:
         return self
@@ -223,59 +291,141 @@ class Channel:
         self.close()
 
     def __del__(self) -> None:
-        if hasattr(self, "_channel"):
+        if hasattr(self, "_handle"):
             self.close()
 
     def close(self) -> None:
         """Frees what the channel holds. A closed channel refuses every call."""
-        self._library.dramsim_close(ctypes.byref(self._channel))
+        self._call("close")
 
     def send(self, address: int, *, arrival: int, entry: int, core: int = 0, write: bool = False) -> None:
         """Sends a request that arrives in a cycle at or after `now`, and after those that were sent before."""
-        request = _Request(address, arrival, entry, core, write)
-        self._check(self._library.dramsim_send(ctypes.byref(self._channel), ctypes.byref(request)))
+        _check(self._call("send", ctypes.byref(_Request(address, arrival, entry, core, write))))
 
     def run(self, until: int) -> None:
         """Runs the channel over the cycles before `until`."""
-        self._check(self._library.dramsim_run(ctypes.byref(self._channel), until))
+        _check(self._call("run", until))
 
     @property
     def now(self) -> int:
         """How many cycles are over."""
-        return self._library.dramsim_now(ctypes.byref(self._channel))
+        return self._call("now")
+
+    def next_act(self) -> int | None:
+        """The next cycle in which it issues a command, or a request that was sent arrives, if nothing more is sent; None where there is none."""
+        cycle = ctypes.c_uint64()
+        return cycle.value if self._call("next_act", ctypes.byref(cycle)) else None
 
     def commands(self) -> Iterator[Command]:
         """Takes the commands of the cycles that are over, which were not taken."""
         row = _Command()
-        while self._library.dramsim_next_command(ctypes.byref(self._channel), ctypes.byref(row)):
-            yield Command(
-                row.cycle, Kind(row.kind), row.rank, row.group, row.bank, row.row, row.column, row.core, row.entry
-            )
+        while self._call("next_command", ctypes.byref(row)):
+            yield _command_of(row)
 
     def replies(self) -> Iterator[Reply]:
         """Takes the replies and credits that were sent in the cycles that are over, which were not taken."""
         row = _Reply()
-        while self._library.dramsim_next_reply(ctypes.byref(self._channel), ctypes.byref(row)):
-            yield Reply(row.arrival, ReplyKind(row.kind), row.core, row.entry)
+        while self._call("next_reply", ctypes.byref(row)):
+            yield _reply_of(row)
 
     def place_of(self, address: int) -> Place:
         """Where the line of an address lies: a request goes to the channel with the number `channel`."""
         row = _Place()
-        if not self._library.dramsim_place(ctypes.byref(self._channel), address, ctypes.byref(row)):
+        if not self._call("place", address, ctypes.byref(row)):
             raise Refused(Status.CLOSED)
         return Place(*(getattr(row, name) for name in Place._fields))
+
+    def address_of(self, place: Place) -> int:
+        """The least address of the line at a place."""
+        address = ctypes.c_uint64()
+        _check(self._call("address", ctypes.byref(_Place(*place)), ctypes.byref(address)))
+        return address.value
 
     @property
     def statistics(self) -> Statistics:
         """The statistics of the cycles that are over."""
         row = _Stats()
-        if not self._library.dramsim_stats(ctypes.byref(self._channel), ctypes.byref(row)):
+        if not self._call("stats", ctypes.byref(row)):
             raise Refused(Status.CLOSED)
-        queued = row.queued_high << 64 | row.queued_low
-        return Statistics(
-            row.act, row.rd, row.wr, row.pre, row.prea, row.refs, row.hits, queued, row.queued_max,
-            row.idle, row.refreshing, row.draining,
-        )
+        return _statistics_of(row)
+
+
+class Memory:
+    """All channels of the machine that a configuration describes, before its first cycle. Use it in a `with`, or close it.
+
+    A request goes to the channel of its address, and `run` runs all. As with a `Channel`, what it answers does not depend on the steps.
+    """
+
+    def __init__(self, configuration: str | os.PathLike[str] | bytes) -> None:
+        """Opens the memory. `configuration` is a path, or the text of a file as bytes."""
+        text = _text_of(configuration)
+        self.channels = [Channel(text)]
+        try:
+            while True:
+                self.channels.append(Channel(text, len(self.channels)))
+        except Refused as refused:
+            if refused.status != Status.NO_SUCH_CHANNEL:
+                raise
+
+    def __enter__(self) -> Memory:
+        return self
+
+    def __exit__(self, *_: object) -> None:
+        self.close()
+
+    def close(self) -> None:
+        """Frees what the channels hold. A closed memory refuses every call."""
+        for channel in self.channels:
+            channel.close()
+
+    def send(self, address: int, *, arrival: int, entry: int, core: int = 0, write: bool = False) -> None:
+        """Sends a request to the channel of its address, in which it arrives at or after `now`, and after those that were sent to it before."""
+        channel = self.channels[self.place_of(address).channel]
+        channel.send(address, arrival=arrival, entry=entry, core=core, write=write)
+
+    def run(self, until: int) -> None:
+        """Runs all channels over the cycles before `until`. Where one is refused memory, the memory can only be closed."""
+        for channel in self.channels:
+            channel.run(until)
+
+    @property
+    def now(self) -> int:
+        """How many cycles are over."""
+        return self.channels[0].now
+
+    def next_act(self) -> int | None:
+        """The next cycle in which a channel issues a command, or a request that was sent arrives, if nothing more is sent; None where there is none."""
+        return min((cycle for channel in self.channels if (cycle := channel.next_act()) is not None), default=None)
+
+    def commands(self) -> Iterator[tuple[int, Command]]:
+        """Takes the commands of the cycles that are over, which were not taken, each with the number of its channel: by cycle and then by channel."""
+        rows = [(number, command) for number, channel in enumerate(self.channels) for command in channel.commands()]
+        return iter(sorted(rows, key=lambda row: row[1].cycle))
+
+    def replies(self) -> Iterator[tuple[int, Reply]]:
+        """Takes the replies and credits that were sent in the cycles that are over, which were not taken, each with the number of its channel: by arrival."""
+        rows = [(number, reply) for number, channel in enumerate(self.channels) for reply in channel.replies()]
+        return iter(sorted(rows, key=lambda row: row[1].arrival))
+
+    def place_of(self, address: int) -> Place:
+        """Where the line of an address lies."""
+        return self.channels[0].place_of(address)
+
+    def statistics(self, channel: int) -> Statistics:
+        """The statistics of the cycles of a channel that are over."""
+        if not 0 <= channel < len(self.channels):
+            raise Refused(Status.NO_SUCH_CHANNEL)
+        return self.channels[channel].statistics
+
+
+def check(configuration: str | os.PathLike[str] | bytes, table: str | os.PathLike[str] | bytes) -> Verdict | None:
+    """What is at fault in a table of commands, as `dramsim check` says; None where it is legal. Both are paths, or the texts of files as bytes."""
+    text, commands, verdict = _text_of(configuration), _text_of(table), _Verdict()
+    status = _library().dramsim_check(text, len(text), commands, len(commands), ctypes.byref(verdict))
+    if status in (Status.BREAKS_RULE, Status.MALFORMED):
+        return Verdict(verdict.row, verdict.rule)
+    _check(status, text)
+    return None
 
 
 class Tables(NamedTuple):

@@ -6,6 +6,37 @@
 #include <iterator>
 #include <string>
 
+// A configuration that is refused tells the line of its fault.
+static bool tells_fault(const std::string &text) {
+    try {
+        dramsim::Memory memory(text + "new = 1\n");
+        return false;
+    } catch (const dramsim::Refused &refused) {
+        return refused.status == DRAMSIM_CONFIGURATION && std::string(refused.what()) == "fault 2: configuration key unknown";
+    }
+}
+
+// The same reads by a memory, from event to event: an arrival in 4 and commands in the other cycles.
+static bool runs_memory(const std::string &text) {
+    dramsim::Memory memory(text);
+    memory.send({0, 2, 0, 0, false});
+    memory.send({65536, 4, 1, 0, false});
+    for (std::uint64_t cycle : {2, 4, 5, 10, 13, 16}) {
+        if (memory.next_act() != cycle) return false;
+        memory.run(cycle + 1);
+    }
+    auto command = memory.next_command();
+    auto reply = memory.next_reply();
+    return !memory.next_act() && command && command->channel == 0 && command->row.cycle == 2 && reply && reply->row.arrival == 15
+        && memory.statistics(0).rd == 2 && memory.now() == 17;
+}
+
+static bool checks(const std::string &text) {
+    std::string header = "cycle,channel,command,group,bank,row,column,core,entry\n";
+    auto verdict = dramsim::check(text, header + "2,0,ACT,0,0,0,,0,0\n4,0,RD,0,0,0,0,0,0\n");
+    return !dramsim::check(text, header) && verdict && verdict->row == 2 && verdict->rule == 3;
+}
+
 int main(int count, char **words) {
     if (count != 2) return 2;
     std::ifstream file(words[1]);
@@ -20,6 +51,8 @@ int main(int count, char **words) {
         auto command = channel.next_command();
         if (!command || command->cycle != cycle) { std::cerr << "channel: no command in cycle " << cycle << "\n"; return 1; }
     }
+    if (channel.address_of(channel.place_of(65536 + 64)) != 65536 + 64) { std::cerr << "channel: another address\n"; return 1; }
+    if (!tells_fault(text) || !runs_memory(text) || !checks(text)) { std::cerr << "channel: a memory, a fault or a verdict\n"; return 1; }
     if (channel.next_command() || channel.statistics().rd != 2 || channel.now() != 60) { std::cerr << "channel: other numbers\n"; return 1; }
     try {
         channel.send({0, 3, 2, 0, false});

@@ -1,14 +1,17 @@
 """A machine of cores and links over channels of the library: what `dramsim run` simulates, with its cores in Python.
 
 It goes cycle by cycle: replies and credits that have come, entries that retire, entries that issue, and then the channels.
+`machine.py CONFIG CYCLES TRACE...` prints the requests that the channels are sent, as c/tests/replay.c reads them.
 """
-
 from __future__ import annotations
 
 import heapq
+import sys
 import tomllib
 from collections import Counter
 from pathlib import Path
+
+sys.path.insert(0, str(Path(__file__).resolve().parents[1]))
 
 import dramsim
 
@@ -128,6 +131,12 @@ def replay(configuration: Path, number: int, requests: list[dict], cycles: int, 
         return commands
 
 
+def lines_of(requests: list[list[dict]]) -> str:
+    """The requests of all channels by arrival, as c/tests/replay.c reads them."""
+    all = sorted((request for sent in requests for request in sent), key=lambda request: request["arrival"])
+    return "".join("{arrival} {core} {entry} {write:d} {address}\n".format(**request) for request in all)
+
+
 def table(commands: list[list[dramsim.Command]], keys: dict) -> list[dict[str, str]]:
     """The rows of commands.csv, by cycle and then by channel."""
     rows = sorted(((command.cycle, number, command) for number, all in enumerate(commands) for command in all), key=lambda row: row[:2])
@@ -149,3 +158,8 @@ def row_of(number: int, command: dramsim.Command, ranks: int) -> dict[str, str]:
     row["core"] = str(command.core) if named else ""
     row["entry"] = str(command.entry) if named else ""
     return row
+
+
+if __name__ == "__main__":
+    _, sent, _ = simulate(Path(sys.argv[1]), [Path(trace) for trace in sys.argv[3:]], int(sys.argv[2]))
+    sys.stdout.write(lines_of(sent))

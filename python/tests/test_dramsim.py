@@ -1,9 +1,13 @@
-"""Runs, and channels that Python drives, beside the program: python -m unittest discover python/tests, with DRAMSIM and DRAMSIM_LIBRARY set.
+"""Runs, and channels and memories that Python and C drive, beside the program: python -m unittest discover python/tests, with DRAMSIM,
+DRAMSIM_LIBRARY and DRAMSIM_REPLAY set, the last one to the programs that c/tests/replay.c makes, with colons between.
 
 `Runs` needs the program alone.
 """
 
+import csv
+import os
 import random
+import subprocess
 import sys
 import tempfile
 import tomllib
@@ -15,6 +19,7 @@ sys.path.insert(0, str(Path(__file__).resolve().parent))
 
 import dramsim
 import machine
+from out_of_order import Core, Instruction
 
 EXAMPLES = Path(__file__).resolve().parents[2] / "examples"
 SMALL = EXAMPLES / "profile_s.toml"
@@ -57,23 +62,44 @@ def made_up(seed: int, folder: Path) -> tuple[Path, list[Path]]:
     return configuration, traces
 
 
+def run_files(configuration: Path, traces: list[Path], cycles: int) -> dict[str, bytes]:
+    """The files that the program writes."""
+    with tempfile.TemporaryDirectory() as folder:
+        words = [os.environ["DRAMSIM"], "run", configuration, "--cycles", str(cycles), "--workers", "1", "--out", folder, *traces]
+        subprocess.run(words, check=True, capture_output=True)
+        return {name: (Path(folder) / f"{name}.csv").read_bytes() for name in ("commands", "stats")}
+
+
+def replay_in_c(program: str, configuration: Path, requests: list[list[dict]], cycles: int, step: int) -> bytes:
+    """The table of a memory that a program in C sends these requests and runs in steps of so many cycles."""
+    words = [program, configuration, str(step), str(cycles)]
+    done = subprocess.run(words, input=machine.lines_of(requests).encode(), capture_output=True)
+    if done.returncode != 0:
+        raise AssertionError(done.stderr.decode())
+    return done.stdout
+
+
 class Machines(unittest.TestCase):
     """Cores in Python over channels of the library issue the very commands of `dramsim run`, in steps of any length."""
 
     def compare(self, configuration: Path, traces: list[Path], cycles: int) -> None:
         keys = tomllib.loads(configuration.read_text())
-        tables = dramsim.run(configuration, traces, cycles)
+        files = run_files(configuration, traces, cycles)
+        tables = {name: list(csv.DictReader(text.decode().splitlines())) for name, text in files.items()}
         commands, requests, statistics = machine.simulate(configuration, traces, cycles)
-        over = next(int(row["value"]) for row in tables.stats if row["name"] == "cycles")
+        over = next(int(row["value"]) for row in tables["stats"] if row["name"] == "cycles")
         rows = [row for row in machine.table(commands, keys) if int(row["cycle"]) < over]
-        self.assertEqual(rows, tables.commands)
+        self.assertEqual(rows, tables["commands"])
         if over == cycles:
-            for row in tables.stats:
+            for row in tables["stats"]:
                 if row["scope"] == "channel" and row["name"] in dramsim.Statistics._fields:
                     self.assertEqual(getattr(statistics[int(row["id"])], row["name"]), int(row["value"]), row)
         for number, sent in enumerate(requests):
-            for step in (7, 1000):
-                self.assertEqual(machine.replay(configuration, number, sent, cycles, step), commands[number])
+            self.assertEqual(machine.replay(configuration, number, sent, cycles, 7), commands[number])
+        for program in os.environ["DRAMSIM_REPLAY"].split(":"):
+            for step in (1, 7, 1000):
+                self.assertEqual(replay_in_c(program, configuration, requests, over, step), files["commands"], (program, step))
+        self.assertIsNone(dramsim.check(configuration, files["commands"]))
 
     def test_worked_cases(self) -> None:
         tried = 0
@@ -139,7 +165,55 @@ class Refusals(unittest.TestCase):
 
     def test_open(self) -> None:
         self.refused(dramsim.Status.CONFIGURATION, dramsim.Channel, b"cores = 1")
+        self.refused(dramsim.Status.CONFIGURATION, dramsim.Memory, b"cores = 1")
         self.refused(dramsim.Status.NO_SUCH_CHANNEL, dramsim.Channel, SMALL, 1)
+
+    def test_fault_text(self) -> None:
+        # The line is that of the program.
+        small = SMALL.read_bytes()
+        for text in (b"cores = ", b"cores = 1", small.replace(b"nCL = 4", b"nCL = 0"), small.replace(b"nCCD_L = 5", b"nCCD_L = 3"), small + b"new = 1\n"):
+            with self.subTest(text=text[-20:]):
+                with self.assertRaises(dramsim.Refused) as of_run:
+                    dramsim.run(text, [EXAMPLES / "rows" / "read.trace"], 10)
+                for opened in (dramsim.Channel, dramsim.Memory):
+                    with self.assertRaises(dramsim.Refused) as raised:
+                        opened(text)
+                    self.assertEqual(raised.exception.lines, of_run.exception.lines.splitlines()[0])
+                    self.assertEqual(str(raised.exception), raised.exception.lines)
+
+    def test_memory(self) -> None:
+        with dramsim.Memory(SMALL) as memory:
+            memory.run(10)
+            memory.send(0, arrival=12, entry=3)
+            self.refused(dramsim.Status.NO_SUCH_CORE, memory.send, 0, arrival=13, entry=4, core=1)
+            self.refused(dramsim.Status.IN_THE_PAST, memory.send, 0, arrival=9, entry=4)
+            self.refused(dramsim.Status.OUT_OF_ORDER, memory.send, 0, arrival=12, entry=4)
+            self.refused(dramsim.Status.ENTRY_PASSED, memory.send, 0, arrival=13, entry=3)
+            self.refused(dramsim.Status.END_PASSED, memory.run, 9)
+            self.refused(dramsim.Status.END_TOO_LATE, memory.run, 2**62 + 1)
+            self.refused(dramsim.Status.NO_SUCH_CHANNEL, memory.statistics, 1)
+            memory.run(40)
+            self.assertEqual([(number, command.cycle) for number, command in memory.commands()], [(0, 12), (0, 15)])
+            self.assertEqual(memory.statistics(0).rd, 1)
+        self.refused(dramsim.Status.CLOSED, memory.run, 41)
+        self.refused(dramsim.Status.CLOSED, memory.statistics, 0)
+        self.assertEqual(list(memory.commands()), [])
+
+    def test_places(self) -> None:
+        with dramsim.Channel(SMALL) as channel:
+            # 128 lines a row, 2 groups and 4 banks: row 1 begins at 65,536 bytes.
+            self.assertEqual(channel.address_of(dramsim.Place(0, 0, 1, 0, 1, 3)), 65536 + 8192 + 3 * 64)
+            for place in ((1, 0, 0, 0, 0, 0), (0, 1, 0, 0, 0, 0), (0, 0, 2, 0, 0, 0), (0, 0, 0, 4, 0, 0), (0, 0, 0, 0, 65536, 0), (0, 0, 0, 0, 0, 128)):
+                self.refused(dramsim.Status.NO_SUCH_PLACE, channel.address_of, dramsim.Place(*place))
+
+    def test_check(self) -> None:
+        # The PRE of row 4 comes 10 cycles after the WR, where nCWL + 4 + nWR = 11. A row with a word that is no command is none.
+        self.assertEqual(dramsim.check(SMALL, EXAMPLES / "tables" / "broken.csv"), dramsim.Verdict(4, 8))
+        header = b"cycle,channel,command,group,bank,row,column,core,entry\n"
+        self.assertIsNone(dramsim.check(SMALL, header))
+        self.assertEqual(dramsim.check(SMALL, header + b"2,0,ACT,0,0,0,,0,0\n5,0,READ,0,0,0,0,0,0\n"), dramsim.Verdict(2, 0))
+        self.assertEqual(dramsim.check(SMALL, b""), dramsim.Verdict(0, 0))
+        self.refused(dramsim.Status.CONFIGURATION, dramsim.check, b"cores = 1", header)
 
     def test_requests(self) -> None:
         with dramsim.Channel(SMALL) as channel:
@@ -171,6 +245,38 @@ class Refusals(unittest.TestCase):
         self.refused(dramsim.Status.CLOSED, channel.send, 0, arrival=0, entry=0)
         self.assertEqual(list(channel.commands()), [])
         self.assertEqual(channel.now, 0)
+
+
+class Cores(unittest.TestCase):
+    """A core that issues its loads out of order."""
+
+    def cycles(self, program: list[Instruction], window: int = 8) -> int:
+        with dramsim.Memory(SMALL) as memory:
+            return Core(program, window=window, link=2, credits=4).run(memory)
+
+    def test_one_load(self) -> None:
+        # It arrives in 2; ACT 2, RD nRCD = 3 later, data nCL + 4 after it, and the link of 2.
+        self.assertEqual(self.cycles([Instruction(0)]), 2 + 3 + 4 + 4 + 2)
+
+    def test_chain(self) -> None:
+        # Each further load goes when the one before has come, and finds its row open: the link, nCL + 4, the link.
+        program = [Instruction(64 * line, line - 1 if line else None) for line in range(5)]
+        self.assertEqual(self.cycles(program), 15 + 4 * (2 + 4 + 4 + 2))
+
+    def test_independent(self) -> None:
+        # The second is sent a cycle later, and its RD comes nCCD_L = 5 after the first.
+        self.assertEqual(self.cycles([Instruction(0), Instruction(64)]), 15 + 5)
+
+    def test_out_of_order(self) -> None:
+        # The third waits for nothing: it is sent before the second, which waits for the first.
+        program = [Instruction(0), Instruction(64, 0), Instruction(128)]
+        self.assertEqual(self.cycles(program), 15 + 2 + 4 + 4 + 2)
+        # Where only two are in flight, it is sent when the first has retired, a cycle after the second: its RD is nCCD_L = 5 later.
+        self.assertEqual(self.cycles(program, window=2), 15 + 12 + 5)
+
+    def test_idle(self) -> None:
+        # An instruction that loads nothing is done a cycle later.
+        self.assertEqual(self.cycles([Instruction(), Instruction(None, 0), Instruction(0, 1)]), 2 + 15)
 
 
 if __name__ == "__main__":

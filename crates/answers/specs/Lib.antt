@@ -1,3 +1,4 @@
+pub mod Banks
 pub mod Named
 pub mod Pages
 pub mod Answers

@@ -1,6 +1,7 @@
 //! What `check`, `map`, `show`, `page` and `compare` answer, over files and a stream that are handed in.
 #![tactic(auto)]
 
+pub mod banks;
 pub mod comparisons;
 mod described;
 mod explained;
@@ -8,4 +9,5 @@ pub mod pages;
 pub mod places;
 pub mod print;
 pub mod screens;
+mod tables;
 pub mod verdicts;

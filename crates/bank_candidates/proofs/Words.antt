@@ -1,10 +1,10 @@
 -- Words of places, one of which is written, or which all move.
-use Rattle.std.proofs.Common.{◌≡◌, ℕ, zero, suc, ◌+◌, ◌-◌, ◌*◌, ◌^◌, ◌<◌, ◌≤◌, ◌≢◌, min, Bool, true, false, not, cond, ltb, List, length, get_or, set, Option, Some, None, refl, sym, ap, ◌∙◌, inl, inr, arith, add-one, get_or-set_same, get_or-set_other}
-use Rattle.std.proofs.lemmas.Bool.{cases_lt, cases_eq, cond-true, cond-false, lt-ltb, le-ltb}
+use Rattle.std.proofs.Common.{◌≡◌, ℕ, zero, suc, ◌+◌, ◌-◌, ◌*◌, ◌%◌, ◌^◌, ◌<◌, ◌≤◌, ◌≢◌, min, Bool, true, false, not, cond, ltb, List, length, get_or, set, Option, Some, None, refl, sym, ap, ◌∙◌, inl, inr, arith, add-one, get_or-set_same, get_or-set_other}
+use Rattle.std.proofs.lemmas.Bool.{cases_lt, cases_eq, cond-true, cond-false, lt-ltb, le-ltb, false≢true}
 use Rattle.std.specs.Option.{is_some}
 use Rattle.bank_candidates.specs.declared.sets.BankSet.{BankSet}
 use Rattle.bank_candidates.specs.Candidates.{access_number}
-use Rattle.bank_candidates.specs.Moves.{past, access_past}
+use Rattle.bank_candidates.specs.Moves.{past, access_past, earlier}
 use Rattle.bank_candidates.specs.Places.{candidate_of, word_of, column, candidate_in, access_in, moved}
 use Rattle.bank_candidates.specs.Sets.{is_in}
 
@@ -143,3 +143,13 @@ moved_agrees least old new sets more each agree bank number d few =
 pub word_there : (slot word : ℕ) → word < 2 ^ 16 → candidate_of word ≡ Some slot → word ≡ min slot 65534 + 1
 word_there slot zero short is = cc
 word_there slot (suc k) short is = let same : k ≡ slot = cc in omega arith
+
+-- the first of two places, by their words: each less one, where none is the greatest
+abbrev pub first_word : ℕ → ℕ → ℕ
+first_word a b = min ((a + 65535) % 65536) ((b + 65535) % 65536)
+
+pub first_is : (a b : ℕ) → a < 2 ^ 16 → b < 2 ^ 16 → is_some (earlier (candidate_of a) (candidate_of b)) ≡ true → Some (first_word a b) ≡ earlier (candidate_of a) (candidate_of b)
+first_is zero zero short_a short_b some = absurd (false≢true some)
+first_is zero (suc k) short_a short_b some = ap Some (omega arith)
+first_is (suc j) zero short_a short_b some = ap Some (omega arith)
+first_is (suc j) (suc k) short_a short_b some = ap Some (omega arith)

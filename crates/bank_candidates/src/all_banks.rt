@@ -1,6 +1,7 @@
 //! The candidates of all banks.
 
-ghost use Rattle.std.specs.Prelude.{◌≡◌, ◌*◌, ◌≤◌, length};
+ghost use Rattle.std.specs.Prelude.{◌≡◌, ℕ, ◌*◌, ◌≤◌, length, slice_index_or, None, is_some};
+ghost use Rattle.bank_candidates.specs.Sets.{is_in};
 
 use crate::entry::{
     AccessCandidates, CandidatesOfBank, access_number, is_open, number_of, only_moves,
@@ -20,12 +21,15 @@ use std::alloc::{AllocError, Global};
 pub struct BankCandidates {
     /// The row that is open in each bank.
     rows: Vec<Option<u32>>,
+    /// The banks in which a row is open.
+    open_banks: BankSet,
     places: Places,
     /// Of each bank and access, by number, whether some such request may be blocked by an older one of its line.
     blocked: Vec<bool>,
     /// Of each bank and access, by number, how many requests of the queue ask for it.
     counts: Vec<u16>,
     ghost few: { length rows.items ≤ 64 },
+    ghost open_are: { (bank : ℕ) → is_in open_banks bank ≡ is_some (slice_index_or rows.items bank None) },
     ghost all_places: { length places.words.items ≡ 4 * length rows.items },
     ghost all_blocked: { length blocked.items ≡ 2 * length rows.items },
     ghost all_counts: { length counts.items ≡ 2 * length rows.items },
@@ -41,6 +45,7 @@ impl BankCandidates {
     ghost use Rattle.queue_columns.specs.Columns.{bank_number};
     ghost use Rattle.bank_candidates.specs.declared.entry.CandidatesOfBank.{CandidatesOfBank};
     ghost use Rattle.bank_candidates.specs.Candidates.{bank_at, number_of, access_number, access_count, first_place};
+    ghost use Rattle.bank_candidates.specs.Moves.{earlier};
     ghost use Rattle.bank_candidates.specs.Sets.{is_in};
     ghost use Rattle.bank_candidates.specs.Stands.{bank_count, candidates_of_bank, StandsFor, with_row, closed_in, IsAmong};
 
@@ -52,6 +57,7 @@ impl BankCandidates {
     {
         Ok(BankCandidates {
             rows: vec![in alloc; None; banks]?,
+            open_banks: BankSet::none(),
             places: Places::with_room(alloc, banks)?,
             blocked: vec![in alloc; false; 2 * banks]?,
             counts: vec![in alloc; 0; 2 * banks]?,
@@ -87,9 +93,27 @@ impl BankCandidates {
         self.places.of_access(bank, write)
     }
 
+    /// The first request of a bank that may be served, to read or to write, where there is one.
+    #[inline(always)]
+    pub fn first(&self, bank: usize) -> usize
+        requires bank { bank < bank_count self.now }
+        requires some { (d : CandidatesOfBank) → is_some (earlier (candidates_of_bank self.now bank d).reads.oldest (candidates_of_bank self.now bank d).writes.oldest) ≡ true }
+        ensures { (d : CandidatesOfBank) → Some result ≡ earlier (candidates_of_bank self.now bank d).reads.oldest (candidates_of_bank self.now bank d).writes.oldest }
+    {
+        self.places.first(bank)
+    }
+
+    /// The banks in which a row is open.
+    #[inline(always)]
+    pub fn open_banks(&self) -> BankSet
+        ensures { (bank : ℕ) (d : CandidatesOfBank) → bank < bank_count self.now → is_in result bank ≡ is_some (candidates_of_bank self.now bank d).row }
+    {
+        self.open_banks
+    }
+
     /// The row that is open in a bank, if one is.
     #[inline(always)]
-    pub fn row_of(&self, bank: usize) -> Option<u32>
+    fn row_of(&self, bank: usize) -> Option<u32>
         requires { bank < bank_count self.now }
         ensures { (d : CandidatesOfBank) → result ≡ (candidates_of_bank self.now bank d).row }
     {
@@ -174,7 +198,7 @@ impl BankCandidates {
     }
 
     /// Takes note of the requests of a queue from a place on, which have just arrived.
-    #[inline(never)]
+    #[inline(always)]
     pub fn on_arrival(&mut self, from: usize, queue: &Columns<'_>)
         requires { All (λ r. bank_number r.place < bank_count self.old) queue.now.requests.now }
         ensures banks { bank_count self.new ≡ bank_count self.old }
@@ -240,6 +264,7 @@ impl BankCandidates {
         let _short = queue.len();
         let number = number_of(bank);
         self.rows[number] = Some(row);
+        self.open_banks = self.open_banks.with(number);
         self.places.open(number, false, row, queue);
         self.places.open(number, true, row, queue);
     }
@@ -253,6 +278,7 @@ impl BankCandidates {
             → StandsFor self.new requests (with_row number None open_rows) }
     {
         self.rows[number] = None;
+        self.open_banks = self.open_banks.without(number);
         self.places.close(number);
     }
 

@@ -1,8 +1,9 @@
 //! The places of the candidates of all banks.
 
-ghost use Rattle.std.specs.Prelude.{◌≡◌, ◌≢◌, ℕ, ◌+◌, ◌*◌, ◌^◌, ◌<◌, ◌≤◌, min, false, length, slice_index_or, Some, is_some};
+ghost use Rattle.std.specs.Prelude.{◌≡◌, ◌≢◌, ℕ, ◌+◌, ◌*◌, ◌^◌, ◌<◌, ◌≤◌, min, true, false, length, slice_index_or, Some, is_some};
 ghost use Rattle.bank_candidates.specs.declared.sets.BankSet.{BankSet};
 ghost use Rattle.bank_candidates.specs.Sets.{is_in};
+ghost use Rattle.bank_candidates.specs.Moves.{earlier};
 ghost use Rattle.bank_candidates.specs.Places.{candidate_of, word_of, IsShort, column, candidate_in, moved};
 
 use crate::entry::AccessCandidates;
@@ -36,6 +37,15 @@ fn candidate_of(word: u16) -> Option<usize>
     } else {
         Some(word as usize - 1)
     }
+}
+
+/// The first of the places that two words tell, at least one of which tells a place.
+#[inline(always)]
+fn first_of(read: u16, write: u16) -> usize
+    requires { is_some (earlier (candidate_of read) (candidate_of write)) ≡ true }
+    ensures { Some result ≡ earlier (candidate_of read) (candidate_of write) }
+{
+    read.wrapping_sub(1).min(write.wrapping_sub(1)) as usize
 }
 
 /// The word of a place.
@@ -90,7 +100,7 @@ impl Places {
     ghost use Rattle.sim_base.specs.Scheduling.{or_else};
     ghost use Rattle.sim_base.specs.declared.message.Request.{Request};
     ghost use Rattle.bank_candidates.specs.Candidates.{access_number, access_count, AreFirst};
-    ghost use Rattle.bank_candidates.specs.Moves.{access_past, OnlyMoves};
+    ghost use Rattle.bank_candidates.specs.Moves.{access_past, earlier, OnlyMoves};
     ghost use Rattle.bank_candidates.specs.Places.{access_in};
 
     /// The places of the candidates of an empty queue.
@@ -127,6 +137,19 @@ impl Places {
             oldest: self.candidate(bank, write, false),
             hit: self.candidate(bank, write, true),
         }
+    }
+
+    /// The first request of a bank that may be served, to read or to write, where there is one.
+    #[inline(always)]
+    pub(crate) fn first(&self, bank: usize) -> usize
+        requires bank { 4 * bank + 3 < length self.now.words.items }
+        requires some { is_some (earlier (candidate_in self.now.words.items (access_number bank false) false) (candidate_in self.now.words.items (access_number bank true) false)) ≡ true }
+        ensures { Some result ≡ earlier (candidate_in self.now.words.items (access_number bank false) false) (candidate_in self.now.words.items (access_number bank true) false) }
+    {
+        first_of(
+            self.words[4 * bank + column(false, false)],
+            self.words[4 * bank + column(true, false)],
+        )
     }
 
     /// The banks with a candidate: the first hit or the oldest, to write or to read.

@@ -42,6 +42,17 @@ impl BankSet {
         }
     }
 
+    /// These banks except the lowest.
+    #[inline(always)]
+    pub fn without_first(self) -> Self
+        ensures same { (bank : ℕ) → is_in self bank ≡ true → ((k : ℕ) → k < bank → is_in self k ≡ false) → is_in result bank ≡ false }
+        ensures others { (bank : ℕ) → is_in self bank ≡ true → ((k : ℕ) → k < bank → is_in self k ≡ false) → (k : ℕ) → k ≢ bank → is_in result k ≡ is_in self k }
+    {
+        BankSet {
+            bits: self.bits & self.bits.wrapping_sub(1),
+        }
+    }
+
     /// These banks and those.
     #[inline(always)]
     pub fn union(self, others: BankSet) -> Self

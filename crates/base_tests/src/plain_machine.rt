@@ -5,8 +5,9 @@ use cpu_trace::trace::Trace;
 use fixtures::one_read::{CHANNELS, CORES};
 use fixtures::small::small;
 use one_clock::machine::run_plain;
+use run_outcome::outcome::Outcome;
+use run_outcome::tables::Tables;
 use sim_base::trace::Entry;
-use statistics::outcome::Outcome;
 use std::alloc::{AllocError, Global};
 use std::process::Abort;
 use std::test::Fail;
@@ -18,12 +19,15 @@ fn run_one_read(alloc: Global) -> Result<Outcome, Fail> {
         return Err(Fail::from("other cores"));
     }
     let traces = [Trace::from_entries(alloc, &[Entry::Read(0)])?];
-    Ok(run_plain(alloc, &config, &traces, 16)?)
+    Ok(run_plain(alloc, &config, &traces, Tables::usual(), 16)?)
 }
 
 fn assert_counts(rt: &impl Abort, alloc: Global, whole: &Outcome) -> Result<(), AllocError> {
     let stats = &whole.stats;
-    let commands = whole.commands.to_vec(alloc)?;
+    let commands = match &whole.commands {
+        Some(table) => table.to_vec(alloc)?,
+        None => Vec::new(alloc),
+    };
     let lengths = (commands.len(), whole.last.in_flight.len());
     expect(
         rt,

@@ -1,3 +1,4 @@
 pub mod Pointers
 pub mod AsBox
 pub mod Keeping
+pub mod Judging

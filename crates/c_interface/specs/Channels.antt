@@ -3,15 +3,16 @@
 --     HasPast c p      it is open, and its session has this past
 --     StandsAt c now      it is open, and its session stands at this cycle
 --     IsClosed c      it is closed
---     next_reply_of p now      the first reply that was not taken
 --     IsNewSession text number session      a session before its first cycle, for the configuration of a text
 --     IsOpened text number c      it is open with such a session
 --     open_refusal document number, IsMemory e      why it is not opened
 --     IsOpenAnswer text number result      the answer of a call that opens it
+--     IsAddressAnswer s place result      the answer of a call that looks for an address
 --     IsCallAnswer refusal result      the answer of a call whose session refuses it so
-use Rattle.std.specs.Prelude.{◌≡◌, ◌⊎◌, ℕ, List, Bool, true, false, Option, Some, None, Result, Ok, Err, IfErr, MatchResult, length, slice_get, nat_lt, if◌then◌else◌}
+use Rattle.std.specs.Prelude.{◌≡◌, ◌⊎◌, ℕ, List, Bool, true, false, Option, Some, None, Result, Ok, Err, IfErr, MatchResult, nat_lt, if◌then◌else◌}
 use Rattle.config_reader.specs.Document.{document_of}
-use Rattle.channel_session.specs.Sessions.{Past, IsSession, IsOpen, no_past, replies_of}
+use Rattle.channel_session.specs.Addresses.{is_place, IsAddressOf}
+use Rattle.channel_session.specs.Sessions.{Past, IsSession, IsOpen, no_past}
 use Rattle.channel_session.specs.declared.fault.SessionFault.{SessionFault}
 use Rattle.channel_session.specs.declared.fault.SessionFault.TheVariants.{Memory, NoSuchChannel}
 use Rattle.channel_session.specs.declared.session.Session.{Session}
@@ -19,7 +20,7 @@ use Rattle.sim_base.specs.Values.{Values, values_of}
 use Rattle.sim_base.specs.declared.config.Config.{Config}
 use Rattle.sim_base.specs.declared.fault.Fault.{Fault}
 use Rattle.sim_base.specs.declared.fault.Fault.TheVariants as fault
-use Rattle.sim_base.specs.declared.message.Message.{Message}
+use Rattle.sim_base.specs.declared.place.Place.{Place}
 use Rattle.c_interface.specs.declared.channel.KeptChannel.{KeptChannel}
 use Rattle.c_interface.specs.declared.fault.CallFault.{CallFault}
 use Rattle.c_interface.specs.declared.fault.CallFault.TheVariants as call
@@ -52,10 +53,6 @@ StandsAt c now = StandsAtIn c.handle.value now
 -- it is closed
 abbrev pub IsClosed : KeptChannel → Type 0
 IsClosed c = c.is_open ≡ false
-
--- the first reply or credit before a cycle that was not taken, if there is one
-abbrev pub next_reply_of : Past → ℕ → Option Message
-next_reply_of p now = slice_get (replies_of p now) (length p.replies)
 
 -- The session of the channel with a number, of the machine whose configuration a text states, before its first cycle; nothing was sent
 -- to it. It has some past then.
@@ -91,3 +88,8 @@ IsOpenAnswer text number result =
 abbrev pub IsCallAnswer : {A : Type 0} → Option SessionFault → Result A CallFault → Type 0
 IsCallAnswer (Some fault) result = result ≡ Err (call.Session fault)
 IsCallAnswer None result = IfErr result (λ e. e ≡ call.Session Memory)
+
+-- the answer of a call that looks for the address of a place: the least one that lies there, or that the memory has no such place
+abbrev pub IsAddressAnswer : Config → Place → Result ℕ CallFault → Type 0
+IsAddressAnswer s place (Ok address) = IsAddressOf s place address
+IsAddressAnswer s place (Err refused) = (refused ≡ call.NoSuchPlace) × (is_place s place ≡ false)

@@ -1,4 +1,6 @@
 pub mod Owned
-pub mod Statuses
 pub mod Rows
+pub mod Texts
+pub mod Verdicts
+pub mod Statuses
 pub mod Channels

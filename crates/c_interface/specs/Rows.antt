@@ -4,6 +4,7 @@
 --     command_row issued      the row of a command
 --     reply_row s reply      the row of a reply or of a credit
 --     place_row place      the row of a place
+--     place_in row      the place that a row states
 --     stats_row stats      the row of a channel's statistics
 use Rattle.std.specs.Prelude.{ℕ, ◌/◌, ◌%◌, ◌^◌, true, false, Option, Some, None}
 use Rattle.channel_session.specs.Sessions.{core_of}
@@ -113,6 +114,11 @@ place_row place =
       row = place.row;
       column = place.column;
     }
+
+-- the place that a row states
+abbrev pub place_in : PlaceRow → Place
+place_in row =
+    record { channel = row.channel; rank = row.rank; group = row.group; bank = row.bank; row = row.row; column = row.column }
 
 -- a count, or 0 where there is none
 abbrev pub count_or_0 : Option ℕ → ℕ

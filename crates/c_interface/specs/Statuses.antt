@@ -2,13 +2,25 @@
 --     session_number fault, fault_number fault      the number of a refusal
 --     status result      the status of a call
 --     IsStatus refusal number      the status of a call that a session refuses so
+--     text_status text room      the status of a call that writes a text to memory with this room
+--     judged_status verdict      the status of a call that judges a table
+--     IsJudgedAs text table old new number      a table was judged, and the status of the call
 --     open_status refusal      the status of a call that opens a channel
-use Rattle.std.specs.Prelude.{◌≡◌, ◌⊎◌, ℕ, Option, Some, None, Result, Ok, Err}
+use Rattle.std.specs.Prelude.{◌≡◌, ◌⊎◌, ℕ, nat_le, if◌then◌else◌, List, length, Option, Some, None, Result, Ok, Err}
 use Rattle.channel_session.specs.declared.fault.SessionFault.{SessionFault}
 use Rattle.channel_session.specs.declared.fault.SessionFault.TheVariants as refused
+use Rattle.config_reader.specs.Document.{document_of}
+use Rattle.rule_check.specs.Verdict.{records_of, verdict}
+use Rattle.rule_check.specs.declared.verdict.Verdict.{Verdict}
+use Rattle.rule_check.specs.declared.verdict.Verdict.TheVariants.{Legal, Broken}
+use Rattle.sim_base.specs.Values.{values_of}
+use Rattle.sim_base.specs.declared.config.Config.{Config}
+use Rattle.sim_base.specs.declared.fault.Fault.{Fault}
 use Rattle.sim_base.specs.declared.fault.Fault.TheVariants.{Memory}
+use Rattle.c_interface.specs.Verdicts.{row_of}
+use Rattle.c_interface.specs.declared.rows.VerdictRow.{VerdictRow}
 use Rattle.c_interface.specs.declared.fault.CallFault.{CallFault}
-use Rattle.c_interface.specs.declared.fault.CallFault.TheVariants.{Closed, AlreadyOpen, Configuration, Session}
+use Rattle.c_interface.specs.declared.fault.CallFault.TheVariants.{Closed, AlreadyOpen, Configuration, Session, NoSuchPlace, TooShort, BreaksRule, Malformed}
 
 -- the number of a session's refusal
 abbrev pub session_number : SessionFault → ℕ
@@ -30,6 +42,10 @@ fault_number AlreadyOpen = 3
 fault_number (Configuration Memory) = 1
 fault_number (Configuration other) = 4
 fault_number (Session fault) = session_number fault
+fault_number NoSuchPlace = 14
+fault_number TooShort = 15
+fault_number BreaksRule = 16
+fault_number Malformed = 17
 
 -- 0, or the number of the refusal
 abbrev pub status : Result (Unit {0}) CallFault → ℕ
@@ -45,3 +61,31 @@ IsStatus None number = (number ≡ 0) ⊎ (number ≡ 1)
 abbrev pub open_status : Option CallFault → ℕ
 open_status None = 0
 open_status (Some fault) = fault_number fault
+
+-- the status of a call that writes a text to memory with this room, but for 1, which is memory
+abbrev pub text_status : List ℕ → ℕ → ℕ
+text_status text room = if nat_le (length text) room then 0 else 15
+
+-- the status of a call that judges a table: 0 for a legal one
+abbrev pub judged_status : Result Verdict Fault → ℕ
+judged_status (Ok Legal) = 0
+judged_status (Ok (Broken row rule)) = 16
+judged_status (Err fault) = 17
+
+-- a table was judged under the configuration of a text, and this is the status of the call
+pub record IsJudgedUnder (text table : List ℕ) (new : VerdictRow) (number : ℕ) : Type 0 where
+  pub config : Config
+  pub configured : document_of text ≡ Ok (values_of config)
+  pub status : number ≡ judged_status (verdict config (records_of table))
+  pub row_is : new ≡ row_of (verdict config (records_of table))
+
+-- the configuration is refused
+pub record IsRefused (text : List ℕ) : Type 0 where
+  pub fault : Fault
+  pub refused : document_of text ≡ Err fault
+
+-- The status of a call that judges a table is 1 where memory was refused, and 4 where the configuration is; the row is as it was then.
+-- Otherwise the table was judged.
+abbrev pub IsJudgedAs : List ℕ → List ℕ → VerdictRow → VerdictRow → ℕ → Type 0
+IsJudgedAs text table old new number =
+    ((number ≡ 1) × (new ≡ old)) ⊎ ((number ≡ 4) × (new ≡ old) × IsRefused text) ⊎ IsJudgedUnder text table new number

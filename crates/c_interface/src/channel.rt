@@ -1,12 +1,13 @@
 //! A channel that a program in C keeps.
 
-ghost use Rattle.std.specs.Prelude.{◌≡◌, ◌≢◌, ◌+◌, None, Some, Err, true, length, slice_get, option_map, IfOk, IfErr, OnOk, OnErr};
+ghost use Rattle.std.specs.Prelude.{◌≡◌, ◌≢◌, ℕ, ◌+◌, None, Some, Err, true, option_map, IfOk, IfErr, OnOk, OnErr};
 ghost use Rattle.channel_session.specs.Sent.{message_of};
+ghost use Rattle.channel_session.specs.Ahead.{IsNextAct};
 ghost use Rattle.channel_session.specs.Keeps.{steps_of, waiting};
-ghost use Rattle.channel_session.specs.Sessions.{Past, IsSession, IsOpen, commands_of, with_sent, with_command, with_reply, refusal, end_refusal};
+ghost use Rattle.channel_session.specs.Sessions.{Past, IsSession, IsOpen, next_command_of, next_reply_of, with_sent, with_command, with_reply, refusal, end_refusal};
 ghost use Rattle.channel_session.specs.declared.session.Session.{Session};
 ghost use Rattle.channel_session.specs.declared.fault.SessionFault.TheVariants.{Memory};
-ghost use Rattle.c_interface.specs.Channels.{next_reply_of, IsWell, HasPast, StandsAt, IsClosed, IsNewSession, IsOpened, IsOpenAnswer, IsCallAnswer};
+ghost use Rattle.c_interface.specs.Channels.{IsWell, HasPast, StandsAt, IsClosed, IsNewSession, IsOpened, IsOpenAnswer, IsAddressAnswer, IsCallAnswer};
 ghost use Rattle.sim_base.specs.Places.{place_of};
 ghost use Rattle.statistics.specs.Channels.{channel_stats};
 ghost use Rattle.c_interface.specs.Rows.{reply_row};
@@ -66,6 +67,7 @@ fn reply_of(session: &mut Session) -> Option<ReplyRow>
         → result ≡ option_map (reply_row p.s) (next_reply_of p session.old.cycle) }
     ensures taken { (p : Past) → IsSession session.old p
         → IsSession session.new (with_reply p (next_reply_of p session.old.cycle)) }
+    ensures now { session.new.cycle ≡ session.old.cycle }
     ensures open { IsOpen session.old → IsOpen session.new }
 {
     match session.next_reply() {
@@ -127,6 +129,7 @@ impl KeptChannel {
         ensures sent { (p : Past) → HasPast self.old p
             → OnOk result (HasPast self.new (with_sent p (message_of p.s p.channel request.now))) }
         ensures left { (p : Past) → HasPast self.old p → OnErr result (HasPast self.new p) }
+        ensures now { (cycle : ℕ) → StandsAt self.old cycle → StandsAt self.new cycle }
         ensures closed { IsClosed self.old → result ≡ Err call.Closed }
     {
         let Some(session) = self.take(alloc) else {
@@ -147,11 +150,13 @@ impl KeptChannel {
         requires well { IsWell self.old }
         ensures well { IsWell self.new }
         ensures answer { (s : Session) (p : Past) → self.old.handle.value ≡ Some s → IsSession s p
-            → IsCallAnswer (end_refusal s until) result }
+            → IsCallAnswer (end_refusal s.cycle until) result }
         ensures done { (p : Past) → HasPast self.old p → OnOk result (HasPast self.new p) }
         ensures now { OnOk result (StandsAt self.new until) }
         ensures left { (p : Past) → HasPast self.old p
             → IfErr result (λ e. e ≢ call.Session Memory → HasPast self.new p) }
+        ensures stays { (cycle : ℕ) → StandsAt self.old cycle
+            → IfErr result (λ e. e ≢ call.Session Memory → StandsAt self.new cycle) }
         ensures lost { IfErr result (λ e. e ≡ call.Session Memory → IsClosed self.new) }
         ensures closed { IsClosed self.old → result ≡ Err call.Closed }
     {
@@ -178,8 +183,9 @@ impl KeptChannel {
         requires well { IsWell self.old }
         ensures well { IsWell self.new }
         ensures next { (s : Session) (p : Past) → self.old.handle.value ≡ Some s → IsSession s p
-            → result ≡ slice_get (commands_of p s.cycle) (length p.commands) }
+            → result ≡ next_command_of p s.cycle }
         ensures taken { (p : Past) → HasPast self.old p → HasPast self.new (with_command p result) }
+        ensures now { (cycle : ℕ) → StandsAt self.old cycle → StandsAt self.new cycle }
         ensures closed { IsClosed self.old → result ≡ None }
     {
         let Some(session) = self.take(alloc) else {
@@ -200,6 +206,7 @@ impl KeptChannel {
             → result ≡ option_map (reply_row p.s) (next_reply_of p s.cycle) }
         ensures taken { (s : Session) (p : Past) → self.old.handle.value ≡ Some s → IsSession s p
             → HasPast self.new (with_reply p (next_reply_of p s.cycle)) }
+        ensures now { (cycle : ℕ) → StandsAt self.old cycle → StandsAt self.new cycle }
         ensures closed { IsClosed self.old → result ≡ None }
     {
         let Some(session) = self.take(alloc) else {
@@ -224,6 +231,43 @@ impl KeptChannel {
         let now = session.now();
         self.put(session);
         Some(now)
+    }
+
+    /// The next cycle from now on in which an open channel acts, if nothing more is sent to it and there is one: it issues nothing
+    /// before that cycle, and in it, it issues a command or a request that was sent arrives.
+    pub fn next_act(&mut self, alloc: Global) -> Option<Cycle>
+        requires well { IsWell self.old }
+        ensures well { IsWell self.new }
+        ensures next { (s : Session) (p : Past) → self.old.handle.value ≡ Some s → IsSession s p
+            → IsNextAct p s.cycle result }
+        ensures kept { self.new.handle.value ≡ self.old.handle.value }
+        ensures closed { IsClosed self.old → result ≡ None }
+    {
+        let Some(session) = self.take(alloc) else {
+            return None;
+        };
+        let mut session = session;
+        let cycle = session.next_act();
+        self.put(session);
+        cycle
+    }
+
+    /// The least address of the line at a place in the memory of an open channel's machine. It is refused as `Closed`, or as
+    /// `NoSuchPlace` where the memory has none.
+    pub fn address_of(&mut self, alloc: Global, place: &Place) -> Result<u64, CallFault>
+        requires well { IsWell self.old }
+        ensures well { IsWell self.new }
+        ensures address { (s : Session) (p : Past) → self.old.handle.value ≡ Some s → IsSession s p
+            → IsAddressAnswer p.s place.now result }
+        ensures kept { self.new.handle.value ≡ self.old.handle.value }
+        ensures closed { IsClosed self.old → result ≡ Err call.Closed }
+    {
+        let Some(session) = self.take(alloc) else {
+            return Err(CallFault::Closed);
+        };
+        let address = session.address_of(place);
+        self.put(session);
+        address.ok_or(CallFault::NoSuchPlace)
     }
 
     /// Where the line at an address lies in the memory of an open channel's machine.

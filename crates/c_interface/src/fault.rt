@@ -17,6 +17,14 @@ pub enum CallFault {
     Configuration(Fault),
     /// The session refuses the call.
     Session(SessionFault),
+    /// The memory has no such place.
+    NoSuchPlace,
+    /// The memory for a text is too short.
+    TooShort,
+    /// A table of commands breaks a rule of DDR4.
+    BreaksRule,
+    /// A table of commands has a row that is none, or no header.
+    Malformed,
 }
 
 impl From<SessionFault> for CallFault {
@@ -48,7 +56,7 @@ fn session_number(fault: SessionFault) -> u32
     }
 }
 
-/// The number of a refusal, from 1 to 13.
+/// The number of a refusal, from 1 to 17.
 pub fn fault_number(fault: CallFault) -> u32
     ensures { result ≡ fault_number fault }
 {
@@ -58,6 +66,10 @@ pub fn fault_number(fault: CallFault) -> u32
         CallFault::AlreadyOpen => 3,
         CallFault::Configuration(_) => 4,
         CallFault::Session(fault) => session_number(fault),
+        CallFault::NoSuchPlace => 14,
+        CallFault::TooShort => 15,
+        CallFault::BreaksRule => 16,
+        CallFault::Malformed => 17,
     }
 }
 

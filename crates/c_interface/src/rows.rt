@@ -1,7 +1,7 @@
 //! What C hands in and gets back, row by row.
 
 ghost use Rattle.std.specs.Prelude.{◌≡◌};
-ghost use Rattle.c_interface.specs.Rows.{sent_request, kind_number, row_in, column_in, bank_or_0, source_or_0, command_row, entry_in, reply_kind, place_row, count_or_0, stats_row};
+ghost use Rattle.c_interface.specs.Rows.{sent_request, kind_number, row_in, column_in, bank_or_0, source_or_0, command_row, entry_in, reply_kind, place_row, place_in, count_or_0, stats_row};
 
 use channel_session::requests::SentRequest;
 use sim_base::command::{Command, IssuedCommand, Kind, Source};
@@ -192,6 +192,20 @@ pub struct PlaceRow {
 }
 
 impl PlaceRow {
+    /// The place of a row.
+    pub fn to_place(self) -> Place
+        ensures { result ≡ place_in self }
+    {
+        Place {
+            channel: self.channel,
+            rank: self.rank,
+            group: self.group,
+            bank: self.bank,
+            row: self.row,
+            column: self.column,
+        }
+    }
+
     /// The row of a place.
     pub fn of(place: Place) -> PlaceRow
         ensures { result ≡ place_row place }
@@ -262,4 +276,13 @@ impl StatsRow {
             draining: count_or_0(stats.draining),
         }
     }
+}
+
+/// What is at fault in a table of commands, as C gets it: the first row at fault, counted from 1, and 0 for the header; and the lowest
+/// rule that it breaks, from 1 to 21, and 0 where the row is none. Both are 0 where nothing is.
+#[repr(C)]
+#[derive(Clone, Copy)]
+pub struct VerdictRow {
+    pub row: u64,
+    pub rule: u8,
 }

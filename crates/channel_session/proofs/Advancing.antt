@@ -1,5 +1,5 @@
 -- What a session keeps when its channel has run.
-use Rattle.std.proofs.Common.{◌≡◌, ℕ, ◌+◌, ◌-◌, ◌^◌, ◌<◌, ◌≤◌, List, [], ◌++◌, length, sym, ap, subst, ◌∙◌, arith}
+use Rattle.std.proofs.Common.{Option, ◌≡◌, ℕ, ◌+◌, ◌-◌, ◌^◌, ◌<◌, ◌≤◌, List, [], ◌++◌, length, sym, ap, subst, ◌∙◌, arith}
 use Rattle.std.specs.List.{AllByRecursion as Each}
 use Rattle.std.proofs.lemmas.List.{append_assoc, length-append}
 use Rattle.sim_base.proofs.Arrived.{NotBefore}
@@ -135,10 +135,10 @@ pub record HasGone (d : Channel) (s : Config) (channel now : ℕ) (firsts : List
   pub commands_are : issued_commands channel (steps_of s channel sent until) ≡ issued_commands channel (steps_of s channel sent now) ++ commands
   pub replies_are : channel_messages s channel (steps_of s channel sent until) ≡ channel_messages s channel (steps_of s channel sent now) ++ replies
 
-pub has-gone : (c d : Channel) (s : Config) (channel now : ℕ) (firsts : List ℕ) (sent coming inbox rest : List Message) (until : ℕ) (none commands : List IssuedCommand) (no_replies replies : List Message)
+pub has-gone : (c d : Channel) (s : Config) (channel now : ℕ) (firsts : List ℕ) (sent coming inbox rest : List Message) (until : ℕ) (before after : Option (List IssuedCommand)) (replies_before replies_after : List Message)
     → (h : Keeps c s channel now firsts sent coming) → IsCut coming inbox rest until → now ≤ until → until ≤ 2 ^ 62
-    → IsDone d s channel (steps_of s channel sent now) h.mail inbox now until none commands no_replies replies → none ≡ [] → no_replies ≡ [] → HasGone d s channel now firsts sent rest until commands replies
-has-gone c d s channel now firsts sent coming inbox rest until none commands no_replies replies h cut l e done first first_replies =
+    → (done : IsDone d s channel (steps_of s channel sent now) h.mail inbox now until before after replies_before replies_after) → HasGone d s channel now firsts sent rest until done.issued done.sent
+has-gone c d s channel now firsts sent coming inbox rest until before after replies_before replies_after h cut l e done =
     let k : Cut c s channel now firsts sent coming inbox rest until = record { h = h; cut = cut; span = l } in
     let steps = steps_of s channel sent now in
     let mail = h.mail ++ inbox in
@@ -176,6 +176,6 @@ has-gone c d s channel now firsts sent coming inbox rest until none commands no_
         room = room;
         in_time = e;
       };
-      commands_are = ap (issued_commands channel) (sym same) ∙ done.commands_are ∙ ap (λ x. issued_commands channel steps ++ x) (sym (done.commands_behind ∙ ap (λ x. x ++ done.issued) first));
-      replies_are = ap (channel_messages s channel) (sym same) ∙ done.messages_are ∙ ap (λ x. channel_messages s channel steps ++ x) (sym (done.messages_behind ∙ ap (λ x. x ++ done.sent) first_replies));
+      commands_are = ap (issued_commands channel) (sym same) ∙ done.commands_are;
+      replies_are = ap (channel_messages s channel) (sym same) ∙ done.messages_are;
     }

@@ -1,8 +1,8 @@
 -- What a session answers, by what it keeps.
-use Rattle.std.proofs.Common.{◌≡◌, ℕ, ◌≤◌, Bool, true, false, cond, List, [], ◌∷◌, ◌++◌, length, take, drop, Option, Some, None, refl, sym, ap, ap₂, subst, ◌∙◌}
-use Rattle.std.specs.Prelude.{not, take_while, nat_lt, Result, Ok, Err, IfErr, OnOk, OnErr}
+use Rattle.std.proofs.Common.{◌≡◌, ℕ, ◌+◌, ◌≤◌, Bool, true, false, cond, List, [], ◌∷◌, ◌++◌, length, take, drop, Option, Some, None, refl, sym, ap, ap₂, subst, ◌∙◌, arith}
+use Rattle.std.specs.Prelude.{not, take_while, nat_lt, Result, Ok, Err, IfErr, IfSome, OnOk, OnErr}
 use Rattle.std.proofs.lemmas.Bool.{and_parts, ltb-false, leb-true, leb-false, eqb-true}
-use Rattle.std.proofs.lemmas.List.{append_assoc, take-append-drop}
+use Rattle.std.proofs.lemmas.List.{append_assoc, length-append, take-append-drop, drop-append-le}
 use Rattle.std.proofs.lemmas.List.Folds.{length-prefix_len}
 use Rattle.sim_base.proofs.Arrived.{NotBefore}
 use Rattle.sim_base.specs.declared.config.Config.{Config}
@@ -17,12 +17,16 @@ use Rattle.statistics.proofs.ChannelMail.{channel_stats-later}
 use Rattle.channel_step.specs.Channels.{StandsFor}
 use Rattle.channel_step.specs.Fit.{ComeByAge}
 use Rattle.channel_step.specs.Past.{CarriesRequest}
+use Rattle.channel_step.specs.Runs.{with_more}
 use Rattle.channel_step.proofs.Requests.{carries-stamped}
+use Rattle.channel_session.specs.Held.{commands_left, replies_left, HasCommands, HasReplies}
 use Rattle.channel_session.specs.Keeps.{steps_of, waiting, Keeps}
 use Rattle.channel_session.specs.Sent.{message_of, firsts_with}
 use Rattle.channel_session.specs.Sessions.{Past, IsSession, IsOpen, no_past, with_sent, refusal, IsAnswer, HasTaken}
 use Rattle.channel_session.specs.declared.fault.SessionFault.{SessionFault}
 use Rattle.channel_session.specs.declared.fault.SessionFault.TheVariants.{Memory}
+use Rattle.channel_session.specs.declared.held.HeldCommands.{HeldCommands}
+use Rattle.channel_session.specs.declared.held.HeldReplies.{HeldReplies}
 use Rattle.channel_session.specs.declared.requests.SentRequest.{SentRequest}
 use Rattle.channel_session.specs.declared.session.Session.{Session}
 use Rattle.channel_session.proofs.Advancing.{IsCut, HasGone, keeps-at, waits-arrived}
@@ -114,8 +118,10 @@ sent-session a b p waits r h w e t =
     record {
       config_is = t.config_is ∙ h.config_is;
       number_is = t.number_is ∙ h.number_is;
-      commands_are = ap (issued_commands p.channel) then ∙ h.commands_are ∙ ap (λ x. p.commands ++ x) (sym t.commands_are);
-      replies_are = ap (channel_messages p.s p.channel) then ∙ h.replies_are ∙ ap (λ x. p.replies ++ x) (sym t.replies_are);
+      commands_are = ap (issued_commands p.channel) then ∙ h.commands_are ∙ ap (λ (x : HeldCommands). p.commands ++ commands_left x) (sym t.commands_are);
+      replies_are = ap (channel_messages p.s p.channel) then ∙ h.replies_are ∙ ap (λ (x : HeldReplies). p.replies ++ replies_left x) (sym t.replies_are);
+      has_commands = subst HasCommands (sym t.commands_are) h.has_commands;
+      has_replies = subst HasReplies (sym t.replies_are) h.has_replies;
       keeps = subst (λ c. Keeps c p.s p.channel b.cycle b.firsts.items (p.sent ++ m ∷ []) b.coming.items) (sym t.channel_is)
           (subst (λ n. Keeps a.channel p.s p.channel n b.firsts.items (p.sent ++ m ∷ []) b.coming.items) (sym t.cycle_is)
           (subst (λ f. Keeps a.channel p.s p.channel a.cycle f (p.sent ++ m ∷ []) b.coming.items) (sym t.firsts_are)
@@ -147,8 +153,10 @@ pub record Ran (a b : Session) (until : ℕ) (rest : List Message) (commands : L
   pub cycle_is : b.cycle ≡ until
   pub firsts_are : b.firsts.items ≡ a.firsts.items
   pub coming_are : b.coming.items ≡ rest
-  pub commands_are : b.commands.items ≡ a.commands.items ++ commands
-  pub replies_are : b.replies.items ≡ a.replies.items ++ replies
+  pub commands_are : commands_left b.commands ≡ commands_left a.commands ++ commands
+  pub replies_are : replies_left b.replies ≡ replies_left a.replies ++ replies
+  pub has_commands : HasCommands b.commands
+  pub has_replies : HasReplies b.replies
 
 pub ran-session : (a b : Session) (p : Past) (until : ℕ) (rest : List Message) (commands : List IssuedCommand) (replies : List Message) → IsSession a p → Ran a b until rest commands replies
     → HasGone b.channel p.s p.channel a.cycle a.firsts.items p.sent rest until commands replies → IsSession b p
@@ -157,13 +165,33 @@ ran-session a b p until rest commands replies h r g =
       config_is = r.config_is ∙ h.config_is;
       number_is = r.number_is ∙ h.number_is;
       commands_are = ap (λ n. issued_commands p.channel (steps_of p.s p.channel p.sent n)) r.cycle_is ∙ g.commands_are ∙ ap (λ x. x ++ commands) h.commands_are
-          ∙ append_assoc p.commands a.commands.items commands ∙ ap (λ x. p.commands ++ x) (sym r.commands_are);
+          ∙ append_assoc p.commands (commands_left a.commands) commands ∙ ap (λ x. p.commands ++ x) (sym r.commands_are);
       replies_are = ap (λ n. channel_messages p.s p.channel (steps_of p.s p.channel p.sent n)) r.cycle_is ∙ g.replies_are ∙ ap (λ x. x ++ replies) h.replies_are
-          ∙ append_assoc p.replies a.replies.items replies ∙ ap (λ x. p.replies ++ x) (sym r.replies_are);
+          ∙ append_assoc p.replies (replies_left a.replies) replies ∙ ap (λ x. p.replies ++ x) (sym r.replies_are);
+      has_commands = r.has_commands;
+      has_replies = r.has_replies;
       keeps = subst (λ n. Keeps b.channel p.s p.channel n b.firsts.items p.sent b.coming.items) (sym r.cycle_is)
           (subst (λ f. Keeps b.channel p.s p.channel until f p.sent b.coming.items) (sym r.firsts_are)
           (subst (λ x. Keeps b.channel p.s p.channel until a.firsts.items p.sent x) (sym r.coming_are) g.keeps));
     }
+
+-- what is put behind a list, of which some were taken, stands behind what is left
+pub left-behind : {X : Type 0} (taken : ℕ) (before after left more : List X) → taken ≤ length before → after ≡ before ++ more → drop taken before ≡ left → drop taken after ≡ left ++ more
+left-behind taken before after left more l is was = ap (drop taken) is ∙ drop-append-le taken before more l ∙ ap (λ x. x ++ more) was
+
+pub still-within : {X : Type 0} (taken : ℕ) (before after more : List X) → taken ≤ length before → after ≡ before ++ more → taken ≤ length after
+still-within taken before after more l is = let e : length after ≡ length before + length more = ap length is ∙ length-append before more in omega arith
+
+-- a list that was handed out and taken back, with more behind it
+pub given-back : (old new : HeldCommands) (lent after : Option (List IssuedCommand)) (left more : List IssuedCommand)
+    → lent ≡ Some old.all → after ≡ with_more lent more → IfSome after (λ all. new.all ≡ all) → new.taken ≡ old.taken → HasCommands old → commands_left old ≡ left
+    → (commands_left new ≡ left ++ more) × HasCommands new
+given-back old new lent after left more out behind back taken within was =
+    let whole : after ≡ Some (old.all ++ more) = behind ∙ ap (λ x. with_more x more) out in
+    let all : new.all ≡ old.all ++ more = subst (λ x. IfSome x (λ all. new.all ≡ all)) whole back in (
+      ap (λ n. drop n new.all) taken ∙ left-behind old.taken old.all new.all left more within all was,
+      subst (λ n. n ≤ length new.all) (sym taken) (still-within old.taken old.all new.all more within all),
+    )
 
 no-commands : (s : Config) (channel : ℕ) → issued_commands channel (steps_of s channel [] 0) ≡ []
 unfolding channel_run issued_commands
@@ -181,8 +209,10 @@ pub record Begins (a : Session) (s : Config) (channel : ℕ) : Type 0 where
   pub cores : length a.firsts.items ≡ s.cores
   pub stands : StandsFor a.channel s channel [] []
   pub coming_are : a.coming.items ≡ []
-  pub commands_are : a.commands.items ≡ []
-  pub replies_are : a.replies.items ≡ []
+  pub commands_are : commands_left a.commands ≡ []
+  pub replies_are : replies_left a.replies ≡ []
+  pub has_commands : HasCommands a.commands
+  pub has_replies : HasReplies a.replies
 
 pub first-session : (a : Session) (s : Config) (channel : ℕ) → Begins a s channel → IsSession a (no_past s channel)
 first-session a s channel h =
@@ -191,6 +221,8 @@ first-session a s channel h =
       number_is = h.number_is;
       commands_are = ap (λ n. issued_commands channel (steps_of s channel [] n)) h.cycle_is ∙ no-commands s channel ∙ sym h.commands_are;
       replies_are = ap (λ n. channel_messages s channel (steps_of s channel [] n)) h.cycle_is ∙ no-replies s channel ∙ sym h.replies_are;
+      has_commands = h.has_commands;
+      has_replies = h.has_replies;
       keeps = subst (λ n. Keeps a.channel s channel n a.firsts.items [] a.coming.items) (sym h.cycle_is)
           (subst (λ x. Keeps a.channel s channel 0 a.firsts.items [] x) (sym h.coming_are) (keeps-first a.channel s channel a.firsts.items h.stands h.cores));
     }

@@ -5,3 +5,5 @@ pub mod Naming
 pub mod Sending
 pub mod Advancing
 pub mod Answering
+pub mod Ahead
+pub mod Placing

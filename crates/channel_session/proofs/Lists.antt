@@ -1,6 +1,8 @@
 -- Lists of messages and requests that are cut in two, or get one more at their end.
-use Rattle.std.proofs.Common.{◌≡◌, ℕ, suc, ◌+◌, ◌<◌, ◌≤◌, Bool, true, false, ltb, cond, List, [], ◌∷◌, ◌++◌, take, drop, refl, subst, arith}
-use Rattle.std.specs.Prelude.{nat_lt}
+use Rattle.std.proofs.Common.{◌≡◌, ◌⊎◌, inl, inr, ℕ, suc, ◌+◌, ◌<◌, ◌≤◌, Bool, true, false, ltb, cond, List, [], ◌∷◌, ◌++◌, length, take, drop, get_or, drop-cons, Some, None, refl, sym, ap, subst, ◌∙◌, arith}
+use Rattle.std.specs.Prelude.{nat_lt, slice_get, option_to_list}
+use Rattle.std.proofs.Math.ListN.{drop_of_length-le}
+use Rattle.std.proofs.lemmas.Option.{slice_get_cases}
 use Rattle.std.specs.List.{AllByRecursion as Each, list_all, prefix_len}
 use Rattle.std.proofs.lemmas.Bool.{and_parts, ltb-true, ltb-false}
 use Rattle.std.proofs.lemmas.Bool.Decides.{nat_tests}
@@ -75,7 +77,7 @@ due-early until (m ∷ ms) = by (ltb m.arrival until) refl (due-early until ms)
     by true e h = subst (λ k. Each (λ (n : Message). n.arrival < until) (take k (m ∷ ms))) (one-more (due until ms)) (ltb-true _ _ e, h)
     by false e h = tt
 
-later-all : (until : ℕ) (m n : Message) → until ≤ m.arrival → is_before m n ≡ true → until ≤ n.arrival
+pub later-all : (until : ℕ) (m n : Message) → until ≤ m.arrival → is_before m n ≡ true → until ≤ n.arrival
 later-all until m n h k = grind (arith, nat_tests)
 
 -- and the others arrive then or later
@@ -89,3 +91,16 @@ due-late until (m ∷ ms) h = by (ltb m.arrival until) refl (due-late until ms h
     by false e k =
         let here : until ≤ m.arrival = ltb-false _ _ e in
         (here, Each-weaker (λ (n : Message). is_before m n ≡ true) (λ (n : Message). until ≤ n.arrival) (λ n l. later-all until m n here l) ms h.0)
+
+-- the front of what is left
+pub drop-front : {X : Type 0} (n : ℕ) (xs : List X) → drop n xs ≡ option_to_list (slice_get xs n) ++ drop (n + 1) xs
+drop-front {X = X} n xs = by (slice_get_cases xs n).1
+  where
+    by : ((x : X) × (n < length xs) × (slice_get xs n ≡ Some x) × (get_or xs n x ≡ x)) ⊎ ((length xs ≤ n) × (slice_get xs n ≡ None)) → drop n xs ≡ option_to_list (slice_get xs n) ++ drop (n + 1) xs
+    by (inl h) =
+        let next : n + 1 ≡ suc n = omega arith in
+        drop-cons xs n h.0 h.1 ∙ ap (λ y. y ∷ drop (suc n) xs) h.3 ∙ ap (λ k. h.0 ∷ drop k xs) (sym next)
+        ∙ ap (λ o. option_to_list o ++ drop (n + 1) xs) (sym h.2)
+    by (inr h) =
+        let past : length xs ≤ n + 1 = let l = h.0 in omega arith in
+        drop_of_length-le xs h.0 ∙ sym (drop_of_length-le xs past) ∙ ap (λ o. option_to_list o ++ drop (n + 1) xs) (sym h.1)

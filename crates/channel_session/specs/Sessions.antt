@@ -4,12 +4,13 @@
 --     IsSession session p      a session has this past
 --     IsOpen session      it has some past
 --     core_of s reply      the core that a reply goes to
+--     next_command_of p now, next_reply_of p now      the first command, or reply, that was not taken
 --     with_sent p m, with_command p o, with_reply p o      a past with one message more that was sent, or that was taken
 --     number_refusal s channel      why no session is opened, if none is
---     refusal session waits request, end_refusal session until      why a request or a run is refused, if it is
+--     refusal session waits request, end_refusal now until      why a request or a run is refused, if it is
 --     IsAnswer refusal result      the answer of a call that is refused so, if at all
 --     HasTaken old new request      a request was taken
-use Rattle.std.specs.Prelude.{◌≡◌, ℕ, ◌+◌, ◌/◌, ◌^◌, ◌==◌, nat_lt, nat_le, not, if◌then◌else◌, List, [], ◌∷◌, ◌++◌, length, Option, Some, None, Result, Err, IfErr}
+use Rattle.std.specs.Prelude.{◌≡◌, ℕ, ◌+◌, ◌/◌, ◌^◌, ◌==◌, nat_lt, nat_le, not, if◌then◌else◌, List, [], ◌∷◌, ◌++◌, length, slice_get, Option, Some, None, Result, Err, IfErr}
 use Rattle.std.specs.List.{list_all}
 use Rattle.sim_base.specs.History.{issued_commands, channel_messages, is_before}
 use Rattle.sim_base.specs.Places.{place_of}
@@ -18,6 +19,7 @@ use Rattle.sim_base.specs.declared.command.IssuedCommand.{IssuedCommand}
 use Rattle.sim_base.specs.declared.message.Message.{Message}
 use Rattle.channel_step.specs.Fit.{queue_room}
 use Rattle.channel_session.specs.Sent.{message_of, is_unasked, firsts_with}
+use Rattle.channel_session.specs.Held.{commands_left, replies_left, HasCommands, HasReplies}
 use Rattle.channel_session.specs.Keeps.{steps_of, Keeps}
 use Rattle.channel_session.specs.declared.fault.SessionFault.{SessionFault}
 use Rattle.channel_session.specs.declared.fault.SessionFault.TheVariants.{NoSuchChannel, NoSuchCore, OtherChannel, InThePast, OutOfOrder, EntryPassed, NoCredit, Memory, EndPassed, EndTooLate}
@@ -41,13 +43,23 @@ commands_of p now = issued_commands p.channel (steps_of p.s p.channel p.sent now
 abbrev pub replies_of : Past → ℕ → List Message
 replies_of p now = channel_messages p.s p.channel (steps_of p.s p.channel p.sent now)
 
+-- the first command before a cycle that was not taken, if there is one
+abbrev pub next_command_of : Past → ℕ → Option IssuedCommand
+next_command_of p now = slice_get (commands_of p now) (length p.commands)
+
+-- the first reply or credit
+abbrev pub next_reply_of : Past → ℕ → Option Message
+next_reply_of p now = slice_get (replies_of p now) (length p.replies)
+
 -- A session has a past: what was taken from it, and then what it still holds, are just the commands and replies of the definition's
 -- channel before the cycle where it stands.
 pub record IsSession (session : Session) (p : Past) : Type 0 where
   pub config_is : session.config ≡ p.s
   pub number_is : session.number ≡ p.channel
-  pub commands_are : commands_of p session.cycle ≡ p.commands ++ session.commands.items
-  pub replies_are : replies_of p session.cycle ≡ p.replies ++ session.replies.items
+  pub commands_are : commands_of p session.cycle ≡ p.commands ++ commands_left session.commands
+  pub replies_are : replies_of p session.cycle ≡ p.replies ++ replies_left session.replies
+  pub has_commands : HasCommands session.commands
+  pub has_replies : HasReplies session.replies
   pub keeps : Keeps session.channel p.s p.channel session.cycle session.firsts.items p.sent session.coming.items
 
 -- it has some past
@@ -94,9 +106,9 @@ refusal session waits r =
     else None
 
 -- why a run up to a cycle is refused, if it is: that cycle is over, or after 2^62
-abbrev pub end_refusal : Session → ℕ → Option SessionFault
-end_refusal session until =
-    if nat_lt until session.cycle then Some EndPassed
+abbrev pub end_refusal : ℕ → ℕ → Option SessionFault
+end_refusal now until =
+    if nat_lt until now then Some EndPassed
     else if nat_lt (2 ^ 62) until then Some EndTooLate
     else None
 
@@ -111,7 +123,7 @@ pub record HasTaken (old new : Session) (r : SentRequest) : Type 0 where
   pub config_is : new.config ≡ old.config
   pub number_is : new.number ≡ old.number
   pub cycle_is : new.cycle ≡ old.cycle
-  pub commands_are : new.commands.items ≡ old.commands.items
-  pub replies_are : new.replies.items ≡ old.replies.items
+  pub commands_are : new.commands ≡ old.commands
+  pub replies_are : new.replies ≡ old.replies
   pub firsts_are : new.firsts.items ≡ firsts_with old.firsts.items r.core r.entry
   pub coming_are : new.coming.items ≡ old.coming.items ++ message_of old.config old.number r ∷ []

@@ -2,6 +2,8 @@
 #![tactic(auto)]
 
 pub mod fault;
+mod held;
+mod places;
 pub mod requests;
 mod rows;
 pub mod session;

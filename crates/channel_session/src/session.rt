@@ -1,29 +1,31 @@
 //! A channel as a session.
 
-ghost use Rattle.std.specs.Prelude.{◌≡◌, ◌≢◌, ◌+◌, ◌-◌, ◌<◌, ◌≤◌, ◌^◌, nat_lt, nat_le, length, take_while, slice_get, IfOk, IfErr, OnOk, OnErr, ◌++◌};
+ghost use Rattle.std.specs.Prelude.{◌≡◌, ◌≢◌, ◌+◌, ◌-◌, ◌<◌, ◌≤◌, ◌^◌, nat_lt, nat_le, length, take_while, option_map, IfOk, IfErr, OnOk, OnErr, ◌++◌};
 ghost use Rattle.std.specs.List.{list_all};
 ghost use Rattle.statistics.specs.Channels.{channel_stats};
 ghost use Rattle.sim_base.specs.History.{is_before};
 ghost use Rattle.sim_base.specs.Places.{place_of};
 ghost use Rattle.channel_step.specs.Fit.{queue_room};
 ghost use Rattle.channel_session.specs.Sent.{message_of, is_unasked};
+ghost use Rattle.channel_session.specs.Ahead.{IsNextAct, first_arrival, earlier};
+ghost use Rattle.channel_session.specs.Addresses.{IsAddress};
 ghost use Rattle.channel_session.specs.Keeps.{steps_of, waiting};
-ghost use Rattle.channel_session.specs.Sessions.{core_of, Past, IsSession, IsOpen, no_past, commands_of, replies_of, with_sent, with_command, with_reply, number_refusal, refusal, end_refusal, IsAnswer, HasTaken};
+ghost use Rattle.channel_session.specs.Sessions.{core_of, Past, IsSession, IsOpen, no_past, next_command_of, next_reply_of, with_sent, with_command, with_reply, number_refusal, refusal, end_refusal, IsAnswer, HasTaken};
 ghost use Rattle.channel_session.specs.declared.fault.SessionFault.TheVariants.{Memory};
 
 use crate::fault::SessionFault;
+use crate::held::{HeldCommands, HeldReplies};
+use crate::places::is_place;
 use crate::requests::{SentRequest, message_of};
-use crate::rows::{put_behind, queue_room, remove_front};
-use address_map::place_of;
+use crate::rows::{queue_room, remove_front};
+use address_map::{address_of, place_of};
 use channel_step::channel::Channel;
-use command_table::list::CommandList;
 use sim_base::command::IssuedCommand;
 use sim_base::config::Config;
 use sim_base::message::{ChannelId, Cycle, Message};
 use sim_base::place::Place;
 use statistics::channels::ChannelStats;
 use std::alloc::{AllocError, Global};
-use std::collections::VecDeque;
 
 /// The last cycle at which a session may stand: 2^62.
 const LAST_CYCLE: Cycle = 1 << 62;
@@ -41,10 +43,10 @@ pub struct Session {
     firsts: Vec<u64>,
     /// What was sent and has not arrived, by arrival and then by link.
     coming: Vec<Message>,
-    /// The commands that were issued and are not taken.
-    commands: VecDeque<IssuedCommand>,
-    /// The replies and credits that were sent and are not taken.
-    replies: VecDeque<Message>,
+    /// The commands that were issued, and how many were taken.
+    commands: HeldCommands,
+    /// The replies and credits that were sent, and how many were taken.
+    replies: HeldReplies,
 }
 
 impl Session {
@@ -75,8 +77,8 @@ impl Session {
             cycle: 0,
             firsts: vec![in alloc; 0; cores]?,
             coming: Vec::new(alloc),
-            commands: VecDeque::new(alloc),
-            replies: VecDeque::new(alloc),
+            commands: HeldCommands::new(alloc),
+            replies: HeldReplies::new(alloc),
         })
     }
 
@@ -179,7 +181,7 @@ impl Session {
 
     /// Why a run up to a cycle is refused, if it is.
     fn end_refusal(&self, until: Cycle) -> Option<SessionFault>
-        ensures { result ≡ end_refusal self.now until }
+        ensures { result ≡ end_refusal self.now.cycle until }
     {
         if until < self.cycle {
             Some(SessionFault::EndPassed)
@@ -210,17 +212,17 @@ impl Session {
         ensures now { OnOk result (self.new.cycle ≡ until) }
     {
         let due = self.due_count(until);
-        let mut issued = CommandList::new(alloc);
-        let mut replies = Vec::new(alloc);
+        self.commands.forget_taken(alloc)?;
+        self.replies.forget_taken();
+        let mut commands = self.commands.hand_out(alloc);
         self.channel.run(
             &self.coming[..due],
             self.cycle,
             until,
-            &mut issued,
-            &mut replies,
+            &mut commands,
+            &mut self.replies.all,
         )?;
-        put_behind(&mut self.commands, &issued.to_vec(alloc)?)?;
-        put_behind(&mut self.replies, &replies)?;
+        self.commands.take_back(commands);
         remove_front(&mut self.coming, due);
         self.cycle = until;
         Ok(())
@@ -230,7 +232,7 @@ impl Session {
     /// as it was. Where memory is refused, what the session holds is not known, and it can only be closed.
     pub fn run(&mut self, alloc: Global, until: Cycle) -> Result<(), SessionFault>
         requires open { IsOpen self.old }
-        ensures answer { IsAnswer (end_refusal self.old until) result }
+        ensures answer { IsAnswer (end_refusal self.old.cycle until) result }
         ensures done { (p : Past) → IsSession self.old p → OnOk result (IsSession self.new p) }
         ensures now { OnOk result (self.new.cycle ≡ until) }
         ensures same { IfErr result (λ e. e ≢ Memory → self.new ≡ self.old) }
@@ -242,11 +244,33 @@ impl Session {
         Ok(self.advance(alloc, until)?)
     }
 
+    /// The next cycle from now on in which the channel acts, if nothing more is sent to it and there is one: it issues nothing before
+    /// that cycle, and in it, it issues a command or a request that was sent arrives.
+    pub fn next_act(&mut self) -> Option<Cycle>
+        requires open { IsOpen self.old }
+        ensures next { (p : Past) → IsSession self.old p → IsNextAct p self.old.cycle result }
+        ensures same { self.new ≡ self.old }
+    {
+        let command = self.channel.next_act(self.cycle);
+        earlier(command, first_arrival(&self.coming))
+    }
+
     /// Where the line of 64 bytes at an address lies in the memory of the session's machine: its channel first of all.
     pub fn place_of(&self, address: u64) -> Place
         ensures { result ≡ place_of self.now.config address }
     {
         place_of(&self.config, address)
+    }
+
+    /// The least address of the line at a place, if the memory of the session's machine has that place.
+    pub fn address_of(&self, place: &Place) -> Option<u64>
+        ensures { IsAddress self.now.config place.now result }
+    {
+        if is_place(&self.config, place) {
+            Some(address_of(&self.config, place))
+        } else {
+            None
+        }
     }
 
     /// The number of the core that a reply or a credit of this channel goes to: that of its link.
@@ -256,21 +280,43 @@ impl Session {
         reply.link / 3 / u64::from(self.config.channels)
     }
 
+    /// The cycle of the command that `next_command` takes, if there is one.
+    pub fn command_cycle(&self) -> Option<Cycle>
+        ensures { (p : Past) → IsSession self.now p
+            → result ≡ option_map (λ command. command.cycle) (next_command_of p self.now.cycle) }
+    {
+        match self.commands.first() {
+            Some(command) => Some(command.cycle),
+            None => None,
+        }
+    }
+
+    /// The cycle in which the reply or credit that `next_reply` takes arrives, if there is one.
+    pub fn reply_arrival(&self) -> Option<Cycle>
+        ensures { (p : Past) → IsSession self.now p
+            → result ≡ option_map (λ reply. reply.arrival) (next_reply_of p self.now.cycle) }
+    {
+        match self.replies.first() {
+            Some(reply) => Some(reply.arrival),
+            None => None,
+        }
+    }
+
     /// Takes out the first command that it holds, if there is one.
     fn pop_command(&mut self) -> Option<IssuedCommand>
         ensures next { (p : Past) → IsSession self.old p
-            → result ≡ slice_get (commands_of p self.old.cycle) (length p.commands) }
+            → result ≡ next_command_of p self.old.cycle }
         ensures taken { (p : Past) → IsSession self.old p
             → IsSession self.new (with_command p result) }
         ensures now { self.new.cycle ≡ self.old.cycle }
     {
-        self.commands.pop_front()
+        self.commands.take_next()
     }
 
     /// The next command of the cycles that are over, if there is one: the first that was not taken. It is taken then.
     pub fn next_command(&mut self) -> Option<IssuedCommand>
         ensures next { (p : Past) → IsSession self.old p
-            → result ≡ slice_get (commands_of p self.old.cycle) (length p.commands) }
+            → result ≡ next_command_of p self.old.cycle }
         ensures taken { (p : Past) → IsSession self.old p
             → IsSession self.new (with_command p result) }
         ensures now { self.new.cycle ≡ self.old.cycle }
@@ -282,24 +328,45 @@ impl Session {
     /// Takes out the first reply that it holds, if there is one.
     fn pop_reply(&mut self) -> Option<Message>
         ensures next { (p : Past) → IsSession self.old p
-            → result ≡ slice_get (replies_of p self.old.cycle) (length p.replies) }
+            → result ≡ next_reply_of p self.old.cycle }
         ensures taken { (p : Past) → IsSession self.old p
             → IsSession self.new (with_reply p result) }
         ensures now { self.new.cycle ≡ self.old.cycle }
     {
-        self.replies.pop_front()
+        self.replies.take_next()
     }
 
     /// The next reply with the data of a Read, or the next credit, that the channel sent in the cycles that are over, if there is one:
     /// the first that was not taken. It is taken then.
     pub fn next_reply(&mut self) -> Option<Message>
         ensures next { (p : Past) → IsSession self.old p
-            → result ≡ slice_get (replies_of p self.old.cycle) (length p.replies) }
+            → result ≡ next_reply_of p self.old.cycle }
         ensures taken { (p : Past) → IsSession self.old p
             → IsSession self.new (with_reply p result) }
         ensures now { self.new.cycle ≡ self.old.cycle }
         ensures open { IsOpen self.old → IsOpen self.new }
     {
         self.pop_reply()
+    }
+}
+
+/// When the first of these messages arrives, if there is one.
+fn first_arrival(coming: &[Message]) -> Option<Cycle>
+    ensures { result ≡ first_arrival coming.now }
+{
+    match coming.first() {
+        Some(message) => Some(message.arrival),
+        None => None,
+    }
+}
+
+/// The earlier of two cycles, each of which there may be.
+fn earlier(one: Option<Cycle>, other: Option<Cycle>) -> Option<Cycle>
+    ensures { result ≡ earlier one other }
+{
+    match (one, other) {
+        (Some(one), Some(other)) => Some(one.min(other)),
+        (Some(one), None) => Some(one),
+        (None, other) => other,
     }
 }

@@ -123,6 +123,7 @@ kept-in_cycle c s channel steps mail now next h at f =
       foresees =
           foreseen-from commands c.marked_queue.queue.requests c.cycle (Known next)
           (subst (λ t. IsAhead commands c.marked_queue.queue.requests t (Known next)) at (found-ahead commands c.marked_queue.queue.requests now next f.0 f.1));
+      keeps_served = h.keeps_served;
     }
 
 -- the same of what is foreseen

@@ -1,6 +1,7 @@
 -- What a command that a channel issues leaves.
 use Rattle.std.proofs.Common.{◌≡◌, ℕ, zero, suc, ◌+◌, ◌<◌, ◌≤◌, ◌^◌, Bool, true, false, cond, List, [], ◌∷◌, ◌++◌, length, get_or, map, Option, Some, None, refl, sym, ap, ap₂, subst, ◌∙◌, add-one, arith}
-use Rattle.std.specs.Prelude.{is_some, not, remove, slice_get, filter, filter_map, max, option_and_then}
+use Rattle.std.specs.Prelude.{is_some, not, remove, slice_get, filter, filter_map, max, option_and_then, Vec}
+use Rattle.std.specs.declared.alloc.Global.{Global}
 use Rattle.std.specs.Option.{IfSome, ForSome}
 use Rattle.std.specs.Prelude.{MatchOption}
 use Rattle.std.specs.List.{All, AllByRecursion as Each, cons_option, enumerate_from}
@@ -23,9 +24,10 @@ use Rattle.bank_ready.specs.Stands.{rank_count, StandsFor as BanksStandFor}
 use Rattle.bank_ready.specs.declared.banks.Banks.{Banks}
 use Rattle.refresh.specs.Refreshes.{RefreshCounts, owed, lowest_owed, StandsFor as RefreshesStandFor}
 use Rattle.refresh.proofs.Due.{due_from_owed, lowest_due_from_owed}
-use Rattle.statistics.specs.Channels.{channel_stats, channel_cycle_with, channel_joined, moves_hit, ChannelFits}
+use Rattle.statistics.specs.Channels.{channel_stats, channel_cycle_with, channel_joined, moves_hit, is_late_act, ChannelFits}
 use Rattle.statistics.specs.declared.channels.ChannelStats.{ChannelStats}
 use Rattle.statistics.proofs.ChannelBounds.{channel_stats-fit}
+use Rattle.statistics.proofs.ChannelChoices.{choice-not_late}
 use Rattle.statistics.proofs.ChannelSteps.{issued_now, issued_commands-push}
 use Rattle.statistics.proofs.Lists.{length-push_suc}
 use Rattle.queue_columns.specs.Columns.{bank_number}
@@ -38,13 +40,16 @@ use Rattle.fr_fcfs.specs.declared.choice.Choice.{Choice}
 use Rattle.channel_step.specs.Past.{Differ, is_named}
 use Rattle.channel_step.specs.Fit.{queue_room}
 use Rattle.channel_step.specs.Stands.{marks_of, Recalls}
-use Rattle.channel_step.specs.Queued.{Queued, marked_at, after, after_command, requests_left, moves_unmarked}
+use Rattle.channel_step.specs.Queued.{Queued, marked_at, after, after_command, requests_left, moves_unmarked, served_now}
+use Rattle.channel_step.specs.Runs.{with_more}
 use Rattle.channel_step.specs.Counted.{cycle_with_hit}
 use Rattle.channel_step.specs.Owed.{RefIsOwed}
-use Rattle.channel_step.specs.Channels.{CandidatesStand, StandsFor, IsInCycle, seen_of}
+use Rattle.channel_step.specs.Channels.{CandidatesStand, KeepsServed, StandsFor, IsInCycle, seen_of}
 use Rattle.channel_step.specs.declared.counting.Seen.{Seen}
 use Rattle.channel_step.proofs.Deciding.{drain_decided-drains}
 use Rattle.channel_step.proofs.Foreseen.{foreseen-unknown}
+use Rattle.channel_step.proofs.Serving.{rows_in, kept-served}
+use Rattle.served_requests.specs.declared.ServedRequest.{ServedRequest}
 use Rattle.channel_step.specs.declared.ahead.Ahead.TheVariants.{Unknown}
 use Rattle.channel_step.specs.declared.channel.Channel.{Channel}
 use Rattle.channel_step.proofs.Requests.{unserved_by}
@@ -177,16 +182,17 @@ abbrev pub left_after : Queued → List IssuedCommand → ℕ → ℕ → Option
 left_after w history channel now o = record { queue = record w.queue { requests = queue_after o w.queue.requests }; marks = marks_after history channel now o w.queue.requests }
 
 -- what a channel stands for after a cycle in which it did this
-stands-after : (c : Channel) (s : Config) (channel : ℕ) (steps : List (Option Command)) (mail : List Message) (o : Option Command) (w : Queued) (bank_candidates : BankCandidates) (banks : Banks) (refresh : RefreshCounts) (stats : ChannelStats)
+stands-after : (c : Channel) (s : Config) (channel : ℕ) (steps : List (Option Command)) (mail : List Message) (o : Option Command) (w : Queued) (bank_candidates : BankCandidates) (banks : Banks) (refresh : RefreshCounts) (stats : ChannelStats) (served : Option (Vec ServedRequest Global))
     → IsInCycle c s channel steps mail → o ≡ choice s channel steps mail
     → w ≡ left_after c.marked_queue (issued_commands channel steps) channel (length steps) o → bank_count bank_candidates ≡ bank_count c.bank_candidates
     → CandidatesStand bank_candidates w.queue.requests (issued_commands channel steps ++ issued_now channel (length steps) o)
     → BanksStandFor banks s (issued_commands channel steps ++ issued_now channel (length steps) o)
     → RefreshesStandFor refresh s (issued_commands channel steps ++ issued_now channel (length steps) o)
     → stats ≡ channel_joined c.stats (channel_cycle_with s (issued_commands channel steps) (length c.marked_queue.queue.requests) (is_some (lowest_due s (issued_commands channel steps) (length steps))) c.marked_queue.queue.drain_decided o)
-    → StandsFor (record c { cycle = c.cycle + 1; marked_queue = w; bank_candidates = bank_candidates; banks = banks; refresh = refresh; ahead = Unknown; stats = stats }) s channel (steps ++ o ∷ []) mail
+    → KeepsServed served (issued_commands channel steps ++ issued_now channel (length steps) o) mail
+    → StandsFor (record c { cycle = c.cycle + 1; marked_queue = w; bank_candidates = bank_candidates; banks = banks; refresh = refresh; ahead = Unknown; stats = stats; served = served }) s channel (steps ++ o ∷ []) mail
 unfolding channel_cycle_with
-stands-after c s channel steps mail o w bank_candidates banks refresh stats h e x count hs b r t =
+stands-after c s channel steps mail o w bank_candidates banks refresh stats served h e x count hs b r t keeps =
     let history = issued_commands channel steps in
     let queue = c.marked_queue.queue.requests in
     let drained = c.marked_queue.queue.drain_decided in
@@ -217,6 +223,7 @@ stands-after c s channel steps mail o w bank_candidates banks refresh stats h e 
       banks_stand = subst (BanksStandFor banks s) (sym (issued_commands-push channel steps o)) b;
       refreshes_stand = subst (RefreshesStandFor refresh s) (sym (issued_commands-push channel steps o)) r;
       foresees = foreseen-unknown (choice_in s (issued_commands channel (steps ++ o ∷ [])) w.queue) w.queue.requests (c.cycle + 1);
+      keeps_served = subst (λ x. KeepsServed served x mail) (sym (issued_commands-push channel steps o)) keeps;
     }
 
 open_row-more : (bank : BankId) (history : List IssuedCommand) (i : IssuedCommand) → open_row bank (history ++ i ∷ []) ≡ row_after bank (open_row bank history) i.command
@@ -224,24 +231,31 @@ unfolding open_row
 open_row-more bank history i = fold-append (λ row (j : IssuedCommand). row_after bank row j.command) None history (i ∷ [])
 
 -- what it stands for when it has issued a command
-pub issued-stands : (c : Channel) (s : Config) (channel : ℕ) (steps : List (Option Command)) (mail : List Message) (now : ℕ) (chosen : Choice) (w : Queued) (bank_candidates : BankCandidates) (banks : Banks) (refresh : RefreshCounts) (stats : ChannelStats)
+pub issued-stands : (c : Channel) (s : Config) (channel : ℕ) (steps : List (Option Command)) (mail : List Message) (now : ℕ) (chosen : Choice) (w : Queued) (bank_candidates : BankCandidates) (banks : Banks) (refresh : RefreshCounts) (stats : ChannelStats) (served : Option (Vec ServedRequest Global))
     → IsInCycle c s channel steps mail → length steps ≡ now → Some chosen.command ≡ choice s channel steps mail → IsFor c.marked_queue.queue.requests chosen
     → w ≡ after c.marked_queue chosen.command chosen.slot → bank_count bank_candidates ≡ bank_count c.bank_candidates
     → CandidatesStandFor bank_candidates w.queue.requests (λ bank. row_after (bank_at bank) (open_row (bank_at bank) (issued_commands channel steps)) chosen.command)
     → BanksStandFor banks s (issued_commands channel steps ++ row_of channel now chosen.command ∷ [])
     → RefreshesStandFor refresh s (issued_commands channel steps ++ row_of channel now chosen.command ∷ [])
     → stats ≡ counted c s (issued_commands channel steps) (length steps) (Some chosen.command) (moves_unmarked c.marked_queue chosen.slot)
-    → StandsFor (record c { cycle = c.cycle + 1; marked_queue = w; bank_candidates = bank_candidates; banks = banks; refresh = refresh; ahead = Unknown; stats = stats }) s channel (steps ++ Some chosen.command ∷ []) mail
-issued-stands c s channel steps mail now chosen w bank_candidates banks refresh stats h at e f x count hs b r t =
+    → rows_in served ≡ with_more (rows_in c.served) (served_now c.number now (option_and_then (slice_get c.marked_queue.queue.requests) chosen.slot) (moves_unmarked c.marked_queue chosen.slot))
+    → StandsFor (record c { cycle = c.cycle + 1; marked_queue = w; bank_candidates = bank_candidates; banks = banks; refresh = refresh; ahead = Unknown; stats = stats; served = served }) s channel (steps ++ Some chosen.command ∷ []) mail
+issued-stands c s channel steps mail now chosen w bank_candidates banks refresh stats served h at e f x count hs b r t more =
     let history = issued_commands channel steps in
     let left = leaves c.marked_queue history channel (length steps) chosen (joined-differ _ _ _ _ s channel steps mail h.joined) h.joined.marks_are f in
-    stands-after c s channel steps mail (Some chosen.command) w bank_candidates banks refresh stats h e (x ∙ left.0) count
+    stands-after c s channel steps mail (Some chosen.command) w bank_candidates banks refresh stats served h e (x ∙ left.0) count
     (same_rows bank_candidates w.queue.requests (λ bank. row_after (bank_at bank) (open_row (bank_at bank) history) chosen.command)
     (λ bank. open_row (bank_at bank) (history ++ row_of channel (length steps) chosen.command ∷ [])) hs
     (λ bank there. sym (open_row-more (bank_at bank) history (row_of channel (length steps) chosen.command))))
     (subst (λ k. BanksStandFor banks s (history ++ row_of channel k chosen.command ∷ [])) (sym at) b)
     (subst (λ k. RefreshesStandFor refresh s (history ++ row_of channel k chosen.command ∷ [])) (sym at) r)
     (t ∙ counted-is c s history (length steps) (Some chosen.command) (moves_unmarked c.marked_queue chosen.slot) left.1)
+    (kept-served c.served served history (row_of channel (length steps) chosen.command) c.marked_queue.queue.requests chosen (moves_unmarked c.marked_queue chosen.slot) mail (length steps + 1)
+    refl (subst (λ o. is_late_act history o ≡ false) (sym e) (choice-not_late s channel steps mail)) f h.joined.queue_is left.1
+    (more
+    ∙ ap₂ (λ number t. with_more (rows_in c.served) (served_now number t (option_and_then (slice_get c.marked_queue.queue.requests) chosen.slot) (moves_unmarked c.marked_queue chosen.slot)))
+    h.made_for.number_is (sym at))
+    h.keeps_served)
 
 -- each command was issued before the next cycle
 issued-from : (channel from : ℕ) (steps : List (Option Command))

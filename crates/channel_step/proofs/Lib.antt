@@ -4,6 +4,7 @@ pub mod Stretches
 pub mod Foreseen
 pub mod Marks
 pub mod Cycle
+pub mod Serving
 pub mod Chosen
 pub mod Fits
 pub mod Waits

@@ -1,5 +1,5 @@
 -- A channel over a span, from one cycle in which something happens to the next.
-use Rattle.std.proofs.Common.{◌≡◌, ℕ, ◌+◌, ◌-◌, ◌<◌, ◌≤◌, List, [], ◌∷◌, ◌++◌, length, take, drop, Option, refl, sym, ap, subst, ◌∙◌, arith}
+use Rattle.std.proofs.Common.{◌≡◌, ℕ, ◌+◌, ◌-◌, ◌<◌, ◌≤◌, List, [], ◌∷◌, ◌++◌, length, take, drop, Option, Some, None, refl, sym, ap, subst, ◌∙◌, arith}
 use Rattle.std.specs.List.{AllByRecursion as Each}
 use Rattle.std.proofs.Math.Seq.{take-add}
 use Rattle.std.proofs.lemmas.List.{append-nil, append_assoc, take-append-drop, drop-drop, length-drop, take_rest}
@@ -11,7 +11,7 @@ use Rattle.sim_base.specs.declared.command.IssuedCommand.{IssuedCommand}
 use Rattle.sim_base.specs.declared.message.Message.{Message}
 use Rattle.channel_step.specs.Fit.{IsFit}
 use Rattle.channel_step.specs.Channels.{StandsFor}
-use Rattle.channel_step.specs.Runs.{HasRun, HasAdvanced, CanRun}
+use Rattle.channel_step.specs.Runs.{HasRun, HasAdvanced, CanRun, with_more}
 use Rattle.channel_step.specs.declared.channel.Channel.{Channel}
 use Rattle.channel_step.proofs.Spans.{length-channel_run, channel_run-more}
 
@@ -77,7 +77,7 @@ pub run-turned : (c d : Channel) (s : Config) (channel : ℕ) (steps : List (Opt
     (commands more_commands : List IssuedCommand) (messages more_messages : List Message) → length steps ≡ from → from ≤ now → now ≤ last
     → HasRun c s channel steps mail inbox from now until arrived commands messages
     → HasAdvanced d s channel (channel_run s channel steps (mail ++ inbox) (now - from)) (mail ++ take arrived inbox) (rest_of inbox arrived) now (last + 1) until n
-    commands more_commands messages more_messages
+    (Some commands) (Some more_commands) messages more_messages
     → HasRun d s channel steps mail inbox from (last + 1) until (arrived + n) more_commands more_messages
 run-turned c d s channel steps mail inbox from now until arrived n last commands more_commands messages more_messages at l m h turned =
     let k = turned.has_run in
@@ -94,6 +94,7 @@ run-turned c d s channel steps mail inbox from now until arrived n last commands
     ap (λ x. mail ++ x) (take-add arrived n inbox) ∙ sym (append_assoc mail (take arrived inbox) (take n (drop arrived inbox))) ∙ ap (λ x. there ++ take n x) (sym rest) in
     let left : drop (arrived + n) inbox ≡ drop n (rest_of inbox arrived) = sym (drop-drop n arrived inbox) ∙ ap (drop n) (sym rest) in
     let some = k.some in
+    let added : more_commands ≡ commands ++ turned.issued = let e = turned.commands_are in cc in
     record {
       stands = subst (λ r. StandsFor d s channel r (mail ++ take (arrived + n) inbox)) (sym rows_are)
           (subst (StandsFor d s channel (channel_run s channel before (there ++ rest_of inbox arrived) (last + 1 - now))) (sym arrived_are) k.stands);
@@ -105,7 +106,7 @@ run-turned c d s channel steps mail inbox from now until arrived n last commands
           ap (issued_commands channel) rows_are ∙ k.commands_are
           ∙ ap (λ x. x ++ turned.issued) h.commands_are
           ∙ append_assoc (issued_commands channel steps) commands turned.issued
-          ∙ ap (λ x. issued_commands channel steps ++ x) (sym turned.commands_are);
+          ∙ ap (λ x. issued_commands channel steps ++ x) (sym added);
       messages_are =
           ap (channel_messages s channel) rows_are ∙ k.messages_are
           ∙ ap (λ x. x ++ turned.sent) h.messages_are
@@ -113,21 +114,31 @@ run-turned c d s channel steps mail inbox from now until arrived n last commands
           ∙ ap (λ x. channel_messages s channel steps ++ x) (sym turned.messages_are);
     }
 
+-- nothing more
+pub with_more-none : {A : Type 0} (kept : Option (List A)) → with_more kept [] ≡ kept
+with_more-none None = refl
+with_more-none (Some rows) = ap Some (append-nil rows)
+
+-- more twice
+with_more-more : {A : Type 0} (kept : Option (List A)) (more most : List A) → with_more (with_more kept more) most ≡ with_more kept (more ++ most)
+with_more-more None more most = refl
+with_more-more (Some rows) more most = ap Some (append_assoc rows more most)
+
 -- no cycle is over yet, and nothing was added to the lists
-pub turned-none : (c : Channel) (s : Config) (channel : ℕ) (steps : List (Option Command)) (mail inbox : List Message) (from until : ℕ) (commands : List IssuedCommand) (messages : List Message)
+pub turned-none : (c : Channel) (s : Config) (channel : ℕ) (steps : List (Option Command)) (mail inbox : List Message) (from until : ℕ) (commands : Option (List IssuedCommand)) (messages : List Message)
     → StandsFor c s channel steps mail → IsFit s channel steps mail inbox from until → HasAdvanced c s channel steps mail inbox from from until 0 commands commands messages messages
 turned-none c s channel steps mail inbox from until commands messages h f =
     record {
       issued = [];
       sent = [];
       has_run = run-begins c s channel steps mail inbox from until h f;
-      commands_are = sym (append-nil commands);
+      commands_are = sym (with_more-none commands);
       messages_are = sym (append-nil messages);
     }
 
 -- one step of the loop more
 pub turned-more : (c d : Channel) (s : Config) (channel : ℕ) (steps : List (Option Command)) (mail inbox : List Message) (from now until arrived n last : ℕ)
-    (commands more_commands most_commands : List IssuedCommand) (messages more_messages most_messages : List Message) → length steps ≡ from → from ≤ now → now ≤ last
+    (commands more_commands most_commands : Option (List IssuedCommand)) (messages more_messages most_messages : List Message) → length steps ≡ from → from ≤ now → now ≤ last
     → HasAdvanced c s channel steps mail inbox from now until arrived commands more_commands messages more_messages
     → HasAdvanced d s channel (channel_run s channel steps (mail ++ inbox) (now - from)) (mail ++ take arrived inbox) (rest_of inbox arrived) now (last + 1) until n
     more_commands most_commands more_messages most_messages
@@ -138,6 +149,6 @@ turned-more c d s channel steps mail inbox from now until arrived n last command
       sent = h.sent ++ turned.sent;
       has_run = run-turned c d s channel steps mail inbox from now until arrived n last h.issued (h.issued ++ turned.issued) h.sent (h.sent ++ turned.sent) at l m h.has_run
           (record { issued = turned.issued; sent = turned.sent; has_run = turned.has_run; commands_are = refl; messages_are = refl });
-      commands_are = turned.commands_are ∙ ap (λ x. x ++ turned.issued) h.commands_are ∙ append_assoc commands h.issued turned.issued;
+      commands_are = turned.commands_are ∙ ap (λ x. with_more x turned.issued) h.commands_are ∙ with_more-more commands h.issued turned.issued;
       messages_are = turned.messages_are ∙ ap (λ x. x ++ turned.sent) h.messages_are ∙ append_assoc messages h.sent turned.sent;
     }

@@ -26,7 +26,7 @@ use Rattle.channel_step.specs.Counted.{cycle_with_hit}
 use Rattle.channel_step.specs.Fit.{queue_room}
 use Rattle.channel_step.specs.Queued.{drain_decided}
 use Rattle.fr_fcfs.specs.Choices.{choice_in}
-use Rattle.channel_step.specs.Channels.{CandidatesStand, IsForeseen, StandsFor, IsInCycle, passed}
+use Rattle.channel_step.specs.Channels.{CandidatesStand, IsForeseen, KeepsServed, StandsFor, IsInCycle, passed}
 use Rattle.channel_step.specs.declared.channel.Channel.{Channel}
 use Rattle.channel_step.proofs.Requests.{ArrivedBefore, requests-arrived, queued_requests-until}
 use Rattle.channel_step.proofs.Spans.{drains_before-row}
@@ -67,6 +67,7 @@ drain_decided-in_cycle c s channel steps mail h =
       banks_stand = h.banks_stand;
       refreshes_stand = h.refreshes_stand;
       foresees = foreseen-drain_decided s (issued_commands channel steps) c.marked_queue.queue c.cycle c.ahead h.foresees;
+      keeps_served = h.keeps_served;
     }
 
 -- the same, as it is told what is decided
@@ -183,6 +184,7 @@ passed-in_cycle c s channel steps mail n due until h before alike e =
       foresees =
           subst (λ x. IsForeseen (choice_in s x c.marked_queue.queue) c.marked_queue.queue.requests until c.ahead) (sym history)
           (foreseen-later (choice_in s (issued_commands channel steps) c.marked_queue.queue) c.marked_queue.queue.requests c.cycle until c.ahead (omega (arith, h.cycle_is)) h.foresees);
+      keeps_served = subst (λ x. KeepsServed c.served x mail) (sym history) h.keeps_served;
     }
 
 -- when at least one cycle was passed it stands after them
@@ -218,6 +220,7 @@ skipped-stands c s channel steps mail (suc k) h arrived before some =
       banks_stand = h.banks_stand;
       refreshes_stand = h.refreshes_stand;
       foresees = h.foresees;
+      keeps_served = h.keeps_served;
     }
 
 -- from which of the cycles before another one on a refresh is due

@@ -1,6 +1,7 @@
 -- A channel before its first cycle, and a channel between two cycles.
 use Rattle.std.proofs.Common.{◌≡◌, ℕ, ◌+◌, ◌-◌, ◌*◌, ◌≤◌, Bool, false, List, [], ◌++◌, length, Option, Some, None, refl, sym, ap, ap₂, subst, ◌∙◌, arith}
-use Rattle.std.specs.Prelude.{is_some, replicate}
+use Rattle.std.specs.Prelude.{is_some, replicate, Vec}
+use Rattle.std.specs.declared.alloc.Global.{Global}
 use Rattle.std.specs.List.{All, AllByRecursion as Each}
 use Rattle.sim_base.proofs.Ordered.{Each-weaker}
 use Rattle.sim_base.specs.declared.config.Config.{Config}
@@ -24,7 +25,7 @@ use Rattle.fr_fcfs.specs.Choices.{StandFor, choice_in}
 use Rattle.fr_fcfs.specs.Cycles.{IsFirstCycle}
 use Rattle.channel_step.specs.Past.{requests_of}
 use Rattle.channel_step.specs.Stands.{Recalls}
-use Rattle.channel_step.specs.Channels.{CandidatesStand, IsForeseen, StandsFor}
+use Rattle.channel_step.specs.Channels.{CandidatesStand, IsForeseen, KeepsServed, StandsFor}
 use Rattle.channel_step.specs.Runs.{StandsAt}
 use Rattle.channel_step.specs.declared.ahead.Ahead.TheVariants.{Unknown}
 use Rattle.channel_step.specs.declared.channel.Channel.{Channel}
@@ -33,6 +34,8 @@ use Rattle.channel_step.proofs.Spans.{drains-next}
 use Rattle.channel_step.proofs.Stretches.{idle-choice}
 use Rattle.channel_step.proofs.Places.{queue-in_banks}
 use Rattle.channel_step.proofs.Foreseen.{foreseen-unknown}
+use Rattle.channel_step.proofs.Serving.{kept-none}
+use Rattle.served_requests.specs.declared.ServedRequest.{ServedRequest}
 
 -- there is no past yet
 pub recalls-none : (s : Config) (channel : ℕ) → Recalls [] false [] (record channel_none { draining = draining_of s 0 }) s channel [] []
@@ -105,9 +108,9 @@ at-first c s channel steps mail from queue o h at e f =
 
 pub start-stands : (c : Channel) (s : Config) (number : ℕ) → c.config ≡ s → c.number ≡ number → c.cycle ≡ 0 → c.marked_queue ≡ no_requests (queue_room s) s.write_high s.write_low
     → BanksStandFor c.banks s [] → RefreshesStandFor c.refresh s [] → c.stats ≡ record channel_none { draining = draining_of s 0 } → bank_count c.bank_candidates ≡ 16 * s.ranks
-    → CandidatesStandFor c.bank_candidates [] (λ bank. None) → c.ahead ≡ Unknown → StandsFor c s number [] []
+    → CandidatesStandFor c.bank_candidates [] (λ bank. None) → c.ahead ≡ Unknown → c.served ≡ None → StandsFor c s number [] []
 unfolding issued_commands open_row
-start-stands c s number config is cycle queued_requests banks refresh stats count bank_candidates ahead =
+start-stands c s number config is cycle queued_requests banks refresh stats count bank_candidates ahead served =
     let R : Queued → ChannelStats → Type 0 = λ w t. Recalls w.queue.requests w.queue.drain_decided w.marks t s number [] [] in
     let base : R (no_requests (queue_room s) s.write_high s.write_low) (record channel_none { draining = draining_of s 0 }) = recalls-none s number in
     let none : length c.marked_queue.queue.requests ≡ 0 = ap (λ (w : Queued). length w.queue.requests) queued_requests in
@@ -131,4 +134,29 @@ start-stands c s number config is cycle queued_requests banks refresh stats coun
       foresees =
           subst (IsForeseen (choice_in s [] c.marked_queue.queue) c.marked_queue.queue.requests c.cycle) (sym ahead)
           (foreseen-unknown (choice_in s [] c.marked_queue.queue) c.marked_queue.queue.requests c.cycle);
+      keeps_served = subst (λ kept. KeepsServed kept [] []) (sym served) tt;
+    }
+
+-- a channel that keeps what it serves, before it has served anything
+pub keeping-stands : (c : Channel) (s : Config) (number : ℕ) (rows : Vec ServedRequest Global) → rows.items ≡ [] → StandsFor c s number [] [] → StandsFor (record c { served = Some rows }) s number [] []
+unfolding issued_commands
+keeping-stands c s number rows none h =
+    record {
+      made_for = record {
+        config_is = h.made_for.config_is;
+        number_is = h.made_for.number_is;
+        high_is = h.made_for.high_is;
+        low_is = h.made_for.low_is;
+        room_is = h.made_for.room_is;
+        banks_are = h.made_for.banks_are;
+        within = h.made_for.within;
+        longest = h.made_for.longest;
+      };
+      cycle_is = h.cycle_is;
+      recalls = h.recalls;
+      candidates_stand = h.candidates_stand;
+      banks_stand = h.banks_stand;
+      refreshes_stand = h.refreshes_stand;
+      foresees = h.foresees;
+      keeps_served = kept-none (Some rows) [] (λ other e. let same : rows ≡ other = cc in subst (λ (v : Vec ServedRequest Global). v.items ≡ []) same none);
     }

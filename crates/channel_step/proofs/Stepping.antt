@@ -27,6 +27,7 @@ use Rattle.channel_step.specs.declared.ahead.Ahead.{Ahead}
 use Rattle.channel_step.specs.declared.channel.Channel.{Channel}
 use Rattle.fr_fcfs.specs.Choices.{choice_in}
 use Rattle.fr_fcfs.specs.Requests.{IsInBanks}
+use Rattle.channel_step.proofs.Serving.{kept-later}
 use Rattle.channel_step.proofs.Foreseen.{foreseen-from}
 use Rattle.channel_step.proofs.Requests.{carries-stamped}
 use Rattle.channel_step.proofs.Spans.{queue-next}
@@ -104,6 +105,7 @@ arrived-stands c s channel steps mail inbox now until w bank_candidates ahead h 
       banks_stand = h.banks_stand;
       refreshes_stand = h.refreshes_stand;
       foresees = foreseen-from (choice_in s (issued_commands channel steps) w.queue) w.queue.requests c.cycle ahead known;
+      keeps_served = kept-later c.served (issued_commands channel steps) mail new h.keeps_served;
     }
 
 -- there is room for them

@@ -1,6 +1,8 @@
 -- What a `Channel` stands for.
 --     CandidatesStand bank_candidates requests history      bank_candidates are those of these requests, after these commands
 --     IsMadeFor c s channel      the channel with a number, of a machine with a configuration
+--     AreServed rows history mail      these are the requests that these commands served, of those that came with these messages
+--     KeepsServed kept history mail      the same of the requests that are kept, if they are
 --     StandsFor c s channel steps mail      all that it keeps is what these steps, and the messages that arrived in them, make of it
 --     Foresees c s history      what a channel knows of its next command is so
 --     IsFound c s history now next      the next command from a cycle on, if there is one
@@ -11,13 +13,16 @@
 --     seen_of c now      what is seen of a channel in a cycle
 --     idle_cycle c now      the statistics of a cycle in which a channel issues nothing
 --     passed c until      its statistics after such cycles
-use Rattle.std.specs.Prelude.{◌≡◌, ℕ, ◌-◌, ◌*◌, ◌<◌, ◌≤◌, false, List, ◌++◌, length, replicate, is_some, nat_lt, Option, Some, None, IfSome, option_map, slice_get}
+use Rattle.std.specs.Prelude.{◌≡◌, ℕ, ◌-◌, ◌*◌, ◌<◌, ◌≤◌, false, List, ◌++◌, length, replicate, is_some, nat_lt, Option, Some, None, IfSome, option_map, slice_get, Vec}
+use Rattle.std.specs.List.{AllByRecursion as Each}
+use Rattle.std.specs.declared.alloc.Global.{Global}
 use Rattle.sim_base.specs.declared.config.Config.{Config}
 use Rattle.sim_base.specs.History.{issued_commands}
 use Rattle.sim_base.specs.Rules.{open_row}
-use Rattle.sim_base.specs.Scheduling.{choice, column_command, is_column_command}
+use Rattle.sim_base.specs.Scheduling.{choice, column_command, is_column_command, source_of}
 use Rattle.sim_base.specs.declared.command.Command.{Command}
 use Rattle.sim_base.specs.declared.command.IssuedCommand.{IssuedCommand}
+use Rattle.sim_base.specs.declared.command.Source.{Source}
 use Rattle.sim_base.specs.declared.message.Request.{Request}
 use Rattle.sim_base.specs.declared.message.Message.{Message}
 use Rattle.sim_base.specs.declared.place.BankId.{BankId}
@@ -33,6 +38,9 @@ use Rattle.channel_step.specs.Counted.{cycle_with_hit}
 use Rattle.fr_fcfs.specs.Choices.{choice_in, IsFor}
 use Rattle.fr_fcfs.specs.Cycles.{IsNext}
 use Rattle.fr_fcfs.specs.declared.choice.Choice.{Choice}
+use Rattle.served_requests.specs.Served.{served_requests}
+use Rattle.served_requests.specs.declared.ServedRequest.{ServedRequest}
+use Rattle.channel_step.specs.Past.{requests_of}
 use Rattle.channel_step.specs.Fit.{queue_room, IsIdle}
 use Rattle.channel_step.specs.Stands.{Recalls, HasJoined}
 use Rattle.channel_step.specs.declared.ahead.Ahead.{Ahead}
@@ -88,6 +96,15 @@ Foresees c s history = IsForeseen (choice_in s history c.marked_queue.queue) c.m
 abbrev pub IsFound : Channel → Config → List IssuedCommand → ℕ → Option (ℕ × Choice) → Type 0
 IsFound c s history now next = IsNext (choice_in s history c.marked_queue.queue) now next × IfSome next (λ n. IsFor c.marked_queue.queue.requests n.1)
 
+-- these are the requests that these commands served, wherever it is told when each request came that these messages carry
+abbrev pub AreServed : List ServedRequest → List IssuedCommand → List Message → Type 0
+AreServed rows history mail =
+    (arrivals : Source → ℕ) → Each (λ r. r.arrival ≡ arrivals (source_of r)) (requests_of mail) → rows ≡ served_requests arrivals history
+
+-- the same of the requests that are kept, if they are
+abbrev pub KeepsServed : Option (Vec ServedRequest Global) → List IssuedCommand → List Message → Type 0
+KeepsServed kept history mail = IfSome kept (λ rows. AreServed rows.items history mail)
+
 -- All that a channel keeps between two cycles is what its steps so far, one a cycle, and the messages that arrived in them make of it.
 pub record StandsFor (c : Channel) (s : Config) (channel : ℕ) (steps : List (Option Command)) (mail : List Message) : Type 0 where
   pub made_for : IsMadeFor c s channel
@@ -97,6 +114,7 @@ pub record StandsFor (c : Channel) (s : Config) (channel : ℕ) (steps : List (O
   pub banks_stand : BanksStandFor c.banks s (issued_commands channel steps)
   pub refreshes_stand : RefreshesStandFor c.refresh s (issued_commands channel steps)
   pub foresees : Foresees c s (issued_commands channel steps)
+  pub keeps_served : KeepsServed c.served (issued_commands channel steps) mail
 
 -- a channel stands for a past of a machine with this rank
 pub record HasRank (c : Channel) (rank : ℕ) : Type 0 where
@@ -127,6 +145,7 @@ pub record IsInCycle (c : Channel) (s : Config) (channel : ℕ) (steps : List (O
   pub banks_stand : BanksStandFor c.banks s (issued_commands channel steps)
   pub refreshes_stand : RefreshesStandFor c.refresh s (issued_commands channel steps)
   pub foresees : Foresees c s (issued_commands channel steps)
+  pub keeps_served : KeepsServed c.served (issued_commands channel steps) mail
 
 -- a channel is in a cycle, after some steps
 pub record IsInSomeCycle (c : Channel) (now : ℕ) : Type 0 where

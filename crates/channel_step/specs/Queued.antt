@@ -6,7 +6,8 @@
 --     marked_at marks requests source, with_mark w source      the request of an entry gets its mark
 --     requests_left requests slot      the requests that are left
 --     after w command slot      what a command leaves
-use Rattle.std.specs.Prelude.{ℕ, Bool, true, false, not, List, [], map, ◌++◌, remove, slice_set, slice_index_or, Option, Some, None}
+--     served_now channel cycle served hit      the request that is served in a cycle, as it is kept
+use Rattle.std.specs.Prelude.{ℕ, Bool, true, false, not, List, [], ◌∷◌, map, ◌++◌, remove, slice_set, slice_index_or, Option, Some, None}
 use Rattle.std.specs.List.{position_or_len}
 use Rattle.sim_base.specs.Scheduling.{is_source}
 use Rattle.sim_base.specs.declared.command.Command.{Command}
@@ -14,6 +15,7 @@ use Rattle.sim_base.specs.declared.command.Command.TheVariants.{Act, Rd, Wr, Pre
 use Rattle.sim_base.specs.declared.command.Source.{Source}
 use Rattle.sim_base.specs.declared.message.Request.{Request}
 use Rattle.queue.specs.View.{QueueView, is_draining}
+use Rattle.served_requests.specs.declared.ServedRequest.{ServedRequest}
 
 -- the queue, and a mark for each of its requests
 pub record Queued : Type 0 where
@@ -75,3 +77,9 @@ after w command None = after_command w command
 abbrev pub moves_unmarked : Queued → Option ℕ → Bool
 moves_unmarked w (Some slot) = not (slice_index_or w.marks slot true)
 moves_unmarked w None = false
+
+-- the request that a channel serves in a cycle, if it serves one, as it is kept
+abbrev pub served_now : ℕ → ℕ → Option Request → Bool → List ServedRequest
+served_now channel cycle None hit = []
+served_now channel cycle (Some r) hit =
+    record { entry = r.entry; arrived = r.arrival; served = cycle; channel = channel; core = r.core; write = r.write; hit = hit } ∷ []

@@ -1,13 +1,14 @@
 -- What a channel does over a span of cycles.
 --     issued_in channel now o      the command of a cycle as a list of steps
 --     first_arrival inbox until      when the first of these messages arrives
+--     with_more kept more      what a list holds with more behind it, if one is kept
 --     HasRun c s channel steps mail inbox from now until arrived commands messages      what the cycles so far leave
 --     HasAdvanced c s channel steps mail inbox now then until arrived commands commands_then messages messages_then      what one step of the loop leaves
 --     IsDone c s channel steps mail inbox from until commands commands_then messages messages_then      what all cycles of a span leave
 --     CanRun c inbox from until      a channel stands for a past after which messages are fit for a span
 --     CanStep c inbox now      they are fit for a span that begins with this cycle
 --     StandsAt c from      a channel stands for some past at a cycle
-use Rattle.std.specs.Prelude.{◌≡◌, ℕ, ◌-◌, ◌<◌, ◌≤◌, List, [], ◌∷◌, ◌++◌, length, take, drop, Option}
+use Rattle.std.specs.Prelude.{◌≡◌, ℕ, ◌-◌, ◌<◌, ◌≤◌, List, [], ◌∷◌, ◌++◌, length, take, drop, Option, Some, None}
 use Rattle.std.specs.List.{cons_option}
 use Rattle.sim_base.specs.declared.config.Config.{Config}
 use Rattle.sim_base.specs.History.{issued_at, issued_commands, channel_messages}
@@ -23,6 +24,11 @@ use Rattle.channel_step.specs.declared.channel.Channel.{Channel}
 abbrev pub issued_in : ℕ → ℕ → Option Command → List IssuedCommand
 issued_in channel now o = cons_option (issued_at channel now o) []
 
+-- what a list holds with more behind it; where none is kept, there is none
+abbrev pub with_more : {A : Type 0} → Option (List A) → List A → Option (List A)
+with_more None more = None
+with_more (Some rows) more = Some (rows ++ more)
+
 -- when the first of these messages arrives, and a cycle where there is none
 abbrev pub first_arrival : List Message → ℕ → ℕ
 first_arrival [] until = until
@@ -37,24 +43,24 @@ pub record HasRun (c : Channel) (s : Config) (channel : ℕ) (steps : List (Opti
   pub commands_are : issued_commands channel (channel_run s channel steps (mail ++ inbox) (now - from)) ≡ issued_commands channel steps ++ commands
   pub messages_are : channel_messages s channel (channel_run s channel steps (mail ++ inbox) (now - from)) ≡ channel_messages s channel steps ++ messages
 
--- After some more cycles, from one on and before another, the same holds, and what is new was added to these commands and
--- messages.
-pub record HasAdvanced (c : Channel) (s : Config) (channel : ℕ) (steps : List (Option Command)) (mail inbox : List Message) (now then until arrived : ℕ) (commands commands_then : List IssuedCommand) (messages messages_then : List Message) : Type 0 where
+-- After some more cycles, from one on and before another, the same holds, and what is new was added to these commands, where they
+-- are kept, and messages.
+pub record HasAdvanced (c : Channel) (s : Config) (channel : ℕ) (steps : List (Option Command)) (mail inbox : List Message) (now then until arrived : ℕ) (commands commands_then : Option (List IssuedCommand)) (messages messages_then : List Message) : Type 0 where
   pub issued : List IssuedCommand
   pub sent : List Message
   pub has_run : HasRun c s channel steps mail inbox now then until arrived issued sent
-  pub commands_are : commands_then ≡ commands ++ issued
+  pub commands_are : commands_then ≡ with_more commands issued
   pub messages_are : messages_then ≡ messages ++ sent
 
--- After a span a channel stands for the steps of its run over it and for all messages that were sent to it. The commands and
--- messages of the longer steps beyond those of the earlier ones were put behind what two lists held.
-pub record IsDone (c : Channel) (s : Config) (channel : ℕ) (steps : List (Option Command)) (mail inbox : List Message) (from until : ℕ) (commands commands_then : List IssuedCommand) (messages messages_then : List Message) : Type 0 where
+-- After a span a channel stands for the steps of its run over it and for all messages that were sent to it. The commands, where
+-- they are kept, and the messages of the longer steps beyond those of the earlier ones were put behind what two lists held.
+pub record IsDone (c : Channel) (s : Config) (channel : ℕ) (steps : List (Option Command)) (mail inbox : List Message) (from until : ℕ) (commands commands_then : Option (List IssuedCommand)) (messages messages_then : List Message) : Type 0 where
   pub issued : List IssuedCommand
   pub sent : List Message
   pub stands : StandsFor c s channel (channel_run s channel steps (mail ++ inbox) (until - from)) (mail ++ inbox)
   pub commands_are : issued_commands channel (channel_run s channel steps (mail ++ inbox) (until - from)) ≡ issued_commands channel steps ++ issued
   pub messages_are : channel_messages s channel (channel_run s channel steps (mail ++ inbox) (until - from)) ≡ channel_messages s channel steps ++ sent
-  pub commands_behind : commands_then ≡ commands ++ issued
+  pub commands_behind : commands_then ≡ with_more commands issued
   pub messages_behind : messages_then ≡ messages ++ sent
 
 -- a channel stands for some past, after which these messages are fit for a span

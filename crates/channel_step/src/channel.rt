@@ -19,14 +19,14 @@ ghost use Rattle.fr_fcfs.specs.Cycles.{IsFirstCycle};
 ghost use Rattle.statistics.specs.Channels.{channel_stats, channel_joined, ChannelFits};
 ghost use Rattle.channel_step.specs.Counted.{cycle_with_hit};
 ghost use Rattle.channel_step.specs.declared.ahead.Ahead.TheVariants.{Unknown, Known};
-ghost use Rattle.channel_step.specs.Channels.{CandidatesStand, StandsFor, IsAhead, IsFound, HasRank, HasBank, IsInCycle, IsInSomeCycle, IsChosen, IsNextBefore, CountsDrains, seen_of, passed};
+ghost use Rattle.channel_step.specs.Channels.{CandidatesStand, KeepsServed, StandsFor, IsAhead, IsFound, HasRank, HasBank, IsInCycle, IsInSomeCycle, IsChosen, IsNextBefore, CountsDrains, seen_of, passed};
 ghost use Rattle.channel_step.specs.Fit.{queue_room, IsFit};
 ghost use Rattle.channel_step.specs.Runs.{CanStep, CanRun, HasAdvanced, IsDone, StandsAt, first_arrival};
 
 use crate::ahead::Ahead;
 use crate::counting::{Seen, drained};
 use crate::marked_queue::MarkedQueue;
-use crate::noting::{likely_places, note_candidates, note_refresh};
+use crate::noting::{keep_served, likely_places, note_candidates, note_refresh};
 use crate::sending::issue;
 use bank_candidates::BankCandidates;
 use bank_ready::banks::Banks;
@@ -34,6 +34,7 @@ use command_table::list::CommandList;
 use fr_fcfs::arrivals::stays;
 use fr_fcfs::choice::{Choice, next};
 use refresh::Refresh;
+use served_requests::ServedRequest;
 use sim_base::command::Command;
 use sim_base::config::Config;
 use sim_base::message::{ChannelId, Cycle, Message, Request};
@@ -55,6 +56,8 @@ pub struct Channel {
     bank_candidates: BankCandidates,
     /// What it issues next, if nothing arrives.
     ahead: Ahead,
+    /// The requests that it served, if they are kept.
+    served: Option<Vec<ServedRequest>>,
 }
 
 /// What a channel did up to the last cycle that is over: how many messages arrived.
@@ -82,7 +85,24 @@ impl Channel {
             stats,
             bank_candidates: BankCandidates::with_room(alloc, banks_of(config))?,
             ahead: Ahead::Unknown,
+            served: None,
         })
+    }
+
+    /// Keeps the requests that the channel serves, each with what is known of it then. The channel is before its first cycle.
+    pub fn keep_served(&mut self, alloc: Global)
+        ensures stands { (s : Config) (number : ℕ) → StandsFor self.old s number [] [] → StandsFor self.new s number [] [] }
+        ensures kept { is_some self.new.served ≡ true }
+    {
+        self.served = Some(Vec::new(alloc));
+    }
+
+    /// The requests that the channel served, in the order of their commands, if they were kept.
+    pub fn into_served(self) -> Option<Vec<ServedRequest>>
+        ensures { (s : Config) (channel : ℕ) (steps : List (Option Command)) (mail : List Message)
+            → StandsFor self s channel steps mail → KeepsServed result (issued_commands channel steps) mail }
+    {
+        self.served
     }
 
     /// The statistics of the cycles so far.
@@ -303,18 +323,19 @@ impl Channel {
         }
     }
 
-    /// Does what was chosen for a cycle, and counts the cycle.
-    fn perform(&mut self, chosen: &Choice, seen: Seen, now: Cycle)
+    /// Does what was chosen for a cycle, and counts the cycle. On an error some of it may not be done.
+    fn perform(&mut self, chosen: &Choice, seen: Seen, now: Cycle) -> Result<(), AllocError>
         requires chosen { IsChosen self.old now chosen.now.command }
         requires now { now < 2 ^ 62 }
         requires slot { IsFor self.old.marked_queue.queue.requests chosen.now }
         requires seen { seen ≡ seen_of self.old now }
         ensures { (s : Config) (channel : ℕ) (steps : List (Option Command)) (mail : List Message)
             → IsInCycle self.old s channel steps mail → length steps ≡ now → Some chosen.now.command ≡ choice s channel steps mail
-            → StandsFor self.new s channel (steps ++ Some chosen.now.command ∷ []) mail }
+            → OnOk result (StandsFor self.new s channel (steps ++ Some chosen.now.command ∷ []) mail) }
     {
         let likely = likely_places(&self.bank_candidates, chosen.command);
         let taken = self.marked_queue.take(chosen, likely);
+        keep_served(&mut self.served, self.number, taken, now)?;
         note_candidates(
             &mut self.bank_candidates,
             self.marked_queue.queue(),
@@ -324,6 +345,7 @@ impl Channel {
         self.banks.note(chosen.command, now);
         note_refresh(&mut self.refresh, chosen.command, now);
         self.count(seen, &chosen.command, taken.hit);
+        Ok(())
     }
 
     /// Whether what was found is known to be still the next command, now that the requests from a place on have arrived.
@@ -404,15 +426,15 @@ impl Channel {
     }
 
     /// Goes on from a cycle, where the channel stands, over the next one in which it issues a command, or over all before the next
-    /// one in which something arrives, if that comes first; and no further than `until`. What it issues and sends is added to the
-    /// commands and messages. On an error some of it may be missing.
+    /// one in which something arrives, if that comes first; and no further than `until`. What it issues, where that is kept, and
+    /// sends is added to the commands and messages. On an error some of it may be missing.
     #[inline(always)]
     fn advance(
         &mut self,
         inbox: &[Message],
         now: Cycle,
         until: Cycle,
-        commands: &mut CommandList,
+        commands: &mut Option<CommandList>,
         messages: &mut Vec<Message>,
     ) -> Result<Advance, AllocError>
         requires can_run { CanRun self.old inbox.now now until }
@@ -432,7 +454,7 @@ impl Channel {
             Some((cycle, chosen)) => {
                 self.wait(cycle);
                 let seen = self.seen(self.refreshing());
-                self.perform(&chosen, seen, cycle);
+                self.perform(&chosen, seen, cycle)?;
                 issue(
                     &self.config,
                     self.number,
@@ -457,8 +479,8 @@ impl Channel {
     }
 
     /// Runs the channel over the cycles from `from` on and before `until`, in which these messages arrive, by arrival and then
-    /// by link. What it issues and sends is put behind what the commands and messages hold. The only error is out of memory; what the
-    /// channel and the lists hold is then not known. It goes from one cycle in which something arrives or is issued to the next, and
+    /// by link. What it issues, where commands are kept, and sends is put behind what the commands and messages hold. The only error is
+    /// out of memory; what the channel and the lists hold is then not known. It goes from one cycle in which something arrives or is issued to the next, and
     /// skips those between.
     #[inline(never)]
     pub fn run(
@@ -466,7 +488,7 @@ impl Channel {
         inbox: &[Message],
         from: Cycle,
         until: Cycle,
-        commands: &mut CommandList,
+        commands: &mut Option<CommandList>,
         messages: &mut Vec<Message>,
     ) -> Result<(), AllocError>
         requires can_run { CanRun self.old inbox.now from until }

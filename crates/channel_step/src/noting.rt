@@ -1,6 +1,6 @@
 //! What a channel notes of a command that it issues.
 
-ghost use Rattle.std.specs.Prelude.{◌≡◌, ℕ, ◌<◌, ◌^◌, ◌++◌, List, [], ◌∷◌, length, Option, IfSome, option_and_then, slice_get};
+ghost use Rattle.std.specs.Prelude.{◌≡◌, ℕ, ◌<◌, ◌^◌, ◌++◌, List, [], ◌∷◌, length, Option, IfSome, OnOk, option_map, option_and_then, slice_get};
 ghost use Rattle.std.specs.Option.{ForSome};
 ghost use Rattle.sim_base.specs.Rules.{bank_of, row_after};
 ghost use Rattle.sim_base.specs.declared.config.Config.{Config};
@@ -12,13 +12,18 @@ ghost use Rattle.bank_candidates.specs.Candidates.{bank_at};
 ghost use Rattle.bank_candidates.specs.Stands.{bank_count, IsAmong, StandsFor as CandidatesStandFor};
 ghost use Rattle.channel_step.specs.Queued.{requests_left};
 ghost use Rattle.channel_step.specs.Owed.{RefIsOwed};
+ghost use Rattle.channel_step.specs.Runs.{with_more};
+ghost use Rattle.channel_step.specs.Queued.{served_now};
 
+use crate::marked_queue::Taken;
 use bank_candidates::BankCandidates;
 use fr_fcfs::choice::Choice;
 use queue::Queue;
 use refresh::Refresh;
+use served_requests::ServedRequest;
 use sim_base::command::Command;
-use sim_base::message::{Cycle, Request};
+use sim_base::message::{ChannelId, Cycle, Request};
+use std::alloc::AllocError;
 
 /// Counts a command, where it is a REF, which is due then.
 #[tactic(auto, using(crate::proofs::Chosen::no_refresh, refresh::proofs::Due::stands_without_refresh))]
@@ -86,4 +91,30 @@ pub(crate) fn note_candidates(
 {
     note_served(bank_candidates, queue, choice.slot, served);
     bank_candidates.on_command(choice.command, &queue.columns());
+}
+
+/// Adds the request whose data a channel moves in a cycle, if it moves any, to those that were served, where these are kept. On an error
+/// none is added.
+pub(crate) fn keep_served(
+    kept: &mut Option<Vec<ServedRequest>>,
+    channel: ChannelId,
+    taken: Taken,
+    now: Cycle,
+) -> Result<(), AllocError>
+    ensures { OnOk result (option_map (λ rows. rows.items) kept.new ≡ with_more (option_map (λ rows. rows.items) kept.old) (served_now channel now taken.served taken.hit)) }
+{
+    if let Some(rows) = kept
+        && let Some(request) = taken.served
+    {
+        rows.push(ServedRequest {
+            entry: request.entry,
+            arrived: request.arrival,
+            served: now,
+            channel,
+            core: request.core,
+            write: request.write,
+            hit: taken.hit,
+        })?;
+    }
+    Ok(())
 }

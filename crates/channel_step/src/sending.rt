@@ -3,7 +3,7 @@
 ghost use Rattle.std.specs.Prelude.{◌≡◌, ◌<◌, ◌≤◌, ◌^◌, ◌++◌, IfOk, Some};
 ghost use Rattle.sim_base.specs.Config.{usual_latency, latency};
 ghost use Rattle.sim_base.specs.History.{reply, credit, messages_of, messages_at};
-ghost use Rattle.channel_step.specs.Runs.{issued_in};
+ghost use Rattle.channel_step.specs.Runs.{issued_in, with_more};
 
 use command_table::list::CommandList;
 use sim_base::command::{Command, IssuedCommand, Source};
@@ -87,24 +87,26 @@ pub(crate) fn send(
     Ok(())
 }
 
-/// Adds a command that a channel issues in a cycle to its commands, and what it then sends to its messages. On an error some of
-/// it may be missing.
+/// Adds a command that a channel issues in a cycle to its commands, where they are kept, and what it then sends to its messages. On an
+/// error some of it may be missing.
 pub(crate) fn issue(
     config: &Config,
     channel: ChannelId,
     now: Cycle,
     command: &Command,
-    commands: &mut CommandList,
+    commands: &mut Option<CommandList>,
     messages: &mut Vec<Message>,
 ) -> Result<(), AllocError>
     requires { now < 2 ^ 62 }
-    ensures commands { IfOk result (λ u. commands.new ≡ commands.old ++ issued_in channel now (Some command.now)) }
+    ensures commands { IfOk result (λ u. commands.new ≡ with_more commands.old (issued_in channel now (Some command.now))) }
     ensures messages { IfOk result (λ u. messages.new.items ≡ messages.old.items ++ messages_at config.now channel now (Some command.now)) }
 {
-    commands.push(IssuedCommand {
-        cycle: now,
-        channel,
-        command: *command,
-    })?;
+    if let Some(list) = commands {
+        list.push(IssuedCommand {
+            cycle: now,
+            channel,
+            command: *command,
+        })?;
+    }
     send(config, channel, now, command, messages)
 }

@@ -102,8 +102,8 @@ run_gives : (words : List Text) → level_passes run_leaf [] nothing_held words 
 run_gives words pass =
     let rules = run_leaf.rules in
     let rows = rows_after rules [] words in
-    let fit : AreFit rules = ((refl, refl), ((refl, refl), ((refl, refl), ((refl, refl), ((refl, refl), ((refl, refl), ((refl, refl), tt))))))) in
-    let level = level-gives run_leaf words fit (refl, (refl, (refl, (refl, (refl, (refl, (refl, tt))))))) pass in
+    let fit : AreFit rules = ((refl, refl), ((refl, refl), ((refl, refl), ((refl, refl), ((refl, refl), ((refl, refl), ((refl, refl), ((refl, refl), tt)))))))) in
+    let level = level-gives run_leaf words fit (refl, (refl, (refl, (refl, (refl, (refl, (refl, (refl, tt)))))))) pass in
     let needs : (is_given (codes "config") rows && (is_given (codes "cycles") rows && (is_given (codes "workers") rows
     && (is_given (codes "out") rows && (is_given (codes "trace") rows && true))))) ≡ true = level.1 in
     let from_cycles = both _ _ (both _ _ needs).1 in
@@ -147,8 +147,8 @@ unfolding clap_on_literals
 show_gives words pass =
     let rules = show_leaf.rules in
     let rows = rows_after rules [] words in
-    let fit : AreFit rules = ((refl, refl), ((refl, refl), ((refl, refl), ((refl, refl), ((refl, refl), tt))))) in
-    let level = level-gives show_leaf words fit (refl, (refl, (refl, (refl, (refl, tt))))) pass in
+    let fit : AreFit rules = ((refl, refl), ((refl, refl), ((refl, refl), ((refl, refl), ((refl, refl), ((refl, refl), tt)))))) in
+    let level = level-gives show_leaf words fit (refl, (refl, (refl, (refl, (refl, (refl, tt)))))) pass in
     let needs : (is_given (codes "dir") rows && true) ≡ true = level.1 in
     let dir = given rules (codes "dir") rows level.0 (both _ _ needs).0 in
     record { dir = is_there _ _ dir.first }
@@ -164,8 +164,8 @@ page_gives : (words : List Text) → level_passes page_leaf [] nothing_held word
 page_gives words pass =
     let rules = page_leaf.rules in
     let rows = rows_after rules [] words in
-    let fit : AreFit rules = ((refl, refl), ((refl, refl), ((refl, refl), ((refl, refl), ((refl, refl), ((refl, refl), tt)))))) in
-    let level = level-gives page_leaf words fit (refl, (refl, (refl, (refl, (refl, (refl, tt)))))) pass in
+    let fit : AreFit rules = ((refl, refl), ((refl, refl), ((refl, refl), ((refl, refl), ((refl, refl), ((refl, refl), ((refl, refl), tt))))))) in
+    let level = level-gives page_leaf words fit (refl, (refl, (refl, (refl, (refl, (refl, (refl, tt))))))) pass in
     let needs : (is_given (codes "dir") rows && (is_given (codes "file") rows && true)) ≡ true = level.1 in
     let dir = given rules (codes "dir") rows level.0 (both _ _ needs).0 in
     let file = given rules (codes "file") rows level.0 (both _ _ (both _ _ needs).1).0 in

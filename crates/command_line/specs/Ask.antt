@@ -15,10 +15,13 @@ use Rattle.clap.specs.declared.error.kind.ErrorKind.TheVariants.{DisplayHelp, Di
 use Rattle.sim_base.specs.declared.fault.Fault.{Fault}
 use Rattle.sim_base.specs.declared.fault.Fault.TheVariants.{Memory, CommandLine}
 use Rattle.command_line.specs.Clock.{clock_of}
+use Rattle.command_line.specs.Tables.{tables_of}
+use Rattle.run_outcome.specs.Outcomes.{usual_tables}
+use Rattle.run_outcome.specs.declared.tables.Tables.{Tables}
 use Rattle.command_line.specs.CommandLine.{program_app}
 use Rattle.sim_base.specs.TraceText.{number_of}
 use Rattle.command_line.specs.declared.words.Ask.{Ask}
-use Rattle.command_line.specs.declared.words.Ask.TheVariants.{Run, Check, Map, Show, Page, Compare, Help, Version}
+use Rattle.command_line.specs.declared.words.Ask.TheVariants.{Run, Check, Map, Show, ShowBanks, Page, Compare, Help, Version}
 use Rattle.command_line.specs.declared.words.Share.{Share}
 use Rattle.command_line.specs.declared.words.Share.TheVariants.{Auto, Always}
 
@@ -63,6 +66,11 @@ IsShare None share = share ≡ Auto
 IsShare (Some word) Auto = word ≡ codes "auto"
 IsShare (Some word) Always = word ≡ codes "always"
 
+-- the tables that are asked for, as the word of `--tables` lists them; without it the usual ones
+abbrev pub IsTables : Option Text → Tables → Type 0
+IsTables None tables = tables ≡ usual_tables
+IsTables (Some word) tables = tables_of word ≡ Some tables
+
 -- the frequency of a clock in kHz, if there is a text, which must state it
 abbrev pub IsClock : Option Text → Option ℕ → Type 0
 IsClock None khz = khz ≡ None
@@ -75,11 +83,12 @@ pub record IsFlag (o : Option Text) (set : Bool) : Type 0 where
   pub unset_by : o ≡ Some (codes "false") → set ≡ false
 
 -- a run with these values
-pub record IsRun (rows : List Row) (config : Text) (cycles workers : ℕ) (share : Share) (out : Text) (traces : List Text) : Type 0 where
+pub record IsRun (rows : List Row) (config : Text) (cycles workers : ℕ) (share : Share) (tables : Tables) (out : Text) (traces : List Text) : Type 0 where
   pub config_is : first_of (codes "config") rows ≡ Some config
   pub cycles_is : IsCount (one_of (codes "cycles") rows) cycles
   pub workers_is : IsCount (one_of (codes "workers") rows) workers
   pub share_is : IsShare (first_of (codes "share") rows) share
+  pub tables_are : IsTables (first_of (codes "tables") rows) tables
   pub out_is : first_of (codes "out") rows ≡ Some out
   pub traces_is : all_of (codes "trace") rows ≡ Some traces
 
@@ -93,18 +102,20 @@ pub record IsMap (rows : List Row) (config : Text) (address : ℕ) : Type 0 wher
   pub config_is : first_of (codes "config") rows ≡ Some config
   pub address_is : IsAddress (first_of (codes "address") rows) address
 
--- a show with these values
-pub record IsShow (rows : List Row) (dir : Text) (all : Bool) (config : Option Text) (khz : Option ℕ) : Type 0 where
+-- a show with these values, with or without the banks
+pub record IsShow (rows : List Row) (banks : Bool) (dir : Text) (all : Bool) (config : Option Text) (khz : Option ℕ) : Type 0 where
   pub dir_is : first_of (codes "dir") rows ≡ Some dir
   pub all_is : IsFlag (one_of (codes "all") rows) all
+  pub banks_is : IsFlag (one_of (codes "banks") rows) banks
   pub config_is : first_of (codes "config") rows ≡ config
   pub clock_is : IsClock (first_of (codes "mhz") rows) khz
 
 -- a page with these values: its timeline is of the first 2,000 cycles unless the words say otherwise
-pub record IsPage (rows : List Row) (dir file : Text) (config : Option Text) (from cycles : ℕ) : Type 0 where
+pub record IsPage (rows : List Row) (dir file : Text) (config : Option Text) (khz : Option ℕ) (from cycles : ℕ) : Type 0 where
   pub dir_is : first_of (codes "dir") rows ≡ Some dir
   pub file_is : first_of (codes "file") rows ≡ Some file
   pub config_is : first_of (codes "config") rows ≡ config
+  pub clock_is : IsClock (first_of (codes "mhz") rows) khz
   pub from_is : IsCountOr 0 (one_of (codes "from") rows) from
   pub cycles_is : IsCountOr 2000 (one_of (codes "cycles") rows) cycles
 
@@ -120,12 +131,14 @@ pub record IsCompare (rows : List Row) (dirs : List Text) (csv : Bool) : Type 0 
 
 -- the command of this name, with these rows, is what is asked for
 abbrev pub IsCommand : Text → List Row → Ask → Type 0
-IsCommand name rows (Run config cycles workers share out traces) =
-    (name ≡ codes "run") × IsRun rows config.now cycles workers share out.now (map (λ t. t.now) traces.items)
+IsCommand name rows (Run config cycles workers share tables out traces) =
+    (name ≡ codes "run") × IsRun rows config.now cycles workers share tables out.now (map (λ t. t.now) traces.items)
 IsCommand name rows (Check config commands) = (name ≡ codes "check") × IsCheck rows config.now commands.now
 IsCommand name rows (Map config address) = (name ≡ codes "map") × IsMap rows config.now address
-IsCommand name rows (Show dir all config khz) = (name ≡ codes "show") × IsShow rows dir.now all (option_map (λ c. c.now) config) khz
-IsCommand name rows (Page dir file config from cycles) = (name ≡ codes "page") × IsPage rows dir.now file.now (option_map (λ c. c.now) config) from cycles
+IsCommand name rows (Show dir all config khz) = (name ≡ codes "show") × IsShow rows false dir.now all (option_map (λ c. c.now) config) khz
+IsCommand name rows (ShowBanks dir all config khz) = (name ≡ codes "show") × IsShow rows true dir.now all (option_map (λ c. c.now) config) khz
+IsCommand name rows (Page dir file config khz from cycles) =
+    (name ≡ codes "page") × IsPage rows dir.now file.now (option_map (λ c. c.now) config) khz from cycles
 IsCommand name rows (Compare dirs csv) = (name ≡ codes "compare") × IsCompare rows (map (λ t. t.now) dirs.items) csv
 IsCommand name rows (Help text) = ⊥
 IsCommand name rows (Version text) = ⊥
@@ -225,6 +238,15 @@ abbrev pub IsNoShare : Option Text → Type 0
 IsNoShare None = ⊥
 IsNoShare (Some word) = (word ≢ codes "auto") × (word ≢ codes "always")
 
+-- the word of `--tables` is there, and lists no tables
+abbrev pub IsNoTables : Option Text → Type 0
+IsNoTables None = ⊥
+IsNoTables (Some word) = tables_of word ≡ None
+
+-- a word of a run means nothing: that of `--share` or that of `--tables`
+abbrev pub IsBadRun : List Row → Type 0
+IsBadRun rows = IsNoShare (first_of (codes "share") rows) ⊎ IsNoTables (first_of (codes "tables") rows)
+
 -- the word of `--mhz` is there, and states no frequency
 abbrev pub IsNoClock : Option Text → Type 0
 IsNoClock None = ⊥
@@ -235,14 +257,15 @@ abbrev pub IsAlone : Option (List Text) → Type 0
 IsAlone None = ⊤
 IsAlone (Some dirs) = length dirs ≤ 1
 
--- the command is a `map` of something that is not a number, a `run` whose `--share` is no word that it knows, a `show` whose `--mhz` states no
--- frequency, or a `compare` of one run
+-- the command is a `map` of something that is not a number, a `run` whose `--share` or `--tables` says nothing that it knows, a `show` or a
+-- `page` whose `--mhz` states no frequency, or a `compare` of one run
 abbrev pub HasBadWord : Option (Text × List Row) → Type 0
 HasBadWord None = ⊥
 HasBadWord (Some command) =
     ((command.0 ≡ codes "map") × IsNoAddress (first_of (codes "address") command.1))
-    ⊎ ((command.0 ≡ codes "run") × IsNoShare (first_of (codes "share") command.1))
+    ⊎ ((command.0 ≡ codes "run") × IsBadRun command.1)
     ⊎ ((command.0 ≡ codes "show") × IsNoClock (first_of (codes "mhz") command.1))
+    ⊎ ((command.0 ≡ codes "page") × IsNoClock (first_of (codes "mhz") command.1))
     ⊎ ((command.0 ≡ codes "compare") × IsAlone (all_of (codes "dir") command.1))
 
 -- each argument that the command needs is there

@@ -43,11 +43,11 @@ config_rule = text_rule (codes "config")
 abbrev pub command_app : Text → List Rule → App
 command_app name rules = fold with_rule (new_app name) rules
 
--- `run CONFIG --cycles N --workers N [--share WHEN] --out DIR TRACE...`
+-- `run CONFIG --cycles N --workers N [--share WHEN] [--tables LIST] --out DIR TRACE...`
 abbrev pub run_app : App
 run_app = command_app (codes "run") (
     config_rule ∷ number_rule (codes "cycles") ∷ number_rule (codes "workers") ∷ word_rule (codes "share")
-    ∷ option_rule (codes "out") ∷ texts_rule (codes "trace") ∷ [])
+    ∷ word_rule (codes "tables") ∷ option_rule (codes "out") ∷ texts_rule (codes "trace") ∷ [])
 
 -- `check CONFIG COMMANDS`
 abbrev pub check_app : App
@@ -57,14 +57,16 @@ check_app = command_app (codes "check") (config_rule ∷ text_rule (codes "comma
 abbrev pub map_app : App
 map_app = command_app (codes "map") (config_rule ∷ text_rule (codes "address") ∷ [])
 
--- `show DIR [--all] [--config FILE] [--mhz N]`
+-- `show DIR [--all] [--banks] [--config FILE] [--mhz N]`
 abbrev pub show_app : App
-show_app = command_app (codes "show") (text_rule (codes "dir") ∷ flag_rule (codes "all") ∷ word_rule (codes "config") ∷ word_rule (codes "mhz") ∷ [])
+show_app = command_app (codes "show") (
+    text_rule (codes "dir") ∷ flag_rule (codes "all") ∷ flag_rule (codes "banks") ∷ word_rule (codes "config") ∷ word_rule (codes "mhz") ∷ [])
 
--- `page DIR FILE [--config FILE] [--from N] [--cycles N]`
+-- `page DIR FILE [--config FILE] [--mhz N] [--from N] [--cycles N]`
 abbrev pub page_app : App
 page_app = command_app (codes "page") (
-    text_rule (codes "dir") ∷ text_rule (codes "file") ∷ word_rule (codes "config") ∷ count_rule (codes "from") ∷ count_rule (codes "cycles") ∷ [])
+    text_rule (codes "dir") ∷ text_rule (codes "file") ∷ word_rule (codes "config") ∷ word_rule (codes "mhz")
+    ∷ count_rule (codes "from") ∷ count_rule (codes "cycles") ∷ [])
 
 -- `compare DIR DIR... [--csv]`
 abbrev pub compare_app : App

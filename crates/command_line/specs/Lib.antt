@@ -1,3 +1,4 @@
 pub mod Clock
+pub mod Tables
 pub mod CommandLine
 pub mod Ask

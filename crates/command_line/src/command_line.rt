@@ -119,6 +119,14 @@ fn share_arg<'a>(alloc: Global) -> Arg<'a>
     word_arg(alloc, "share", "WHEN", help)
 }
 
+fn tables_arg<'a>(alloc: Global) -> Arg<'a>
+    ensures rule { rule_of result ≡ word_rule (codes "tables") }
+    ensures own { result.global ≡ false }
+{
+    let help = "The tables, of commands, stats and final [default: all]";
+    word_arg(alloc, "tables", "LIST", help)
+}
+
 fn out_arg<'a>(alloc: Global) -> Arg<'a>
     ensures rule { rule_of result ≡ option_rule (codes "out") }
     ensures own { result.global ≡ false }
@@ -170,6 +178,13 @@ fn all_arg<'a>(alloc: Global) -> Arg<'a>
     ensures own { result.global ≡ false }
 {
     flag_arg(alloc, "all", "Tells of each core, however many there are")
+}
+
+fn banks_arg<'a>(alloc: Global) -> Arg<'a>
+    ensures rule { rule_of result ≡ flag_rule (codes "banks") }
+    ensures own { result.global ≡ false }
+{
+    flag_arg(alloc, "banks", "Tells of each bank too")
 }
 
 fn mhz_arg<'a>(alloc: Global) -> Arg<'a>
@@ -237,7 +252,7 @@ fn command<'a>(alloc: Global, name: &'a str, about: &'a str, example: &'a str) -
     Command::new(alloc, name).about(about).after_help(example)
 }
 
-// `run CONFIG --cycles N --workers N [--share WHEN] --out DIR TRACE...`
+// `run CONFIG --cycles N --workers N [--share WHEN] [--tables LIST] --out DIR TRACE...`
 fn run_command<'a>(alloc: Global) -> Result<Command<'a>, AllocError>
     ensures { IfOk result (λ c. app_of c ≡ run_app) }
 {
@@ -247,6 +262,7 @@ fn run_command<'a>(alloc: Global) -> Result<Command<'a>, AllocError>
         .arg(cycles_arg(alloc))?
         .arg(workers_arg(alloc))?
         .arg(share_arg(alloc))?
+        .arg(tables_arg(alloc))?
         .arg(out_arg(alloc))?
         .arg(traces_arg(alloc))
 }
@@ -270,18 +286,19 @@ fn map_command<'a>(alloc: Global) -> Result<Command<'a>, AllocError>
         .arg(address_arg(alloc))
 }
 
-// `show DIR [--all] [--config FILE] [--mhz N]`
+// `show DIR [--all] [--banks] [--config FILE] [--mhz N]`
 fn show_command<'a>(alloc: Global) -> Result<Command<'a>, AllocError>
     ensures { IfOk result (λ c. app_of c ≡ show_app) }
 {
     command(alloc, "show", "Prints what a run did", SHOW_EXAMPLE)
         .arg(dir_arg(alloc))?
         .arg(all_arg(alloc))?
+        .arg(banks_arg(alloc))?
         .arg(known_config_arg(alloc))?
         .arg(mhz_arg(alloc))
 }
 
-// `page DIR FILE [--config FILE] [--from N] [--cycles N]`
+// `page DIR FILE [--config FILE] [--mhz N] [--from N] [--cycles N]`
 fn page_command<'a>(alloc: Global) -> Result<Command<'a>, AllocError>
     ensures { IfOk result (λ c. app_of c ≡ page_app) }
 {
@@ -290,6 +307,7 @@ fn page_command<'a>(alloc: Global) -> Result<Command<'a>, AllocError>
         .arg(dir_arg(alloc))?
         .arg(file_arg(alloc))?
         .arg(known_config_arg(alloc))?
+        .arg(mhz_arg(alloc))?
         .arg(from_arg(alloc))?
         .arg(shown_cycles_arg(alloc))
 }

@@ -3,4 +3,5 @@
 
 pub mod clock;
 pub mod command_line;
+mod tables;
 pub mod words;

@@ -3,14 +3,16 @@
 ghost use Rattle.std.specs.Prelude.{◌≡◌, ◌⊎◌, true, Some, None, Ok, IfOk, IfErr, IsOk, IsErr, map, option_map, codes};
 ghost use Rattle.clap.specs.Words.{all_of, first_of, found_of, kind_of, one_of, rows_of, subcommand_rows_of};
 ghost use Rattle.sim_base.specs.TraceText.{number_of};
-ghost use Rattle.command_line.specs.Ask.{is_taken, IsCallForHelp, IsCallForVersion, IsCount, IsCountText, IsCountOr, IsNoneOrCount, IsFlag, IsShare, IsNoShare, IsClock, IsNoClock, IsNoAddress, IsCommand, IsCommandOf, IsCommandFault, IsShown, IsHelpUnlessMemory, IsVersionUnlessMemory, IsNoHelp, IsAskedBy, IsAnswerTo, IsWordsFault, GivesRun, GivesCheck, GivesMap, GivesShow, GivesPage, GivesCompare, GivesAll, AreRuns, IsAlone};
+ghost use Rattle.command_line.specs.Ask.{is_taken, IsCallForHelp, IsCallForVersion, IsCount, IsCountText, IsCountOr, IsNoneOrCount, IsFlag, IsShare, IsNoShare, IsTables, IsNoTables, IsBadRun, IsClock, IsNoClock, IsNoAddress, IsCommand, IsCommandOf, IsCommandFault, IsShown, IsHelpUnlessMemory, IsVersionUnlessMemory, IsNoHelp, IsAskedBy, IsAnswerTo, IsWordsFault, GivesRun, GivesCheck, GivesMap, GivesShow, GivesPage, GivesCompare, GivesAll, AreRuns, IsAlone};
 
 use crate::clock::read_clock;
 use crate::command_line::program;
+use crate::tables::read_tables;
 use clap::error::{Error, ErrorKind};
 use clap::{ArgMatches, Command};
 use cpu_trace::number::read_number;
 use refusal::reason::Reason;
+use run_outcome::tables::Tables;
 use sim_base::fault::Fault;
 use std::alloc::{AllocError, Global};
 use strsim::osa_distance;
@@ -30,12 +32,13 @@ pub enum Share {
 /// What a command line asks for.
 #[derive(Debug, Drop)]
 pub enum Ask<'a> {
-    /// `run CONFIG --cycles N --workers N [--share auto|always] --out DIR TRACE...`: simulates the traces.
+    /// `run CONFIG --cycles N --workers N [--share auto|always] [--tables LIST] --out DIR TRACE...`: simulates the traces.
     Run {
         config: &'a str,
         cycles: u64,
         workers: u64,
         share: Share,
+        tables: Tables,
         out: &'a str,
         traces: Vec<&'a str>,
     },
@@ -57,12 +60,20 @@ pub enum Ask<'a> {
         config: Option<&'a str>,
         khz: Option<u64>,
     },
-    /// `page DIR FILE [--config FILE] [--from N] [--cycles N]`: draws the run whose tables are in a folder, and its commands in a window of
-    /// cycles, with what its configuration adds.
+    /// `show DIR --banks [--all] [--config FILE] [--mhz N]`: tells the same, and what each bank did.
+    ShowBanks {
+        dir: &'a str,
+        all: bool,
+        config: Option<&'a str>,
+        khz: Option<u64>,
+    },
+    /// `page DIR FILE [--config FILE] [--mhz N] [--from N] [--cycles N]`: draws the run whose tables are in a folder, and its commands in a window of
+    /// cycles, with what its configuration adds, and its clock, here in kHz.
     Page {
         dir: &'a str,
         file: &'a str,
         config: Option<&'a str>,
+        khz: Option<u64>,
         from: u64,
         cycles: u64,
     },
@@ -158,9 +169,31 @@ fn share_of(found: &ArgMatches<'_>) -> Result<Share, Fault>
     }
 }
 
+// The tables that a word lists.
+fn tables_named(alloc: Global, word: &str) -> Result<Tables, Fault>
+    ensures named { IfOk result (IsTables (Some word.now)) }
+    ensures refused { IfErr result (λ e. (e ≡ Fault.Memory) ⊎ ((e ≡ Fault.CommandLine) × IsNoTables (Some word.now))) }
+{
+    match read_tables(alloc, word)? {
+        Some(tables) => Ok(tables),
+        None => Err(Fault::CommandLine),
+    }
+}
+
+// The tables that are asked for.
+fn tables_of(alloc: Global, found: &ArgMatches<'_>) -> Result<Tables, Fault>
+    ensures given { IfOk result (IsTables (first_of (codes "tables") (rows_of (found_of found.now)))) }
+    ensures refused { IfErr result (λ e. (e ≡ Fault.Memory) ⊎ ((e ≡ Fault.CommandLine) × IsNoTables (first_of (codes "tables") (rows_of (found_of found.now))))) }
+{
+    match found.get_str("tables") {
+        Some(word) => tables_named(alloc, word),
+        None => Ok(Tables::usual()),
+    }
+}
+
 fn run_ask<'a>(alloc: Global, found: &ArgMatches<'a>) -> Result<Ask<'a>, Fault>
     ensures asked { IfOk result (IsCommand (codes "run") (rows_of (found_of found.now))) }
-    ensures refused { GivesRun (rows_of (found_of found.now)) → IfErr result (λ e. e ≡ Fault.CommandLine → IsNoShare (first_of (codes "share") (rows_of (found_of found.now)))) }
+    ensures refused { GivesRun (rows_of (found_of found.now)) → IfErr result (λ e. e ≡ Fault.CommandLine → IsBadRun (rows_of (found_of found.now))) }
     ensures fault { IfErr result (λ e. IsWordsFault e) }
 {
     Ok(Ask::Run {
@@ -168,6 +201,7 @@ fn run_ask<'a>(alloc: Global, found: &ArgMatches<'a>) -> Result<Ask<'a>, Fault>
         cycles: count_of(found, "cycles")?,
         workers: count_of(found, "workers")?,
         share: share_of(found)?,
+        tables: tables_of(alloc, found)?,
         out: text_of(found, "out")?,
         traces: texts_of(alloc, found, "trace")?,
     })
@@ -233,23 +267,36 @@ fn show_ask<'a>(found: &ArgMatches<'a>) -> Result<Ask<'a>, Fault>
     ensures refused { GivesShow (rows_of (found_of found.now)) → IfErr result (λ e. IsNoClock (first_of (codes "mhz") (rows_of (found_of found.now)))) }
     ensures fault { IfErr result (λ e. e ≡ Fault.CommandLine) }
 {
-    Ok(Ask::Show {
-        dir: text_of(found, "dir")?,
-        all: is_set(found, "all"),
-        config: text_if_given(found, "config"),
-        khz: clock_of(found)?,
-    })
+    let dir = text_of(found, "dir")?;
+    let all = is_set(found, "all");
+    let config = text_if_given(found, "config");
+    let khz = clock_of(found)?;
+    match is_set(found, "banks") {
+        false => Ok(Ask::Show {
+            dir,
+            all,
+            config,
+            khz,
+        }),
+        true => Ok(Ask::ShowBanks {
+            dir,
+            all,
+            config,
+            khz,
+        }),
+    }
 }
 
 fn page_ask<'a>(found: &ArgMatches<'a>) -> Result<Ask<'a>, Fault>
     ensures asked { IfOk result (IsCommand (codes "page") (rows_of (found_of found.now))) }
-    ensures refused { GivesPage (rows_of (found_of found.now)) → IsOk result }
+    ensures refused { GivesPage (rows_of (found_of found.now)) → IfErr result (λ e. IsNoClock (first_of (codes "mhz") (rows_of (found_of found.now)))) }
     ensures fault { IfErr result (λ e. e ≡ Fault.CommandLine) }
 {
     Ok(Ask::Page {
         dir: text_of(found, "dir")?,
         file: text_of(found, "file")?,
         config: text_if_given(found, "config"),
+        khz: clock_of(found)?,
         from: count_or(found, "from", 0)?,
         cycles: count_or(found, "cycles", 2_000)?,
     })
@@ -295,7 +342,21 @@ fn ask_of<'a>(alloc: Global, matches: &ArgMatches<'a>) -> Result<Ask<'a>, Fault>
     }
 }
 
-// What explains a word that means nothing where it stands: an address, the frequency of a clock, when workers share, or a folder alone.
+// What explains a word of a run that means nothing: when workers share, or which tables are asked for.
+fn explain_run_word(alloc: Global, found: &ArgMatches<'_>) -> Result<String, AllocError> {
+    match (found.get_str("share"), found.get_str("tables")) {
+        (Some(text), _) if text != "auto" && text != "always" => {
+            format!(in alloc; "'{text}' is no WHEN of --share: auto or always\n")
+        }
+        (_, Some(text)) => format!(in alloc;
+            "'{text}' is no LIST of --tables: commands, stats and final, or some of these, joined by commas, each at most once\n"
+        ),
+        _ => Ok(String::new(alloc)),
+    }
+}
+
+// What explains a word that means nothing where it stands: an address, the frequency of a clock, when workers share, which tables are asked
+// for, or a folder alone.
 fn explain_word(alloc: Global, matches: &ArgMatches<'_>) -> Result<String, AllocError> {
     let Some((name, found)) = matches.subcommand() else {
         return Ok(String::new(alloc));
@@ -313,10 +374,7 @@ fn explain_word(alloc: Global, matches: &ArgMatches<'_>) -> Result<String, Alloc
             "'{text}' is no N of --mhz: a decimal number such as 1200 or 1333.333, above 0 and below a million\n"
         );
     }
-    match found.get_str("share") {
-        Some(text) => format!(in alloc; "'{text}' is no WHEN of --share: auto or always\n"),
-        None => Ok(String::new(alloc)),
-    }
+    explain_run_word(alloc, found)
 }
 
 // What the matches of a command line ask for, or why they are refused.
@@ -376,7 +434,7 @@ fn help_of<'a>(alloc: Global, error: Error, words: &[&str]) -> Result<Ask<'a>, R
 /// # Errors
 ///
 /// `Fault::CommandLine` where the words are no command of `Ask`, the address of a `map` is no number, the word of `--share` is neither
-/// `auto` nor `always`, the one of `--mhz` states no frequency, or a `compare` has one folder alone, and `Fault::Memory`.
+/// `auto` nor `always`, the one of `--tables` lists no tables, the one of `--mhz` states no frequency, or a `compare` has one folder alone, and `Fault::Memory`.
 pub fn read_words<'a>(alloc: Global, words: &'a [&'a str]) -> Result<Ask<'a>, Reason>
     ensures asked { IfOk result (IsAskedBy (map (λ w. w.now) words.entry.now)) }
     ensures answered { is_taken (map (λ w. w.now) words.entry.now) ≡ true → IsAnswerTo (map (λ w. w.now) words.entry.now) result }

@@ -1,21 +1,26 @@
 //! A channel of the simulator for programs in C: what `dramsim.h` declares.
 #![tactic(auto)]
 
-ghost use Rattle.std.specs.Prelude.{◌≡◌, ◌≢◌, ◌⊎◌, ◌+◌, true, false, None, Some, length, slice_get, option_map, is_some};
+ghost use Rattle.std.specs.Prelude.{◌≡◌, ◌≢◌, ◌⊎◌, ℕ, ◌+◌, true, false, None, Some, ◌<◌, ◌++◌, if◌then◌else◌, List, drop, length, option_map, is_some};
 ghost use Rattle.config_reader.specs.Document.{document_of};
 ghost use Rattle.channel_session.specs.Sent.{message_of};
+ghost use Rattle.channel_session.specs.Addresses.{is_place, IsAddressOf};
+ghost use Rattle.channel_session.specs.Ahead.{IsNextAct};
 ghost use Rattle.channel_session.specs.Keeps.{steps_of, waiting};
-ghost use Rattle.channel_session.specs.Sessions.{Past, IsSession, commands_of, with_sent, with_command, with_reply, refusal, end_refusal};
+ghost use Rattle.channel_session.specs.Sessions.{Past, IsSession, next_command_of, next_reply_of, with_sent, with_command, with_reply, refusal, end_refusal};
 ghost use Rattle.channel_session.specs.declared.session.Session.{Session};
 ghost use Rattle.sim_base.specs.Places.{place_of};
 ghost use Rattle.statistics.specs.Channels.{channel_stats};
-ghost use Rattle.c_interface.specs.Channels.{next_reply_of, open_refusal, IsWell, HasPast, StandsAt, IsClosed, IsOpened};
-ghost use Rattle.c_interface.specs.Rows.{sent_request, command_row, reply_row, place_row, stats_row};
-ghost use Rattle.c_interface.specs.Statuses.{IsStatus, open_status};
+ghost use Rattle.c_interface.specs.Channels.{open_refusal, IsWell, HasPast, StandsAt, IsClosed, IsOpened};
+ghost use Rattle.c_interface.specs.Rows.{sent_request, command_row, reply_row, place_row, place_in, stats_row};
+ghost use Rattle.c_interface.specs.Statuses.{IsStatus, open_status, text_status, IsJudgedAs};
+ghost use Rattle.c_interface.specs.Texts.{fault_text};
 
 use c_interface::channel::KeptChannel;
-use c_interface::fault::status;
-use c_interface::rows::{CommandRow, PlaceRow, ReplyRow, RequestRow, StatsRow};
+use c_interface::fault::{fault_number, status};
+use c_interface::rows::{CommandRow, PlaceRow, ReplyRow, RequestRow, StatsRow, VerdictRow};
+use c_interface::texts::write_fault;
+use c_interface::verdicts::check_commands;
 use std::alloc::Global;
 
 /// Opens a closed channel: the one with a number, of the machine whose configuration a text states, before its first cycle. Any other
@@ -52,6 +57,7 @@ pub extern "C" fn dramsim_send(
     ensures sent { (p : Past) → HasPast channel.old p → result ≡ 0
         → HasPast channel.new (with_sent p (message_of p.s p.channel (sent_request request.now))) }
     ensures left { (p : Past) → HasPast channel.old p → result ≢ 0 → HasPast channel.new p }
+    ensures now { (cycle : ℕ) → StandsAt channel.old cycle → StandsAt channel.new cycle }
     ensures closed { IsClosed channel.old → result ≡ 2 }
 {
     status(channel.send(alloc, &request.to_request()))
@@ -63,10 +69,12 @@ pub extern "C" fn dramsim_run(alloc: Global, channel: &mut KeptChannel, until: u
     requires well { IsWell channel.old }
     ensures well { IsWell channel.new }
     ensures status { (s : Session) (p : Past) → channel.old.handle.value ≡ Some s → IsSession s p
-        → IsStatus (end_refusal s until) result }
+        → IsStatus (end_refusal s.cycle until) result }
     ensures done { (p : Past) → HasPast channel.old p → result ≡ 0 → HasPast channel.new p }
     ensures now { result ≡ 0 → StandsAt channel.new until }
     ensures left { (p : Past) → HasPast channel.old p → result ≢ 1 → HasPast channel.new p }
+    ensures stays { (cycle : ℕ) → StandsAt channel.old cycle → result ≢ 0 → result ≢ 1
+        → StandsAt channel.new cycle }
     ensures lost { result ≡ 1 → IsClosed channel.new }
     ensures closed { IsClosed channel.old → result ≡ 2 }
 {
@@ -84,11 +92,12 @@ pub extern "C" fn dramsim_next_command(
     requires well { IsWell channel.old }
     ensures well { IsWell channel.new }
     ensures found { (s : Session) (p : Past) → channel.old.handle.value ≡ Some s → IsSession s p
-        → result ≡ is_some (slice_get (commands_of p s.cycle) (length p.commands)) }
+        → result ≡ is_some (next_command_of p s.cycle) }
     ensures row { (s : Session) (p : Past) → channel.old.handle.value ≡ Some s → IsSession s p → result ≡ true
-        → Some row.new ≡ option_map command_row (slice_get (commands_of p s.cycle) (length p.commands)) }
+        → Some row.new ≡ option_map command_row (next_command_of p s.cycle) }
     ensures taken { (s : Session) (p : Past) → channel.old.handle.value ≡ Some s → IsSession s p
-        → HasPast channel.new (with_command p (slice_get (commands_of p s.cycle) (length p.commands))) }
+        → HasPast channel.new (with_command p (next_command_of p s.cycle)) }
+    ensures now { (cycle : ℕ) → StandsAt channel.old cycle → StandsAt channel.new cycle }
     ensures none { result ≡ false → row.new ≡ row.old }
     ensures closed { IsClosed channel.old → result ≡ false }
 {
@@ -117,6 +126,7 @@ pub extern "C" fn dramsim_next_reply(
         → Some row.new ≡ option_map (reply_row p.s) (next_reply_of p s.cycle) }
     ensures taken { (s : Session) (p : Past) → channel.old.handle.value ≡ Some s → IsSession s p
         → HasPast channel.new (with_reply p (next_reply_of p s.cycle)) }
+    ensures now { (cycle : ℕ) → StandsAt channel.old cycle → StandsAt channel.new cycle }
     ensures none { result ≡ false → row.new ≡ row.old }
     ensures closed { IsClosed channel.old → result ≡ false }
 {
@@ -171,6 +181,62 @@ pub extern "C" fn dramsim_place(
     }
 }
 
+/// The next cycle from now on in which an open channel acts, if nothing more is sent to it and there is one: it issues nothing before that
+/// cycle, and in it, it issues a command or a request that was sent arrives. Where there is none, or the channel is closed, the cycle is
+/// left as it was.
+#[unsafe(no_mangle)]
+pub extern "C" fn dramsim_next_act(
+    alloc: Global,
+    channel: &mut KeptChannel,
+    cycle: &mut u64,
+) -> bool
+    requires well { IsWell channel.old }
+    ensures well { IsWell channel.new }
+    ensures some { (s : Session) (p : Past) → channel.old.handle.value ≡ Some s → IsSession s p → result ≡ true
+        → IsNextAct p s.cycle (Some cycle.new) }
+    ensures never { (s : Session) (p : Past) → channel.old.handle.value ≡ Some s → IsSession s p → result ≡ false
+        → IsNextAct p s.cycle None }
+    ensures kept { channel.new.handle.value ≡ channel.old.handle.value }
+    ensures none { result ≡ false → cycle.new ≡ cycle.old }
+    ensures closed { IsClosed channel.old → result ≡ false }
+{
+    match channel.next_act(alloc) {
+        Some(next) => {
+            *cycle = next;
+            true
+        }
+        None => false,
+    }
+}
+
+/// The least address of the line at a place in the memory of an open channel's machine. Any other status than 0 leaves the address as it
+/// was.
+#[unsafe(no_mangle)]
+pub extern "C" fn dramsim_address(
+    alloc: Global,
+    channel: &mut KeptChannel,
+    place: &PlaceRow,
+    address: &mut u64,
+) -> u32
+    requires well { IsWell channel.old }
+    ensures well { IsWell channel.new }
+    ensures address { (s : Session) (p : Past) → channel.old.handle.value ≡ Some s → IsSession s p → result ≡ 0
+        → IsAddressOf p.s (place_in place.now) address.new }
+    ensures status { (s : Session) (p : Past) → channel.old.handle.value ≡ Some s → IsSession s p
+        → result ≡ (if is_place p.s (place_in place.now) then 0 else 14) }
+    ensures kept { channel.new.handle.value ≡ channel.old.handle.value }
+    ensures same { result ≢ 0 → address.new ≡ address.old }
+    ensures closed { IsClosed channel.old → result ≡ 2 }
+{
+    match channel.address_of(alloc, &place.to_place()) {
+        Ok(found) => {
+            *address = found;
+            0
+        }
+        Err(fault) => fault_number(fault),
+    }
+}
+
 /// The statistics of the cycles of an open channel that are over. Where it is closed, the row is left as it was.
 #[unsafe(no_mangle)]
 pub extern "C" fn dramsim_stats(
@@ -204,4 +270,37 @@ pub extern "C" fn dramsim_close(alloc: Global, channel: &mut KeptChannel)
     ensures closed { IsClosed channel.new }
 {
     channel.close(alloc);
+}
+
+/// Writes the line for which the program refuses a configuration, without its end, to the front of memory, and its length; 0 where the
+/// configuration is not refused. Any other status than 0 leaves the memory as it was.
+#[unsafe(no_mangle)]
+pub extern "C" fn dramsim_fault_text(
+    alloc: Global,
+    text: &[u8],
+    into: &mut [u8],
+    wanted: &mut usize,
+) -> u32
+    ensures status { (result ≡ 1)
+        ⊎ (result ≡ text_status (fault_text (document_of text.now)) (length into.old)) }
+    ensures written { result ≡ 0 → into.new
+        ≡ fault_text (document_of text.now) ++ drop (length (fault_text (document_of text.now))) into.old }
+    ensures wanted { result ≢ 1 → wanted.new ≡ length (fault_text (document_of text.now)) }
+    ensures same { result ≢ 0 → into.new ≡ into.old }
+{
+    status(write_fault(alloc, text, into, wanted))
+}
+
+/// Judges a table of commands under the configuration that a text states, as `dramsim check` does, and writes what is at fault. The
+/// statuses 1 and 4 leave the row as it was.
+#[unsafe(no_mangle)]
+pub extern "C" fn dramsim_check(
+    alloc: Global,
+    text: &[u8],
+    table: &[u8],
+    row: &mut VerdictRow,
+) -> u32
+    ensures judged { IsJudgedAs text.now table.now row.old row.new result }
+{
+    status(check_commands(alloc, text, table, row))
 }

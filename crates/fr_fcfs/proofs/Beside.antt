@@ -20,6 +20,12 @@ pub beside_all : (left : ℕ → Bool) (test : Request → Bool) (requests : Lis
 beside_all left test requests none =
     same_among (λ r. not (left (bank_number r.place)) && test r) test (λ r. Unit {0}) requests (λ k d exists. tt) (λ r in_all. ap (λ b. not b && test r) (none (bank_number r.place)))
 
+-- the same banks are left
+pub beside_same : (left after : ℕ → Bool) (test : Request → Bool) (requests : List Request) → ((k : ℕ) → left k ≡ after k) → place_beside left test requests ≡ place_beside after test requests
+beside_same left after test requests same =
+    same_among (λ r. not (left (bank_number r.place)) && test r) (λ r. not (after (bank_number r.place)) && test r) (λ r. Unit {0}) requests (λ k d exists. tt)
+    (λ r in_all. ap (λ b. not b && test r) (same (bank_number r.place)))
+
 beside_test : (left after : ℕ → Bool) (bank k : ℕ) (t : Bool) → left bank ≡ true → after bank ≡ false → ((j : ℕ) → (j ≡ bank → ⊥) → after j ≡ left j)
     → (not (after k) && t) ≡ ((not (left k) && t) || (eqb k bank && t))
 beside_test left after bank k t was is others = elim (cases_eq k bank) [

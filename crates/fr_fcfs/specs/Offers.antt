@@ -3,6 +3,7 @@
 --     only write      requests to write go alone, or requests to read
 --     hits_in s history requests accesses bank cycle      the place of the first ready row hit of a bank in a cycle
 --     rows_in s history requests accesses bank cycle      the place of its first request for which an ACT or a PRE may be issued then
+--     rows_beside s history requests accesses left cycle      the place of the first such request of all banks but those that are left
 --     IsBest now hits rows offer      an offer is the first from now on
 --     IsBestSoFar room now hits rows offer      the same, where one with a place after all others stands for none
 --     IsFirstReady s history queue now offer      an offer is what the first ready request of the queue needs
@@ -72,6 +73,10 @@ hits_in s history requests accesses bank cycle = first_place (λ r. (bank_number
 -- the place of its first request for which an ACT or a PRE may be issued then
 abbrev pub rows_in : Config → List IssuedCommand → List Request → Accesses → ℕ → ℕ → Option ℕ
 rows_in s history requests accesses bank cycle = first_place (λ r. (bank_number r.place == bank) && rows_now s history requests accesses cycle r) requests
+
+-- the place of the first such request of all banks but those that are left
+abbrev pub rows_beside : Config → List IssuedCommand → List Request → Accesses → (ℕ → Bool) → ℕ → Option ℕ
+rows_beside s history requests accesses left cycle = first_place (λ r. not (left (bank_number r.place)) && rows_now s history requests accesses cycle r) requests
 
 -- a row hit is at this place, or there is none and the other is
 abbrev pub IsAt : Bool → Option ℕ → Option ℕ → ℕ → Type 0

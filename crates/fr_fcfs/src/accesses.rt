@@ -16,9 +16,25 @@ pub(crate) struct Accesses {
     pub(crate) writes: bool,
 }
 
+/// Both go: the channel never drains.
+pub(crate) const ALL_ACCESSES: Accesses = Accesses {
+    reads: true,
+    writes: true,
+};
+
+pub(crate) const READS: Accesses = Accesses {
+    reads: true,
+    writes: false,
+};
+
+pub(crate) const WRITES: Accesses = Accesses {
+    reads: false,
+    writes: true,
+};
+
 /// The access that goes, where the channel ever drains: true for requests to write, false for requests to read. It is the favoured
 /// one, where there is a request of it.
-fn access_that_goes(queue: &Queue, bank_candidates: &BankCandidates) -> bool
+pub(crate) fn access_that_goes(queue: &Queue, bank_candidates: &BankCandidates) -> bool
     requires { 0 < queue.now.high }
     ensures { (s : Config) (open_rows : ℕ → Option ℕ) → s.write_high ≡ queue.now.high → CandidatesStandFor bank_candidates.now queue.now.requests open_rows
         → candidates_of s queue.now ≡ going (only result) queue.now.requests }
@@ -28,23 +44,5 @@ fn access_that_goes(queue: &Queue, bank_candidates: &BankCandidates) -> bool
         writes
     } else {
         !writes
-    }
-}
-
-/// The accesses that go: both, where the channel never drains.
-pub(crate) fn accesses_that_go(queue: &Queue, bank_candidates: &BankCandidates) -> Accesses
-    ensures { (s : Config) (open_rows : ℕ → Option ℕ) → s.write_high ≡ queue.now.high → CandidatesStandFor bank_candidates.now queue.now.requests open_rows
-        → candidates_of s queue.now ≡ going result queue.now.requests }
-{
-    if queue.high() == 0 {
-        return Accesses {
-            reads: true,
-            writes: true,
-        };
-    }
-    let writes = access_that_goes(queue, bank_candidates);
-    Accesses {
-        reads: !writes,
-        writes,
     }
 }

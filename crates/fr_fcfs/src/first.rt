@@ -1,6 +1,6 @@
 //! The offer that goes first of all banks.
 
-ghost use Rattle.std.specs.Prelude.{◌≡◌, ◌<◌, ◌*◌, ℕ, true, false, ◌&&◌, List, Option, None, All, IsTrue, length, is_some, IfSome};
+ghost use Rattle.std.specs.Prelude.{◌≡◌, ◌<◌, ◌*◌, ℕ, Bool, true, false, ◌&&◌, ◌||◌, List, Option, Some, None, All, IsTrue, length, is_some, IfSome};
 ghost use Rattle.sim_base.specs.Rules.{open_row};
 ghost use Rattle.sim_base.specs.declared.config.Config.{Config};
 ghost use Rattle.sim_base.specs.declared.command.IssuedCommand.{IssuedCommand};
@@ -13,10 +13,10 @@ ghost use Rattle.bank_candidates.specs.Moves.{earlier};
 ghost use Rattle.bank_candidates.specs.Sets.{is_in};
 ghost use Rattle.bank_candidates.specs.Stands.{bank_count, candidates_of_bank, StandsFor as CandidatesStandFor};
 ghost use Rattle.fr_fcfs.specs.Requests.{IsInBanks, candidates_of};
-ghost use Rattle.fr_fcfs.specs.Offers.{only, going, column_kind, if_allowed, hit_candidate, oldest_candidate, hits_now, rows_now, hits_in, rows_in, IsBestSoFar, IsFirstReady};
+ghost use Rattle.fr_fcfs.specs.Offers.{only, going, column_kind, if_allowed, hit_candidate, oldest_candidate, hits_now, rows_now, hits_in, rows_in, rows_beside, row_kind, IsBestSoFar, IsFirstReady};
 
 use crate::accesses::Accesses;
-use crate::offers::{Offer, improve, ready, row_kind};
+use crate::offers::{Offer, improve, ready};
 use bank_candidates::{BankCandidates, BankSet};
 use bank_ready::banks::Banks;
 use queue::Queue;
@@ -61,12 +61,16 @@ fn banks_if(banks: BankSet, allowed: bool) -> BankSet
     if allowed { banks } else { BankSet::none() }
 }
 
-/// The first request of a bank that may be served, of the accesses that go.
+/// The first request of a bank that may be served, of the accesses that go, where there is one.
 #[inline(always)]
-fn oldest(bank_candidates: &BankCandidates, bank: usize, accesses: Accesses) -> Option<usize>
-    requires { bank < bank_count bank_candidates.now }
-    ensures { (d : CandidatesOfBank) → result ≡ oldest_candidate accesses (candidates_of_bank bank_candidates.now bank d) }
+fn oldest(bank_candidates: &BankCandidates, bank: usize, accesses: Accesses) -> usize
+    requires bank { bank < bank_count bank_candidates.now }
+    requires some { (d : CandidatesOfBank) → is_some (oldest_candidate accesses (candidates_of_bank bank_candidates.now bank d)) ≡ true }
+    ensures { (d : CandidatesOfBank) → Some result ≡ oldest_candidate accesses (candidates_of_bank bank_candidates.now bank d) }
 {
+    if accesses.reads && accesses.writes {
+        return bank_candidates.first(bank);
+    }
     let read = if_allowed(
         bank_candidates.of_access(bank, false).oldest,
         accesses.reads,
@@ -75,7 +79,10 @@ fn oldest(bank_candidates: &BankCandidates, bank: usize, accesses: Accesses) -> 
         bank_candidates.of_access(bank, true).oldest,
         accesses.writes,
     );
-    earlier(read, write)
+    match earlier(read, write) {
+        Some(slot) => slot,
+        None => unreachable!(),
+    }
 }
 
 /// The banks for which a request of the accesses that go may be served.
@@ -99,32 +106,41 @@ fn hit(bank_candidates: &BankCandidates, accesses: Accesses) -> BankSet
     reads.union(writes)
 }
 
-/// Takes what opens or closes the row of one more bank into the best offer so far. No request of the accesses that go asks for the open
-/// row. The request is looked for only where the command may be issued soon enough.
+/// What opens or closes rows, for the requests of the accesses that go: an ACT of closed banks, or a PRE of open ones.
+#[derive(Clone, Copy)]
+struct RowCommands {
+    kind: Kind,
+    accesses: Accesses,
+}
+
+/// Takes what opens or closes the row of one more bank into the best offer so far. Some request of the accesses that go asks for the bank,
+/// and none for its open row. The request is looked for only where the command may be issued soon enough.
 #[inline(always)]
 fn with_row(
     best: &mut Offer,
     bank_candidates: &BankCandidates,
     bank: usize,
-    accesses: Accesses,
+    commands: RowCommands,
     banks: &Banks,
     now: Cycle,
 )
     requires bank_candidates { bank < bank_count bank_candidates.now }
     requires banks { bank < 16 * rank_count banks.now }
-    requires no_hit { (d : CandidatesOfBank) → is_some (hit_candidate accesses (candidates_of_bank bank_candidates.now bank d)) ≡ false }
+    requires some { (d : CandidatesOfBank) → is_some (oldest_candidate commands.accesses (candidates_of_bank bank_candidates.now bank d)) ≡ true }
+    requires no_hit { (d : CandidatesOfBank) → is_some (hit_candidate commands.accesses (candidates_of_bank bank_candidates.now bank d)) ≡ false }
+    requires kind { (d : CandidatesOfBank) → commands.kind ≡ row_kind (candidates_of_bank bank_candidates.now bank d).row }
+    requires names_bank { IsTrue (names_bank commands.kind) }
     ensures { (s : Config) (history : List IssuedCommand) (requests : List Request) (hits rows : ℕ → Option ℕ) → BanksStandFor banks.now s history
         → CandidatesStandFor bank_candidates.now requests (λ bank. open_row (bank_at bank) history) → All (IsInBanks (rank_count banks.now)) requests
         → IsBestSoFar (length requests) now hits rows best.old
-        → IsBestSoFar (length requests) now hits (λ cycle. earlier (rows cycle) (rows_in s history requests accesses bank cycle)) best.new }
+        → IsBestSoFar (length requests) now hits (λ cycle. earlier (rows cycle) (rows_in s history requests commands.accesses bank cycle)) best.new }
 {
-    let ready = ready(banks, bank, row_kind(bank_candidates.row_of(bank)));
+    let ready = ready(banks, bank, commands.kind);
     if best.cycle < ready {
         return;
     }
-    if let Some(slot) = oldest(bank_candidates, bank, accesses) {
-        improve(best, ready, false, slot, now);
-    }
+    let slot = oldest(bank_candidates, bank, commands.accesses);
+    improve(best, ready, false, slot, now);
 }
 
 /// Takes the row hit of one more bank into the best offer so far. It is looked for only where it may be issued soon enough.
@@ -153,6 +169,36 @@ fn with_hit(
     }
 }
 
+/// Takes what opens or closes rows into the best offer so far, in some banks, which requests of the accesses that go ask for, but not for
+/// the open row. Those banks were left, beside others.
+#[inline(always)]
+fn with_rows_of(
+    best: &mut Offer,
+    bank_candidates: &BankCandidates,
+    asked: BankSet,
+    commands: RowCommands,
+    banks: &Banks,
+    now: Cycle,
+)
+    requires same_banks { bank_count bank_candidates.now ≡ 16 * rank_count banks.now }
+    requires within { (k : ℕ) → is_in asked k ≡ true → k < bank_count bank_candidates.now }
+    requires some { (k : ℕ) (d : CandidatesOfBank) → is_in asked k ≡ true → is_some (oldest_candidate commands.accesses (candidates_of_bank bank_candidates.now k d)) ≡ true }
+    requires no_hit { (k : ℕ) (d : CandidatesOfBank) → is_in asked k ≡ true → is_some (hit_candidate commands.accesses (candidates_of_bank bank_candidates.now k d)) ≡ false }
+    requires kind { (k : ℕ) (d : CandidatesOfBank) → is_in asked k ≡ true → commands.kind ≡ row_kind (candidates_of_bank bank_candidates.now k d).row }
+    requires names_bank { IsTrue (names_bank commands.kind) }
+    ensures { (s : Config) (history : List IssuedCommand) (requests : List Request) (hits : ℕ → Option ℕ) (left : ℕ → Bool) → BanksStandFor banks.now s history
+        → CandidatesStandFor bank_candidates.now requests (λ bank. open_row (bank_at bank) history) → All (IsInBanks (rank_count banks.now)) requests
+        → ((k : ℕ) → is_in asked k ≡ true → left k ≡ false)
+        → IsBestSoFar (length requests) now hits (rows_beside s history requests commands.accesses (λ k. is_in asked k || left k)) best.old
+        → IsBestSoFar (length requests) now hits (rows_beside s history requests commands.accesses left) best.new }
+{
+    let mut rest = asked;
+    while let Some(bank) = rest.first() {
+        with_row(best, bank_candidates, bank, commands, banks, now);
+        rest = rest.without_first();
+    }
+}
+
 /// Takes what opens or closes a row into the best offer so far, in all banks that are asked for. A row hit keeps its bank from being
 /// closed.
 #[inline(always)]
@@ -169,14 +215,22 @@ fn with_rows(
         → IsBestSoFar (length requests) now hits (λ cycle. None) best.old
         → IsBestSoFar (length requests) now hits (λ cycle. first_place (rows_now s history requests accesses cycle) requests) best.new }
 {
-    let mut rest = banks_with_candidate(bank_candidates, accesses).minus(hit(
+    let asked = banks_with_candidate(bank_candidates, accesses).minus(hit(
         bank_candidates,
         accesses,
     ));
-    while let Some(bank) = rest.first() {
-        with_row(best, bank_candidates, bank, accesses, banks, now);
-        rest = rest.without(bank);
-    }
+    let closed = asked.minus(bank_candidates.open_banks());
+    let opened = asked.minus(closed);
+    let close = RowCommands {
+        kind: Kind::Pre,
+        accesses,
+    };
+    with_rows_of(best, bank_candidates, opened, close, banks, now);
+    let activate = RowCommands {
+        kind: Kind::Act,
+        accesses,
+    };
+    with_rows_of(best, bank_candidates, closed, activate, banks, now);
 }
 
 /// Takes the row hits to write, or to read, into the best offer so far, in all banks.
@@ -197,7 +251,7 @@ fn with_all_hits(
     let mut rest = bank_candidates.hit(write);
     while let Some(bank) = rest.first() {
         with_hit(best, bank_candidates, bank, write, banks, now);
-        rest = rest.without(bank);
+        rest = rest.without_first();
     }
 }
 

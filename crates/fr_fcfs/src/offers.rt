@@ -9,9 +9,9 @@ ghost use Rattle.bank_ready.specs.Stands.{rank_count, StandsFor as BanksStandFor
 ghost use Rattle.bank_candidates.specs.Candidates.{bank_at};
 ghost use Rattle.bank_candidates.specs.Stands.{bank_count, StandsFor as CandidatesStandFor};
 ghost use Rattle.fr_fcfs.specs.Requests.{IsInBanks};
-ghost use Rattle.fr_fcfs.specs.Offers.{goes_before, offer_from, IsReadyFrom, IsFirstReady, row_kind};
+ghost use Rattle.fr_fcfs.specs.Offers.{goes_before, offer_from, IsReadyFrom, IsFirstReady};
 
-use crate::accesses::accesses_that_go;
+use crate::accesses::{ALL_ACCESSES, READS, WRITES, access_that_goes};
 use crate::first::first_of;
 use bank_candidates::BankCandidates;
 use bank_ready::banks::Banks;
@@ -71,19 +71,8 @@ pub(crate) fn ready(banks: &Banks, bank: usize, kind: Kind) -> Cycle
     banks.earliest_in(kind, bank)
 }
 
-/// What closes a bank in which a row is open, and opens one in which none is.
-#[inline(always)]
-pub(crate) fn row_kind(row: Option<u32>) -> Kind
-    ensures kind { result ≡ row_kind row }
-    ensures bank { IsTrue (names_bank result) }
-{
-    match row {
-        Some(_) => Kind::Pre,
-        None => Kind::Act,
-    }
-}
-
-/// The offer that goes first of all banks, from now on.
+/// The offer that goes first of all banks, from now on. All requests go where the channel never drains, and
+/// otherwise those of one access; the search is compiled for each of the three.
 #[inline(always)]
 pub(crate) fn first_offer(
     queue: &Queue,
@@ -98,11 +87,12 @@ pub(crate) fn first_offer(
         → CandidatesStandFor bank_candidates.now queue.now.requests (λ bank. open_row (bank_at bank) history) → s.write_high ≡ queue.now.high
         → IsFirstReady s history queue.now now result }
 {
-    first_of(
-        queue,
-        bank_candidates,
-        accesses_that_go(queue, bank_candidates),
-        banks,
-        now,
-    )
+    if queue.high() == 0 {
+        return first_of(queue, bank_candidates, ALL_ACCESSES, banks, now);
+    }
+    if access_that_goes(queue, bank_candidates) {
+        first_of(queue, bank_candidates, WRITES, banks, now)
+    } else {
+        first_of(queue, bank_candidates, READS, banks, now)
+    }
 }

@@ -7,7 +7,9 @@ ghost use Rattle.sim_base.specs.Machine.{next_core_step, next_step, run, is_reti
 ghost use Rattle.sim_base.specs.Sends.{sends};
 ghost use Rattle.sim_base.specs.Counts.{in_flight};
 ghost use Rattle.plain_steps.specs.Plain.{core_view, channel_view, channel_step_of, is_late};
-ghost use Rattle.statistics.specs.Runs.{stats_of_core, stats_of_channel, last_of_core, last_of_channel, outcome_of};
+ghost use Rattle.statistics.specs.Runs.{stats_of_core, stats_of_channel, last_of_core, last_of_channel};
+ghost use Rattle.run_outcome.specs.Outcomes.{if_asked, outcome_of};
+ghost use Rattle.command_table.specs.Tables.{IsRising};
 ghost use Rattle.one_clock.specs.Steps.{core_step_of};
 ghost use Rattle.one_clock.specs.Held.{HoldsRun, IsCycleOf};
 
@@ -18,6 +20,8 @@ use command_table::table::CommandTable;
 use cpu_trace::trace::Trace;
 use plain_steps::scheduling::ChannelStep;
 use plain_steps::{cores, mail, scheduling};
+use run_outcome::outcome::Outcome;
+use run_outcome::tables::Tables;
 use sim_base::command::IssuedCommand;
 use sim_base::config::Config;
 use sim_base::history::CoreStep;
@@ -26,7 +30,6 @@ use sim_base::trace::Stop;
 use statistics::channels::ChannelStats;
 use statistics::cores::CoreStats;
 use statistics::final_state::{ChannelState, CoreState, FinalState};
-use statistics::outcome::Outcome;
 use statistics::stats::Stats;
 use std::alloc::{AllocError, Global};
 use timing::gap_table::GapTable;
@@ -601,19 +604,20 @@ impl Machine {
         self.note(alloc, s, traces, cycle, &all)
     }
 
-    /// What the run leaves if it ends after this many cycles.
-    #[tactic(auto, unfolding(statistics::specs::Runs::outcome_of, statistics::specs::Runs::outcome_after, statistics::specs::Runs::stats_of, statistics::specs::Runs::final_of), using(crate::proofs::Next::length_run))]
+    /// What the run leaves if it ends after this many cycles, where these tables are asked for.
+    #[tactic(auto, unfolding(run_outcome::specs::Outcomes::outcome_of, run_outcome::specs::Outcomes::outcome_after, statistics::specs::Runs::stats_of, statistics::specs::Runs::final_of), using(crate::proofs::Next::length_run))]
     fn outcome(
         self,
         alloc: Global,
         s: &Config,
         traces: &[Trace],
+        tables: Tables,
         cycle: u64,
     ) -> Result<Outcome, AllocError>
         requires traces { length traces.now ≡ s.now.cores }
         requires early { cycle ≤ 10 ^ 12 }
         requires machine { HoldsRun s.now traces.now cycle self }
-        ensures { IfOk result (λ o. o ≡ outcome_of s.now traces.now cycle) }
+        ensures { IfOk result (λ o. o ≡ outcome_of tables s.now traces.now cycle) }
     {
         let (cores, channels) = units_left(alloc, s, traces, cycle, &self)?;
         let last = FinalState {
@@ -627,7 +631,8 @@ impl Machine {
             channels: self.channel_counts,
         };
         Ok(Outcome {
-            commands: CommandTable::of_rows(alloc, &self.commands)?,
+            tables,
+            commands: table_if_asked(alloc, &self.commands, tables.commands)?,
             stats,
             last,
             ranks: s.ranks,
@@ -635,27 +640,44 @@ impl Machine {
     }
 }
 
-/// Runs the one-clock machine, cycle by cycle, and gives the commands that all channels issue, by cycle and then by channel,
-/// the statistics of the run and the state in which it ends. The run has as many cycles as the limit, or, where the
+/// A table of these commands, if it is asked for.
+fn table_if_asked(
+    alloc: Global,
+    rows: &[IssuedCommand],
+    asked: bool,
+) -> Result<Option<CommandTable>, AllocError>
+    requires { IsRising rows.now }
+    ensures { IfOk result (λ table. table ≡ if_asked asked rows.now) }
+{
+    if asked {
+        Ok(Some(CommandTable::of_rows(alloc, rows)?))
+    } else {
+        Ok(None)
+    }
+}
+
+/// Runs the one-clock machine, cycle by cycle, and gives the commands that all channels issue, by cycle and then by channel, if their table
+/// is asked for, the statistics of the run and the state in which it ends. The run has as many cycles as the limit, or, where the
 /// configuration ends it drained, as many as it takes until all is retired, served and delivered. There is one trace for each
 /// core, and the limit is at most 10^12 cycles. The only error is out of memory.
 pub fn run_plain(
     alloc: Global,
     s: &Config,
     traces: &[Trace],
+    tables: Tables,
     cycles: u64,
 ) -> Result<Outcome, AllocError>
     requires one_trace_a_core { length traces.now ≡ s.now.cores }
     requires limit { cycles ≤ 10 ^ 12 }
-    ensures outcome { IfOk result (λ o. o ≡ outcome_of s.now traces.now (cycles_run s.now traces.now cycles)) }
+    ensures outcome { IfOk result (λ o. o ≡ outcome_of tables s.now traces.now (cycles_run s.now traces.now cycles)) }
 {
     let gaps = GapTable::of(s);
     let mut machine = Machine::start(alloc, s, traces)?;
     for cycle in 0..cycles {
         if ends_here(alloc, s, traces, cycle, &machine)? {
-            return machine.outcome(alloc, s, traces, cycle);
+            return machine.outcome(alloc, s, traces, tables, cycle);
         }
         machine.advance(alloc, s, &gaps, traces, cycle)?;
     }
-    machine.outcome(alloc, s, traces, cycles)
+    machine.outcome(alloc, s, traces, tables, cycles)
 }

@@ -4,5 +4,5 @@
 
 pub mod fault;
 pub mod page;
-mod rows;
+pub mod rows;
 pub mod window;

@@ -5,7 +5,7 @@ ghost use Rattle.page.specs.Rows.{IsOfRunAt, IsReason};
 
 use crate::fault::PageFault;
 use crate::rows::check_rows;
-use crate::window::Window;
+use crate::window::View;
 use command_table::list::CommandList;
 use run_pictures::document::{Run, write_document};
 use sim_base::config::Config;
@@ -16,6 +16,8 @@ use std::io::{ErrorKind, Write};
 /// Writes the page of a run: its statistics, what its channels did over the whole run, and what they did in a window, one command
 /// after the other. The commands are taken in the order of the list, which is to be that of their cycles. Where the configuration is given,
 /// the page also has its keys with their values and the share of the cycles that refreshes take, and draws a REF for as long as it takes.
+/// Where the clock is given, it also has the cycles, the finish and the mean read latency of each core in ns, and the data rate of each channel
+/// in GB/s.
 ///
 /// The page is made in memory before it is written. It grows with the channels, the banks that the run uses and the commands of the window,
 /// but not with the length of the run.
@@ -29,7 +31,7 @@ pub fn write_page<W: Write>(
     stats: &Stats,
     commands: &CommandList,
     config: Option<&Config>,
-    window: Window,
+    view: View,
     writer: &mut W,
 ) -> Result<(), PageFault>
     ensures all_of_run { OnOk result ((place : ℕ) → IsOfRunAt stats.now commands.now place) }
@@ -40,8 +42,9 @@ pub fn write_page<W: Write>(
         stats,
         commands,
         config,
-        from: window.from,
-        end: window.end_in(stats.cycles),
+        khz: view.khz,
+        from: view.window.from,
+        end: view.window.end_in(stats.cycles),
     };
     match write_document(alloc, &run, writer) {
         Ok(()) => Ok(()),

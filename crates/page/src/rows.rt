@@ -20,7 +20,7 @@ fn is_of_run(stats: &Stats, row: &IssuedCommand) -> bool
 /// # Errors
 ///
 /// `PageFault::Command` with the place of a command that is not.
-pub(crate) fn check_rows(stats: &Stats, commands: &CommandList) -> Result<(), PageFault>
+pub fn check_rows(stats: &Stats, commands: &CommandList) -> Result<(), PageFault>
     ensures all { OnOk result ((place : ℕ) → IsOfRunAt stats.now commands.now place) }
     ensures stranger { IfErr result (IsReason stats.now commands.now) }
 {

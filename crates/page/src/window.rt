@@ -1,4 +1,4 @@
-//! The cycles that a timeline shows.
+//! What a page shows: the cycles of its timeline, and its clock.
 
 ghost use Rattle.std.specs.Prelude.{◌≡◌, ◌+◌, min};
 
@@ -7,6 +7,13 @@ ghost use Rattle.std.specs.Prelude.{◌≡◌, ◌+◌, min};
 pub struct Window {
     pub from: u64,
     pub cycles: u64,
+}
+
+/// The window of the timeline, and the clock in kHz, where times are shown too.
+#[derive(Clone, Copy, PartialEq, Eq, Debug)]
+pub struct View {
+    pub window: Window,
+    pub khz: Option<u64>,
 }
 
 impl Window {

@@ -3,17 +3,18 @@ use Rattle.std.proofs.Common.{◌≡◌, ◌⊎◌, inl, inr, ℕ, List, Option,
 use Rattle.refusal.specs.declared.warning.LargePage.{LargePage}
 use Rattle.command_line.specs.Ask.{IsAskedBy}
 use Rattle.command_line.specs.declared.words.Ask.{Ask}
-use Rattle.command_line.specs.declared.words.Ask.TheVariants.{Run, Check, Map, Show, Page, Compare, Help, Version}
+use Rattle.command_line.specs.declared.words.Ask.TheVariants.{Run, Check, Map, Show, ShowBanks, Page, Compare, Help, Version}
 use Rattle.program.specs.Answered.{IsQuiet, AskForPage}
 
 -- nothing is warned of, unless the words ask for a page
 pub quiet_unless_page : (words : List (List ℕ)) (ask : Ask) (warning : Option LargePage) → IsAskedBy words ask → IsQuiet ask warning → (warning ≡ None) ⊎ AskForPage words
-quiet_unless_page words (Page dir file config from cycles) warning asked quiet =
-    inr (record { ask = Page dir file config from cycles; asked = asked; for_page = tt })
-quiet_unless_page words (Run config cycles workers share out traces) warning asked quiet = inl quiet
+quiet_unless_page words (Page dir file config khz from cycles) warning asked quiet =
+    inr (record { ask = Page dir file config khz from cycles; asked = asked; for_page = tt })
+quiet_unless_page words (Run config cycles workers share tables out traces) warning asked quiet = inl quiet
 quiet_unless_page words (Check config commands) warning asked quiet = inl quiet
 quiet_unless_page words (Map config address) warning asked quiet = inl quiet
 quiet_unless_page words (Show dir all config khz) warning asked quiet = inl quiet
+quiet_unless_page words (ShowBanks dir all config khz) warning asked quiet = inl quiet
 quiet_unless_page words (Compare dirs csv) warning asked quiet = inl quiet
 quiet_unless_page words (Help text) warning asked quiet = inl quiet
 quiet_unless_page words (Version text) warning asked quiet = inl quiet

@@ -6,7 +6,8 @@ use Rattle.std.proofs.lemmas.List.{length-map}
 use Rattle.sim_base.specs.declared.fault.Fault.{Fault}
 use Rattle.sim_base.specs.declared.fault.Fault.TheVariants.{Memory}
 use Rattle.simulation.specs.Runs.{input_of, IsRefusal, IsRunOf}
-use Rattle.statistics.specs.Values.{RunOutcome}
+use Rattle.run_outcome.specs.Values.{RunOutcome}
+use Rattle.run_outcome.specs.declared.tables.Tables.{Tables}
 use Rattle.whole_files.specs.Files.{Held, SameFiles}
 use Rattle.answers.specs.Refused.{LacksOne, AreTexts, IsFilesFault, IsAnswerFault}
 use Rattle.program.specs.Refused.{IsRunRefusal, IsRunFault, IsRightRun}
@@ -35,8 +36,8 @@ run_texts tells old mid config document name bytes paths texts is same count rea
   texts_are = λ t. ap₂ (λ x xs. x ∷ xs) (is t) (texts_held old mid name bytes paths texts (same t) (read t));
 }
 
-pub right_run : (document : List ℕ) (texts : List (List ℕ)) (cycles workers : ℕ) (run : RunOutcome) → IsRunOf document texts cycles workers run → IsRightRun cycles workers (document ∷ texts)
-right_run document texts cycles workers run ran = ap is_ok ran.read
+pub right_run : (document : List ℕ) (texts : List (List ℕ)) (cycles workers : ℕ) (tables : Tables) (run : RunOutcome) → IsRunOf document texts cycles workers tables run → IsRightRun cycles workers (document ∷ texts)
+right_run document texts cycles workers tables run ran = ap is_ok ran.read
 
 -- what is wrong with the input of a run, or memory
 pub input_refused : (document : List ℕ) (texts : List (List ℕ)) (cycles workers : ℕ) (fault : Fault) → (fault ≢ Memory → input_of document texts cycles workers ≡ Err fault)
@@ -57,3 +58,8 @@ run_refused tells held paths document texts cycles workers fault read (inr (writ
 pub when_ok : {T E : Type 0} (r : Result T E) (P : Type 0) → IsOk r → OnOk r P → P
 when_ok (Ok x) P is on = on
 when_ok (Err e) P is on = cc
+
+-- what follows from two facts of success
+pub both_on_ok : {T E : Type 0} {P Q R : Type 0} (r : Result T E) → (P → Q → R) → OnOk r P → OnOk r Q → OnOk r R
+both_on_ok (Ok x) f p q = f p q
+both_on_ok (Err e) f p q = tt

@@ -1,8 +1,8 @@
 -- What the program does for what the words ask, where the set of files tells what it holds.
 --     Seen      what can be seen of the files and the stream
---     IsOutcome config cycles workers traces held run      the outcome of a run over what the named files hold
---     IsRunDone config cycles workers out traces old new      its tables are in the folder
---     IsUnfinished refusal config cycles workers out traces has_folder old new before after      what is left of a run that is refused
+--     IsOutcome config cycles workers tables traces held run      the outcome of a run over what the named files hold
+--     IsRunDone config cycles workers tables out traces old new before after      its tables are in the folder
+--     IsUnfinished refusal config cycles workers tables out traces has_folder old new before after      what is left of a run that is refused
 --     IsAnswer ask done old new      what is asked has been done
 --     IsQuiet ask warning      nothing is warned of but pages
 --     IsLeft refusal ask old new      what is left where it has not been done
@@ -11,7 +11,8 @@
 --     AskForPage words      the words ask for a page
 use Rattle.std.specs.Prelude.{◌≡◌, ◌⊎◌, ⊤, ℕ, Bool, true, List, [], ◌∷◌, ◌++◌, map, option_map, string_bytes, Option, Some, None, if◌then◌else◌}
 use Rattle.std.specs.Io.KnownBytes.{Appends}
-use Rattle.statistics.specs.Values.{RunOutcome}
+use Rattle.run_outcome.specs.Values.{RunOutcome}
+use Rattle.run_outcome.specs.declared.tables.Tables.{Tables}
 use Rattle.simulation.specs.Runs.{IsRunOf, IsJudgedLegal}
 use Rattle.command_line.specs.Ask.{IsAskedBy}
 use Rattle.whole_files.specs.Files.{Held, IsUntouched}
@@ -24,10 +25,11 @@ use Rattle.whole_files.specs.Tables.{parts, IsWritten, LeavesAll, IsUnplaced}
 use Rattle.answers.specs.Answers.{IsChecked, IsMapped, IsShown, IsCompared}
 use Rattle.compare.specs.declared.layout.Layout.{Layout}
 use Rattle.compare.specs.declared.layout.Layout.TheVariants.{Screen, Csv}
+use Rattle.answers.specs.Banks.{IsShownWithBanks}
 use Rattle.answers.specs.Pages.{IsPageDone}
 use Rattle.refusal.specs.declared.refusal.Refusal.{Refusal}
 use Rattle.command_line.specs.declared.words.Ask.{Ask}
-use Rattle.command_line.specs.declared.words.Ask.TheVariants.{Run, Check, Map, Show, Page, Compare, Help, Version}
+use Rattle.command_line.specs.declared.words.Ask.TheVariants.{Run, Check, Map, Show, ShowBanks, Page, Compare, Help, Version}
 
 -- what the paths hold, where folders stand, which paths were opened to be written, and what the stream of answers holds, where that is told
 pub record Seen : Type 0 where
@@ -39,41 +41,41 @@ pub record Seen : Type 0 where
 abbrev pub seen : Held → (List ℕ → Bool) → List (List ℕ) → Option (List ℕ) → Seen
 seen held has_folder opened printed = record { held = held; has_folder = has_folder; opened = opened; printed = printed }
 
--- The files that are named hold a configuration and traces, this is the outcome of the one-clock machine that they describe, and
--- `check` says of the table of its commands that it is legal.
-pub record IsOutcome (config : List ℕ) (cycles workers : ℕ) (traces : List (List ℕ)) (held : Held) (run : RunOutcome) : Type 0 where
+-- The files that are named hold a configuration and traces, this is the outcome of the one-clock machine that they describe, with the tables
+-- that are asked for, and `check` says of the table of its commands that it is legal.
+pub record IsOutcome (config : List ℕ) (cycles workers : ℕ) (tables : Tables) (traces : List (List ℕ)) (held : Held) (run : RunOutcome) : Type 0 where
   pub document : List ℕ
   pub texts : List (List ℕ)
   pub config_is : held config ≡ Some document
   pub traces_are : map held traces ≡ map Some texts
-  pub run_is : IsRunOf document texts cycles workers run
-  pub legal : IsJudgedLegal document run
+  pub run_is : IsRunOf document texts cycles workers tables run
+  pub legal : IsJudgedLegal document texts cycles workers tables run
 
--- the tables of the outcome are in the folder, and nothing else has changed
-pub record IsRunDone (config : List ℕ) (cycles workers : ℕ) (out : List ℕ) (traces : List (List ℕ)) (old new : Held) : Type 0 where
+-- the tables of the outcome that are asked for are in the folder and no others, just these were opened, and nothing else has changed
+pub record IsRunDone (config : List ℕ) (cycles workers : ℕ) (tables : Tables) (out : List ℕ) (traces : List (List ℕ)) (old new : Held) (before after : List (List ℕ)) : Type 0 where
   pub run : RunOutcome
-  pub outcome : IsOutcome config cycles workers traces old run
+  pub outcome : IsOutcome config cycles workers tables traces old run
   pub written : IsWritten out run old new
+  pub opened_are : after ≡ before ++ parts out run
 
 -- the run has an outcome, its folder was there before it began, and its tables could not all be given their places
-pub record IsRunLeft (refusal : Refusal) (config : List ℕ) (cycles workers : ℕ) (out : List ℕ) (traces : List (List ℕ)) (has_folder : Bool) (old new : Held) : Type 0 where
+pub record IsRunLeft (refusal : Refusal) (config : List ℕ) (cycles workers : ℕ) (tables : Tables) (out : List ℕ) (traces : List (List ℕ)) (has_folder : Bool) (old new : Held) : Type 0 where
   pub run : RunOutcome
   pub folder : has_folder ≡ true
-  pub outcome : IsOutcome config cycles workers traces old run
+  pub outcome : IsOutcome config cycles workers tables traces old run
   pub unplaced : IsUnplaced refusal out run old new
 
 -- What is left of a run that is refused: it had no outcome, as where its folder was not there, or memory was refused, and no file has
 -- changed and none was opened to be written; or its folder was there, it had an outcome, and is left undone after that.
-abbrev pub IsUnfinished : Refusal → List ℕ → ℕ → ℕ → List ℕ → List (List ℕ) → Bool → Held → Held → List (List ℕ) → List (List ℕ) → Type 0
-IsUnfinished refusal config cycles workers out traces has_folder old new before after =
-    LeavesAll refusal old new before after ⊎ IsRunLeft refusal config cycles workers out traces has_folder old new
+abbrev pub IsUnfinished : Refusal → List ℕ → ℕ → ℕ → Tables → List ℕ → List (List ℕ) → Bool → Held → Held → List (List ℕ) → List (List ℕ) → Type 0
+IsUnfinished refusal config cycles workers tables out traces has_folder old new before after =
+    LeavesAll refusal old new before after ⊎ IsRunLeft refusal config cycles workers tables out traces has_folder old new
 
--- a run has been done: its folder was there before it began, it prints nothing, and opens just its three tables
-pub record IsRunAnswer (config : List ℕ) (cycles workers : ℕ) (out : List ℕ) (traces : List (List ℕ)) (status : ℕ) (old new : Seen) : Type 0 where
+-- a run has been done: its folder was there before it began, it prints nothing, and opens just the tables that are asked for
+pub record IsRunAnswer (config : List ℕ) (cycles workers : ℕ) (tables : Tables) (out : List ℕ) (traces : List (List ℕ)) (status : ℕ) (old new : Seen) : Type 0 where
   pub status_is : status ≡ 0
   pub folder : old.has_folder out ≡ true
-  pub done : IsRunDone config cycles workers out traces old.held new.held
-  pub opened_are : new.opened ≡ old.opened ++ parts out
+  pub done : IsRunDone config cycles workers tables out traces old.held new.held old.opened new.opened
   pub silent : new.printed ≡ old.printed
 
 -- a table has been checked
@@ -91,6 +93,12 @@ pub record IsMapAnswer (config : List ℕ) (address status : ℕ) (old new : See
 pub record IsShowAnswer (dir : List ℕ) (config : Option (List ℕ)) (status : ℕ) (old new : Seen) : Type 0 where
   pub status_is : status ≡ 0
   pub shown : IsShown dir config old.held old.printed new.printed
+  pub untouched : IsUntouched old.held new.held old.opened new.opened
+
+-- a run has been shown with its banks
+pub record IsBanksAnswer (dir : List ℕ) (config : Option (List ℕ)) (status : ℕ) (old new : Seen) : Type 0 where
+  pub status_is : status ≡ 0
+  pub shown : IsShownWithBanks dir config old.held old.printed new.printed
   pub untouched : IsUntouched old.held new.held old.opened new.opened
 
 -- a page has been made: it prints nothing, and opens just one file
@@ -123,31 +131,32 @@ pub record IsHelpAnswer (text : List ℕ) (status : ℕ) (old new : Seen) : Type
 
 -- what is asked has been done
 abbrev pub IsAnswer : Ask → Done → Seen → Seen → Type 0
-IsAnswer (Run config cycles workers share out traces) done old new =
-    IsRunAnswer config.now cycles workers out.now (map (λ t. t.now) traces.items) done.status old new
+IsAnswer (Run config cycles workers share tables out traces) done old new =
+    IsRunAnswer config.now cycles workers tables out.now (map (λ t. t.now) traces.items) done.status old new
 IsAnswer (Check config commands) done old new = IsCheckAnswer config.now commands.now done.status old new
 IsAnswer (Map config address) done old new = IsMapAnswer config.now address done.status old new
 IsAnswer (Show dir all config khz) done old new = IsShowAnswer dir.now (option_map (λ c. c.now) config) done.status old new
-IsAnswer (Page dir file config from cycles) done old new = IsPageAnswer dir.now file.now (option_map (λ c. c.now) config) done old new
+IsAnswer (ShowBanks dir all config khz) done old new = IsBanksAnswer dir.now (option_map (λ c. c.now) config) done.status old new
+IsAnswer (Page dir file config khz from cycles) done old new = IsPageAnswer dir.now file.now (option_map (λ c. c.now) config) done old new
 IsAnswer (Compare dirs csv) done old new = IsCompareAnswer (map (λ d. d.now) dirs.items) csv done.status old new
 IsAnswer (Help text) done old new = IsHelpAnswer (string_bytes text) done.status old new
 IsAnswer (Version text) done old new = IsHelpAnswer (string_bytes text) done.status old new
 
 -- it is a page
 abbrev pub IsForPage : Ask → Type 0
-IsForPage (Page dir file config from cycles) = ⊤
+IsForPage (Page dir file config khz from cycles) = ⊤
 IsForPage _ = ⊥
 
 -- nothing is warned of but pages
 abbrev pub IsQuiet : Ask → Option LargePage → Type 0
-IsQuiet (Page dir file config from cycles) warning = ⊤
+IsQuiet (Page dir file config khz from cycles) warning = ⊤
 IsQuiet _ warning = warning ≡ None
 
 -- what is left where it has not been done: nothing was touched, or a run is left undone after its outcome was there, or a page
 abbrev pub IsLeft : Refusal → Ask → Seen → Seen → Type 0
-IsLeft refusal (Run config cycles workers share out traces) old new =
-    IsUnfinished refusal config.now cycles workers out.now (map (λ t. t.now) traces.items) (old.has_folder out.now) old.held new.held old.opened new.opened
-IsLeft refusal (Page dir file config from cycles) old new = IsPageLeft refusal file.now old new
+IsLeft refusal (Run config cycles workers share tables out traces) old new =
+    IsUnfinished refusal config.now cycles workers tables out.now (map (λ t. t.now) traces.items) (old.has_folder out.now) old.held new.held old.opened new.opened
+IsLeft refusal (Page dir file config khz from cycles) old new = IsPageLeft refusal file.now old new
 IsLeft refusal _ old new = LeavesAll refusal old.held new.held old.opened new.opened
 
 -- what the words ask for has been done, with this status and this warning

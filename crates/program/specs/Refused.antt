@@ -18,7 +18,7 @@ use Rattle.answers.specs.Answers.{stats_path}
 use Rattle.answers.specs.Named.{with_config}
 use Rattle.answers.specs.Refused.{IsTableFault, IsRightTable, IsMapFault, IsRightMap, IsShowFault, IsRightShow, IsPageFault, IsRightPage, IsCompareFault, IsRightCompare, IsAnswerFault}
 use Rattle.command_line.specs.declared.words.Ask.{Ask}
-use Rattle.command_line.specs.declared.words.Ask.TheVariants.{Run, Check, Map, Show, Page, Compare, Help, Version}
+use Rattle.command_line.specs.declared.words.Ask.TheVariants.{Run, Check, Map, Show, ShowBanks, Page, Compare, Help, Version}
 
 -- the words call for no help and no version, and the command line does not take them, unless a word of theirs is bad
 pub record HasNoAsk (words : List Text) : Type 0 where
@@ -28,11 +28,13 @@ pub record HasNoAsk (words : List Text) : Type 0 where
 
 -- the files that are read, in their order; a configuration is the first
 abbrev pub named : Ask → List (List ℕ)
-named (Run config cycles workers share out traces) = config.now ∷ map (λ t. t.now) traces.items
+named (Run config cycles workers share tables out traces) = config.now ∷ map (λ t. t.now) traces.items
 named (Check config commands) = config.now ∷ commands.now ∷ []
 named (Map config address) = config.now ∷ []
 named (Show dir all config khz) = with_config (option_map (λ c. c.now) config) (path_in dir.now stats_name ∷ [])
-named (Page dir file config from cycles) =
+named (ShowBanks dir all config khz) =
+    with_config (option_map (λ c. c.now) config) (path_in dir.now stats_name ∷ path_in dir.now commands_name ∷ [])
+named (Page dir file config khz from cycles) =
     with_config (option_map (λ c. c.now) config) (path_in dir.now stats_name ∷ path_in dir.now commands_name ∷ [])
 named (Compare dirs csv) = map (λ d. stats_path d.now) dirs.items
 named (Help text) = []
@@ -55,22 +57,24 @@ IsRightRun cycles workers _ = ⊥
 
 -- what is wrong with the texts of the files that are read
 abbrev pub IsFaultIn : Ask → List (List ℕ) → Fault → Type 0
-IsFaultIn (Run config cycles workers share out traces) = IsRunFault cycles workers
+IsFaultIn (Run config cycles workers share tables out traces) = IsRunFault cycles workers
 IsFaultIn (Check config commands) = IsTableFault
 IsFaultIn (Map config address) = IsMapFault
 IsFaultIn (Show dir all config khz) = IsShowFault
-IsFaultIn (Page dir file config from cycles) = IsPageFault
+IsFaultIn (ShowBanks dir all config khz) = IsPageFault
+IsFaultIn (Page dir file config khz from cycles) = IsPageFault
 IsFaultIn (Compare dirs csv) = IsCompareFault
 IsFaultIn (Help text) = λ _ _. ⊥
 IsFaultIn (Version text) = λ _ _. ⊥
 
 -- nothing is
 abbrev pub IsRight : Ask → List (List ℕ) → Type 0
-IsRight (Run config cycles workers share out traces) = IsRightRun cycles workers
+IsRight (Run config cycles workers share tables out traces) = IsRightRun cycles workers
 IsRight (Check config commands) = IsRightTable
 IsRight (Map config address) = IsRightMap
 IsRight (Show dir all config khz) = IsRightShow
-IsRight (Page dir file config from cycles) = IsRightPage
+IsRight (ShowBanks dir all config khz) = IsRightPage
+IsRight (Page dir file config khz from cycles) = IsRightPage
 IsRight (Compare dirs csv) = IsRightCompare
 IsRight (Help text) = λ _. ⊤
 IsRight (Version text) = λ _. ⊤

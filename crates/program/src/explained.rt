@@ -8,11 +8,12 @@ use crate::host::Host;
 use config_reader::read_config;
 use explain::{of_config, of_host, of_numbers, of_traces};
 use refusal::reason::Reason;
+use run_outcome::outcome::Outcome;
+use run_outcome::tables::Tables;
 use sim_base::fault::Fault;
 use sim_base::message::Cycle;
 use simulation::input::read_input;
 use simulation::runs::simulate;
-use statistics::outcome::Outcome;
 use std::alloc::{AllocError, Global};
 use std::sync::Wait;
 use std::thread::Threads;
@@ -65,9 +66,10 @@ fn simulated<R: Threads + Wait + Sync, W: Watch>(
     input: &Input<'_>,
     cycles: Cycle,
     workers: Workers,
+    tables: Tables,
 ) -> Result<Outcome, Reason>
-    ensures run { IfOk result (IsRunOf input.now.document.now (map (λ t. t.now) input.now.texts.now) cycles workers.count) }
-    ensures legal { IfOk result (IsJudgedLegal input.now.document.now) }
+    ensures run { IfOk result (IsRunOf input.now.document.now (map (λ t. t.now) input.now.texts.now) cycles workers.count tables) }
+    ensures legal { IfOk result (IsJudgedLegal input.now.document.now (map (λ t. t.now) input.now.texts.now) cycles workers.count tables) }
     ensures refused { IfErr result (IsRefusal input.now.document.now (map (λ t. t.now) input.now.texts.now) cycles workers.count) }
 {
     let Input {
@@ -77,7 +79,7 @@ fn simulated<R: Threads + Wait + Sync, W: Watch>(
     } = *input;
     let (threads, watch) = (host.threads, &mut *host.watch);
     match simulate(
-        threads, alloc, &Open, watch, document, texts, cycles, workers,
+        threads, alloc, &Open, watch, document, texts, cycles, workers, tables,
     ) {
         Ok(run) => Ok(run),
         Err(fault) => Err(Reason::explained(
@@ -120,15 +122,16 @@ pub(crate) fn outcome_of<R: Threads + Wait + Sync, W: Watch>(
     input: &Input<'_>,
     cycles: Cycle,
     workers: Workers,
+    tables: Tables,
 ) -> Result<Outcome, Reason>
     requires folder { IfErr folder (λ e. e ≡ Fault.Write) }
-    ensures run { IfOk result (IsRunOf input.now.document.now (map (λ t. t.now) input.now.texts.now) cycles workers.count) }
-    ensures legal { IfOk result (IsJudgedLegal input.now.document.now) }
+    ensures run { IfOk result (IsRunOf input.now.document.now (map (λ t. t.now) input.now.texts.now) cycles workers.count tables) }
+    ensures legal { IfOk result (IsJudgedLegal input.now.document.now (map (λ t. t.now) input.now.texts.now) cycles workers.count tables) }
     ensures folder { OnOk result (IsOk folder) }
     ensures refused { IfErr result (IsRunRefusal input.now.document.now (map (λ t. t.now) input.now.texts.now) cycles workers.count) }
 {
     match folder {
-        Ok(()) => simulated(host, alloc, input, cycles, workers),
+        Ok(()) => simulated(host, alloc, input, cycles, workers, tables),
         Err(reason) => {
             test_input(host.threads, alloc, input, cycles, workers.count)?;
             Err(reason)

@@ -10,6 +10,7 @@ ghost use Rattle.refusal.specs.Streams.{has_refused, stream_of};
 use crate::done::Done;
 use crate::host::Host;
 use crate::runs::perform_run;
+use answers::banks::perform_show_banks;
 use answers::comparisons::perform_compare;
 use answers::pages::perform_page;
 use answers::places::perform_map;
@@ -18,7 +19,7 @@ use answers::screens::perform_show;
 use answers::verdicts::perform_check;
 use command_line::words::{Ask, Share, read_words};
 use compare::layout::Layout;
-use page::window::Window;
+use page::window::{View, Window};
 use refusal::error_stream::ErrorStream;
 use refusal::lines::write_lines;
 use refusal::refusal::Refusal;
@@ -70,11 +71,14 @@ fn answer<R: Threads + Wait + Sync, W: Watch, F: FileSet, P: Write>(
             cycles,
             workers,
             share,
+            tables,
             out,
             traces,
         } => {
             let workers = workers_of(*workers, *share);
-            perform_run(host, alloc, files, config, *cycles, workers, out, traces)?;
+            perform_run(
+                host, alloc, files, config, *cycles, workers, *tables, out, traces,
+            )?;
             Ok(Done::quiet())
         }
         Ask::Check { config, commands } => {
@@ -98,18 +102,35 @@ fn answer<R: Threads + Wait + Sync, W: Watch, F: FileSet, P: Write>(
             perform_show(alloc, files, output, dir, options, *config)?;
             Ok(Done::quiet())
         }
+        Ask::ShowBanks {
+            dir,
+            all,
+            config,
+            khz,
+        } => {
+            let options = Options {
+                all: *all,
+                khz: *khz,
+            };
+            perform_show_banks(alloc, files, output, dir, options, *config)?;
+            Ok(Done::quiet())
+        }
         Ask::Page {
             dir,
             file,
             config,
+            khz,
             from,
             cycles,
         } => {
-            let window = Window {
-                from: *from,
-                cycles: *cycles,
+            let view = View {
+                window: Window {
+                    from: *from,
+                    cycles: *cycles,
+                },
+                khz: *khz,
             };
-            let warning = perform_page(alloc, files, dir, file, *config, window)?;
+            let warning = perform_page(alloc, files, dir, file, *config, view)?;
             Ok(Done::with_warning(warning))
         }
         Ask::Compare { dirs, csv } => {
@@ -151,7 +172,7 @@ fn answer_words<R: Threads + Wait + Sync, W: Watch, F: FileSet, P: Write>(
 /// told, but of a page of more than 50 MB one line that warns of it, with its length in bytes.
 ///
 /// Promises about files are made only where the set of files tells what it holds. A run whose status is 0 has put the tables of its
-/// outcome into the folder. Where it is 2, either the run had no outcome, and nothing was opened; or the places of the
+/// outcome that were asked for into the folder, and none of another run is left there. Where it is 2, either the run had no outcome, and nothing was opened; or the places of the
 /// tables hold what they held, and none is left under a name that ends in `.part`; or a file could not be renamed after another one
 /// was, and each table is the earlier one or the new one, whole: in that case there is the second line.
 pub fn perform<R: Threads + Wait + Sync, W: Watch, F: FileSet, P: Write, E: Write>(

@@ -6,16 +6,16 @@ ghost use Rattle.program.specs.Answered.{IsOutcome, IsRunDone, IsUnfinished};
 ghost use Rattle.program.specs.Refused.{IsRunFault, IsRightRun};
 ghost use Rattle.refusal.specs.Refusals.{fault_of};
 ghost use Rattle.whole_files.specs.Files.{SameFiles, AreHeld, IsReadFault};
-ghost use Rattle.whole_files.specs.Tables.{parts};
 
 use crate::explained::{Input, outcome_of};
 use crate::host::Host;
 use crate::shared::SharedText;
 use refusal::reason::Reason;
 use refusal::refusal::Refusal;
+use run_outcome::outcome::Outcome;
+use run_outcome::tables::Tables;
 use sim_base::fault::Fault;
 use sim_base::message::Cycle;
-use statistics::outcome::Outcome;
 use std::alloc::{AllocError, Global};
 use std::sync::Wait;
 use std::thread::Threads;
@@ -97,11 +97,12 @@ fn run_files<R: Threads + Wait + Sync, W: Watch, F: FileSet>(
     config: &str,
     cycles: Cycle,
     workers: Workers,
+    tables: Tables,
     traces: &[&str],
 ) -> Result<Outcome, Reason>
     requires folder { IfErr folder (λ e. e ≡ Fault.Write) }
     ensures folder { OnOk result (IsOk folder) }
-    ensures outcome { IfOk result (λ run. F.tells → IsOutcome config.now cycles workers.count (map (λ t. t.now) traces.now) (F.held files.old) run) }
+    ensures outcome { IfOk result (λ run. F.tells → IsOutcome config.now cycles workers.count tables (map (λ t. t.now) traces.now) (F.held files.old) run) }
     ensures ready { OnOk result (IsReady F.tells (F.held files.old) (config.now ∷ map (λ t. t.now) traces.now) (IsRightRun cycles workers.count)) }
     ensures fault { IfErr result (IsAnswerFault F.tells (F.held files.old) (config.now ∷ map (λ t. t.now) traces.now) (IsRunFault cycles workers.count) (IsRightRun cycles workers.count)) }
     ensures same { F.tells → SameFiles (F.held files.old) (F.held files.new) }
@@ -116,10 +117,10 @@ fn run_files<R: Threads + Wait + Sync, W: Watch, F: FileSet>(
         traces,
         texts: &slices,
     };
-    outcome_of(host, alloc, folder, &input, cycles, workers)
+    outcome_of(host, alloc, folder, &input, cycles, workers, tables)
 }
 
-// `run CONFIG --cycles N --workers N [--share auto|always] --out DIR TRACE...`: no cycle is run if the folder is not there, and nothing is
+// `run CONFIG --cycles N --workers N [--share auto|always] [--tables LIST] --out DIR TRACE...`: no cycle is run if the folder is not there, and nothing is
 // opened before the run is over.
 pub(crate) fn perform_run<R: Threads + Wait + Sync, W: Watch, F: FileSet>(
     host: &mut Host<'_, R, W>,
@@ -128,17 +129,19 @@ pub(crate) fn perform_run<R: Threads + Wait + Sync, W: Watch, F: FileSet>(
     config: &str,
     cycles: Cycle,
     workers: Workers,
+    tables: Tables,
     out: &str,
     traces: &[&str],
 ) -> Result<(), Refusal>
-    ensures done { OnOk result (F.tells → IsRunDone config.now cycles workers.count out.now (map (λ t. t.now) traces.now) (F.held files.old) (F.held files.new)) }
+    ensures done { OnOk result (F.tells → IsRunDone config.now cycles workers.count tables out.now (map (λ t. t.now) traces.now) (F.held files.old) (F.held files.new) (F.opened files.old) (F.opened files.new)) }
     ensures folder { OnOk result (F.tells → F.has_folder files.old out.now ≡ true) }
-    ensures noted { OnOk result (F.tells → F.opened files.new ≡ F.opened files.old ++ parts out.now) }
-    ensures refused { IfErr result (λ e. F.tells → IsUnfinished e config.now cycles workers.count out.now (map (λ t. t.now) traces.now) (F.has_folder files.old out.now) (F.held files.old) (F.held files.new) (F.opened files.old) (F.opened files.new)) }
+    ensures refused { IfErr result (λ e. F.tells → IsUnfinished e config.now cycles workers.count tables out.now (map (λ t. t.now) traces.now) (F.has_folder files.old out.now) (F.held files.old) (F.held files.new) (F.opened files.old) (F.opened files.new)) }
     ensures fault { IfErr result (λ e. IsAnswerFault F.tells (F.held files.old) (config.now ∷ map (λ t. t.now) traces.now) (IsRunFault cycles workers.count) (IsRightRun cycles workers.count) (fault_of e)) }
 {
     let folder = files.test_folder(out);
-    let run = run_files(host, alloc, files, folder, config, cycles, workers, traces)?;
+    let run = run_files(
+        host, alloc, files, folder, config, cycles, workers, tables, traces,
+    )?;
     write_tables(
         host.threads,
         alloc,

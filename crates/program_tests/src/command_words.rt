@@ -2,6 +2,7 @@
 
 use crate::expect::expect_at;
 use command_line::words::{Ask, Share, read_words};
+use run_outcome::tables::Tables;
 use sim_base::fault::Fault;
 use std::test::Fail;
 
@@ -35,18 +36,42 @@ const RUN_SHARED: &[&str] = &[
     "t1",
 ];
 
-fn is_run(ask: &Ask<'_>, wanted: Share) -> bool {
+const RUN_CHOSEN: &[&str] = &[
+    "dramsim",
+    "run",
+    "c.toml",
+    "--cycles",
+    "16",
+    "--workers",
+    "2",
+    "--tables",
+    "final,stats",
+    "--out",
+    "tables",
+    "t0",
+    "t1",
+];
+
+const CHOSEN: Tables = Tables {
+    commands: false,
+    stats: true,
+    last: true,
+};
+
+fn is_run(ask: &Ask<'_>, wanted: Share, chosen: Tables) -> bool {
     match ask {
         Ask::Run {
             config,
             cycles,
             workers,
             share,
+            tables,
             out,
             traces,
         } => {
             (*config, *cycles, *workers, *out) == ("c.toml", 16, 2, "tables")
                 && *share == wanted
+                && *tables == chosen
                 && traces.as_slice() == ["t0", "t1"].as_slice()
         }
         _ => false,
@@ -79,15 +104,22 @@ const PAGE_LATER: &[&str] = &[
     "dramsim", "page", "tables", "run.html", "--cycles", "40", "--from", "7",
 ];
 
-fn is_page(ask: &Ask<'_>, window: (u64, u64)) -> bool {
+const PAGE_CLOCKED: &[&str] = &["dramsim", "page", "tables", "run.html", "--mhz", "1200"];
+
+fn is_page(ask: &Ask<'_>, clock: Option<u64>, window: (u64, u64)) -> bool {
     match ask {
         Ask::Page {
             dir,
             file,
             config,
+            khz,
             from,
             cycles,
-        } => (*dir, *file, *config) == ("tables", "run.html", None) && (*from, *cycles) == window,
+        } => {
+            (*dir, *file, *config) == ("tables", "run.html", None)
+                && *khz == clock
+                && (*from, *cycles) == window
+        }
         _ => false,
     }
 }
@@ -106,6 +138,20 @@ fn is_show(ask: &Ask<'_>, each: bool, wanted: Option<&str>, clock: Option<u64>) 
             config,
             khz,
         } => (*dir, *all, *config, *khz) == ("tables", each, wanted, clock),
+        _ => false,
+    }
+}
+
+const SHOW_BANKS: &[&str] = &["dramsim", "show", "--banks", "tables", "--mhz", "1200"];
+
+fn is_show_of_banks(ask: &Ask<'_>) -> bool {
+    match ask {
+        Ask::ShowBanks {
+            dir,
+            all,
+            config,
+            khz,
+        } => (*dir, *all, *config, *khz) == ("tables", false, None, Some(1_200_000)),
         _ => false,
     }
 }
@@ -138,14 +184,17 @@ fn is_version(ask: &Ask<'_>) -> bool {
 enum Want {
     Run,
     RunShared,
+    RunChosen,
     Check,
     Map,
     Show,
     ShowAll,
     ShowConfigured,
     ShowClocked,
+    ShowBanks,
     Page,
     PageLater,
+    PageClocked,
     Compare,
     Help,
     Version,
@@ -153,33 +202,39 @@ enum Want {
 
 fn is_right(ask: &Ask<'_>, want: Want) -> bool {
     match want {
-        Want::Run => is_run(ask, Share::Auto),
-        Want::RunShared => is_run(ask, Share::Always),
+        Want::Run => is_run(ask, Share::Auto, Tables::usual()),
+        Want::RunShared => is_run(ask, Share::Always, Tables::usual()),
+        Want::RunChosen => is_run(ask, Share::Auto, CHOSEN),
         Want::Check => is_check(ask),
         Want::Map => is_map(ask),
         Want::Show => is_show(ask, false, None, None),
         Want::ShowAll => is_show(ask, true, None, None),
         Want::ShowConfigured => is_show(ask, false, Some("c.toml"), None),
         Want::ShowClocked => is_show(ask, false, None, Some(1_333_330)),
-        Want::Page => is_page(ask, (0, 2_000)),
-        Want::PageLater => is_page(ask, (7, 40)),
+        Want::ShowBanks => is_show_of_banks(ask),
+        Want::Page => is_page(ask, None, (0, 2_000)),
+        Want::PageLater => is_page(ask, None, (7, 40)),
+        Want::PageClocked => is_page(ask, Some(1_200_000), (0, 2_000)),
         Want::Compare => is_compare(ask),
         Want::Help => is_help(ask),
         Want::Version => is_version(ask),
     }
 }
 
-static WORDS: [(&[&str], Want); 15] = [
+static WORDS: [(&[&str], Want); 18] = [
     (RUN, Want::Run),
     (RUN_SHARED, Want::RunShared),
+    (RUN_CHOSEN, Want::RunChosen),
     (CHECK, Want::Check),
     (MAP, Want::Map),
     (SHOW, Want::Show),
     (SHOW_ALL, Want::ShowAll),
     (SHOW_CONFIGURED, Want::ShowConfigured),
     (SHOW_CLOCKED, Want::ShowClocked),
+    (SHOW_BANKS, Want::ShowBanks),
     (PAGE, Want::Page),
     (PAGE_LATER, Want::PageLater),
+    (PAGE_CLOCKED, Want::PageClocked),
     (COMPARE, Want::Compare),
     (&["dramsim", "--help"], Want::Help),
     (&["dramsim", "help", "run"], Want::Help),
@@ -196,7 +251,7 @@ fn reads_words(rt: HostRuntime) -> Result<(), Fail> {
     Ok(())
 }
 
-static NO_WORDS: [(&str, &[&str]); 11] = [
+static NO_WORDS: [(&str, &[&str]); 12] = [
     ("no command", &["dramsim"]),
     ("no folder", &["dramsim", "show", "--all"]),
     (
@@ -231,6 +286,10 @@ static NO_WORDS: [(&str, &[&str]); 11] = [
         &["dramsim", "show", "tables", "--mhz", "1000000"],
     ),
     ("a unit", &["dramsim", "show", "tables", "--mhz", "1200M"]),
+    (
+        "no clock of a page",
+        &["dramsim", "page", "tables", "run.html", "--mhz", "fast"],
+    ),
     ("a bad address", &["dramsim", "map", "c.toml", "+8192"]),
     (
         "a large address",

@@ -4,6 +4,8 @@
 #[cfg(test)]
 mod checks;
 #[cfg(test)]
+mod chosen_tables;
+#[cfg(test)]
 mod command_words;
 #[cfg(test)]
 mod expect;

@@ -47,7 +47,7 @@ fn assert_has(rt: &impl Abort, words: &str, text: &str, parts: &[&str]) {
 }
 
 // What a page has to say, by the words that ask for it.
-static PAGES: [(&str, &[&str]); 3] = [
+static PAGES: [(&str, &[&str]); 4] = [
     (
         "dramsim page out p.html",
         &[
@@ -56,6 +56,10 @@ static PAGES: [(&str, &[&str]); 3] = [
             "Timeline from cycle 0 to before 16",
             "</html>",
         ],
+    ),
+    (
+        "dramsim page out p.html --mhz 1250",
+        &["<b>2</b> commands, <b>13</b> ns with a clock of <b>1,250,000</b> kHz"],
     ),
     (
         "dramsim page out p.html --from 4 --cycles 3",

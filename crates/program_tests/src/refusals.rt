@@ -90,7 +90,19 @@ const BAD_SHARE: &str = "fault 14: command line
 'never' is no WHEN of --share: auto or always
 ";
 
-static REFUSED: [Refused<'static>; 15] = [
+const BAD_LIST: &str = "fault 14: command line
+'stats,stats' is no LIST of --tables: commands, stats and final, or some of these, joined by commas, each at most once
+";
+
+const NO_TABLE: &str = "fault 14: command line
+'stats,requests' is no LIST of --tables: commands, stats and final, or some of these, joined by commas, each at most once
+";
+
+const NO_LIST: &str = "fault 14: command line
+'' is no LIST of --tables: commands, stats and final, or some of these, joined by commas, each at most once
+";
+
+static REFUSED: [Refused<'static>; 18] = [
     (
         Run {
             name: "no TOML",
@@ -211,6 +223,30 @@ static REFUSED: [Refused<'static>; 15] = [
         },
         "--cycles 64 --workers 2 --share never",
         BAD_SHARE,
+    ),
+    (
+        Run {
+            name: "a table twice",
+            ..ONE_READ
+        },
+        "--cycles 64 --workers 1 --tables stats,stats",
+        BAD_LIST,
+    ),
+    (
+        Run {
+            name: "no table's name",
+            ..ONE_READ
+        },
+        "--cycles 64 --workers 1 --tables stats,requests",
+        NO_TABLE,
+    ),
+    (
+        Run {
+            name: "no tables",
+            ..ONE_READ
+        },
+        "--cycles 64 --workers 1 --tables=",
+        NO_LIST,
     ),
     (
         Run {

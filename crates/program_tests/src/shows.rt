@@ -74,17 +74,58 @@ core that gained most,,,
 core that lost most,,,
 ";
 
-static FILES: [(&str, &str); 3] = [
+// The ACT and the RD of the read, and below them a command in the cycle behind the end.
+const COMMANDS: &str = "cycle,channel,command,group,bank,row,column,core,entry
+2,0,ACT,0,0,0,,0,0
+5,0,RD,0,0,0,0,0,0
+";
+
+const LATE: &str = "cycle,channel,command,group,bank,row,column,core,entry
+2,0,ACT,0,0,0,,0,0
+16,0,PREA,,,,,,
+";
+
+// The RD had an ACT of its own.
+const BANKS: &str = "cycles 16
+
+Channels (1): row hits in % of rd and wr, all else in % of the cycles
+ channel     rd     wr  hits %  bus %  queue mean  queue max  idle %  refresh due %  drain %
+       0      1      0     0.0   25.0       0.250          1    75.0            0.0        -
+
+Cores (1): finish and latency in cycles, why no more was issued in % of the cycles
+    core  retired  per cycle  finish  by then  reads  latency    end  width  window  memory  credit
+       0        1      0.063      15    0.063      1     15.0  100.0    0.0     0.0     0.0     0.0
+
+Banks of channel 0 (1): row hits in % of rd and wr
+    bank    act     rd     wr    pre  hits %  conflicts
+r0 g0 b0      1      1      0      0     0.0          0
+";
+
+static FILES: [(&str, &str); 6] = [
     ("out/stats.csv", STATS),
+    ("out/commands.csv", COMMANDS),
+    ("late/stats.csv", STATS),
+    ("late/commands.csv", LATE),
     ("again/stats.csv", STATS),
     ("cut/stats.csv", "scope,id,name,value\n"),
 ];
 
 // Words, and what the program says to them: its status, what it prints, and what it tells of errors.
-static SHOWN: [(&str, (u8, &str, &str)); 14] = [
+static SHOWN: [(&str, (u8, &str, &str)); 18] = [
     ("dramsim show out", (0, SCREEN, "")),
     ("dramsim show out --all", (0, SCREEN, "")),
     ("dramsim show --all out", (0, SCREEN, "")),
+    ("dramsim show out --banks", (0, BANKS, "")),
+    ("dramsim show --banks out --all", (0, BANKS, "")),
+    ("dramsim show again --banks", (2, "", "fault 13: read\n")),
+    (
+        "dramsim show late --banks",
+        (
+            2,
+            "",
+            "fault 15: check row 2\nlate/commands.csv: row 2 is none of the run: that has the cycles below 16 and the channels below 1\n",
+        ),
+    ),
     ("dramsim show none", (2, "", "fault 13: read\n")),
     (
         "dramsim show out --config none.toml",

@@ -1,6 +1,6 @@
 //! Which requests ask for the same line, and counters.
 
-ghost use Rattle.std.specs.Prelude.{◌≡◌, ◌+◌, ◌<◌, ◌≤◌, [], false, IfOk, length, drop, position, slice_set};
+ghost use Rattle.std.specs.Prelude.{◌≡◌, ◌+◌, ◌<◌, ◌≤◌, ◌^◌, [], false, IfOk, length, drop, position, slice_set};
 ghost use Rattle.std.specs.List.{position_or_len};
 ghost use Rattle.sim_base.specs.Places.{is_line};
 ghost use Rattle.sim_base.specs.Scheduling.{asks_for_line};
@@ -29,13 +29,27 @@ pub(crate) fn is_line_asked(place: Place, alike: u16, requests: &[Request]) -> b
     alike != 0 && first_for_line(place, requests).is_some()
 }
 
-/// Counters that count nothing, 16 to 32 for each of `room` requests if these are many, and the highest of them.
+/// From so many requests on there are fewer counters for each.
+const MANY: usize = 4_096;
+
+/// How many counters there are at least for so many requests: 16 for each, or 4 where they are many, since few queues are ever nearly full.
+fn wanted_for(room: usize) -> usize
+    ensures { result < 2 ^ 30 }
+{
+    if room <= MANY {
+        room * 16
+    } else {
+        room.min(1 << 20) * 4
+    }
+}
+
+/// Counters that count nothing, for `room` requests, and the highest of them: a power of two of them, so that few requests share one.
 pub(crate) fn counters(alloc: Global, room: usize) -> Result<(Vec<u16>, usize), AllocError>
     ensures masked { IfOk result (λ made. made.1 < length made.0.items) }
     ensures lines { IfOk result (λ made. AreCounted (slot_of_line made.1) made.0.items []) }
     ensures rows { IfOk result (λ made. AreCounted (slot_of_row made.1) made.0.items []) }
 {
-    let wanted = room.min(1 << 20) * 16;
+    let wanted = wanted_for(room);
     let mut mask = 255;
     while mask < wanted {
         mask = mask * 2 + 1;

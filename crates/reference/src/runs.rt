@@ -4,10 +4,11 @@ ghost use Rattle.std.specs.Prelude.{◌≡◌, ◌≢◌, map, Err, IfOk, IfErr}
 ghost use Rattle.simulation.specs.Runs.{input_of, IsRunOf, IsJudgedLegal};
 
 use one_clock::machine::run_plain;
+use run_outcome::outcome::Outcome;
+use run_outcome::tables::Tables;
 use sim_base::fault::Fault;
 use sim_base::message::Cycle;
 use simulation::input::read_input;
-use statistics::outcome::Outcome;
 use std::alloc::Global;
 use std::thread::Threads;
 
@@ -23,16 +24,17 @@ pub fn simulate_plain<R: Threads + Sync>(
     texts: &[&[u8]],
     cycles: Cycle,
     workers: u64,
+    tables: Tables,
 ) -> Result<Outcome, Fault>
-    ensures run { IfOk result (IsRunOf config.now (map (λ t. t.now) texts.now) cycles workers) }
-    ensures legal { IfOk result (IsJudgedLegal config.now) }
+    ensures run { IfOk result (IsRunOf config.now (map (λ t. t.now) texts.now) cycles workers tables) }
+    ensures legal { IfOk result (IsJudgedLegal config.now (map (λ t. t.now) texts.now) cycles workers tables) }
     ensures refused { IfErr result (λ e. e ≢ Fault.Memory → input_of config.now (map (λ t. t.now) texts.now) cycles workers ≡ Err e) }
 {
     let (config, traces) = match read_input(rt, alloc, config, texts, cycles, workers) {
         Ok(input) => input,
         Err(fault) => return Err(fault),
     };
-    let Ok(outcome) = run_plain(alloc, &config, &traces, cycles) else {
+    let Ok(outcome) = run_plain(alloc, &config, &traces, tables, cycles) else {
         return Err(Fault::Memory);
     };
     Ok(outcome)

@@ -2,7 +2,7 @@
 #![tactic(auto)]
 
 pub mod error_stream;
-mod line_buffer;
+pub mod line_buffer;
 pub mod lines;
 pub mod reason;
 pub mod refusal;

@@ -11,7 +11,7 @@ pub(crate) const ROOM: usize = 256;
 
 /// Lines of at most 256 bytes. A contract sees their text.
 #[derive(Drop)]
-pub(crate) struct LineBuffer {
+pub struct LineBuffer {
     text: InlineText<ROOM>,
 }
 
@@ -69,7 +69,7 @@ impl LineBuffer {
     }
 
     /// The text.
-    pub(crate) fn as_bytes(&self) -> &[u8]
+    pub fn as_bytes(&self) -> &[u8]
         ensures { result.now ≡ self.now }
     {
         self.text.as_str().as_bytes()

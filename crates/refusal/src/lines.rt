@@ -58,12 +58,21 @@ fn push_fault(lines: &mut LineBuffer, fault: Fault)
     }
 }
 
+/// The line of a fault, without its end, as the program tells it: at most 100 bytes. It needs no memory.
+pub fn line_of_fault(fault: Fault) -> LineBuffer
+    ensures line { result ≡ fault_line fault }
+    ensures short { length result ≤ 100 }
+{
+    let mut lines = LineBuffer::new();
+    push_fault(&mut lines, fault);
+    lines
+}
+
 // The lines of a refusal, which need no memory.
 fn lines_of(refusal: &Refusal) -> LineBuffer
     ensures { result ≡ refusal_lines refusal.now }
 {
-    let mut lines = LineBuffer::new();
-    push_fault(&mut lines, refusal.reason().fault());
+    let mut lines = line_of_fault(refusal.reason().fault());
     if let Refusal::Torn(_) = refusal {
         lines.push(
             "\nthe tables are of two runs: what is missing of this one stands beside them under names that end in .part",

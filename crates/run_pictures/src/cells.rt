@@ -26,6 +26,14 @@ impl Form {
     }
 }
 
+/// What the numbers of a run are measured by: its cycles, the cycles that a REF takes, if that is known, and the clock in kHz, if it is given.
+#[derive(Clone, Copy)]
+pub(crate) struct Measures {
+    pub(crate) cycles: u64,
+    pub(crate) refresh: Option<u64>,
+    pub(crate) khz: Option<u64>,
+}
+
 /// A number of a table, with the form of its column.
 pub(crate) type Cell = (Form, Option<u64>);
 
@@ -54,6 +62,20 @@ fn drain_of(cycles: u64, channel: &ChannelStats) -> Cell {
     }
 }
 
+/// A RD or WR moves 64 bytes, and a kHz is 1,000 cycles a second: a GB/s is so many of them in as many cycles as the clock has kHz.
+const MOVES_OF_A_GIGABYTE: u64 = 15_625;
+
+/// The data that a channel moved in a run of `cycles` cycles, in GB/s.
+pub(crate) fn data_rate(cycles: u64, channel: &ChannelStats, khz: u64) -> Cell {
+    let accesses = u128::from(channel.rd.saturating_add(channel.wr));
+    quotient(
+        Form::Hundredths,
+        accesses.saturating_mul(u128::from(khz)),
+        MOVES_OF_A_GIGABYTE.saturating_mul(cycles),
+        100,
+    )
+}
+
 /// The numbers of a channel in a run of `cycles` cycles, in the order of their columns. The last is the share of the cycles that its
 /// REFs take, `refresh` of them each.
 pub(crate) fn channel_cells(cycles: u64, channel: &ChannelStats, refresh: u64) -> [Cell; 10] {
@@ -79,6 +101,25 @@ fn rate_to_finish(core: &CoreStats) -> Cell {
         None => 0,
     };
     quotient(Form::Hundredths, u128::from(core.retired), cycles, 100)
+}
+
+// A quotient of cycles, in tenths of a ns.
+fn nanoseconds(cycles: u128, divisor: u64, khz: u64) -> Cell {
+    quotient(
+        Form::Tenths,
+        cycles.saturating_mul(1_000_000),
+        divisor.saturating_mul(khz),
+        10,
+    )
+}
+
+/// The finish and the mean read latency of a core, in ns.
+pub(crate) fn core_times(core: &CoreStats, khz: u64) -> [Cell; 2] {
+    let finish = match core.finish {
+        Some(cycle) => nanoseconds(u128::from(cycle), 1, khz),
+        None => (Form::Tenths, None),
+    };
+    [finish, nanoseconds(core.read_latency, core.replies, khz)]
 }
 
 /// The numbers of a core in a run of `cycles` cycles, in the order of their columns.

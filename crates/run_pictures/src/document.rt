@@ -1,6 +1,7 @@
 //! A run as one HTML document.
 
 use crate::activity::{Activity, Channel, Span};
+use crate::cells::Measures;
 use crate::overview::put_overview;
 use crate::settings::put_settings;
 use crate::stops::put_stops;
@@ -9,6 +10,7 @@ use crate::style::STYLE;
 use crate::tables::{put_channels, put_core_summary, put_cores};
 use command_table::list::CommandList;
 use drawing::markup::{Piece, put, put_legend};
+use drawing::scales::share_of;
 use sim_base::config::Config;
 use statistics::cores::CoreStats;
 use statistics::stats::Stats;
@@ -18,13 +20,14 @@ use std::io::{self, Write};
 /// More cores than this have a summary, with their table and their bars folded.
 const MOST_CORES: usize = 16;
 
-/// What a document shows: a run, its configuration if that is given, and the window of its timeline, which is from a cycle up to, but not
-/// including, another. The commands are taken in the order of the list.
+/// What a document shows: a run, its configuration and its clock in kHz if they are given, and the window of its timeline, which is from a cycle up
+/// to, but not including, another. The commands are taken in the order of the list.
 #[derive(Clone, Copy)]
 pub struct Run<'a> {
     pub stats: &'a Stats,
     pub commands: &'a CommandList,
     pub config: Option<&'a Config>,
+    pub khz: Option<u64>,
     pub from: u64,
     pub end: u64,
 }
@@ -57,25 +60,40 @@ fn put_head(counts: [u64; 4], out: &mut String) -> Result<(), AllocError> {
         ];
         put(&pieces, out)?;
     }
-    out.push_str("</p>\n")
+    Ok(())
+}
+
+// How many ns the cycles take, where the clock is given.
+fn put_time(cycles: u64, khz: Option<u64>, out: &mut String) -> Result<(), AllocError> {
+    let Some(khz) = khz else {
+        return Ok(());
+    };
+    let pieces = [
+        Piece::Text(", <b>"),
+        Piece::Grouped(share_of(u128::from(cycles), khz, 1_000_000)),
+        Piece::Text("</b> ns with a clock of <b>"),
+        Piece::Grouped(khz),
+        Piece::Text("</b> kHz"),
+    ];
+    put(&pieces, out)
 }
 
 // The cores: where there are many, a summary with all else folded.
 fn put_all_cores(
     alloc: Global,
-    cycles: u64,
+    measures: Measures,
     cores: &[CoreStats],
     out: &mut String,
 ) -> Result<(), AllocError> {
     out.push_str("<h2 id=\"cores\">Cores</h2>\n")?;
     if cores.len() <= MOST_CORES {
-        put_cores(cycles, cores, out)?;
-        return put_stops(cycles, cores, out);
+        put_cores(measures, cores, out)?;
+        return put_stops(measures.cycles, cores, out);
     }
-    put_core_summary(alloc, cycles, cores, out)?;
+    put_core_summary(alloc, measures, cores, out)?;
     out.push_str("<details><summary>each core</summary>\n")?;
-    put_cores(cycles, cores, out)?;
-    put_stops(cycles, cores, out)?;
+    put_cores(measures, cores, out)?;
+    put_stops(measures.cycles, cores, out)?;
     out.push_str("</details>\n")
 }
 
@@ -148,8 +166,13 @@ fn put_run(alloc: Global, run: &Run<'_>, out: &mut String) -> Result<(), AllocEr
         end: run.end,
     };
     out.push_str(contents_of(run.commands))?;
-    put_channels(stats.cycles, &stats.channels, refresh, out)?;
-    put_all_cores(alloc, stats.cycles, &stats.cores, out)?;
+    let measures = Measures {
+        cycles: stats.cycles,
+        refresh,
+        khz: run.khz,
+    };
+    put_channels(measures, &stats.channels, out)?;
+    put_all_cores(alloc, measures, &stats.cores, out)?;
     if run.commands.is_empty() {
         return out.push_str("<p>No command was issued.</p>\n");
     }
@@ -172,6 +195,8 @@ fn put_document(alloc: Global, run: &Run<'_>, out: &mut String) -> Result<(), Al
     let channels = stats.channels.len() as u64;
     let counts = [stats.cycles, cores, channels, run.commands.len() as u64];
     put_head(counts, out)?;
+    put_time(stats.cycles, run.khz, out)?;
+    out.push_str("</p>\n")?;
     put_config(run.config, out)?;
     if stats.cycles == 0 {
         out.push_str("<p>The run has no cycles.</p>\n")?;

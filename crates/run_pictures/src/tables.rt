@@ -1,6 +1,6 @@
 //! The numbers of a run as tables.
 
-use crate::cells::{Cell, Form, channel_cells, core_cells};
+use crate::cells::{Cell, Form, Measures, channel_cells, core_cells, core_times, data_rate};
 use drawing::markup::{Piece, put};
 use statistics::channels::ChannelStats;
 use statistics::cores::CoreStats;
@@ -20,87 +20,117 @@ fn put_cells(cells: &[Cell], out: &mut String) -> Result<(), AllocError> {
     Ok(())
 }
 
-fn put_row(label: Piece, cells: &[Cell], out: &mut String) -> Result<(), AllocError> {
-    put(
-        &[
-            Piece::Text("<tr><th scope=\"row\">"),
-            label,
-            Piece::Text("</th>"),
-        ],
-        out,
-    )?;
-    put_cells(cells, out)?;
-    out.push_str("</tr>\n")
+// The begin of a row.
+fn put_label(label: Piece, out: &mut String) -> Result<(), AllocError> {
+    let pieces = [
+        Piece::Text("<tr><th scope=\"row\">"),
+        label,
+        Piece::Text("</th>"),
+    ];
+    put(&pieces, out)
 }
 
-// The row of a channel; the share of its REFs is left out where it is not known how many cycles one takes.
-fn put_channel(
-    id: u64,
-    cycles: u64,
-    channel: &ChannelStats,
-    refresh: Option<u64>,
-    out: &mut String,
-) -> Result<(), AllocError> {
-    let cells = channel_cells(cycles, channel, refresh.unwrap_or(0));
-    match refresh {
-        Some(_) => put_row(Piece::Number(id), &cells, out),
-        None => put_row(Piece::Number(id), &cells[..9], out),
+// The heading of columns that are left out where a number is not given.
+fn head_if(number: Option<u64>, heading: &'static str) -> &'static str {
+    match number {
+        Some(_) => heading,
+        None => "",
     }
 }
 
-/// Appends the table of the channels; `refresh` is how many cycles a REF takes, if that is known.
-pub(crate) fn put_channels(
-    cycles: u64,
-    channels: &[ChannelStats],
-    refresh: Option<u64>,
+// The cells of a channel: the share of its REFs is left out where it is not known how many cycles one takes, and its data rate where the clock
+// is not given.
+fn put_channel_cells(
+    measures: Measures,
+    channel: &ChannelStats,
     out: &mut String,
 ) -> Result<(), AllocError> {
-    let column = match refresh {
-        Some(_) => REFRESH_HEAD,
-        None => "",
-    };
-    put(
-        &[
-            Piece::Text(CHANNEL_HEAD),
-            Piece::Text(column),
-            Piece::Text(CHANNEL_HEADINGS),
-        ],
-        out,
-    )?;
+    let cycles = measures.cycles;
+    let cells = channel_cells(cycles, channel, measures.refresh.unwrap_or(0));
+    match measures.refresh {
+        Some(_) => put_cells(&cells, out)?,
+        None => put_cells(&cells[..9], out)?,
+    }
+    match measures.khz {
+        Some(khz) => put_cells(&[data_rate(cycles, channel, khz)], out),
+        None => Ok(()),
+    }
+}
+
+/// Appends the table of the channels.
+pub(crate) fn put_channels(
+    measures: Measures,
+    channels: &[ChannelStats],
+    out: &mut String,
+) -> Result<(), AllocError> {
+    out.push_str(CHANNEL_HEAD)?;
+    out.push_str(head_if(measures.refresh, REFRESH_HEAD))?;
+    out.push_str(head_if(measures.khz, RATE_HEAD))?;
+    out.push_str(CHANNEL_HEADINGS)?;
     for (id, channel) in channels.iter().enumerate() {
-        put_channel(id as u64, cycles, channel, refresh, out)?;
+        put_label(Piece::Number(id as u64), out)?;
+        put_channel_cells(measures, channel, out)?;
+        out.push_str(ROW_TAIL)?;
     }
     out.push_str(TABLE_TAIL)
+}
+
+// The cells of a core; its times are left out where the clock is not given.
+fn put_core_cells(
+    measures: Measures,
+    core: &CoreStats,
+    out: &mut String,
+) -> Result<(), AllocError> {
+    put_cells(&core_cells(measures.cycles, core), out)?;
+    match measures.khz {
+        Some(khz) => put_cells(&core_times(core, khz), out),
+        None => Ok(()),
+    }
 }
 
 /// Appends the table of the cores.
 pub(crate) fn put_cores(
-    cycles: u64,
+    measures: Measures,
     cores: &[CoreStats],
     out: &mut String,
 ) -> Result<(), AllocError> {
     out.push_str(CORE_HEAD)?;
+    out.push_str(head_if(measures.khz, TIMES_HEAD))?;
+    out.push_str(CORE_HEADINGS)?;
     for (id, core) in cores.iter().enumerate() {
-        put_row(Piece::Number(id as u64), &core_cells(cycles, core), out)?;
+        put_label(Piece::Number(id as u64), out)?;
+        put_core_cells(measures, core, out)?;
+        out.push_str(ROW_TAIL)?;
     }
     out.push_str(TABLE_TAIL)
+}
+
+// A number of a core, by its column: the times come last, where the clock is given.
+fn core_cell(measures: Measures, core: &CoreStats, column: usize) -> Option<Cell> {
+    let cells = core_cells(measures.cycles, core);
+    if column < cells.len() {
+        return cells.get(column).copied();
+    }
+    core_times(core, measures.khz?)
+        .get(column - cells.len())
+        .copied()
 }
 
 // The least, the median and the greatest number that there is in a column of the cores' table. The median of an even count is the lower
 // of the two in the middle.
 fn summary_of(
     alloc: Global,
-    cycles: u64,
+    measures: Measures,
     cores: &[CoreStats],
     column: usize,
 ) -> Result<[Cell; 3], AllocError> {
     let mut known = Vec::new(alloc);
     let mut form = Form::Count;
     for core in cores {
-        if let Some((column_form, number)) = core_cells(cycles, core).get(column) {
-            form = *column_form;
+        if let Some((column_form, number)) = core_cell(measures, core, column) {
+            form = column_form;
             if let Some(number) = number {
-                known.push(*number)?;
+                known.push(number)?;
             }
         }
     }
@@ -116,14 +146,20 @@ fn summary_of(
 /// Appends the least, the median and the greatest of each number of the cores.
 pub(crate) fn put_core_summary(
     alloc: Global,
-    cycles: u64,
+    measures: Measures,
     cores: &[CoreStats],
     out: &mut String,
 ) -> Result<(), AllocError> {
+    let columns = match measures.khz {
+        Some(_) => &CORE_COLUMNS[..],
+        None => &CORE_COLUMNS[..11],
+    };
     out.push_str(SUMMARY_HEAD)?;
-    for (column, name) in CORE_COLUMNS.iter().enumerate() {
-        let cells = summary_of(alloc, cycles, cores, column)?;
-        put_row(Piece::Text(*name), &cells, out)?;
+    for (column, name) in columns.iter().enumerate() {
+        let cells = summary_of(alloc, measures, cores, column)?;
+        put_label(Piece::Text(*name), out)?;
+        put_cells(&cells, out)?;
+        out.push_str(ROW_TAIL)?;
     }
     out.push_str(TABLE_TAIL)
 }
@@ -134,13 +170,20 @@ const CHANNEL_HEAD: &str = r#"<h2 id="channels">Channels</h2>
 
 const REFRESH_HEAD: &str = r#"<th rowspan="2" scope="col">REFs × nRFC<br>(% of cycles)</th>"#;
 
+const RATE_HEAD: &str = r#"<th rowspan="2" scope="col">data rate<br>(GB/s)</th>"#;
+
 const CHANNEL_HEADINGS: &str = r#"</tr>
 <tr><th scope="col">mean</th><th scope="col">greatest</th><th scope="col">idle</th><th scope="col">refresh due</th><th scope="col">drain</th></tr>
 </thead><tbody>
 "#;
 
 const CORE_HEAD: &str = r#"<div class="wide"><table><thead>
-<tr><th rowspan="2" scope="col">core</th><th colspan="2" scope="colgroup">entries retired</th><th colspan="2" scope="colgroup">finish</th><th rowspan="2" scope="col">reads</th><th rowspan="2" scope="col">mean read latency<br>(cycles)</th><th colspan="5" scope="colgroup">why the core stopped issuing (% of cycles)</th></tr>
+<tr><th rowspan="2" scope="col">core</th><th colspan="2" scope="colgroup">entries retired</th><th colspan="2" scope="colgroup">finish</th><th rowspan="2" scope="col">reads</th><th rowspan="2" scope="col">mean read latency<br>(cycles)</th><th colspan="5" scope="colgroup">why the core stopped issuing (% of cycles)</th>"#;
+
+const TIMES_HEAD: &str =
+    r#"<th rowspan="2" scope="col">finish<br>(ns)</th><th rowspan="2" scope="col">mean read latency<br>(ns)</th>"#;
+
+const CORE_HEADINGS: &str = r#"</tr>
 <tr><th scope="col">in all</th><th scope="col">a cycle</th><th scope="col">cycle</th><th scope="col">entries a cycle<br>up to it</th><th scope="col">end</th><th scope="col">width</th><th scope="col">window</th><th scope="col">memory</th><th scope="col">credit</th></tr>
 </thead><tbody>
 "#;
@@ -150,8 +193,8 @@ const SUMMARY_HEAD: &str = r#"<div class="wide"><table><thead>
 </thead><tbody>
 "#;
 
-/// The columns of the cores' table.
-static CORE_COLUMNS: [&str; 11] = [
+/// The columns of the cores' table; the last two are there with a clock only.
+static CORE_COLUMNS: [&str; 13] = [
     "entries retired",
     "entries a cycle",
     "finish (cycle)",
@@ -163,6 +206,10 @@ static CORE_COLUMNS: [&str; 11] = [
     "window (% of cycles)",
     "memory (% of cycles)",
     "credit (% of cycles)",
+    "finish (ns)",
+    "mean read latency (ns)",
 ];
+
+const ROW_TAIL: &str = "</tr>\n";
 
 const TABLE_TAIL: &str = "</tbody></table></div>\n";

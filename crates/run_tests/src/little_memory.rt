@@ -2,13 +2,14 @@
 //! with each allocation failing in turn; what these tests take of memory themselves counts too.
 
 use crate::expect::expect;
-use crate::outcomes::always;
+use crate::outcomes::{always, commands_of};
 use fixtures::one_read::{CHANNELS, CORES};
 use fixtures::small::SMALL;
+use run_outcome::outcome::Outcome;
+use run_outcome::tables::Tables;
 use sim_base::command::Kind;
 use sim_base::fault::Fault;
 use simulation::runs::simulate;
-use statistics::outcome::Outcome;
 use std::alloc::Global;
 use std::sync::Wait;
 use std::thread::Threads;
@@ -18,7 +19,7 @@ use workers::watch::Unwatched;
 /// Whether these are the commands of one core that reads one line: an ACT in cycle 2 and an RD in cycle 5. Where the list of them is
 /// refused memory, that is not known.
 fn has_commands(alloc: Global, outcome: &Outcome) -> bool {
-    let Ok(rows) = outcome.commands.to_vec(alloc) else {
+    let Ok(rows) = commands_of(alloc, outcome) else {
         return true;
     };
     match rows.as_slice() {
@@ -49,7 +50,18 @@ fn is_right_or_refused<R: Threads + Wait + Sync>(rt: &R, alloc: Global, workers:
     let texts: [&[u8]; 1] = [b"0 0\n"];
     let watch = &mut Unwatched;
     let config = SMALL.as_bytes();
-    match simulate(rt, alloc, &Open, watch, config, &texts, 16, always(workers)) {
+    let tables = Tables::usual();
+    match simulate(
+        rt,
+        alloc,
+        &Open,
+        watch,
+        config,
+        &texts,
+        16,
+        always(workers),
+        tables,
+    ) {
         Ok(outcome) => is_right(alloc, &outcome),
         Err(fault) => fault == Fault::Memory || workers > 1 && fault == Fault::WorkerStart,
     }

@@ -3,10 +3,13 @@
 ghost use Rattle.std.specs.Prelude.{◌≡◌, ◌≢◌, ◌<◌, false, All, IfOk, IsPermutation};
 
 use crate::expect::{expect, expect_at};
+use crate::outcomes::commands_of;
 use cpu_trace::trace::Trace;
 use fixtures::small::{RANK_FIELD, small};
 use ordered::order::Order;
 use ordered::run::run_in_order;
+use run_outcome::outcome::Outcome;
+use run_outcome::tables::Tables;
 use shards::job::{Done, Job};
 use shards::planning::{Planned, plan};
 use shards::sharded::ShardedSim;
@@ -14,7 +17,6 @@ use sim_base::command::IssuedCommand;
 use sim_base::fault::{Fault, MergeFault};
 use sim_base::message::{Cycle, Message};
 use sim_base::trace::Entry;
-use statistics::outcome::Outcome;
 use std::alloc::{AllocError, Global};
 use std::test::Fail;
 use units::sim::Sim;
@@ -112,7 +114,7 @@ fn started(alloc: Global, changes: &[&str]) -> Result<Sim, AllocError>
     let first = Trace::from_entries(alloc, &line)?;
     let second = Trace::from_entries(alloc, &line)?;
     let traces = Vec::from_array(alloc, [first, second])?;
-    Sim::start(alloc, &config, traces)
+    Sim::start(alloc, &config, traces, Tables::usual())
 }
 
 /// Lines of the small machine for two cores.
@@ -131,7 +133,7 @@ const SLOW_LINKS: &[&str] = &[
 type Did = (Vec<IssuedCommand>, Vec<Message>);
 
 fn did(alloc: Global, outcome: &Outcome) -> Result<Did, AllocError> {
-    let commands = outcome.commands.to_vec(alloc)?;
+    let commands = commands_of(alloc, outcome)?;
     let flight = outcome.last.in_flight.to_vec(alloc)?;
     Ok((commands, flight))
 }
@@ -142,7 +144,7 @@ fn did_by<O: Order>(alloc: Global, shards: usize, order: &mut O) -> Result<Did, 
 {
     let sim = started(alloc, TWO_CORES)?;
     let sim = run_in_order(sim, alloc, shards, 16, order)?;
-    let outcome = sim.outcome(alloc)?;
+    let outcome = sim.outcome(alloc, Tables::usual())?;
     Ok(did(alloc, &outcome)?)
 }
 

@@ -5,10 +5,12 @@ use fixtures::small::small_text;
 use fixtures::texts::texts_of;
 use reference::runs::simulate_plain;
 use reports::{write_commands, write_final, write_stats};
+use run_outcome::outcome::Outcome;
+use run_outcome::tables::Tables;
+use sim_base::command::IssuedCommand;
 use sim_base::fault::Fault;
 use sim_base::message::Cycle;
 use simulation::runs::simulate;
-use statistics::outcome::Outcome;
 use std::alloc::{AllocError, Global};
 use std::process::Abort;
 use std::sync::Wait;
@@ -36,10 +38,23 @@ pub(crate) fn auto(count: u64) -> Workers {
 /// The bytes of an outcome's tables, one behind the other.
 pub(crate) fn tables_of(alloc: Global, outcome: &Outcome) -> Result<Vec<u8>, Fault> {
     let mut tables = Vec::new(alloc);
-    write_commands(alloc, outcome.ranks, &outcome.commands, &mut tables)?;
+    if let Some(commands) = &outcome.commands {
+        write_commands(alloc, outcome.ranks, commands, &mut tables)?;
+    }
     write_stats(alloc, &outcome.stats, &mut tables)?;
     write_final(alloc, &outcome.last, outcome.ranks, &mut tables)?;
     Ok(tables)
+}
+
+/// The commands of an outcome; none where their table was not asked for.
+pub(crate) fn commands_of(
+    alloc: Global,
+    outcome: &Outcome,
+) -> Result<Vec<IssuedCommand>, AllocError> {
+    match &outcome.commands {
+        Some(commands) => commands.to_vec(alloc),
+        None => Ok(Vec::new(alloc)),
+    }
 }
 
 /// What is run.
@@ -105,6 +120,7 @@ pub(crate) fn plain_outcome<R: Threads + Sync>(
         &texts,
         run.cycles,
         workers,
+        Tables::usual(),
     )
 }
 
@@ -129,7 +145,10 @@ pub(crate) fn outcome_of<R: Threads + Wait + Sync, G: Gate + Sync, W: Watch>(
 ) -> Result<Outcome, Fault> {
     let bytes = run.config.as_bytes();
     let texts = slices_of(alloc, run.texts)?;
-    simulate(rt, alloc, gate, watch, bytes, &texts, run.cycles, workers)
+    let tables = Tables::usual();
+    simulate(
+        rt, alloc, gate, watch, bytes, &texts, run.cycles, workers, tables,
+    )
 }
 
 /// Whether a watched run by these workers has these tables.

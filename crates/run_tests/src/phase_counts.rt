@@ -4,6 +4,7 @@
 use crate::expect::expect;
 use crate::outcomes::Texts;
 use crate::shared_out::{LONGEST, run_up_to, started};
+use run_outcome::tables::Tables;
 use shards::job::{Done, Job};
 use sim_base::fault::Fault;
 use sim_base::message::Cycle;
@@ -87,7 +88,7 @@ fn spans_of<R: Threads + Sync>(
         serial: Serial::new(alloc, &Open),
         spans: Vec::new(alloc),
     };
-    run_up_to(sim, alloc, counted.cycles, 2, &mut noting)?.outcome(alloc)?;
+    run_up_to(sim, alloc, counted.cycles, 2, &mut noting)?.outcome(alloc, Tables::usual())?;
     Ok(noting.spans)
 }
 

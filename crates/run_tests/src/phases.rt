@@ -5,7 +5,7 @@ ghost use Rattle.crew.specs.Rule.{put_view};
 
 use crate::expect::expect;
 use crate::gates::Counting;
-use crate::outcomes::{Texts, always, assert_same, auto, outcome_of};
+use crate::outcomes::{Texts, always, assert_same, auto, commands_of, outcome_of};
 use crew::bell::Patience;
 use crew::caller::Phases;
 use crew::open::Blank;
@@ -14,10 +14,10 @@ use crew::run::{PhasedRun, Refused, with_crew};
 use crew::seats::{Board, PutSeat, TakeSeat};
 use crew::work::{DoneOf, Work};
 use fixtures::small::RANK_FIELD;
+use run_outcome::outcome::Outcome;
 use sim_base::command::IssuedCommand;
 use sim_base::fault::Fault;
 use sim_base::message::Cycle;
-use statistics::outcome::Outcome;
 use std::alloc::{AllocError, Global};
 use std::marker::Brand;
 use std::sync::Wait;
@@ -34,7 +34,7 @@ static FOUR_CORES: [&str; 3] = [RANK_FIELD, "cores = 4", "channels = 2"];
 type Did = (Vec<IssuedCommand>, Cycle, usize);
 
 fn did(alloc: Global, outcome: &Outcome) -> Result<Did, Fault> {
-    let commands = outcome.commands.to_vec(alloc)?;
+    let commands = commands_of(alloc, outcome)?;
     Ok((commands, outcome.stats.cycles, outcome.last.in_flight.len()))
 }
 

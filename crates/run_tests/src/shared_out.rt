@@ -10,6 +10,7 @@ use config_reader::read_config;
 use fixtures::generated::made_up;
 use fixtures::random::Random;
 use fixtures::texts::traces_of;
+use run_outcome::tables::Tables;
 use shards::job::{Done, Job};
 use sim_base::fault::Fault;
 use sim_base::message::Cycle;
@@ -36,7 +37,7 @@ pub(crate) fn started<R: Threads + Sync>(
     if traces.len() != usize::from(config.cores) {
         return Err(Fault::TraceCount);
     }
-    Ok(Sim::start(alloc, &config, traces)?)
+    Ok(Sim::start(alloc, &config, traces, Tables::usual())?)
 }
 
 /// Runs the jobs of a phase one after the other, and gives their results from the last to the first.
@@ -102,7 +103,7 @@ fn tables_by<R: Threads + Sync>(
 {
     let sim = started(rt, alloc, run)?;
     let sim = run_in_shards(sim, alloc, run.cycles, stop, shards)?;
-    let outcome = sim.outcome(alloc)?;
+    let outcome = sim.outcome(alloc, Tables::usual())?;
     tables_of(alloc, &outcome)
 }
 

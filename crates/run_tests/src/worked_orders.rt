@@ -12,6 +12,7 @@ use fixtures::small::small;
 use fixtures::worked_runs::{FAST_LINK, Run as Row};
 use ordered::order::Order;
 use ordered::run::run_in_order;
+use run_outcome::tables::Tables;
 use shards::job::Done;
 use sim_base::fault::Fault;
 use std::alloc::Global;
@@ -62,7 +63,7 @@ fn tables_by<R: Threads + Sync, O: Order>(
         return Err(Fault::Cycles);
     }
     let sim = run_in_order(sim, alloc, shards, run.cycles, order)?;
-    tables_of(alloc, &sim.outcome(alloc)?)
+    tables_of(alloc, &sim.outcome(alloc, Tables::usual())?)
 }
 
 fn tables_in<R: Threads + Sync>(

@@ -18,15 +18,15 @@ use Rattle.units.specs.Flight.{among, fresh, goes_among, sent_by}
 use Rattle.shards.specs.Shards.{IsUpTo, bound, lists_of, sent_of_shard}
 use Rattle.shards.specs.Jobs.{IsJob, IsDone}
 use Rattle.units.specs.Units.{unit_at, unit_count}
-use Rattle.shards.specs.Wakes.{AreLowered, HaveGone, IsAsleep, WaitAll, sent_in, sleeper_at}
+use Rattle.wake_words.specs.Wakes.{AreLowered, HaveGone, IsAsleep, WaitAll, sent_in, sleeper_at}
 use Rattle.units.specs.declared.machine.Machine.{Machine}
 use Rattle.shards.specs.declared.shard.Shard.{Shard}
-use Rattle.shards.specs.declared.slot.Slot.{Slot}
+use Rattle.wake_words.specs.declared.slot.Slot.{Slot}
 use Rattle.shards.specs.declared.job.JobName.{JobName}
 use Rattle.units.proofs.Joining.{fresh-late}
-use Rattle.shards.proofs.Jumping.{some-slot, still-waits}
-use Rattle.shards.proofs.Lowering.{lowered-wait_all}
-use Rattle.shards.proofs.Sharing.{among-joins}
+use Rattle.wake_words.proofs.Jumping.{some-slot, still-waits}
+use Rattle.wake_words.proofs.Lowering.{lowered-wait_all}
+use Rattle.wake_words.proofs.Sharing.{among-joins}
 use Rattle.units.proofs.Standing.{same-default}
 
 -- what was sent to the units of a shard arrives no sooner than what was sent to all

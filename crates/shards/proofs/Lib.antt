@@ -1,11 +1,4 @@
-pub mod Waiting
-pub mod Lowering
-pub mod Jumping
-pub mod Going
-pub mod Passing
 pub mod Spanning
-pub mod Turning
-pub mod Sharing
 pub mod Jobs
 pub mod Posting
 pub mod Splitting

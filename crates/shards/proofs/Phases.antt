@@ -22,21 +22,21 @@ use Rattle.sim_base.proofs.Ordered.{Each-weaker}
 use Rattle.links.specs.InFlight.{InFlight}
 use Rattle.span_laws.specs.Units.{sent_of}
 use Rattle.units.specs.Flight.{fresh, among, goes_among, sent_by}
-use Rattle.shards.specs.Shards.{IsSplit, IsShard, IsStill, IsAtRest, IsUpTo, IsSharded, AreFor, AreShards, lists_of, bound, sent_of_shard}
+use Rattle.shards.specs.Shards.{IsSplit, IsShard, IsAtRest, IsUpTo, IsSharded, AreFor, AreShards, lists_of, bound, sent_of_shard}
 use Rattle.shards.specs.Jobs.{job_at, jobs_at}
 use Rattle.shards.specs.Phases.{IsPhase, AreUnloaded}
 use Rattle.units.specs.Parts.{late}
 use Rattle.units.specs.Units.{unit_at, unit_count}
-use Rattle.shards.specs.Wakes.{Sleeper, HaveGone, IsAsleep, Waits, sent_in, sleeper_at}
+use Rattle.wake_words.specs.Wakes.{Sleeper, HaveGone, IsAsleep, IsStill, Waits, sent_in, sleeper_at}
 use Rattle.shards.specs.declared.shard.Shard.{Shard}
-use Rattle.shards.specs.declared.slot.Slot.{Slot}
+use Rattle.wake_words.specs.declared.slot.Slot.{Slot}
 use Rattle.units.proofs.Joining.{flat-split, fresh-is}
 use Rattle.units.proofs.Due.{flight-each}
 use Rattle.units.proofs.Filters.{filter-all}
-use Rattle.shards.proofs.Jumping.{AllRest, all-none, asleep-until, sleep-on, some-slot}
+use Rattle.wake_words.proofs.Jumping.{AllRest, all-none, asleep-until, sleep-on, some-slot}
 use Rattle.units.proofs.Travelling.{Goes}
-use Rattle.shards.proofs.Lowering.{lowered-waits}
-use Rattle.shards.proofs.Waiting.{none-due}
+use Rattle.wake_words.proofs.Lowering.{lowered-waits}
+use Rattle.wake_words.proofs.Waiting.{none-due}
 
 some-of : {X : Type 0} (xs : List X) → 0 < length xs → X
 some-of [] l = absurd (omega (arith, l))

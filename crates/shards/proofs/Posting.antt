@@ -18,9 +18,9 @@ use Rattle.links.specs.InFlight.{receiver_of}
 use Rattle.units.specs.Flight.{is_at_places, goes_among}
 use Rattle.shards.specs.Shards.{IsSplit, bound, lists_of}
 use Rattle.units.specs.Units.{unit_at, unit_count}
-use Rattle.shards.specs.Wakes.{AreLowered}
+use Rattle.wake_words.specs.Wakes.{AreLowered}
 use Rattle.units.proofs.Due.{unit_is}
-use Rattle.shards.proofs.Sharing.{at-places, there}
+use Rattle.wake_words.proofs.Sharing.{at-places, there}
 use Rattle.units.proofs.Standing.{core-at_place, channel-at_place, same-default}
 
 -- a later shard begins no sooner

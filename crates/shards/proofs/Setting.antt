@@ -16,7 +16,7 @@ use Rattle.shards.specs.Shards.{IsShard, IsUpTo, lists_of}
 use Rattle.shards.specs.Jobs.{JobView, IsJob, job_at}
 use Rattle.shards.specs.Phases.{MayGo, MayStop}
 use Rattle.units.specs.Units.{unit_count}
-use Rattle.shards.specs.Wakes.{AreLowered, IsAsleep}
+use Rattle.wake_words.specs.Wakes.{AreLowered, IsAsleep}
 use Rattle.shards.specs.declared.shard.Shard.{Shard}
 use Rattle.shards.specs.declared.job.JobName.{JobName}
 use Rattle.shards.proofs.Jobs.{taken-up}

@@ -24,11 +24,11 @@ use Rattle.units.specs.Parts.{late}
 use Rattle.units.specs.Units.{unit_at}
 use Rattle.units.proofs.Due.{flight-each}
 use Rattle.units.proofs.Filters.{filter-filter, filter-same}
-use Rattle.shards.specs.Wakes.{AllBrought, HaveGone, IsAsleep, IsBrought, WaitAll, units_from, links_after}
-use Rattle.shards.specs.declared.slot.Slot.{Slot}
-use Rattle.shards.proofs.Going.{units-places}
-use Rattle.shards.proofs.Sharing.{due-among}
-use Rattle.shards.proofs.Waiting.{due-flight, known-phase}
+use Rattle.wake_words.specs.Wakes.{AllBrought, HaveGone, IsAsleep, IsBrought, WaitAll, units_from, links_after}
+use Rattle.wake_words.specs.declared.slot.Slot.{Slot}
+use Rattle.wake_words.proofs.Going.{units-places}
+use Rattle.wake_words.proofs.Sharing.{due-among}
+use Rattle.wake_words.proofs.Waiting.{due-flight, known-phase}
 
 -- nothing in flight is overdue
 none-in_flight : (s : Config) (traces : List (List Entry)) (now : ℕ) (u : MachineUnit) → filter (is_due s.channels u 0 now) (in_flight s traces (run s traces now)) ≡ []

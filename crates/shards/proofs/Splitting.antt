@@ -29,15 +29,15 @@ use Rattle.units.specs.Flight.{is_at_places, goes_among, among}
 use Rattle.shards.specs.Shards.{IsSplit, IsShard, AreShards}
 use Rattle.units.specs.Parts.{IsPart, StandAt}
 use Rattle.units.specs.Units.{unit_count, unit_at}
-use Rattle.shards.specs.Wakes.{AreSlots, IsAsleep, Waits, sleeper}
+use Rattle.wake_words.specs.Wakes.{AreSlots, IsAsleep, Waits, sleeper}
 use Rattle.units.specs.declared.part.UnitState.{UnitState}
 use Rattle.shards.specs.declared.shard.Shard.{Shard}
-use Rattle.shards.specs.declared.slot.Slot.{Slot}
+use Rattle.wake_words.specs.declared.slot.Slot.{Slot}
 use Rattle.units.proofs.Due.{place_of_unit, at-place, place-within, unit_is}
 use Rattle.units.proofs.Filters.{filter-filter, filter-same, Each-taken}
-use Rattle.shards.proofs.Sharing.{flight-sorted}
+use Rattle.wake_words.proofs.Sharing.{flight-sorted}
 use Rattle.units.proofs.Standing.{seam-within}
-use Rattle.shards.proofs.Waiting.{awake-waits}
+use Rattle.wake_words.proofs.Waiting.{awake-waits}
 
 -- bounds that begin with 0, never fall, and end with a number
 pub record Climbs (xs : List ℕ) (last : ℕ) : Type 0 where

@@ -1,6 +1,3 @@
-pub mod Wakes
-pub mod Turns
-pub mod Rests
 pub mod Shards
 pub mod Jobs
 pub mod Phases

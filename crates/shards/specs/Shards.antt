@@ -3,7 +3,6 @@
 --     IsShard s traces bounds index shard      the shard with a number, of this machine
 --     lists_of lists      what stands in lists, one after the other
 --     sent_of_shard s traces from until shard      what the units of a shard send in a span
---     IsStill s traces now then      nothing is sent in a span, and nothing in flight arrives in it
 --     AreFor s traces from until shard lists      lists hold what was sent to the units of a shard in a span
 --     AreFrom s traces bounds from until shard lists      lists hold what the units of a shard sent in a span, by the shard that it goes to
 --     IsAtRest s traces bounds index from until wake shard      a shard at the end of a phase, which sends nothing before a cycle
@@ -24,7 +23,7 @@ use Rattle.sim_base.specs.Machine.{run}
 use Rattle.span_laws.specs.Units.{sent_of}
 use Rattle.units.specs.Flight.{among, sent_by}
 use Rattle.units.specs.Units.{unit_at, unit_count}
-use Rattle.shards.specs.Wakes.{HaveGone, IsAsleep, sent_in}
+use Rattle.wake_words.specs.Wakes.{IsStill, HaveGone, IsAsleep, sent_in}
 use Rattle.shards.specs.declared.shard.Shard.{Shard}
 
 -- where the shard with a number begins; behind the last, the number of units
@@ -54,11 +53,6 @@ lists_of lists = flat_map (λ (list : Vec Message Global). list.items) lists
 -- what the units of a shard send in a span
 abbrev pub sent_of_shard : Config → List (List Entry) → ℕ → ℕ → Shard → List Message
 sent_of_shard s traces from until shard = sent_by s traces from until shard.first (length shard.slots.items)
-
--- Nothing is sent in a span by any unit, and nothing in flight arrives in it.
-pub record IsStill (s : Config) (traces : List (List Entry)) (now then : ℕ) : Type 0 where
-  pub sent : (place : ℕ) → place < unit_count s → sent_of s traces then (unit_at s place) ≡ sent_of s traces now (unit_at s place)
-  pub flight : in_flight s traces (run s traces then) ≡ in_flight s traces (run s traces now)
 
 -- lists hold, of what all units sent in a span, what goes to those of a shard
 abbrev pub AreFor : Config → List (List Entry) → ℕ → ℕ → Shard → List (Vec Message Global) → Type 0

@@ -7,11 +7,11 @@ ghost use Rattle.sim_base.specs.declared.message.Message.{Message};
 ghost use Rattle.units.specs.Flight.{among};
 ghost use Rattle.shards.specs.Shards.{IsSplit, bound};
 
-use crate::alone::receiver_place;
 use sim_base::config::Config;
 use sim_base::message::Message;
 use std::alloc::{AllocError, Global};
 use std::mem;
+use wake_words::words::receiver_place;
 
 /// The shard that has the unit at a place.
 fn shard_at(bounds: &[usize], place: usize) -> usize

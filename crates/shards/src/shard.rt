@@ -10,11 +10,9 @@ ghost use Rattle.sim_base.specs.Locality.{TravelsFor};
 ghost use Rattle.units.specs.Flight.{among, sent_by};
 ghost use Rattle.shards.specs.Shards.{IsSplit, bound, lists_of};
 ghost use Rattle.units.specs.Units.{unit_count};
-ghost use Rattle.shards.specs.Wakes.{AreLowered, HaveGone, IsAsleep};
+ghost use Rattle.wake_words.specs.Wakes.{AreLowered, HaveGone, IsAsleep};
 
-use crate::alone::{go_all, lower_all};
 use crate::post::deal;
-use crate::slot::Slot;
 use lane_scan::least;
 use links::flight::Links;
 use sim_base::message::{Cycle, Message};
@@ -22,6 +20,9 @@ use std::alloc::AllocError;
 use std::sync::Arc;
 use units::machine::Machine;
 use units::mail::Mail;
+use wake_words::slot::{Slot, Span};
+use wake_words::waking::go_on;
+use wake_words::words::lower_all;
 
 /// Units at places one after the other, with the wake word of each, and the messages in flight to them.
 #[derive(Drop)]
@@ -86,6 +87,36 @@ fn take_up_all(
     for list in lists.iter_mut() {
         take_up_list(machine, first, words, links, list)?;
     }
+    Ok(())
+}
+
+/// Takes units, at places from one on, over a phase of all units, which is no longer than the shortest latency.
+fn go_all(
+    machine: &Machine,
+    links: &mut Links,
+    mail: &mut Mail,
+    slots: &mut [Slot],
+    words: &mut [Cycle],
+    first: usize,
+    now: Cycle,
+    until: Cycle,
+) -> Result<(), AllocError>
+    requires asleep { IsAsleep machine.now.config machine.now.traces.items first now slots.old words.old links.old }
+    requires order { now < until }
+    requires early { until ≤ 10 ^ 12 }
+    requires travels { TravelsFor machine.now.config (until - now) }
+    requires sent { mail.old.sent.items ≡ [] }
+    ensures count { length slots.new ≡ length slots.old }
+    ensures words { length words.new ≡ length words.old }
+    ensures gone { OnOk result (HaveGone machine.now.config machine.now.traces.items first now until slots.new words.new links.new) }
+    ensures sent { OnOk result (mail.new.sent.items ≡ sent_by machine.now.config machine.now.traces.items now until first (length slots.old)) }
+{
+    let span = Span {
+        here: now,
+        there: now,
+        until,
+    };
+    go_on(machine, links, mail, slots, words, first, &span)?;
     Ok(())
 }
 

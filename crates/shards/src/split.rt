@@ -9,12 +9,10 @@ ghost use Rattle.units.specs.Flight.{among, goes_among};
 ghost use Rattle.units.specs.Parts.{StandAt};
 ghost use Rattle.shards.specs.Shards.{AreShards, IsShard, IsSplit, bound};
 ghost use Rattle.units.specs.Units.{unit_at, unit_count};
-ghost use Rattle.shards.specs.Wakes.{IsAsleep, Waits, sleeper};
-ghost use Rattle.shards.specs.declared.slot.Slot.{Slot};
+ghost use Rattle.wake_words.specs.Wakes.{IsAsleep, Waits, sleeper};
+ghost use Rattle.wake_words.specs.declared.slot.Slot.{Slot};
 
-use crate::alone::{bring_up, receiver_place, slots_of};
 use crate::shard::Shard;
-use crate::slot::Slot;
 use links::flight::Links;
 use sim_base::config::Config;
 use sim_base::message::{Cycle, Message};
@@ -25,6 +23,9 @@ use units::machine::Machine;
 use units::mail::Mail;
 use units::part::UnitState;
 use units::sim::Sim;
+use wake_words::slot::Slot;
+use wake_words::waking::{bring_up, slots_of};
+use wake_words::words::receiver_place;
 
 /// How many of the units are in the first `parts` of `count` parts, which are as equal as possible.
 fn share_of(units: usize, parts: usize, count: usize) -> usize

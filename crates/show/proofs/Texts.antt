@@ -1,6 +1,8 @@
 -- Texts that grow.
-use Rattle.std.proofs.Common.{◌≡◌, ℕ, List, [], ◌++◌, length, sym, ap, ap₂, ◌∙◌, append-nil, append_assoc}
+use Rattle.std.proofs.Common.{◌≡◌, ℕ, ◌+◌, List, [], ◌++◌, length, sym, ap, ap₂, subst, ◌∙◌, add-one, append-nil, append_assoc}
 use Rattle.show.specs.Screen.{Extends, IsScreen, channels_head, cores_head}
+use Rattle.show.specs.Banks.{AreBanksOf, AreBanks}
+use Rattle.sim_base.specs.declared.command.IssuedCommand.{IssuedCommand}
 use Rattle.statistics.specs.Values.{RunStats}
 
 -- a text has no less behind it than nothing
@@ -24,3 +26,9 @@ screen_of stats above below screen upper lower joined = record {
       joined ∙ ap₂ (λ s t. s ++ t) upper.1 lower.1
       ∙ sym (append_assoc (channels_head stats.cycles (length stats.channels) ++ upper.0) (cores_head (length stats.cores)) lower.0);
 }
+
+-- the banks of one more channel
+pub one_more_channel : (commands : List IssuedCommand) (channel : ℕ) (old more new : List ℕ) → AreBanks commands channel old → AreBanksOf commands channel more → new ≡ old ++ more
+    → AreBanks commands (channel + 1) new
+one_more_channel commands channel old more new before after joined =
+    subst (λ n. AreBanks commands n new) (sym (add-one channel)) (record { old = old; more = more; before_is = before; after_is = after; text_is = joined })

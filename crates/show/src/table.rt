@@ -66,7 +66,8 @@ pub(crate) struct Table<'a> {
 }
 
 impl Table<'_> {
-    fn put_headings(&self, out: &mut String) -> Result<(), AllocError>
+    /// Appends the line of headings.
+    pub(crate) fn put_headings(&self, out: &mut String) -> Result<(), AllocError>
         ensures { OnOk result (Extends (string_bytes out.old) (string_bytes out.new)) }
     {
         put_cell(self.label, LABEL_WIDTH, out)?;
@@ -77,7 +78,8 @@ impl Table<'_> {
         out.push_str("\n")
     }
 
-    fn put_row(
+    /// Appends the line of a row, behind a label.
+    pub(crate) fn put_row(
         &self,
         alloc: Global,
         label: &str,

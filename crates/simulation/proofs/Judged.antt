@@ -11,12 +11,8 @@ use Rattle.config_reader.specs.Document.{document_of}
 use Rattle.sim_base.specs.Values.{values_of}
 use Rattle.sim_base.specs.TraceText.{◌>>=◌, trace_answer, in_trace, trace_entries, limited}
 use Rattle.sim_base.specs.Machine.{run, is_over, cycles_run}
-use Rattle.statistics.specs.Runs.{outcome_of, outcome_after}
-use Rattle.statistics.specs.Values.{RunOutcome}
-use Rattle.reports.specs.Commands.{commands_text}
-use Rattle.rule_check.specs.Verdict.{records_of, verdict}
 use Rattle.table_laws.proofs.Verdicts.{runs-legal}
-use Rattle.simulation.specs.Runs.{traces_of, IsJudgedLegal}
+use Rattle.simulation.specs.Runs.{traces_of, IsLegalRun}
 
 -- a run has no more cycles than its limit
 cycles-few : (s : Config) (traces : List (List Entry)) (n : ℕ) → cycles_run s traces n ≤ n
@@ -59,18 +55,10 @@ traces-short core (text ∷ texts) traces e = by (trace_answer core text) (trace
     by (Ok f) (Err fault) a h e = cc e
     by (Err fault) others a h e = cc e
 
--- the outcome of a run over traces that were read, with a limit of at most 10^12 cycles
-pub run-judged : (config : List ℕ) (s : Config) (texts : List (List ℕ)) (traces : List (List Entry)) (cycles : ℕ) (outcome : RunOutcome)
-    → document_of config ≡ Ok (values_of s) → traces_of 0 texts ≡ Ok traces → cycles ≤ 10 ^ 12 → outcome ≡ outcome_of s traces (cycles_run s traces cycles)
-    → IsJudgedLegal config outcome
-unfolding outcome_of outcome_after
-run-judged config s texts traces cycles outcome configured read few e =
+-- the table of a run over traces that were read, with a limit of at most 10^12 cycles, is legal
+pub run-judged : (s : Config) (texts : List (List ℕ)) (traces : List (List Entry)) (cycles : ℕ) → traces_of 0 texts ≡ Ok traces → cycles ≤ 10 ^ 12
+    → IsLegalRun s traces (cycles_run s traces cycles)
+run-judged s texts traces cycles read few =
     let n = cycles_run s traces cycles in
     let below : n ≤ 2 ^ 62 = omega (arith, cycles-few s traces cycles) in
-    record {
-      machine = s;
-      configured = configured;
-      judged =
-          ap (λ (o : RunOutcome). verdict s (records_of (commands_text o.ranks o.commands))) e
-          ∙ runs-legal s traces n below (All-from_recursion (λ (t : List Entry). length t ≤ 2 ^ 62) traces (traces-short 0 texts traces read));
-    }
+    runs-legal s traces n below (All-from_recursion (λ (t : List Entry). length t ≤ 2 ^ 62) traces (traces-short 0 texts traces read))

@@ -4,8 +4,10 @@
 --     limits_of cores texts cycles workers      whether there is one trace per core, and so on
 --     input_of config texts cycles workers      the entries of all traces, or the first fault of a run's input
 --     IsRefusal config texts cycles workers fault      why a run with these workers is refused
---     IsRunOf config texts cycles workers outcome      what the one-clock machine that the bytes describe did and left
---     IsJudgedLegal config outcome      `check` finds the table of its commands legal
+--     IsRunOf config texts cycles workers tables outcome      what the one-clock machine that the bytes describe did and left
+--     HoldsOfRun config texts cycles workers tables law outcome      the same, and a law holds of the run
+--     IsLegalRun s traces n      `check` finds the table of the commands of a run legal
+--     IsJudgedLegal config texts cycles workers tables outcome      it finds that of this run legal
 use Rattle.std.specs.Prelude.{◌≡◌, ◌⊎◌, ℕ, ◌+◌, ◌<◌, ◌≤◌, ◌==◌, nat_le, Bool, ◌&&◌, List, [], ◌∷◌, length, slice_index_or, Result, Ok, Err, IsOk, if◌then◌else◌}
 use Rattle.sim_base.specs.declared.config.Config.{Config}
 use Rattle.sim_base.specs.declared.fault.Fault.{Fault}
@@ -14,9 +16,11 @@ use Rattle.sim_base.specs.declared.trace.Entry.{Entry}
 use Rattle.config_reader.specs.Document.{document_of}
 use Rattle.sim_base.specs.Values.{values_of}
 use Rattle.sim_base.specs.TraceText.{◌>>=◌, trace_answer}
-use Rattle.sim_base.specs.Machine.{cycles_run}
-use Rattle.statistics.specs.Runs.{outcome_of}
-use Rattle.statistics.specs.Values.{RunOutcome}
+use Rattle.sim_base.specs.History.{commands}
+use Rattle.sim_base.specs.Machine.{run, cycles_run}
+use Rattle.run_outcome.specs.Outcomes.{outcome_of}
+use Rattle.run_outcome.specs.Values.{RunOutcome}
+use Rattle.run_outcome.specs.declared.tables.Tables.{Tables}
 use Rattle.reports.specs.Commands.{commands_text}
 use Rattle.rule_check.specs.Verdict.{records_of, verdict}
 use Rattle.rule_check.specs.declared.verdict.Verdict.TheVariants.{Legal}
@@ -59,17 +63,24 @@ IsRefusal config texts cycles workers fault =
     ⊎ ((fault ≡ WorkerStart) × (2 ≤ workers) × IsOk (input_of config texts cycles workers))
 
 -- The configuration is what the document states, the traces are what the texts mean, and the outcome is that of the machine
--- that advances every core, link and channel one cycle at a time, up to the limit or until all is done: its commands, what it
--- counted, and the state before the next cycle.
-pub record IsRunOf (config : List ℕ) (texts : List (List ℕ)) (cycles workers : ℕ) (outcome : RunOutcome) : Type 0 where
+-- that advances every core, link and channel one cycle at a time, up to the limit or until all is done: its commands, if their table
+-- is asked for, what it counted, and the state before the next cycle.
+pub record IsRunOf (config : List ℕ) (texts : List (List ℕ)) (cycles workers : ℕ) (tables : Tables) (outcome : RunOutcome) : Type 0 where
   pub machine : Config
   pub traces : List (List Entry)
   pub configured : document_of config ≡ Ok (values_of machine)
   pub read : input_of config texts cycles workers ≡ Ok traces
-  pub outcome_is : outcome ≡ outcome_of machine traces (cycles_run machine traces cycles)
+  pub outcome_is : outcome ≡ outcome_of tables machine traces (cycles_run machine traces cycles)
 
--- Under the configuration that the document states, `check` finds the text of the table of commands legal.
-pub record IsJudgedLegal (config : List ℕ) (outcome : RunOutcome) : Type 0 where
-  pub machine : Config
-  pub configured : document_of config ≡ Ok (values_of machine)
-  pub judged : verdict machine (records_of (commands_text outcome.ranks outcome.commands)) ≡ Ok Legal
+-- The outcome is that of a run, and a law holds of its machine, its traces and its cycles, whatever tables were asked for.
+pub record HoldsOfRun (config : List ℕ) (texts : List (List ℕ)) (cycles workers : ℕ) (tables : Tables) (law : Config → List (List Entry) → ℕ → Type 0) (outcome : RunOutcome) : Type 0 where
+  pub run_is : IsRunOf config texts cycles workers tables outcome
+  pub holds : law run_is.machine run_is.traces outcome.stats.cycles
+
+-- `check` finds the text of the table of the commands of a run of n cycles legal
+abbrev pub IsLegalRun : Config → List (List Entry) → ℕ → Type 0
+IsLegalRun s traces n = verdict s (records_of (commands_text s.ranks (commands (run s traces n)))) ≡ Ok Legal
+
+-- Under the configuration that the document states, `check` finds the text of the table of the commands of the run legal.
+abbrev pub IsJudgedLegal : List ℕ → List (List ℕ) → ℕ → ℕ → Tables → RunOutcome → Type 0
+IsJudgedLegal config texts cycles workers tables outcome = HoldsOfRun config texts cycles workers tables IsLegalRun outcome

@@ -1,14 +1,15 @@
 //! A run of the simulator, from the bytes of its input.
 
 ghost use Rattle.std.specs.Prelude.{map, IfOk, IfErr};
-ghost use Rattle.simulation.specs.Runs.{IsRefusal, IsRunOf, IsJudgedLegal};
-ghost use Rattle.simulation.specs.Outcomes.{HoldsUnder, KeepsCreditsOf};
-ghost use Rattle.table_laws.specs.Outcomes.{OwnsDataBus, IsRefreshed, HasBoundedQueues, HoldsFewCredits};
+ghost use Rattle.simulation.specs.Runs.{IsRefusal, IsRunOf, HoldsOfRun, IsJudgedLegal};
+ghost use Rattle.simulation.specs.Outcomes.{HoldsUnder};
+ghost use Rattle.table_laws.specs.Outcomes.{OwnsDataBus, IsRefreshed, HasBoundedQueues, HoldsFewCredits, KeepsCreditsUntil};
 
 use crate::input::read_input;
+use run_outcome::outcome::Outcome;
+use run_outcome::tables::Tables;
 use sim_base::fault::Fault;
 use sim_base::message::Cycle;
-use statistics::outcome::Outcome;
 use std::alloc::Global;
 use std::sync::Wait;
 use std::thread::Threads;
@@ -17,8 +18,8 @@ use workers::machine::run_machine;
 use workers::sharing::Workers;
 use workers::watch::Watch;
 
-/// Runs the machine that a configuration and one trace per core describe, for at most `cycles` cycles, and returns its commands, its
-/// statistics and the state in which it ends. At most as many workers run it as are named, 1 to 64, each in a thread of its
+/// Runs the machine that a configuration and one trace per core describe, for at most `cycles` cycles, and returns its commands, if
+/// their table is asked for, its statistics and the state in which it ends. At most as many workers run it as are named, 1 to 64, each in a thread of its
 /// own, and `workers.sharing` says when they share it out; one worker is the thread of the caller, which runs it in place. A worker passes the
 /// gate at the beginning and at the end of each job of a phase. The watcher is told how far the run is, and when it has ended. The result does
 /// not depend on the workers, when they share, the gate or the watcher.
@@ -26,9 +27,9 @@ use workers::watch::Watch;
 /// The input is tested in this order: the configuration, the number of traces, the number of workers (1 to 64), the limit (at
 /// most 10^12 cycles), and the traces by core. The first fault is returned. `Fault::Memory` may come at any time; the run itself
 /// is refused only with this or, with two or more workers, with `Fault::WorkerStart`. The table of its commands is legal, as
-/// `check` reads it under the same configuration.
+/// `check` reads it under the same configuration, whether it is asked for or not.
 ///
-/// In the outcome no cycle of a channel's data bus belongs to two commands. Where ranks are refreshed, the m-th REF of each stands
+/// In the run no cycle of a channel's data bus belongs to two commands. Where ranks are refreshed, the m-th REF of each stands
 /// at cycle `m * nREFI` plus the slack or earlier, if the run lasts that long. No queue was ever longer than the cores have credits
 /// for. No core is left with more credits than it began with, and at no cycle of the run had it spent more than those and the ones
 /// that came back.
@@ -41,19 +42,22 @@ pub fn simulate<R: Threads + Wait + Sync, G: Gate + Sync, W: Watch>(
     texts: &[&[u8]],
     cycles: Cycle,
     workers: Workers,
+    tables: Tables,
 ) -> Result<Outcome, Fault>
-    ensures run { IfOk result (IsRunOf config.now (map (λ t. t.now) texts.now) cycles workers.count) }
-    ensures legal { IfOk result (IsJudgedLegal config.now) }
-    ensures data_bus { IfOk result (HoldsUnder config.now OwnsDataBus) }
-    ensures refreshed { IfOk result (HoldsUnder config.now IsRefreshed) }
+    ensures run { IfOk result (IsRunOf config.now (map (λ t. t.now) texts.now) cycles workers.count tables) }
+    ensures legal { IfOk result (IsJudgedLegal config.now (map (λ t. t.now) texts.now) cycles workers.count tables) }
+    ensures data_bus { IfOk result (HoldsOfRun config.now (map (λ t. t.now) texts.now) cycles workers.count tables OwnsDataBus) }
+    ensures refreshed { IfOk result (HoldsOfRun config.now (map (λ t. t.now) texts.now) cycles workers.count tables IsRefreshed) }
     ensures bounded { IfOk result (HoldsUnder config.now HasBoundedQueues) }
     ensures held { IfOk result (HoldsUnder config.now HoldsFewCredits) }
-    ensures credits { IfOk result (KeepsCreditsOf config.now (map (λ t. t.now) texts.now) cycles workers.count) }
+    ensures credits { IfOk result (HoldsOfRun config.now (map (λ t. t.now) texts.now) cycles workers.count tables KeepsCreditsUntil) }
     ensures refused { IfErr result (IsRefusal config.now (map (λ t. t.now) texts.now) cycles workers.count) }
 {
     let (config, traces) = match read_input(rt, alloc, config, texts, cycles, workers.count) {
         Ok(input) => input,
         Err(fault) => return Err(fault),
     };
-    run_machine(rt, alloc, gate, watch, workers, &config, traces, cycles)
+    run_machine(
+        rt, alloc, gate, watch, workers, &config, traces, tables, cycles,
+    )
 }

@@ -19,7 +19,7 @@ use Rattle.statistics.specs.Runs.{stats_of_channel, channel_last, last_of_channe
 use Rattle.laws.specs.Commands.{channel_steps_of, history_of}
 use Rattle.channel_step.specs.Channels.{StandsFor}
 use Rattle.channel_step.specs.Fit.{IsFit}
-use Rattle.channel_step.specs.Runs.{IsDone, CanRun}
+use Rattle.channel_step.specs.Runs.{with_more, IsDone, CanRun}
 use Rattle.channel_step.specs.declared.channel.Channel.{Channel}
 use Rattle.span_laws.specs.Mail.{mail_before, mail_in}
 
@@ -42,21 +42,21 @@ IsChannelAt s traces channel now c = StandsFor c s channel (channel_steps_of s t
 
 -- what a channel makes of a span, and which lists it turns into which: whatever past it stands for, if these messages are fit for
 -- the span after it
-abbrev pub Gives : Channel → List Message → ℕ → ℕ → Channel → List IssuedCommand → List IssuedCommand → List Message → List Message → Type 0
+abbrev pub Gives : Channel → List Message → ℕ → ℕ → Channel → Option (List IssuedCommand) → Option (List IssuedCommand) → List Message → List Message → Type 0
 Gives c inbox from until d commands commands_then messages messages_then =
     (s : Config) (channel : ℕ) (steps : List (Option Command)) (mail : List Message)
     → StandsFor c s channel steps mail → length steps ≡ from → IsFit s channel steps mail inbox from until
     → IsDone d s channel steps mail inbox from until commands commands_then messages messages_then
 
--- A channel did what the one with this number did in a span of a run: it stands at the end of the span, and the commands and
--- messages of the run beyond those before the span were put behind what two lists held.
-pub record HasGone (s : Config) (traces : List (List Entry)) (channel from until : ℕ) (c : Channel) (commands commands_then : List IssuedCommand) (messages messages_then : List Message) : Type 0 where
+-- A channel did what the one with this number did in a span of a run: it stands at the end of the span, and the commands,
+-- where they are kept, and the messages of the run beyond those before the span were put behind what two lists held.
+pub record HasGone (s : Config) (traces : List (List Entry)) (channel from until : ℕ) (c : Channel) (commands commands_then : Option (List IssuedCommand)) (messages messages_then : List Message) : Type 0 where
   pub issued : List IssuedCommand
   pub sent : List Message
   pub stands : IsChannelAt s traces channel until c
   pub commands_are : history_of s traces until channel ≡ history_of s traces from channel ++ issued
   pub messages_are : messages_of_channel s (run s traces until) channel ≡ messages_of_channel s (run s traces from) channel ++ sent
-  pub commands_behind : commands_then ≡ commands ++ issued
+  pub commands_behind : commands_then ≡ with_more commands issued
   pub messages_behind : messages_then ≡ messages ++ sent
 
 -- before the first cycle a channel that has done nothing stands for its part of the run
@@ -72,7 +72,7 @@ ChannelsMayRun s traces from until =
 -- what it leaves then is its part of the longer run
 abbrev pub ChannelsGoOn : Config → List (List Entry) → ℕ → ℕ → Type 0
 ChannelsGoOn s traces from until =
-    (channel : ℕ) (c d : Channel) (commands commands_then : List IssuedCommand) (messages messages_then : List Message)
+    (channel : ℕ) (c d : Channel) (commands commands_then : Option (List IssuedCommand)) (messages messages_then : List Message)
     → channel < s.channels → from ≤ until → IsChannelAt s traces channel from c
     → Gives c (mail_in s traces until (unit.Channel channel) from until) from until d commands commands_then messages messages_then
     → HasGone s traces channel from until d commands commands_then messages messages_then

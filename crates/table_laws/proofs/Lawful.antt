@@ -13,14 +13,16 @@ use Rattle.sim_base.specs.declared.trace.Entry.{Entry}
 use Rattle.sim_base.specs.Config.{refresh_slack, credit_link}
 use Rattle.sim_base.specs.Counts.{queue_length, queue_lengths, queued_max}
 use Rattle.sim_base.specs.Final.{credits_left, queue_left}
-use Rattle.sim_base.specs.History.{below, issued_at, issued_commands, inbox, trace_of, steps_of_core}
+use Rattle.sim_base.specs.History.{below, issued_at, issued_commands, commands, inbox, trace_of, steps_of_core}
 use Rattle.sim_base.specs.Machine.{run}
 use Rattle.sim_base.specs.Scheduling.{refreshes}
 use Rattle.sim_base.specs.Windows.{held, credit_cap, is_credit_on}
 use Rattle.sim_base.proofs.Spans.{length-run}
 use Rattle.statistics.specs.Channels.{channel_stats}
-use Rattle.statistics.specs.Runs.{stats_of_channel, last_of_core, last_of_channel, core_last, channel_last, credits_of, stats_of, final_of, outcome_after, outcome_of}
+use Rattle.statistics.specs.Runs.{stats_of_channel, last_of_core, last_of_channel, core_last, channel_last, credits_of, stats_of, final_of}
 use Rattle.statistics.specs.Values.{LastCore, LastChannel}
+use Rattle.run_outcome.specs.Outcomes.{outcome_after, outcome_of}
+use Rattle.run_outcome.specs.declared.tables.Tables.{Tables}
 use Rattle.statistics.specs.declared.channels.ChannelStats.{ChannelStats}
 use Rattle.statistics.specs.declared.final_state.Credits.{Credits}
 use Rattle.laws.specs.Commands.{channel_steps_of}
@@ -39,11 +41,10 @@ use Rattle.table_laws.specs.Outcomes.{OwnsDataBus, refreshes_until, IsRefreshed,
 
 -- the rows of a channel are its history
 rows_are : (s : Config) (traces : List (List Entry)) (n channel : ℕ) → channel < s.channels
-    → rows_on channel (outcome_of s traces n).commands ≡ issued_commands channel (channel_steps_of s traces n channel)
-unfolding outcome_of outcome_after
+    → rows_on channel (commands (run s traces n)) ≡ issued_commands channel (channel_steps_of s traces n channel)
 rows_are s traces n channel l = rows_on-commands s traces channel l n
 
-pub owns_data_bus : (s : Config) (traces : List (List Entry)) (n : ℕ) → OwnsDataBus s (outcome_of s traces n)
+pub owns_data_bus : (s : Config) (traces : List (List Entry)) (n : ℕ) → OwnsDataBus s traces n
 owns_data_bus s traces n channel cycle l =
     subst (λ t. count_by (has_data_in s.timing cycle) t ≤ 1) (sym (rows_are s traces n channel l)) (data_bus_is_shared s traces n channel cycle l)
 
@@ -69,14 +70,14 @@ history-early : (k rank cycle : ℕ) (past_steps : List (Option Command))
 unfolding issued_commands
 history-early k rank cycle past_steps = refreshed-early k rank cycle 0 (cycle + 1) past_steps (omega arith)
 
-cycles_are : (s : Config) (traces : List (List Entry)) (n : ℕ) → (outcome_of s traces n).stats.cycles ≡ n
+-- the statistics tell how many cycles a run had
+pub cycles_are : (tables : Tables) (s : Config) (traces : List (List Entry)) (n : ℕ) → (outcome_of tables s traces n).stats.cycles ≡ n
 unfolding outcome_of outcome_after stats_of
-cycles_are s traces n = length-run s traces n
+cycles_are tables s traces n = length-run s traces n
 
-pub is_refreshed : (s : Config) (traces : List (List Entry)) (n : ℕ) → IsRefreshed s (outcome_of s traces n)
+pub is_refreshed : (s : Config) (traces : List (List Entry)) (n : ℕ) → IsRefreshed s traces n
 is_refreshed s traces n channel rank m l b some soon =
     let last = m * s.timing.n_refi + refresh_slack s in
-    let long = cycles_are s traces n in
     let enough = refreshes_are_in_time s traces n channel rank m l b some (omega arith) in
     let early = history-early channel rank last (channel_steps_of s traces n channel) in
     subst (λ t. m ≤ refreshes_until rank last t) (sym (rows_are s traces n channel l)) (omega arith)
@@ -109,9 +110,9 @@ left-fits : (s : Config) (traces : List (List Entry)) (n channel : ℕ) → chan
 unfolding last_of_channel channel_last queue_left
 left-fits s traces n channel l = queued_requests-bound s traces n channel (length (channel_steps_of s traces n channel)) l
 
-pub has_bounded_queues : (s : Config) (traces : List (List Entry)) (n : ℕ) → HasBoundedQueues s (outcome_of s traces n)
+pub has_bounded_queues : (tables : Tables) (s : Config) (traces : List (List Entry)) (n : ℕ) → HasBoundedQueues s (outcome_of tables s traces n)
 unfolding outcome_of outcome_after stats_of final_of
-has_bounded_queues s traces n =
+has_bounded_queues tables s traces n =
     record {
       longest = all-below (λ (c : ChannelStats). c.queued_max ≤ most_queued s) (stats_of_channel s traces (run s traces n)) s.channels (λ k l. longest-fits s traces n k l);
       left = all-below (λ (c : LastChannel). length c.queue ≤ most_queued s) (last_of_channel s traces (run s traces n)) s.channels (λ k l. left-fits s traces n k l);
@@ -143,9 +144,9 @@ credits-few s traces n core c =
     (credits_of s core (trace_of traces core) (steps_of_core core (run s traces n)) (inbox s traces (run s traces n) (Core core))) s.channels
     (λ k l. (held-few s traces n core k false c l, held-few s traces n core k true c l))
 
-pub holds_few_credits : (s : Config) (traces : List (List Entry)) (n : ℕ) → HoldsFewCredits s (outcome_of s traces n)
+pub holds_few_credits : (tables : Tables) (s : Config) (traces : List (List Entry)) (n : ℕ) → HoldsFewCredits s (outcome_of tables s traces n)
 unfolding outcome_of outcome_after final_of
-holds_few_credits s traces n =
+holds_few_credits tables s traces n =
     all-below (λ (c : LastCore). All (λ (held : Credits). held.read ≤ s.read_credits × held.write ≤ s.write_credits) c.credits)
     (last_of_core s traces (run s traces n)) s.cores (λ k l. credits-few s traces n k l)
 

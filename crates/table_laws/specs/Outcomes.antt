@@ -1,7 +1,7 @@
 -- What a user may rely on in the outcome of a run.
---     OwnsDataBus s outcome      in no cycle do two commands of a channel have data on its bus
+--     OwnsDataBus s traces n      in no cycle do two commands of a channel have data on its bus
 --     refreshes_until rank cycle table      how many REFs of a rank stand in a cycle or before it
---     IsRefreshed s outcome      a rank's REF for each interval of nREFI cycles comes no later than the slack after its end
+--     IsRefreshed s traces n      a rank's REF for each interval of nREFI cycles comes no later than the slack after its end
 --     most_queued s      the requests for which the cores have credits at one channel
 --     HasBoundedQueues s outcome      no channel ever had more of them in its queue
 --     HoldsFewCredits s outcome      no core is left with more credits than it began with
@@ -13,15 +13,17 @@ use Rattle.sim_base.specs.declared.command.IssuedCommand.{IssuedCommand}
 use Rattle.sim_base.specs.declared.trace.Entry.{Entry}
 use Rattle.sim_base.specs.Config.{refresh_slack}
 use Rattle.sim_base.specs.Scheduling.{refreshes}
-use Rattle.statistics.specs.Values.{RunOutcome}
+use Rattle.sim_base.specs.History.{commands}
+use Rattle.sim_base.specs.Machine.{run}
+use Rattle.run_outcome.specs.Values.{RunOutcome}
 use Rattle.laws.specs.Credits.{CreditsAreNeverOverspent, CreditsComeBackOnce}
 use Rattle.laws.specs.DataBus.{has_data_in}
 use Rattle.laws.specs.Tables.{rows_on}
 
--- in no cycle do two commands of a channel have data on its bus
-abbrev pub OwnsDataBus : Config → RunOutcome → Type 0
-OwnsDataBus s outcome =
-    (channel cycle : ℕ) → channel < s.channels → count_by (has_data_in s.timing cycle) (rows_on channel outcome.commands) ≤ 1
+-- in no cycle do two commands of a channel have data on its bus, in the run of n cycles
+abbrev pub OwnsDataBus : Config → List (List Entry) → ℕ → Type 0
+OwnsDataBus s traces n =
+    (channel cycle : ℕ) → channel < s.channels → count_by (has_data_in s.timing cycle) (rows_on channel (commands (run s traces n))) ≤ 1
 
 -- how many REFs of a rank stand in a cycle or before it
 abbrev pub refreshes_until : ℕ → ℕ → List IssuedCommand → ℕ
@@ -29,11 +31,11 @@ refreshes_until rank cycle table = count_by (λ row. refreshes rank row.command 
 
 -- Where there are refreshes, at least m REFs of each rank stand at m * nREFI + refresh_slack or before it, if that cycle is one of
 -- the run.
-abbrev pub IsRefreshed : Config → RunOutcome → Type 0
-IsRefreshed s outcome =
+abbrev pub IsRefreshed : Config → List (List Entry) → ℕ → Type 0
+IsRefreshed s traces n =
     (channel rank m : ℕ) → channel < s.channels → rank < s.ranks → 0 < s.timing.n_refi →
-    m * s.timing.n_refi + refresh_slack s < outcome.stats.cycles →
-    m ≤ refreshes_until rank (m * s.timing.n_refi + refresh_slack s) (rows_on channel outcome.commands)
+    m * s.timing.n_refi + refresh_slack s < n →
+    m ≤ refreshes_until rank (m * s.timing.n_refi + refresh_slack s) (rows_on channel (commands (run s traces n)))
 
 -- the requests for which all cores together have credits at one channel
 abbrev pub most_queued : Config → ℕ

@@ -1,5 +1,5 @@
 -- When a run is over, as its units and links show it, and how long it is surely not.
-use Rattle.std.proofs.Common.{◌≡◌, ℕ, suc, ◌+◌, ◌-◌, ◌*◌, ◌/◌, ◌%◌, ◌<◌, ◌≤◌, Bool, true, false, min, List, [], length, get_or, Some, ◌⊎◌, inl, inr, refl, sym, ap, subst, ◌∙◌, arith}
+use Rattle.std.proofs.Common.{◌≡◌, ℕ, suc, ◌+◌, ◌-◌, ◌*◌, ◌/◌, ◌%◌, ◌<◌, ◌≤◌, Bool, true, false, min, List, [], length, get_or, Option, Some, ◌⊎◌, inl, inr, refl, sym, ap, subst, ◌∙◌, arith}
 use Rattle.std.specs.Prelude.{Any}
 use Rattle.std.proofs.lemmas.Bool.{cases_lt}
 use Rattle.std.proofs.lemmas.Grind.{div_ceil_times}
@@ -50,7 +50,7 @@ pub record IsChannelPlace (s : Config) (traces : List (List Entry)) (now place :
   pub is : place ≡ s.cores + channel
   pub stands : IsChannelAt s traces channel now c
 
-pub channel-place : (s : Config) (traces : List (List Entry)) (now place : ℕ) (c : Channel) (rows : List IssuedCommand) → IsPart s traces (unit_at s place) now (part.Channel c rows)
+pub channel-place : (s : Config) (traces : List (List Entry)) (now place : ℕ) (c : Channel) (rows : Option (List IssuedCommand)) → IsPart s traces (unit_at s place) now (part.Channel c rows)
     → IsChannelPlace s traces now place c
 channel-place s traces now place c rows h = go (cases_lt place s.cores)
   where

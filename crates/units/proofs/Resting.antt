@@ -77,7 +77,7 @@ core-cycle s traces (unit.Core core) c now h = h.now ∙ core-rows_length s trac
 core-cycle s traces (unit.Channel channel) c now h = absurd h
 
 -- a channel of a simulator may be asked
-pub channel-stands_at : (s : Config) (traces : List (List Entry)) (u : MachineUnit) (c : Channel) (rows : List IssuedCommand) (now : ℕ) → IsPart s traces u now (part.Channel c rows)
+pub channel-stands_at : (s : Config) (traces : List (List Entry)) (u : MachineUnit) (c : Channel) (rows : Option (List IssuedCommand)) (now : ℕ) → IsPart s traces u now (part.Channel c rows)
     → StandsAt c now
 channel-stands_at s traces (unit.Channel channel) c rows now h =
     record {
@@ -96,7 +96,7 @@ ChannelTells c now next =
     (s : Config) (channel : ℕ) (rows : List (Option Command)) (mail : List Message) → ChannelStandsFor c s channel rows mail → length rows ≡ now
     → IsFirstCycle (λ cycle. is_some (choice s channel (rows ++ replicate (cycle - now) None) mail)) now next
 
-pub channel-tells : (s : Config) (traces : List (List Entry)) (u : MachineUnit) (c : Channel) (rows : List IssuedCommand) (now : ℕ) (next : Option ℕ)
+pub channel-tells : (s : Config) (traces : List (List Entry)) (u : MachineUnit) (c : Channel) (rows : Option (List IssuedCommand)) (now : ℕ) (next : Option ℕ)
     → IsPart s traces u now (part.Channel c rows) → ChannelTells c now next → IsNextActOf s traces u now next
 channel-tells s traces (unit.Channel channel) c rows now next h tells =
     channel-next_act s traces channel now next

@@ -1,5 +1,5 @@
 -- A unit that is run over a span.
-use Rattle.std.proofs.Common.{◌≡◌, ℕ, List, ◌++◌, sym, ap, subst, ◌∙◌}
+use Rattle.std.proofs.Common.{◌≡◌, ℕ, List, ◌++◌, Option, Some, None, IfSome, sym, ap, subst, ◌∙◌}
 use Rattle.sim_base.specs.declared.config.Config.{Config}
 use Rattle.sim_base.specs.Machine.{run}
 use Rattle.sim_base.specs.declared.message.Message.{Message}
@@ -9,7 +9,7 @@ use Rattle.sim_base.specs.declared.trace.Entry.{Entry}
 use Rattle.sim_base.specs.declared.command.IssuedCommand.{IssuedCommand}
 use Rattle.sim_base.proofs.Spans.{length-run}
 use Rattle.statistics.proofs.Replies.{length-steps_of_core}
-use Rattle.channel_step.specs.Runs.{CanRun}
+use Rattle.channel_step.specs.Runs.{with_more, CanRun}
 use Rattle.channel_step.specs.declared.channel.Channel.{Channel}
 use Rattle.core_window.specs.CoreViews.{view_of}
 use Rattle.core_window.specs.Fit.{MayRun, Runs, RunsOnto}
@@ -40,13 +40,18 @@ core-has_run s traces (unit.Core core) c d inbox held holds from until h runs =
     record { messages = runs.sent; behind = runs.behind; ran = record { exists = h.exists; stands = goes.0; sent = goes.1 } }
 core-has_run s traces (unit.Channel channel) c d inbox held holds from until h runs = absurd h.stands
 
-pub channel-can_run : (s : Config) (traces : List (List Entry)) (unit : MachineUnit) (c : Channel) (rows : List IssuedCommand) (inbox : List Message) (from until : ℕ)
+pub channel-can_run : (s : Config) (traces : List (List Entry)) (unit : MachineUnit) (c : Channel) (rows : Option (List IssuedCommand)) (inbox : List Message) (from until : ℕ)
     → IsReadyFor s traces unit (part.Channel c rows) inbox from until → CanRun c inbox from until
 channel-can_run s traces (unit.Channel channel) c rows inbox from until h =
     subst (λ mail. CanRun c mail from until) (sym h.mail) (channels-may_run s traces from until channel c h.exists h.order h.stands.0)
 channel-can_run s traces (unit.Core core) c rows inbox from until h = absurd h.stands
 
-pub channel-has_run : (s : Config) (traces : List (List Entry)) (unit : MachineUnit) (c d : Channel) (rows more : List IssuedCommand) (inbox held holds : List Message) (from until : ℕ)
+-- a list that is kept has more behind it
+kept-more : {X : Type 0} (kept then : Option (List X)) (xs ys more : List X) → then ≡ with_more kept more → ys ≡ xs ++ more → IfSome kept (λ rows. rows ≡ xs) → IfSome then (λ rows. rows ≡ ys)
+kept-more None then xs ys more e f h = subst (λ kept. IfSome kept (λ rows. rows ≡ ys)) (sym e) tt
+kept-more (Some rows) then xs ys more e f h = subst (λ kept. IfSome kept (λ rows. rows ≡ ys)) (sym e) (ap (λ x. x ++ more) h ∙ sym f)
+
+pub channel-has_run : (s : Config) (traces : List (List Entry)) (unit : MachineUnit) (c d : Channel) (rows more : Option (List IssuedCommand)) (inbox held holds : List Message) (from until : ℕ)
     → IsReadyFor s traces unit (part.Channel c rows) inbox from until → Gives c inbox from until d rows more held holds
     → HasRunOnto s traces unit from until (part.Channel d more) held holds
 channel-has_run s traces (unit.Channel channel) c d rows more inbox held holds from until h gives =
@@ -57,7 +62,7 @@ channel-has_run s traces (unit.Channel channel) c d rows more inbox held holds f
       behind = goes.messages_behind;
       ran = record {
         exists = h.exists;
-        stands = (goes.stands, goes.commands_behind ∙ ap (λ x. x ++ goes.issued) h.stands.1 ∙ sym goes.commands_are);
+        stands = (goes.stands, kept-more rows more _ _ goes.issued goes.commands_behind goes.commands_are h.stands.1);
         sent = goes.messages_are;
       };
     }

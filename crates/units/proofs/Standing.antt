@@ -1,5 +1,5 @@
 -- Units in their order, each of which stands for its part of a run.
-use Rattle.std.proofs.Common.{◌≡◌, ℕ, zero, suc, ◌+◌, ◌-◌, ◌<◌, ltb, true, false, List, [], ◌∷◌, ◌++◌, length, get_or, Some, ◌⊎◌, inl, inr, refl, sym, ap, subst, ◌∙◌, zero-add, add-one, arith}
+use Rattle.std.proofs.Common.{◌≡◌, ℕ, zero, suc, ◌+◌, ◌-◌, ◌<◌, ltb, true, false, List, [], ◌∷◌, ◌++◌, length, get_or, Option, Some, None, IfSome, ◌⊎◌, inl, inr, refl, sym, ap, subst, ◌∙◌, zero-add, add-one, arith}
 use Rattle.std.specs.Prelude.{slice_get, map}
 use Rattle.std.proofs.lemmas.List.{length-map, length-append, append-nil}
 use Rattle.std.proofs.lemmas.List.FromFn.{get_or-map-range_with_len, map-range_with_len_more, length-range_with_len}
@@ -71,12 +71,17 @@ history-none : (s : Config) (traces : List (List Entry)) (channel : ℕ) → his
 unfolding run steps_of_channel issued_commands
 history-none s traces channel = refl
 
-pub first-channel : (s : Config) (traces : List (List Entry)) (parts : List UnitState) (channel : ℕ) (c : Channel) (rows : List IssuedCommand) → StandAt s traces 0 parts
-    → length parts ≡ s.cores + channel → ChannelStandsFor c s channel [] [] → rows ≡ [] → StandAt s traces 0 (parts ++ part.Channel c rows ∷ [])
+-- a list that is kept is the same as another
+kept-same : {X : Type 0} (kept : Option (List X)) (xs ys : List X) → xs ≡ ys → IfSome kept (λ rows. rows ≡ xs) → IfSome kept (λ rows. rows ≡ ys)
+kept-same None xs ys e h = tt
+kept-same (Some rows) xs ys e h = h ∙ e
+
+pub first-channel : (s : Config) (traces : List (List Entry)) (parts : List UnitState) (channel : ℕ) (c : Channel) (rows : Option (List IssuedCommand)) → StandAt s traces 0 parts
+    → length parts ≡ s.cores + channel → ChannelStandsFor c s channel [] [] → IfSome rows (λ r. r ≡ []) → StandAt s traces 0 (parts ++ part.Channel c rows ∷ [])
 first-channel s traces parts channel c rows h e k none =
     stand-push s traces 0 parts (part.Channel c rows) h
     (subst (λ u. IsPart s traces u 0 (part.Channel c rows)) (sym (channel-at_place s (length parts) channel e))
-    (channels-start s traces channel c k, none ∙ sym (history-none s traces channel)))
+    (channels-start s traces channel c k, kept-same rows [] (history_of s traces 0 channel) (sym (history-none s traces channel)) none))
 
 -- the elements that come before one are fewer than all
 pub seam-within : {X : Type 0} (xs ys rest : List X) (x : X) (n : ℕ) → ys ++ x ∷ rest ≡ xs → length xs ≡ n → length ys < n

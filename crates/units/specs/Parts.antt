@@ -7,7 +7,7 @@
 --     StandAt s traces now parts      units in their order stand for their parts
 --     late cycle mail      the messages that arrive in a cycle or later
 --     IsSim s traces now phase parts links      what holds of a simulator
-use Rattle.std.specs.Prelude.{◌≡◌, ℕ, ◌^◌, ◌≤◌, nat_lt, not, List, ◌++◌, length, filter, slice_get, Some}
+use Rattle.std.specs.Prelude.{◌≡◌, ℕ, ◌^◌, ◌≤◌, nat_lt, not, List, ◌++◌, length, filter, slice_get, Some, IfSome}
 use Rattle.sim_base.specs.declared.config.Config.{Config}
 use Rattle.sim_base.specs.Counts.{in_flight}
 use Rattle.sim_base.specs.Machine.{run}
@@ -26,10 +26,10 @@ use Rattle.units.specs.Units.{unit_count, unit_at}
 use Rattle.units.specs.declared.part.UnitState.{UnitState}
 use Rattle.units.specs.declared.part.UnitState.TheVariants as part
 
--- A unit stands for what the one with this number did in the cycles of a run before one. With a channel its commands are kept.
+-- A unit stands for what the one with this number did in the cycles of a run before one. With a channel its commands may be kept.
 abbrev pub IsPart : Config → List (List Entry) → MachineUnit → ℕ → UnitState → Type 0
 IsPart s traces (unit.Core core) now (part.Core c) = IsCoreAt s traces core now (view_of c)
-IsPart s traces (unit.Channel channel) now (part.Channel c commands) = IsChannelAt s traces channel now c × (commands ≡ history_of s traces now channel)
+IsPart s traces (unit.Channel channel) now (part.Channel c commands) = IsChannelAt s traces channel now c × IfSome commands (λ rows. rows ≡ history_of s traces now channel)
 IsPart s traces (unit.Core core) now (part.Channel c commands) = ⊥
 IsPart s traces (unit.Channel channel) now (part.Core c) = ⊥
 

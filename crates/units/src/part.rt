@@ -12,11 +12,11 @@ use core_window::core_unit::Core;
 use sim_base::message::{Cycle, Message};
 use std::alloc::AllocError;
 
-/// A core, or a channel with the commands that it issued, in their order.
+/// A core, or a channel with the commands that it issued, in their order, where they are kept.
 #[derive(Drop)]
 pub enum UnitState {
     Core(Core),
-    Channel(Channel, CommandList),
+    Channel(Channel, Option<CommandList>),
 }
 
 impl UnitState {

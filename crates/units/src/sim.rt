@@ -1,11 +1,12 @@
 //! All units of a machine between two spans.
 
-ghost use Rattle.std.specs.Prelude.{◌≡◌, ◌<◌, ◌≤◌, ◌+◌, true, false, List, length, IfOk, OnOk, IfSome, IfNone};
+ghost use Rattle.std.specs.Prelude.{◌≡◌, ◌<◌, ◌≤◌, ◌+◌, true, false, List, length, is_some, [], IfOk, OnOk, IfSome, IfNone};
 ghost use Rattle.sim_base.specs.declared.trace.Entry.{Entry};
 ghost use Rattle.sim_base.specs.Counts.{in_flight};
 ghost use Rattle.sim_base.specs.Machine.{run, is_over};
 ghost use Rattle.span_laws.specs.Ends.{ends_before};
-ghost use Rattle.statistics.specs.Runs.{stats_of, final_of, outcome_of};
+ghost use Rattle.run_outcome.specs.Outcomes.{outcome_of};
+ghost use Rattle.statistics.specs.Runs.{stats_of, final_of};
 ghost use Rattle.units.specs.Units.{unit_count};
 ghost use Rattle.units.specs.Parts.{StandAt, IsSim};
 ghost use Rattle.units.specs.Drained.{GoesOn, NotEnded};
@@ -15,16 +16,17 @@ use crate::drained::{all_finished, cores_until, flight_until};
 use crate::ending::{channels_left, cores_left};
 use crate::machine::Machine;
 use crate::part::UnitState;
-use crate::tables::all_commands;
+use crate::tables::commands_if_asked;
 use channel_step::channel::Channel;
 use command_table::list::CommandList;
 use core_window::core_unit::Core;
 use cpu_trace::trace::Trace;
 use links::flight::Links;
+use run_outcome::outcome::Outcome;
+use run_outcome::tables::Tables;
 use sim_base::config::Config;
 use sim_base::message::Cycle;
 use statistics::final_state::FinalState;
-use statistics::outcome::Outcome;
 use statistics::stats::Stats;
 use std::alloc::{AllocError, Global};
 use std::marker::Model;
@@ -77,10 +79,23 @@ fn first_cores(
     Ok(parts)
 }
 
-/// Puts the channels of a machine before the first cycle behind its cores.
+/// A list for the commands of a channel, if they are kept.
+fn list_for(alloc: Global, kept: bool) -> Option<CommandList>
+    ensures none { IfSome result (λ rows. rows ≡ []) }
+    ensures kept { is_some result ≡ kept }
+{
+    if kept {
+        Some(CommandList::new(alloc))
+    } else {
+        None
+    }
+}
+
+/// Puts the channels of a machine before the first cycle behind its cores. They keep what these tables hold.
 fn add_channels(
     alloc: Global,
     config: &Config,
+    tables: Tables,
     parts: &mut Vec<UnitState>,
 ) -> Result<(), AllocError>
     requires cores { length parts.old.items ≡ config.now.cores }
@@ -89,7 +104,8 @@ fn add_channels(
 {
     for number in 0..u32::from(config.channels) {
         let channel = Channel::start(alloc, config, number)?;
-        parts.push(UnitState::Channel(channel, CommandList::new(alloc)))?;
+        let list = list_for(alloc, tables.commands);
+        parts.push(UnitState::Channel(channel, list))?;
     }
     Ok(())
 }
@@ -114,13 +130,19 @@ fn final_state(
 }
 
 impl Sim {
-    /// A machine before its first cycle, with a trace for each core. The only error is out of memory.
-    pub fn start(alloc: Global, config: &Config, traces: Vec<Trace>) -> Result<Sim, AllocError>
+    /// A machine before its first cycle, with a trace for each core, which keeps what these tables of its run hold. The only error is out of
+    /// memory.
+    pub fn start(
+        alloc: Global,
+        config: &Config,
+        traces: Vec<Trace>,
+        tables: Tables,
+    ) -> Result<Sim, AllocError>
         requires one_each { length traces.items ≡ config.now.cores }
         ensures { IfOk result (λ sim. sim ≡ record { machine = config.now; traces = traces.items; now = 0; phase = 0 }) }
     {
         let mut parts = first_cores(alloc, config, &traces)?;
-        add_channels(alloc, config, &mut parts)?;
+        add_channels(alloc, config, tables, &mut parts)?;
         let links = Links::start(alloc, config)?;
         let config = config.copy(alloc)?;
         Ok(Sim {
@@ -200,10 +222,11 @@ impl Sim {
         Ok(stats)
     }
 
-    /// What the run of the cycles that are over did and left: the commands of all channels by cycle and then by channel, the
-    /// statistics, and the state before the cycle where the simulator stands. The only error is out of memory.
-    pub fn outcome(self, alloc: Global) -> Result<Outcome, AllocError>
-        ensures { IfOk result (λ outcome. outcome ≡ outcome_of self.machine self.traces self.now) }
+    /// What the run of the cycles that are over did and left: the commands of all channels by cycle and then by channel, if their table is
+    /// asked for, the statistics, and the state before the cycle where the simulator stands. The only error is out of memory; a table that
+    /// is asked for here and was not at the start is refused in the same way.
+    pub fn outcome(self, alloc: Global, tables: Tables) -> Result<Outcome, AllocError>
+        ensures { IfOk result (λ outcome. outcome ≡ outcome_of tables self.machine self.traces self.now) }
     {
         let stats = self.stats(alloc)?;
         let Sim {
@@ -214,8 +237,9 @@ impl Sim {
             links,
         } = self;
         let last = final_state(alloc, &machine, now, phase, &parts, &links)?;
-        let commands = all_commands(alloc, &machine, now, parts)?;
+        let commands = commands_if_asked(alloc, &machine, now, parts, tables.commands)?;
         Ok(Outcome {
+            tables,
             commands,
             stats,
             last,

@@ -3,7 +3,7 @@
 use crate::page_runs::{list_of, one_read, stats_of};
 use page::fault::PageFault;
 use page::page::write_page;
-use page::window::Window;
+use page::window::{View, Window};
 use std::io;
 use std::io::{ErrorKind, Write};
 use std::test::Fail;
@@ -37,14 +37,17 @@ fn a_writer_that_fails_is_told(rt: HostRuntime) -> Result<(), Fail> {
     let alloc = rt.alloc();
     let stats = stats_of(alloc, 1000)?;
     let commands = list_of(alloc, &one_read())?;
-    let window = Window {
-        from: 0,
-        cycles: 1000,
+    let view = View {
+        window: Window {
+            from: 0,
+            cycles: 1000,
+        },
+        khz: None,
     };
     for left in [0, 1, 2, 5, 9] {
         for fails in [false, true] {
             let mut writer = Failing { left, fails };
-            let ended = write_page(alloc, &stats, &commands, None, window, &mut writer);
+            let ended = write_page(alloc, &stats, &commands, None, view, &mut writer);
             assert_eq!(rt; ended, Err(PageFault::Write), "after {left} writes");
         }
     }
@@ -53,7 +56,7 @@ fn a_writer_that_fails_is_told(rt: HostRuntime) -> Result<(), Fail> {
         fails: true,
     };
     assert_eq!(rt;
-        write_page(alloc, &stats, &commands, None, window, &mut writer),
+        write_page(alloc, &stats, &commands, None, view, &mut writer),
         Ok(())
     );
     Ok(())

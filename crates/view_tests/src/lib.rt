@@ -3,6 +3,8 @@
 #![tactic(auto)]
 
 #[cfg(test)]
+mod banks;
+#[cfg(test)]
 mod command_lists;
 #[cfg(test)]
 mod compared;
@@ -24,6 +26,8 @@ mod page_runs;
 mod pages;
 #[cfg(test)]
 mod progress_lines;
+#[cfg(test)]
+mod ranks;
 #[cfg(test)]
 mod screens;
 #[cfg(test)]

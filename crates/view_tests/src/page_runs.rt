@@ -3,7 +3,7 @@
 use command_table::list::CommandList;
 use page::fault::PageFault;
 use page::page::write_page;
-use page::window::Window;
+use page::window::{View, Window};
 use sim_base::command::{Command, IssuedCommand, Source};
 use sim_base::config::Config;
 use sim_base::place::BankId;
@@ -104,7 +104,8 @@ pub(crate) fn page_of(
     let stats = stats_of(alloc, cycles)?;
     let list = list_of(alloc, rows)?;
     let mut text = Vec::new(alloc);
-    let ended = write_page(alloc, &stats, &list, config, window, &mut text);
+    let view = View { window, khz: None };
+    let ended = write_page(alloc, &stats, &list, config, view, &mut text);
     Ok((text, ended))
 }
 

@@ -1,10 +1,13 @@
 //! Fragments of pages, worked out by hand: a picture's units are cycles and, in a timeline, pixels, with a lane 14 below the one before
 //! it; a strip has 250 cycles.
 
-use crate::page_runs::{SOURCE, assert_page, bank_of, one_read, page_of, row_of};
+use crate::page_runs::{
+    SOURCE, assert_page, bank_of, list_of, one_read, page_of, row_of, stats_of,
+};
 use fixtures::small::small;
 use page::fault::PageFault;
-use page::window::Window;
+use page::page::write_page;
+use page::window::{View, Window};
 use sim_base::command::{Command, IssuedCommand};
 use std::test::Fail;
 
@@ -178,5 +181,37 @@ fn a_command_of_another_run_is_refused(rt: HostRuntime) -> Result<(), Fail> {
         PageFault::Command(1).to_string(rt.alloc())?.as_str(),
         "command 1 is none of the run"
     );
+    Ok(())
+}
+
+// With a clock of 1,250 MHz a cycle takes 0.8 ns: 1,000 are 800 ns, the finish in cycle 799 is at 639.2 ns, and 50 cycles of latency are 40 ns. One RD
+// of 64 bytes in 800 ns is 0.08 GB/s.
+const CLOCKED: [&str; 5] = [
+    "<b>1,000</b> cycles, <b>1</b> core, <b>1</b> channel, <b>3</b> commands, <b>800</b> ns with a clock of <b>1,250,000</b> kHz</p>",
+    "data rate<br>(GB/s)",
+    "<td>0.08</td></tr>",
+    "finish<br>(ns)",
+    "<td>639.2</td><td>40.0</td></tr>",
+];
+
+#[test]
+fn a_page_with_a_clock(rt: HostRuntime) -> Result<(), Fail> {
+    let alloc = rt.alloc();
+    let stats = stats_of(alloc, 1000)?;
+    let list = list_of(alloc, &one_read())?;
+    let window = Window {
+        from: 0,
+        cycles: 100,
+    };
+    for (khz, there) in [(Some(1_250_000), true), (None, false)] {
+        let mut text = Vec::new(alloc);
+        let view = View { window, khz };
+        let ended = write_page(alloc, &stats, &list, None, view, &mut text);
+        assert_eq!(rt; ended, Ok(()));
+        let page = str::from_utf8(text.as_slice())?;
+        for fragment in CLOCKED {
+            assert_eq!(rt; page.contains(fragment), there, "{fragment}");
+        }
+    }
     Ok(())
 }

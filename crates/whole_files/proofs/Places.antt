@@ -1,13 +1,18 @@
 -- Paths in a folder, and what several steps change.
-use Rattle.std.proofs.Common.{◌≡◌, ◌≢◌, ℕ, false, List, ◌++◌, ◌⊎◌, codes, Some, None, string_bytes, sym, ◌∙◌, refl, inl, inr}
+use Rattle.std.proofs.Common.{◌≡◌, ◌≢◌, ℕ, zero, suc, ◌+◌, ◌-◌, ◌<◌, ◌≤◌, Bool, true, false, List, [], ◌∷◌, ◌++◌, ◌⊎◌, length, map, take, drop, get_or, codes, Option, Some, None, string_bytes, refl, sym, ap, ap₂, subst, ◌∙◌, inl, inr, add-one, arith}
+use Rattle.std.specs.Prelude.{is_some, option_map}
+use Rattle.std.specs.List.{AllByRecursion as Each}
 use Rattle.std.specs.Str.{bytes_eq}
-use Rattle.std.proofs.lemmas.List.{append_cancel_left}
+use Rattle.std.proofs.lemmas.List.{append_cancel_left, append_assoc, append-nil, take_more, map-append, length-map}
 use Rattle.std.proofs.lemmas.Slice.Eq.{bytes_eq-Decides}
 use Rattle.std.proofs.lemmas.Bool.{false≢true}
-use Rattle.statistics.specs.Values.{RunOutcome}
-use Rattle.whole_files.specs.Files.{Held, SameFiles, SameBut, IsRenamed}
-use Rattle.whole_files.specs.Tables.{path_in, commands_name, stats_name, final_name, commands_part, stats_part, final_part, part_names, SameApart, IsMoveIn, commands_of, stats_of, final_of, HoldsParts, HasNoParts, IsKeptBack, IsWritten, IsWaiting, IsMoved, IsPlaced, IsPartlyPlaced, IsKeptBeside, IsTorn, IsUnplaced, IsLeftBy}
-use Rattle.whole_files.specs.declared.moves.Move.{Move}
+use Rattle.sim_base.proofs.Each.{Each-append}
+use Rattle.sim_base.proofs.Ordered.{Each-weaker}
+use Rattle.run_outcome.specs.Values.{RunOutcome}
+use Rattle.whole_files.specs.Files.{Held, SameFiles, SameBut, SameButTwo, IsRenamed}
+use Rattle.whole_files.specs.Tables.{path_in, commands_name, stats_name, final_name, part_name, NamedText, table_named, commands_of, stats_of, final_of, tables_in, name_unless, others_in, PlannedText, planned_in, plan_in, from_paths, paths_of, SameOutside, IsApartFrom, AreApart, AreStaged, AreGone, AreRemoved, IsMoved, IsWaiting, ArePlaced, ArePartlyPlaced, IsIn, IsBeside, ArePut, AreTorn, AreKeptBack, IsLeftUnplaced, other_paths, IsWritten, IsUnplaced, IsLeftBy}
+use Rattle.whole_files.specs.Planned.{planned_of}
+use Rattle.whole_files.specs.declared.tables.Planned.{Planned}
 use Rattle.refusal.specs.declared.refusal.Refusal.{Refusal}
 use Rattle.refusal.specs.declared.refusal.Refusal.TheVariants.{Kept, Torn}
 
@@ -18,177 +23,386 @@ same_name folder a b e = let tails : codes "/" ++ a ≡ codes "/" ++ b = append_
 pub apart : (folder a b : List ℕ) → bytes_eq a b ≡ false → path_in folder a ≢ path_in folder b
 apart folder a b differ e = false≢true (sym differ ∙ (bytes_eq-Decides a b).1 (same_name folder a b e))
 
--- three tables, written one after the other
-pub staged : (folder : List ℕ) (run : RunOutcome) (a b c : Held) →
-    a (path_in folder commands_part) ≡ Some (commands_of run) →
-    b (path_in folder stats_part) ≡ Some (stats_of run) → SameBut (path_in folder stats_part) a b →
-    c (path_in folder final_part) ≡ Some (final_of run) → SameBut (path_in folder final_part) b c →
-    HoldsParts folder run c
-staged folder run a b c ha hb sb hc sc =
+-- ---- parts of lists
+
+Each-left : {X : Type 0} (P : X → Type 0) (xs ys : List X) → Each P (xs ++ ys) → Each P xs
+Each-left P [] ys h = tt
+Each-left P (x ∷ xs) ys h = (h.0, Each-left P xs ys h.1)
+
+Each-right : {X : Type 0} (P : X → Type 0) (xs ys : List X) → Each P (xs ++ ys) → Each P ys
+Each-right P [] ys h = h
+Each-right P (x ∷ xs) ys h = Each-right P xs ys h.1
+
+Each-take : {X : Type 0} (P : X → Type 0) (xs : List X) (k : ℕ) → Each P xs → Each P (take k xs)
+Each-take P [] zero h = tt
+Each-take P [] (suc k) h = tt
+Each-take P (x ∷ xs) zero h = tt
+Each-take P (x ∷ xs) (suc k) h = (h.0, Each-take P xs k h.1)
+
+Each-drop : {X : Type 0} (P : X → Type 0) (xs : List X) (k : ℕ) → Each P xs → Each P (drop k xs)
+Each-drop P [] zero h = tt
+Each-drop P [] (suc k) h = tt
+Each-drop P (x ∷ xs) zero h = h
+Each-drop P (x ∷ xs) (suc k) h = Each-drop P xs k h.1
+
+Each-two : {X : Type 0} (P Q R : X → Type 0) → ((x : X) → P x → Q x → R x) → (xs : List X) → Each P xs → Each Q xs → Each R xs
+Each-two P Q R f [] h k = tt
+Each-two P Q R f (x ∷ xs) h k = (f x h.0 k.0, Each-two P Q R f xs h.1 k.1)
+
+Each-map : {X Y : Type 0} (P : Y → Type 0) (f : X → Y) (xs : List X) → Each (λ x. P (f x)) xs → Each P (map f xs)
+Each-map P f [] h = tt
+Each-map P f (x ∷ xs) h = (h.0, Each-map P f xs h.1)
+
+-- what holds of each holds of the one at a place
+Each-here : {X Y : Type 0} (P : Y → Type 0) (f : X → Y) (xs : List X) (i : ℕ) (x : X) → i < length xs → x ≡ get_or xs i x → Each P (map f xs) → P (f x)
+Each-here P f [] i x l e h = absurd (omega (arith, l))
+Each-here P f (y ∷ xs) zero x l e h = subst (λ z. P (f z)) (sym e) h.0
+Each-here P f (y ∷ xs) (suc i) x l e h = Each-here P f xs i x (omega (arith, l)) e h.1
+
+pub take_map : {X Y : Type 0} (f : X → Y) (xs : List X) (k : ℕ) → take k (map f xs) ≡ map f (take k xs)
+take_map f [] zero = refl
+take_map f [] (suc k) = refl
+take_map f (x ∷ xs) zero = refl
+take_map f (x ∷ xs) (suc k) = ap (λ ys. f x ∷ ys) (take_map f xs k)
+
+pub drop_map : {X Y : Type 0} (f : X → Y) (xs : List X) (k : ℕ) → drop k (map f xs) ≡ map f (drop k xs)
+drop_map f [] zero = refl
+drop_map f [] (suc k) = refl
+drop_map f (x ∷ xs) zero = refl
+drop_map f (x ∷ xs) (suc k) = drop_map f xs k
+
+-- the elements from a place on are the one there and those behind it
+drop_here : {X : Type 0} (xs : List X) (i : ℕ) (x : X) → i < length xs → x ≡ get_or xs i x → drop i xs ≡ x ∷ drop (suc i) xs
+drop_here [] i x l e = absurd (omega (arith, l))
+drop_here (y ∷ xs) zero x l e = ap (λ z. z ∷ xs) (sym e)
+drop_here (y ∷ xs) (suc i) x l e = drop_here xs i x (omega (arith, l)) e
+
+-- those before the next place are those before it and the one there
+pub mapped_more : {X Y : Type 0} (f : X → Y) (xs : List X) (i : ℕ) (x : X) → i < length xs → x ≡ get_or xs i x → map f (take (i + 1) xs) ≡ map f (take i xs) ++ f x ∷ []
+mapped_more f xs i x l e = ap (map f) (take_more xs i x l) ∙ map-append f (take i xs) (get_or xs i x ∷ []) ∙ ap (λ z. map f (take i xs) ++ f z ∷ []) (sym e)
+
+pub mapped_left : {X Y : Type 0} (f : X → Y) (xs : List X) (i : ℕ) (x : X) → i < length xs → x ≡ get_or xs i x → map f (drop i xs) ≡ f x ∷ map f (drop (i + 1) xs)
+mapped_left f xs i x l e = ap (map f) (drop_here xs i x l e) ∙ ap (λ n. f x ∷ map f (drop n xs)) (sym (add-one i))
+
+-- ---- paths that differ
+
+-- the table at a place has no path in common with those before it
+before-apart : (planned : List Planned) (i : ℕ) (p : Planned) → i < length planned → p ≡ get_or planned i p → AreApart (map planned_of planned)
+    → Each (λ q. IsApartFrom q (planned_of p)) (map planned_of (take i planned))
+before-apart [] i p l e a = absurd (omega (arith, l))
+before-apart (x ∷ xs) zero p l e a = tt
+before-apart (x ∷ xs) (suc i) p l e a = (Each-here (IsApartFrom (planned_of x)) planned_of xs i p (omega (arith, l)) e a.1, before-apart xs i p (omega (arith, l)) e a.2)
+
+-- nor with those behind it
+behind-apart : (planned : List Planned) (i : ℕ) (p : Planned) → i < length planned → p ≡ get_or planned i p → AreApart (map planned_of planned)
+    → Each (IsApartFrom (planned_of p)) (map planned_of (drop (suc i) planned))
+behind-apart [] i p l e a = absurd (omega (arith, l))
+behind-apart (x ∷ xs) zero p l e a = subst (λ z. Each (IsApartFrom (planned_of z)) (map planned_of xs)) (sym e) a.1
+behind-apart (x ∷ xs) (suc i) p l e a = behind-apart xs i p (omega (arith, l)) e a.2
+
+own-apart : (planned : List Planned) (i : ℕ) (p : Planned) → i < length planned → p ≡ get_or planned i p → AreApart (map planned_of planned) → (planned_of p).from ≢ (planned_of p).to
+own-apart [] i p l e a = absurd (omega (arith, l))
+own-apart (x ∷ xs) zero p l e a = subst (λ z. (planned_of z).from ≢ (planned_of z).to) (sym e) a.0
+own-apart (x ∷ xs) (suc i) p l e a = own-apart xs i p (omega (arith, l)) e a.2
+
+-- a path that is none of those of all tables is none of the one at a place
+outside-from : (path : List ℕ) (planned : List Planned) (i : ℕ) (p : Planned) → i < length planned → p ≡ get_or planned i p → Each (λ q. path ≢ q) (from_paths (map planned_of planned)) → path ≢ (planned_of p).from
+outside-from path [] i p l e w = absurd (omega (arith, l))
+outside-from path (x ∷ xs) zero p l e w = subst (λ z. path ≢ (planned_of z).from) (sym e) w.0
+outside-from path (x ∷ xs) (suc i) p l e w = outside-from path xs i p (omega (arith, l)) e w.1
+
+outside-to : (path : List ℕ) (planned : List Planned) (i : ℕ) (p : Planned) → i < length planned → p ≡ get_or planned i p → Each (λ q. path ≢ q) (map (λ (q : PlannedText). q.to) (map planned_of planned)) → path ≢ (planned_of p).to
+outside-to path [] i p l e w = absurd (omega (arith, l))
+outside-to path (x ∷ xs) zero p l e w = subst (λ z. path ≢ (planned_of z).to) (sym e) w.0
+outside-to path (x ∷ xs) (suc i) p l e w = outside-to path xs i p (omega (arith, l)) e w.1
+
+-- ---- tables that are written
+
+pub staged-more : (planned : List Planned) (i : ℕ) (p : Planned) (a b : Held) → i < length planned → p ≡ get_or planned i p → AreApart (map planned_of planned)
+    → SameBut (planned_of p).from a b → b (planned_of p).from ≡ Some (planned_of p).text → AreStaged (map planned_of (take i planned)) a → AreStaged (map planned_of (take (i + 1) planned)) b
+staged-more planned i p a b l e apart same whole h =
+    subst (λ ps. AreStaged ps b) (sym (mapped_more planned_of planned i p l e))
+    (Each-append (λ (q : PlannedText). b q.from ≡ Some q.text) (map planned_of (take i planned)) (planned_of p ∷ [])
+    (Each-two (λ q. IsApartFrom q (planned_of p)) (λ (q : PlannedText). a q.from ≡ Some q.text) (λ (q : PlannedText). b q.from ≡ Some q.text) (λ q far is. same q.from far.froms ∙ is)
+    (map planned_of (take i planned)) (before-apart planned i p l e apart) h)
+    (whole, tt))
+
+pub froms-more : (planned : List Planned) (i : ℕ) (p : Planned) → i < length planned → p ≡ get_or planned i p
+    → from_paths (map planned_of (take (i + 1) planned)) ≡ from_paths (map planned_of (take i planned)) ++ (planned_of p).from ∷ []
+froms-more planned i p l e = ap from_paths (mapped_more planned_of planned i p l e) ∙ map-append (λ (q : PlannedText). q.from) (map planned_of (take i planned)) (planned_of p ∷ [])
+
+-- nothing else changes
+pub outside-staged : (planned : List Planned) (i : ℕ) (p : Planned) (z a b : Held) → i < length planned → p ≡ get_or planned i p → SameBut (planned_of p).from a b
+    → SameOutside (from_paths (map planned_of planned)) z a → SameOutside (from_paths (map planned_of planned)) z b
+outside-staged planned i p z a b l e same h = λ path w. same path (outside-from path planned i p l e w) ∙ h path w
+
+-- no table is written yet
+pub none-staged : (planned : List Planned) (held : Held) → AreStaged (map planned_of (take 0 planned)) held
+none-staged [] held = tt
+none-staged (p ∷ planned) held = tt
+
+pub none-opened : (planned : List Planned) (opened : List (List ℕ)) → opened ≡ opened ++ from_paths (map planned_of (take 0 planned))
+none-opened [] opened = sym (append-nil opened)
+none-opened (p ∷ planned) opened = sym (append-nil opened)
+
+pub all_taken : {X : Type 0} (xs : List X) (i : ℕ) → length xs ≤ i → take i xs ≡ xs
+all_taken [] zero l = refl
+all_taken [] (suc i) l = refl
+all_taken (x ∷ xs) zero l = absurd (omega (arith, l))
+all_taken (x ∷ xs) (suc i) l = ap (λ ys. x ∷ ys) (all_taken xs i (omega (arith, l)))
+
+pub all_dropped : {X : Type 0} (xs : List X) (i : ℕ) → length xs ≤ i → drop i xs ≡ []
+all_dropped [] zero l = refl
+all_dropped [] (suc i) l = refl
+all_dropped (x ∷ xs) zero l = absurd (omega (arith, l))
+all_dropped (x ∷ xs) (suc i) l = all_dropped xs i (omega (arith, l))
+
+pub drop_zero : {X : Type 0} (xs : List X) → drop 0 xs ≡ xs
+drop_zero [] = refl
+drop_zero (x ∷ xs) = refl
+
+pub opened-more : (planned : List Planned) (i : ℕ) (p : Planned) (first before after : List (List ℕ)) → i < length planned → p ≡ get_or planned i p → after ≡ before ++ (planned_of p).from ∷ []
+    → before ≡ first ++ from_paths (map planned_of (take i planned)) → after ≡ first ++ from_paths (map planned_of (take (i + 1) planned))
+opened-more planned i p first before after l e more h =
+    more ∙ ap (λ x. x ++ (planned_of p).from ∷ []) h ∙ append_assoc first (from_paths (map planned_of (take i planned))) ((planned_of p).from ∷ [])
+    ∙ ap (λ x. first ++ x) (sym (froms-more planned i p l e))
+
+-- ---- tables that get their places
+
+-- a table that is renamed leaves the others as they are
+renamed-others : (p q : PlannedText) (path : List ℕ) (a b : Held) → IsRenamed p.from p.to a b → path ≢ p.from → path ≢ p.to → b path ≡ a path
+renamed-others p q path a b r f t = r.others path f t
+
+flip : {X : Type 0} {x y : X} → x ≢ y → y ≢ x
+flip n e = n (sym e)
+
+pub moved-more : (planned : List Planned) (i : ℕ) (p : Planned) (z a b : Held) → i < length planned → p ≡ get_or planned i p → AreApart (map planned_of planned)
+    → IsRenamed (planned_of p).from (planned_of p).to a b → Each (IsWaiting z a) (map planned_of (drop i planned)) → Each (IsMoved z a) (map planned_of (take i planned))
+    → Each (IsMoved z b) (map planned_of (take (i + 1) planned))
+moved-more planned i p z a b l e apart r waits h =
+    let here = subst (Each (IsWaiting z a)) (mapped_left planned_of planned i p l e) waits in
+    subst (Each (IsMoved z b)) (sym (mapped_more planned_of planned i p l e))
+    (Each-append (IsMoved z b) (map planned_of (take i planned)) (planned_of p ∷ [])
+    (Each-two (λ q. IsApartFrom q (planned_of p)) (IsMoved z a) (IsMoved z b)
+    (λ q far is. (r.others q.to far.to_from far.tos ∙ is.0, r.others q.from far.froms far.from_to ∙ is.1))
+    (map planned_of (take i planned)) (before-apart planned i p l e apart) h)
+    ((r.moved ∙ here.0.1, r.gone (own-apart planned i p l e apart)), tt))
+
+pub waits-less : (planned : List Planned) (i : ℕ) (p : Planned) (z a b : Held) → i < length planned → p ≡ get_or planned i p → AreApart (map planned_of planned)
+    → IsRenamed (planned_of p).from (planned_of p).to a b → Each (IsWaiting z a) (map planned_of (drop i planned)) → Each (IsWaiting z b) (map planned_of (drop (i + 1) planned))
+waits-less planned i p z a b l e apart r waits =
+    let rest = (subst (Each (IsWaiting z a)) (mapped_left planned_of planned i p l e) waits).1 in
+    Each-two (IsApartFrom (planned_of p)) (IsWaiting z a) (IsWaiting z b)
+    (λ q far is. (r.others q.to (flip far.from_to) (flip far.tos) ∙ is.0, r.others q.from (flip far.froms) (flip far.to_from) ∙ is.1))
+    (map planned_of (drop (i + 1) planned))
+    (subst (λ n. Each (IsApartFrom (planned_of p)) (map planned_of (drop n planned))) (sym (add-one i)) (behind-apart planned i p l e apart)) rest
+
+pub outside-placed : (planned : List Planned) (i : ℕ) (p : Planned) (z a b : Held) → i < length planned → p ≡ get_or planned i p → IsRenamed (planned_of p).from (planned_of p).to a b
+    → SameOutside (paths_of (map planned_of planned)) z a → SameOutside (paths_of (map planned_of planned)) z b
+outside-placed planned i p z a b l e r h = λ path w.
+    let froms = from_paths (map planned_of planned) in
+    let tos = map (λ (q : PlannedText). q.to) (map planned_of planned) in
+    r.others path (outside-from path planned i p l e (Each-left (λ q. path ≢ q) froms tos w)) (outside-to path planned i p l e (Each-right (λ q. path ≢ q) froms tos w)) ∙ h path w
+
+-- none has its place yet
+waits-all : (planned : List Planned) (a : Held) → Each (IsWaiting a a) (map planned_of planned)
+waits-all [] a = tt
+waits-all (p ∷ planned) a = ((refl, refl), waits-all planned a)
+
+pub waits-first : (planned : List Planned) (a : Held) → Each (IsWaiting a a) (map planned_of (drop 0 planned))
+waits-first planned a = subst (λ ps. Each (IsWaiting a a) (map planned_of ps)) (sym (drop_zero planned)) (waits-all planned a)
+
+pub none-moved : (planned : List Planned) (a : Held) → Each (IsMoved a a) (map planned_of (take 0 planned))
+none-moved [] a = tt
+none-moved (p ∷ planned) a = tt
+
+-- some have, and the next one did not get its place
+pub partly : (planned : List Planned) (i : ℕ) (z a b : Held) → 0 < i → i < length planned → SameFiles a b → Each (IsMoved z a) (map planned_of (take i planned))
+    → Each (IsWaiting z a) (map planned_of (drop i planned)) → SameOutside (paths_of (map planned_of planned)) z a → ArePartlyPlaced (map planned_of planned) z b
+partly planned i z a b some l same moved waits others =
     record {
-      commands_is = sc (path_in folder commands_part) (apart folder commands_part final_part refl) ∙ sb (path_in folder commands_part) (apart folder commands_part stats_part refl) ∙ ha;
-      stats_is = sc (path_in folder stats_part) (apart folder stats_part final_part refl) ∙ hb;
-      final_is = hc;
+      count = i;
+      some = some;
+      fewer = omega (arith, l, length-map planned planned_of);
+      moved = subst (Each (IsMoved z b)) (sym (take_map planned_of planned i))
+          (Each-weaker (IsMoved z a) (IsMoved z b) (λ q is. (same q.to ∙ is.0, same q.from ∙ is.1)) (map planned_of (take i planned)) moved);
+      left = subst (Each (IsWaiting z b)) (sym (drop_map planned_of planned i))
+          (Each-weaker (IsWaiting z a) (IsWaiting z b) (λ q is. (same q.to ∙ is.0, same q.from ∙ is.1)) (map planned_of (drop i planned)) waits);
+      others = λ path w. same path ∙ others path w;
     }
 
--- the same, written to paths in the folder
-pub staged_at : (folder : List ℕ) (run : RunOutcome) (p q r : List ℕ) (a b c : Held) → p ≡ path_in folder commands_part → q ≡ path_in folder stats_part → r ≡ path_in folder final_part →
-    a p ≡ Some (commands_of run) → b q ≡ Some (stats_of run) → SameBut q a b → c r ≡ Some (final_of run) → SameBut r b c → HoldsParts folder run c
-staged_at folder run p q r a b c is_p is_q is_r ha hb sb hc sc =
-    staged folder run a b c (rw is_p at ha) (rw is_q at hb) (rw is_q at sb) (rw is_r at hc) (rw is_r at sc)
+-- ---- files that are removed
 
--- what one, two or three steps leave alone
-pub one_apart : (folder : List ℕ) (p : List ℕ) (a b : Held) → p ≡ path_in folder commands_part → SameBut p a b → SameApart folder part_names a b
-one_apart folder p a b is_p sa = λ path w. sa path (rw is_p w.0)
+-- what is gone stays so, also where the same path is removed again
+gone-still : (path p : List ℕ) (a b : Held) → SameBut p a b → b p ≡ None → a path ≡ None → b path ≡ None
+gone-still path p a b same gone h = by (bytes_eq path p) refl
+  where
+    by : (t : Bool) → bytes_eq path p ≡ t → b path ≡ None
+    by true e = ap b ((bytes_eq-Decides path p).0 e) ∙ gone
+    by false e = same path (λ f. false≢true (sym e ∙ (bytes_eq-Decides path p).1 f)) ∙ h
 
-pub two_apart : (folder : List ℕ) (p q : List ℕ) (a b c : Held) → p ≡ path_in folder commands_part → q ≡ path_in folder stats_part → SameBut p a b → SameBut q b c → SameApart folder part_names a c
-two_apart folder p q a b c is_p is_q sa sb = λ path w. sb path (rw is_q w.1.0) ∙ sa path (rw is_p w.0)
+pub none-gone : (planned : List Planned) (i : ℕ) (a : Held) → length planned ≤ i → AreGone (map planned_of (drop i planned)) a
+none-gone planned i a l = subst (λ ps. AreGone (map planned_of ps) a) (sym (all_dropped planned i l)) tt
 
-pub three_apart : (folder : List ℕ) (p q r : List ℕ) (a b c d : Held) → p ≡ path_in folder commands_part → q ≡ path_in folder stats_part → r ≡ path_in folder final_part →
-    SameBut p a b → SameBut q b c → SameBut r c d → SameApart folder part_names a d
-three_apart folder p q r a b c d is_p is_q is_r sa sb sc = λ path w. sc path (rw is_r w.1.1.0) ∙ sb path (rw is_q w.1.0) ∙ sa path (rw is_p w.0)
+pub none-removed : {X : Type 0} (name : X → List ℕ) (paths : List X) (a : Held) → AreRemoved (map name (take 0 paths)) a
+none-removed name [] a = tt
+none-removed name (x ∷ paths) a = tt
 
--- three tables, removed in reverse order
-pub all_gone : (folder : List ℕ) (p q r : List ℕ) (a b c : Held) → p ≡ path_in folder commands_part → q ≡ path_in folder stats_part → r ≡ path_in folder final_part →
-    a r ≡ None → b q ≡ None → SameBut q a b → c p ≡ None → SameBut p b c → HasNoParts folder c
-all_gone folder p q r a b c is_p is_q is_r ra rb sb rc sc =
-    let last = rw is_r at ra in
-    let stats = rw is_q at rb in
-    let second = rw is_q at sb in
-    let third = rw is_p at sc in
+pub gone-more : (planned : List Planned) (i : ℕ) (p : Planned) (a b : Held) → i < length planned → p ≡ get_or planned i p → SameBut (planned_of p).from a b → b (planned_of p).from ≡ None
+    → AreGone (map planned_of (drop (i + 1) planned)) a → AreGone (map planned_of (drop i planned)) b
+gone-more planned i p a b l e same gone h =
+    subst (λ ps. AreGone ps b) (sym (mapped_left planned_of planned i p l e))
+    (gone, Each-weaker (λ (q : PlannedText). a q.from ≡ None) (λ (q : PlannedText). b q.from ≡ None) (λ q is. gone-still q.from (planned_of p).from a b same gone is) (map planned_of (drop (i + 1) planned)) h)
+
+pub removed-more : {X : Type 0} (name : X → List ℕ) (paths : List X) (i : ℕ) (x : X) (a b : Held) → i < length paths → x ≡ get_or paths i x → SameBut (name x) a b → b (name x) ≡ None
+    → AreRemoved (map name (take i paths)) a → AreRemoved (map name (take (i + 1) paths)) b
+removed-more name paths i x a b l e same gone h =
+    subst (λ ps. AreRemoved ps b) (sym (mapped_more name paths i x l e))
+    (Each-append (λ p. b p ≡ None) (map name (take i paths)) (name x ∷ [])
+    (Each-weaker (λ p. a p ≡ None) (λ p. b p ≡ None) (λ p is. gone-still p (name x) a b same gone is) (map name (take i paths)) h) (gone, tt))
+
+pub outside-removed : {X : Type 0} (name : X → List ℕ) (paths : List X) (i : ℕ) (x : X) (z a b : Held) → i < length paths → x ≡ get_or paths i x → SameBut (name x) a b
+    → SameOutside (map name paths) z a → SameOutside (map name paths) z b
+outside-removed name paths i x z a b l e same h = λ path w. same path (Each-here (λ q. path ≢ q) name paths i x l e w) ∙ h path w
+
+-- ---- all steps
+
+-- tables that are whole and get their places
+pub put : (ps : List PlannedText) (z a b c : Held) → SameOutside (from_paths ps) z a → AreStaged ps a → SameFiles a b → ArePlaced ps b c → ArePut ps z c
+put ps z a b c before whole same placed =
     record {
-      commands_gone = rw is_p at rc;
-      stats_gone = third (path_in folder stats_part) (apart folder stats_part commands_part refl) ∙ stats;
-      final_gone = third (path_in folder final_part) (apart folder final_part commands_part refl) ∙ second (path_in folder final_part) (apart folder final_part stats_part refl) ∙ last;
+      in_place = Each-two (IsMoved b c) (λ (p : PlannedText). a p.from ≡ Some p.text) (IsIn c) (λ p is text. (is.0 ∙ same p.from ∙ text, is.1)) ps placed.moved whole;
+      others = λ path w. placed.others path w ∙ same path ∙ before path (Each-left (λ q. path ≢ q) (from_paths ps) (map (λ (p : PlannedText). p.to) ps) w);
     }
 
-pub all_gone_apart : (folder : List ℕ) (p q r : List ℕ) (a b c d : Held) → p ≡ path_in folder commands_part → q ≡ path_in folder stats_part → r ≡ path_in folder final_part →
-    SameBut r a b → SameBut q b c → SameBut p c d → SameApart folder part_names a d
-all_gone_apart folder p q r a b c d is_p is_q is_r sa sb sc = λ path w. sc path (rw is_p w.0) ∙ sb path (rw is_q w.1.0) ∙ sa path (rw is_r w.1.1.0)
+-- the place of a table is no path under which one is written
+places-apart : (ps : List PlannedText) → AreApart ps → Each (λ (p : PlannedText). Each (λ q. p.to ≢ q) (from_paths ps)) ps
+places-apart [] a = tt
+places-apart (p ∷ ps) a = (
+  (flip a.0, Each-map (λ q. p.to ≢ q) (λ (q : PlannedText). q.from) ps (Each-weaker (IsApartFrom p) (λ (q : PlannedText). p.to ≢ q.from) (λ q far. far.to_from) ps a.1)),
+  Each-two (IsApartFrom p) (λ (q : PlannedText). Each (λ f. q.to ≢ f) (from_paths ps)) (λ (q : PlannedText). Each (λ f. q.to ≢ f) (from_paths (p ∷ ps))) (λ q far rest. (flip far.from_to, rest)) ps a.1 (places-apart ps a.2),
+)
+
+-- tables that are whole, of which only the first get their places
+pub torn : (ps : List PlannedText) (z a b c : Held) → AreApart ps → SameOutside (from_paths ps) z a → AreStaged ps a → SameFiles a b → ArePartlyPlaced ps b c → AreTorn ps z c
+torn ps z a b c apart before whole same partly =
+    let places : Each (λ (p : PlannedText). a p.to ≡ z p.to) ps =
+    Each-weaker (λ (p : PlannedText). Each (λ q. p.to ≢ q) (from_paths ps)) (λ (p : PlannedText). a p.to ≡ z p.to) (λ p far. before p.to far) ps (places-apart ps apart) in
+    let both : Each (λ (p : PlannedText). (a p.to ≡ z p.to) × (a p.from ≡ Some p.text)) ps =
+    Each-two (λ (p : PlannedText). a p.to ≡ z p.to) (λ (p : PlannedText). a p.from ≡ Some p.text) (λ (p : PlannedText). (a p.to ≡ z p.to) × (a p.from ≡ Some p.text)) (λ p x y. (x, y)) ps places whole in
+    record {
+      count = partly.count;
+      some = partly.some;
+      fewer = partly.fewer;
+      in_place = Each-two (IsMoved b c) (λ (p : PlannedText). a p.from ≡ Some p.text) (IsIn c) (λ p is text. (is.0 ∙ same p.from ∙ text, is.1)) (take partly.count ps) partly.moved
+          (Each-take (λ (p : PlannedText). a p.from ≡ Some p.text) ps partly.count whole);
+      beside = Each-two (IsWaiting b c) (λ (p : PlannedText). (a p.to ≡ z p.to) × (a p.from ≡ Some p.text)) (IsBeside z c) (λ p is was. (is.0 ∙ same p.to ∙ was.0, is.1 ∙ same p.from ∙ was.1)) (drop partly.count ps) partly.left
+          (Each-drop (λ (p : PlannedText). (a p.to ≡ z p.to) × (a p.from ≡ Some p.text)) ps partly.count both);
+      others = λ path w. partly.others path w ∙ same path ∙ before path (Each-left (λ q. path ≢ q) (from_paths ps) (map (λ (p : PlannedText). p.to) ps) w);
+    }
 
 -- tables that were written, and removed
-pub kept_back : (folder : List ℕ) (a b c d : Held) → SameApart folder part_names a b → SameFiles b c → HasNoParts folder d → SameApart folder part_names c d → IsKeptBack folder a d
-kept_back folder a b c d before same gone after = record { no_parts = gone; others = λ path w. after path w ∙ same path ∙ before path w }
-
--- a table that got its place in a folder
-abbrev pub IsRenamedIn : List ℕ → List ℕ → List ℕ → Held → Held → Type 0
-IsRenamedIn folder part name old new = IsRenamed (path_in folder part) (path_in folder name) old new
-
-pub renamed_in : (folder part name : List ℕ) (move : Move) (old new : Held) → IsMoveIn folder part name move → IsRenamed (string_bytes move.from) (string_bytes move.to) old new → IsRenamedIn folder part name old new
-renamed_in folder part name move old new is r = rw (is.from_is, is.to_is) at r
-
--- a name that a step leaves alone
-left : (folder part name : List ℕ) (old new : Held) → IsRenamedIn folder part name old new → (x : List ℕ) → bytes_eq x part ≡ false → bytes_eq x name ≡ false → new (path_in folder x) ≡ old (path_in folder x)
-left folder part name old new r x first second = r.others (path_in folder x) (apart folder x part first) (apart folder x name second)
-
--- the tables' own names are none of those under which they are written
-left_by_parts : (folder : List ℕ) (old new : Held) → SameApart folder part_names old new → (x : List ℕ) → bytes_eq x commands_part ≡ false → bytes_eq x stats_part ≡ false → bytes_eq x final_part ≡ false → new (path_in folder x) ≡ old (path_in folder x)
-left_by_parts folder old new same x first second third =
-    same (path_in folder x) (apart folder x commands_part first, (apart folder x stats_part second, (apart folder x final_part third, tt)))
-
--- all tables got their places
-pub all_placed : (folder : List ℕ) (z a b c d : Held) → SameFiles z a →
-    IsRenamedIn folder commands_part commands_name a b → IsRenamedIn folder stats_part stats_name b c → IsRenamedIn folder final_part final_name c d →
-    IsPlaced folder z d
-all_placed folder z a b c d same r1 r2 r3 =
-    record {
-      commands_moved = left folder final_part final_name c d r3 commands_name refl refl ∙ left folder stats_part stats_name b c r2 commands_name refl refl ∙ r1.moved ∙ same (path_in folder commands_part);
-      stats_moved = left folder final_part final_name c d r3 stats_name refl refl ∙ r2.moved ∙ left folder commands_part commands_name a b r1 stats_part refl refl ∙ same (path_in folder stats_part);
-      final_moved = r3.moved ∙ left folder stats_part stats_name b c r2 final_part refl refl ∙ left folder commands_part commands_name a b r1 final_part refl refl ∙ same (path_in folder final_part);
-      no_parts = record {
-        commands_gone = left folder final_part final_name c d r3 commands_part refl refl ∙ left folder stats_part stats_name b c r2 commands_part refl refl ∙ r1.gone (apart folder commands_part commands_name refl);
-        stats_gone = left folder final_part final_name c d r3 stats_part refl refl ∙ r2.gone (apart folder stats_part stats_name refl);
-        final_gone = r3.gone (apart folder final_part final_name refl);
-      };
-      others = λ path w. r3.others path w.1.1.1.1.1.0 w.1.1.0 ∙ r2.others path w.1.1.1.1.0 w.1.0 ∙ r1.others path w.1.1.1.0 w.0 ∙ same path;
-    }
-
-waits_by_one : (folder : List ℕ) (z a b c : Held) → SameFiles z a → IsRenamedIn folder commands_part commands_name a b → SameFiles b c →
-    (x : List ℕ) → bytes_eq x commands_part ≡ false → bytes_eq x commands_name ≡ false → c (path_in folder x) ≡ z (path_in folder x)
-waits_by_one folder z a b c same r1 still x first second =
-    still (path_in folder x) ∙ left folder commands_part commands_name a b r1 x first second ∙ same (path_in folder x)
-
--- the first table got its place, and the second one did not
-pub one_placed : (folder : List ℕ) (z a b c : Held) → SameFiles z a → IsRenamedIn folder commands_part commands_name a b → SameFiles b c → IsPartlyPlaced folder z c
-one_placed folder z a b c same r1 still =
-    record {
-      commands_moved = still (path_in folder commands_name) ∙ r1.moved ∙ same (path_in folder commands_part);
-      stats_left = inr (waits_by_one folder z a b c same r1 still stats_name refl refl, waits_by_one folder z a b c same r1 still stats_part refl refl);
-      final_waits = (waits_by_one folder z a b c same r1 still final_name refl refl, waits_by_one folder z a b c same r1 still final_part refl refl);
-      others = λ path w. still path ∙ r1.others path w.1.1.1.0 w.0 ∙ same path;
-    }
-
-waits_by_two : (folder : List ℕ) (z a b c d : Held) → SameFiles z a →
-    IsRenamedIn folder commands_part commands_name a b → IsRenamedIn folder stats_part stats_name b c → SameFiles c d →
-    (x : List ℕ) → bytes_eq x commands_part ≡ false → bytes_eq x commands_name ≡ false → bytes_eq x stats_part ≡ false → bytes_eq x stats_name ≡ false →
-    d (path_in folder x) ≡ z (path_in folder x)
-waits_by_two folder z a b c d same r1 r2 still x f1 f2 s1 s2 =
-    still (path_in folder x) ∙ left folder stats_part stats_name b c r2 x s1 s2 ∙ left folder commands_part commands_name a b r1 x f1 f2 ∙ same (path_in folder x)
-
--- the first two tables got their places, and the third one did not
-pub two_placed : (folder : List ℕ) (z a b c d : Held) → SameFiles z a →
-    IsRenamedIn folder commands_part commands_name a b → IsRenamedIn folder stats_part stats_name b c → SameFiles c d → IsPartlyPlaced folder z d
-two_placed folder z a b c d same r1 r2 still =
-    record {
-      commands_moved = still (path_in folder commands_name) ∙ left folder stats_part stats_name b c r2 commands_name refl refl ∙ r1.moved ∙ same (path_in folder commands_part);
-      stats_left = inl (still (path_in folder stats_name) ∙ r2.moved ∙ left folder commands_part commands_name a b r1 stats_part refl refl ∙ same (path_in folder stats_part));
-      final_waits = (waits_by_two folder z a b c d same r1 r2 still final_name refl refl refl refl, waits_by_two folder z a b c d same r1 r2 still final_part refl refl refl refl);
-      others = λ path w. still path ∙ r2.others path w.1.1.1.1.0 w.1.0 ∙ r1.others path w.1.1.1.0 w.0 ∙ same path;
-    }
-
--- whole tables that got their places
-pub in_place : (folder : List ℕ) (run : RunOutcome) (a b c : Held) → SameApart folder part_names a b → HoldsParts folder run b → IsPlaced folder b c → IsWritten folder run a c
-in_place folder run a b c before whole placed =
-    record {
-      commands_is = placed.commands_moved ∙ whole.commands_is;
-      stats_is = placed.stats_moved ∙ whole.stats_is;
-      final_is = placed.final_moved ∙ whole.final_is;
-      no_parts = placed.no_parts;
-      others = λ path w. placed.others path w ∙ before path w.1.1.1;
-    }
-
-second_left : (folder : List ℕ) (run : RunOutcome) (a b c : Held) → SameApart folder part_names a b → HoldsParts folder run b →
-    IsMoved folder stats_part stats_name b c ⊎ IsWaiting folder stats_part stats_name b c →
-    (c (path_in folder stats_name) ≡ Some (stats_of run)) ⊎ IsKeptBeside folder stats_part stats_name (stats_of run) a c
-second_left folder run a b c before whole (inl moved) = inl (moved ∙ whole.stats_is)
-second_left folder run a b c before whole (inr waits) = inr (waits.0 ∙ left_by_parts folder a b before stats_name refl refl refl, waits.1 ∙ whole.stats_is)
-
--- whole tables of which not all got their places
-pub torn : (folder : List ℕ) (run : RunOutcome) (a b c : Held) → SameApart folder part_names a b → HoldsParts folder run b → IsPartlyPlaced folder b c → IsTorn folder run a c
-torn folder run a b c before whole partly =
-    record {
-      commands_is = partly.commands_moved ∙ whole.commands_is;
-      stats_is = second_left folder run a b c before whole partly.stats_left;
-      final_is = (partly.final_waits.0 ∙ left_by_parts folder a b before final_name refl refl refl, partly.final_waits.1 ∙ whole.final_is);
-      others = λ path w. partly.others path w ∙ before path w.1.1.1;
-    }
+pub kept_back : (ps : List PlannedText) (z a b c : Held) → SameOutside (from_paths ps) z a → SameFiles a b → AreGone ps c → SameOutside (from_paths ps) b c → AreKeptBack ps z c
+kept_back ps z a b c before same gone after = record { gone = gone; others = λ path w. after path w ∙ same path ∙ before path w }
 
 -- nothing has changed before
-pub written_from : (folder : List ℕ) (run : RunOutcome) (a b c : Held) → SameFiles a b → IsWritten folder run b c → IsWritten folder run a c
-written_from folder run a b c same h =
-    record { commands_is = h.commands_is; stats_is = h.stats_is; final_is = h.final_is; no_parts = h.no_parts; others = λ path w. h.others path w ∙ same path }
-
-beside_from : (folder part name text : List ℕ) (a b c : Held) → SameFiles a b → IsKeptBeside folder part name text b c → IsKeptBeside folder part name text a c
-beside_from folder part name text a b c same h = (h.0 ∙ same (path_in folder name), h.1)
-
-stats_from : (folder : List ℕ) (run : RunOutcome) (a b c : Held) → SameFiles a b →
-    (c (path_in folder stats_name) ≡ Some (stats_of run)) ⊎ IsKeptBeside folder stats_part stats_name (stats_of run) b c →
-    (c (path_in folder stats_name) ≡ Some (stats_of run)) ⊎ IsKeptBeside folder stats_part stats_name (stats_of run) a c
-stats_from folder run a b c same (inl h) = inl h
-stats_from folder run a b c same (inr h) = inr (beside_from folder stats_part stats_name (stats_of run) a b c same h)
-
-unplaced_from : (refusal : Refusal) (folder : List ℕ) (run : RunOutcome) (a b c : Held) → SameFiles a b → IsUnplaced refusal folder run b c → IsUnplaced refusal folder run a c
-unplaced_from (Kept fault) folder run a b c same h = record { no_parts = h.no_parts; others = λ path w. h.others path w ∙ same path }
-unplaced_from (Torn fault) folder run a b c same h =
+left-unplaced-from : (refusal : Refusal) (ps : List PlannedText) (a b c : Held) → SameFiles a b → IsLeftUnplaced refusal ps b c → IsLeftUnplaced refusal ps a c
+left-unplaced-from (Kept fault) ps a b c same h = record { gone = h.gone; others = λ path w. h.others path w ∙ same path }
+left-unplaced-from (Torn fault) ps a b c same h =
     record {
-      commands_is = h.commands_is;
-      stats_is = stats_from folder run a b c same h.stats_is;
-      final_is = beside_from folder final_part final_name (final_of run) a b c same h.final_is;
+      count = h.count;
+      some = h.some;
+      fewer = h.fewer;
+      in_place = h.in_place;
+      beside = Each-weaker (IsBeside b c) (IsBeside a c) (λ p is. (is.0 ∙ same p.to, is.1)) (drop h.count ps) h.beside;
       others = λ path w. h.others path w ∙ same path;
     }
+
+pub written_from : (folder : List ℕ) (run : RunOutcome) (a b c : Held) → SameFiles a b → IsWritten folder run b c → IsWritten folder run a c
+written_from folder run a b c same h = record { in_place = h.in_place; none_else = h.none_else; others = λ path w. h.others path w ∙ same path }
 
 pub left_from : (refusal : Refusal) (folder : List ℕ) (run : RunOutcome) (a b c : Held) (before mid after : List (List ℕ)) → SameFiles a b → mid ≡ before → IsLeftBy refusal folder run b c mid after
     → IsLeftBy refusal folder run a c before after
 left_from refusal folder run a b c before mid after same unopened (inl all) =
     inl (record { kept = all.kept; untouched = record { same = λ path. all.untouched.same path ∙ same path; unopened = all.untouched.unopened ∙ unopened } })
-left_from refusal folder run a b c before mid after same unopened (inr unplaced) = inr (unplaced_from refusal folder run a b c same unplaced)
+left_from refusal folder run a b c before mid after same unopened (inr unplaced) = inr (left-unplaced-from refusal (plan_in folder run) a b c same unplaced)
+
+-- ---- the tables of a run
+
+-- a table of a name
+abbrev named_text : List ℕ → List ℕ → NamedText
+named_text name text = record { name = name; text = text }
+
+far-commands-stats : (folder x y : List ℕ) → IsApartFrom (planned_in folder (named_text commands_name x)) (planned_in folder (named_text stats_name y))
+far-commands-stats folder x y =
+    record {
+      froms = apart folder (part_name commands_name) (part_name stats_name) refl;
+      from_to = apart folder (part_name commands_name) stats_name refl;
+      to_from = apart folder commands_name (part_name stats_name) refl;
+      tos = apart folder commands_name stats_name refl;
+    }
+
+far-commands-final : (folder x y : List ℕ) → IsApartFrom (planned_in folder (named_text commands_name x)) (planned_in folder (named_text final_name y))
+far-commands-final folder x y =
+    record {
+      froms = apart folder (part_name commands_name) (part_name final_name) refl;
+      from_to = apart folder (part_name commands_name) final_name refl;
+      to_from = apart folder commands_name (part_name final_name) refl;
+      tos = apart folder commands_name final_name refl;
+    }
+
+far-stats-final : (folder x y : List ℕ) → IsApartFrom (planned_in folder (named_text stats_name x)) (planned_in folder (named_text final_name y))
+far-stats-final folder x y =
+    record {
+      froms = apart folder (part_name stats_name) (part_name final_name) refl;
+      from_to = apart folder (part_name stats_name) final_name refl;
+      to_from = apart folder stats_name (part_name final_name) refl;
+      tos = apart folder stats_name final_name refl;
+    }
+
+-- the tables that are asked for, where these have a text
+abbrev chosen : Option (List ℕ) → Option (List ℕ) → Option (List ℕ) → List NamedText
+chosen commands stats last = table_named commands_name commands ++ (table_named stats_name stats ++ table_named final_name last)
+
+chosen-apart : (folder : List ℕ) (commands stats last : Option (List ℕ)) → AreApart (map (planned_in folder) (chosen commands stats last))
+chosen-apart folder None None None = tt
+chosen-apart folder None None (Some z) = (apart folder (part_name final_name) final_name refl, tt, tt)
+chosen-apart folder None (Some y) None = (apart folder (part_name stats_name) stats_name refl, tt, tt)
+chosen-apart folder None (Some y) (Some z) = (apart folder (part_name stats_name) stats_name refl, (far-stats-final folder y z, tt), (apart folder (part_name final_name) final_name refl, tt, tt))
+chosen-apart folder (Some x) None None = (apart folder (part_name commands_name) commands_name refl, tt, tt)
+chosen-apart folder (Some x) None (Some z) = (apart folder (part_name commands_name) commands_name refl, (far-commands-final folder x z, tt), (apart folder (part_name final_name) final_name refl, tt, tt))
+chosen-apart folder (Some x) (Some y) None = (apart folder (part_name commands_name) commands_name refl, (far-commands-stats folder x y, tt), (apart folder (part_name stats_name) stats_name refl, tt, tt))
+chosen-apart folder (Some x) (Some y) (Some z) = (apart folder (part_name commands_name) commands_name refl, (far-commands-stats folder x y, (far-commands-final folder x z, tt)), (apart folder (part_name stats_name) stats_name refl, (far-stats-final folder y z, tt), (apart folder (part_name final_name) final_name refl, tt, tt)))
+
+pub plan-apart : (folder : List ℕ) (run : RunOutcome) → AreApart (plan_in folder run)
+plan-apart folder run = chosen-apart folder (commands_of run) (stats_of run) (final_of run)
+
+-- the names of the others
+abbrev left_out : Option (List ℕ) → Option (List ℕ) → Option (List ℕ) → List (List ℕ)
+left_out commands stats last = name_unless (is_some commands) commands_name ++ (name_unless (is_some stats) stats_name ++ name_unless (is_some last) final_name)
+
+-- neither path of a table is one of these
+abbrev IsFarFrom : List (List ℕ) → PlannedText → Type 0
+IsFarFrom paths p = Each (λ q. p.to ≢ q) paths × Each (λ q. p.from ≢ q) paths
+
+chosen-far : (folder : List ℕ) (commands stats last : Option (List ℕ)) → Each (IsFarFrom (map (path_in folder) (left_out commands stats last))) (map (planned_in folder) (chosen commands stats last))
+chosen-far folder None None None = tt
+chosen-far folder None None (Some z) = (((apart folder final_name commands_name refl, (apart folder final_name stats_name refl, tt)), (apart folder (part_name final_name) commands_name refl, (apart folder (part_name final_name) stats_name refl, tt))), tt)
+chosen-far folder None (Some y) None = (((apart folder stats_name commands_name refl, (apart folder stats_name final_name refl, tt)), (apart folder (part_name stats_name) commands_name refl, (apart folder (part_name stats_name) final_name refl, tt))), tt)
+chosen-far folder None (Some y) (Some z) = (((apart folder stats_name commands_name refl, tt), (apart folder (part_name stats_name) commands_name refl, tt)), (((apart folder final_name commands_name refl, tt), (apart folder (part_name final_name) commands_name refl, tt)), tt))
+chosen-far folder (Some x) None None = (((apart folder commands_name stats_name refl, (apart folder commands_name final_name refl, tt)), (apart folder (part_name commands_name) stats_name refl, (apart folder (part_name commands_name) final_name refl, tt))), tt)
+chosen-far folder (Some x) None (Some z) = (((apart folder commands_name stats_name refl, tt), (apart folder (part_name commands_name) stats_name refl, tt)), (((apart folder final_name stats_name refl, tt), (apart folder (part_name final_name) stats_name refl, tt)), tt))
+chosen-far folder (Some x) (Some y) None = (((apart folder commands_name final_name refl, tt), (apart folder (part_name commands_name) final_name refl, tt)), (((apart folder stats_name final_name refl, tt), (apart folder (part_name stats_name) final_name refl, tt)), tt))
+chosen-far folder (Some x) (Some y) (Some z) = ((tt, tt), ((tt, tt), ((tt, tt), tt)))
+
+-- tables that got their places, and others that were removed
+pub written : (folder : List ℕ) (run : RunOutcome) (z a b : Held) → ArePut (plan_in folder run) z a → AreRemoved (other_paths folder run) b → SameOutside (other_paths folder run) a b → IsWritten folder run z b
+written folder run z a b put removed after =
+    record {
+      in_place = Each-two (IsFarFrom (other_paths folder run)) (IsIn a) (IsIn b) (λ p far is. (after p.to far.0 ∙ is.0, after p.from far.1 ∙ is.1)) (plan_in folder run)
+          (chosen-far folder (commands_of run) (stats_of run) (final_of run)) put.in_place;
+      none_else = removed;
+      others = λ path w.
+          let planned = paths_of (plan_in folder run) in
+          after path (Each-right (λ q. path ≢ q) planned (other_paths folder run) w) ∙ put.others path (Each-left (λ q. path ≢ q) planned (other_paths folder run) w);
+    }

@@ -1,3 +1,4 @@
 pub mod Files
 pub mod WholeFile
 pub mod Tables
+pub mod Planned

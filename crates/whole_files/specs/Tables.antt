@@ -1,24 +1,30 @@
 -- How the tables of a run come into a folder. Each is written under a name of its own, and gets its place there when all are whole.
 --     path_in folder name      the path of a name in a folder
---     SameApart folder names old new      no path has changed but those of the names in the folder
---     parts folder      the paths under which the tables are written
---     AreMovesIn folder moves      the ways of the tables to their places
---     HoldsParts folder run held      the tables of an outcome are whole, and not yet in their places
---     IsWritten folder run old new      the tables of an outcome are in their places
---     IsPlaced, IsPartlyPlaced folder old new      all tables got their places, or only the first of them
+--     tables_in run      the tables of an outcome that are asked for, each with its name, in the order in which they get their places
+--     others_in run      the names of the tables that are not asked for
+--     planned_in folder table      the paths of a table, while it is written and in its place, and its text
+--     parts folder run      the paths under which the tables are written
+--     SameOutside paths old new      no path has changed but these
+--     AreApart planned      no two of these paths are the same
+--     AreStaged planned held      these tables are whole, and not yet in their places
+--     ArePlaced, ArePartlyPlaced planned old new      all of them got their places, or only the first of them
+--     ArePut planned old new      they were written and got their places
+--     IsLeftUnplaced refusal planned old new      what a refusal leaves of them
+--     IsWritten folder run old new      the tables of an outcome are in their places, and no others are there
 --     IsTorn folder run old new      only the first tables of an outcome are in their places
---     IsKeptBack folder old new      no table is in its place
+--     IsKeptBack folder run old new      no table is in its place
 --     LeavesAll refusal old new before after      a refusal leaves everything as it was
 --     IsUnplaced, IsLeftBy refusal folder run old new      what a refusal leaves
-use Rattle.std.specs.Prelude.{◌≡◌, ◌≢◌, ◌⊎◌, ℕ, ⊤, List, [], ◌∷◌, ◌++◌, codes, Some, None, string_bytes}
-use Rattle.statistics.specs.Values.{RunOutcome}
+use Rattle.std.specs.Prelude.{◌≡◌, ◌≢◌, ◌⊎◌, ℕ, ◌<◌, Bool, List, [], ◌∷◌, ◌++◌, length, map, flat_map, take, drop, codes, is_some, option_map, Option, Some, None, string_bytes, if◌then◌else◌}
+use Rattle.std.specs.List.{AllByRecursion as Each}
+use Rattle.run_outcome.specs.Outcomes.{if_asked}
+use Rattle.run_outcome.specs.Values.{RunOutcome}
 use Rattle.reports.specs.Commands.{commands_text}
 use Rattle.reports.specs.Stats.{stats_text}
 use Rattle.reports.specs.Final.{final_text}
 use Rattle.refusal.specs.Refusals.{IsKept}
 use Rattle.whole_files.specs.Files.{Held, IsUntouched}
 use Rattle.whole_files.specs.declared.moves.Move.{Move}
-use Rattle.whole_files.specs.declared.tables.Moves.{Moves}
 use Rattle.refusal.specs.declared.refusal.Refusal.{Refusal}
 use Rattle.refusal.specs.declared.refusal.Refusal.TheVariants.{Kept, Torn}
 
@@ -36,127 +42,172 @@ stats_name = codes "stats.csv"
 abbrev pub final_name : List ℕ
 final_name = codes "final.csv"
 
--- the names under which they are written
-abbrev pub commands_part : List ℕ
-commands_part = codes "commands.csv.part"
+-- the name under which a table is written
+abbrev pub part_name : List ℕ → List ℕ
+part_name name = name ++ codes ".part"
 
-abbrev pub stats_part : List ℕ
-stats_part = codes "stats.csv.part"
-
-abbrev pub final_part : List ℕ
-final_part = codes "final.csv.part"
-
-abbrev pub part_names : List (List ℕ)
-part_names = commands_part ∷ stats_part ∷ final_part ∷ []
-
--- all names that a run writes
-abbrev pub all_names : List (List ℕ)
-all_names = commands_name ∷ stats_name ∷ final_name ∷ part_names
-
--- the paths under which the tables are written, in the order in which they are opened
-abbrev pub parts : List ℕ → List (List ℕ)
-parts folder = path_in folder commands_part ∷ path_in folder stats_part ∷ path_in folder final_part ∷ []
-
--- the path is that of none of these names in the folder
-abbrev pub IsApart : List ℕ → List (List ℕ) → List ℕ → Type 0
-IsApart folder [] path = ⊤
-IsApart folder (name ∷ names) path = (path ≢ path_in folder name) × IsApart folder names path
-
--- no path has changed but those of the names in the folder
-abbrev pub SameApart : List ℕ → List (List ℕ) → Held → Held → Type 0
-SameApart folder names old new = (path : List ℕ) → IsApart folder names path → new path ≡ old path
-
--- a table's way to its place
+-- a way from one name in a folder to another
 pub record IsMoveIn (folder part name : List ℕ) (move : Move) : Type 0 where
   pub from_is : string_bytes move.from ≡ path_in folder part
   pub to_is : string_bytes move.to ≡ path_in folder name
 
--- the ways of the tables to their places
-pub record AreMovesIn (folder : List ℕ) (moves : Moves) : Type 0 where
-  pub commands_is : IsMoveIn folder commands_part commands_name moves.commands
-  pub stats_is : IsMoveIn folder stats_part stats_name moves.stats
-  pub final_is : IsMoveIn folder final_part final_name moves.last
+-- a table: its name, and its text
+pub record NamedText : Type 0 where
+  pub name : List ℕ
+  pub text : List ℕ
 
--- a fact of the folder in which the ways lie
-abbrev pub InFolder : Moves → (List ℕ → Type 0) → Type 0
-InFolder moves P = (folder : List ℕ) → AreMovesIn folder moves → P folder
+-- the table of a name, if it has a text
+abbrev pub table_named : List ℕ → Option (List ℕ) → List NamedText
+table_named name None = []
+table_named name (Some text) = record { name = name; text = text } ∷ []
 
--- the texts of the tables of an outcome
-abbrev pub commands_of : RunOutcome → List ℕ
-commands_of run = commands_text run.ranks run.commands
+-- the texts of the tables of an outcome, of those that are asked for
+abbrev pub commands_of : RunOutcome → Option (List ℕ)
+commands_of run = option_map (commands_text run.ranks) run.commands
 
-abbrev pub stats_of : RunOutcome → List ℕ
-stats_of run = stats_text run.stats
+abbrev pub stats_of : RunOutcome → Option (List ℕ)
+stats_of run = if_asked run.tables.stats (stats_text run.stats)
 
-abbrev pub final_of : RunOutcome → List ℕ
-final_of run = final_text run.ranks run.last
+abbrev pub final_of : RunOutcome → Option (List ℕ)
+final_of run = if_asked run.tables.last (final_text run.ranks run.last)
 
--- the tables of an outcome are whole, and not yet in their places
-pub record HoldsParts (folder : List ℕ) (run : RunOutcome) (held : Held) : Type 0 where
-  pub commands_is : held (path_in folder commands_part) ≡ Some (commands_of run)
-  pub stats_is : held (path_in folder stats_part) ≡ Some (stats_of run)
-  pub final_is : held (path_in folder final_part) ≡ Some (final_of run)
+-- the tables that are asked for, in the order in which they get their places
+abbrev pub tables_in : RunOutcome → List NamedText
+tables_in run = table_named commands_name (commands_of run) ++ (table_named stats_name (stats_of run) ++ table_named final_name (final_of run))
 
--- nothing stands under the names under which the tables were written
-pub record HasNoParts (folder : List ℕ) (held : Held) : Type 0 where
-  pub commands_gone : held (path_in folder commands_part) ≡ None
-  pub stats_gone : held (path_in folder stats_part) ≡ None
-  pub final_gone : held (path_in folder final_part) ≡ None
+-- a name, where its table is not asked for
+abbrev pub name_unless : Bool → List ℕ → List (List ℕ)
+name_unless asked name = if asked then [] else name ∷ []
 
--- the tables of an outcome are in their places, nothing is left beside them, and nothing else has changed
-pub record IsWritten (folder : List ℕ) (run : RunOutcome) (old new : Held) : Type 0 where
-  pub commands_is : new (path_in folder commands_name) ≡ Some (commands_of run)
-  pub stats_is : new (path_in folder stats_name) ≡ Some (stats_of run)
-  pub final_is : new (path_in folder final_name) ≡ Some (final_of run)
-  pub no_parts : HasNoParts folder new
-  pub others : SameApart folder all_names old new
+-- the names of the tables that are not asked for
+abbrev pub others_in : RunOutcome → List (List ℕ)
+others_in run =
+    name_unless (is_some (commands_of run)) commands_name
+    ++ (name_unless (is_some (stats_of run)) stats_name ++ name_unless (is_some (final_of run)) final_name)
 
--- the table that was written got its place
-abbrev pub IsMoved : List ℕ → List ℕ → List ℕ → Held → Held → Type 0
-IsMoved folder part name old new = new (path_in folder name) ≡ old (path_in folder part)
+-- a table that is to be written to one path, and then to get another, with this text
+pub record PlannedText : Type 0 where
+  pub from : List ℕ
+  pub to : List ℕ
+  pub text : List ℕ
+
+-- the paths of a table in a folder, and its text
+abbrev pub planned_in : List ℕ → NamedText → PlannedText
+planned_in folder table = record { from = path_in folder (part_name table.name); to = path_in folder table.name; text = table.text }
+
+-- the tables of an outcome, with their paths in a folder
+abbrev pub plan_in : List ℕ → RunOutcome → List PlannedText
+plan_in folder run = map (planned_in folder) (tables_in run)
+
+-- the paths under which tables are written
+abbrev pub from_paths : List PlannedText → List (List ℕ)
+from_paths planned = map (λ p. p.from) planned
+
+-- all their paths
+abbrev pub paths_of : List PlannedText → List (List ℕ)
+paths_of planned = from_paths planned ++ map (λ p. p.to) planned
+
+-- the paths under which the tables are written, in the order in which they are opened
+abbrev pub parts : List ℕ → RunOutcome → List (List ℕ)
+parts folder run = from_paths (plan_in folder run)
+
+-- no path has changed but these
+abbrev pub SameOutside : List (List ℕ) → Held → Held → Type 0
+SameOutside paths old new = (path : List ℕ) → Each (λ p. path ≢ p) paths → new path ≡ old path
+
+-- two tables have no path in common
+pub record IsApartFrom (p q : PlannedText) : Type 0 where
+  pub froms : p.from ≢ q.from
+  pub from_to : p.from ≢ q.to
+  pub to_from : p.to ≢ q.from
+  pub tos : p.to ≢ q.to
+
+-- no two paths of these tables are the same
+abbrev pub AreApart : List PlannedText → Type 0
+AreApart [] = Unit {0}
+AreApart (p ∷ planned) = (p.from ≢ p.to) × Each (IsApartFrom p) planned × AreApart planned
+
+-- these tables are whole, and not yet in their places
+abbrev pub AreStaged : List PlannedText → Held → Type 0
+AreStaged planned held = Each (λ p. held p.from ≡ Some p.text) planned
+
+-- nothing stands under the names under which they are written
+abbrev pub AreGone : List PlannedText → Held → Type 0
+AreGone planned held = Each (λ p. held p.from ≡ None) planned
+
+-- nothing stands at these paths
+abbrev pub AreRemoved : List (List ℕ) → Held → Type 0
+AreRemoved paths held = Each (λ p. held p ≡ None) paths
+
+-- a table that was written got its place
+abbrev pub IsMoved : Held → Held → PlannedText → Type 0
+IsMoved old new p = (new p.to ≡ old p.from) × (new p.from ≡ None)
 
 -- it did not: its place holds what it held, and the table is as whole as it was
-abbrev pub IsWaiting : List ℕ → List ℕ → List ℕ → Held → Held → Type 0
-IsWaiting folder part name old new =
-    (new (path_in folder name) ≡ old (path_in folder name)) × (new (path_in folder part) ≡ old (path_in folder part))
+abbrev pub IsWaiting : Held → Held → PlannedText → Type 0
+IsWaiting old new p = (new p.to ≡ old p.to) × (new p.from ≡ old p.from)
 
 -- all tables got their places
-pub record IsPlaced (folder : List ℕ) (old new : Held) : Type 0 where
-  pub commands_moved : IsMoved folder commands_part commands_name old new
-  pub stats_moved : IsMoved folder stats_part stats_name old new
-  pub final_moved : IsMoved folder final_part final_name old new
-  pub no_parts : HasNoParts folder new
-  pub others : SameApart folder all_names old new
+pub record ArePlaced (planned : List PlannedText) (old new : Held) : Type 0 where
+  pub moved : Each (IsMoved old new) planned
+  pub others : SameOutside (paths_of planned) old new
 
--- the first of the tables got its place, maybe the second, and not the third
-pub record IsPartlyPlaced (folder : List ℕ) (old new : Held) : Type 0 where
-  pub commands_moved : IsMoved folder commands_part commands_name old new
-  pub stats_left : IsMoved folder stats_part stats_name old new ⊎ IsWaiting folder stats_part stats_name old new
-  pub final_waits : IsWaiting folder final_part final_name old new
-  pub others : SameApart folder all_names old new
+-- the first of the tables got their places, at least one of them, and the others did not
+pub record ArePartlyPlaced (planned : List PlannedText) (old new : Held) : Type 0 where
+  pub count : ℕ
+  pub some : 0 < count
+  pub fewer : count < length planned
+  pub moved : Each (IsMoved old new) (take count planned)
+  pub left : Each (IsWaiting old new) (drop count planned)
+  pub others : SameOutside (paths_of planned) old new
 
--- a place holds what it held, and the new table stands whole beside it
-abbrev pub IsKeptBeside : List ℕ → List ℕ → List ℕ → List ℕ → Held → Held → Type 0
-IsKeptBeside folder part name text old new =
-    (new (path_in folder name) ≡ old (path_in folder name)) × (new (path_in folder part) ≡ Some text)
+-- a table is in its place
+abbrev pub IsIn : Held → PlannedText → Type 0
+IsIn new p = (new p.to ≡ Some p.text) × (new p.from ≡ None)
 
--- The first table of an outcome got its place, maybe the second, and not the third, since a file could not be renamed. Each
--- table is the earlier one or the whole new one, and where it is the earlier one, the whole new one stands beside it.
-pub record IsTorn (folder : List ℕ) (run : RunOutcome) (old new : Held) : Type 0 where
-  pub commands_is : new (path_in folder commands_name) ≡ Some (commands_of run)
-  pub stats_is : (new (path_in folder stats_name) ≡ Some (stats_of run)) ⊎ IsKeptBeside folder stats_part stats_name (stats_of run) old new
-  pub final_is : IsKeptBeside folder final_part final_name (final_of run) old new
-  pub others : SameApart folder all_names old new
+-- it is not: its place holds what it held, and the new table stands whole beside it
+abbrev pub IsBeside : Held → Held → PlannedText → Type 0
+IsBeside old new p = (new p.to ≡ old p.to) × (new p.from ≡ Some p.text)
+
+-- tables were written and got their places
+pub record ArePut (planned : List PlannedText) (old new : Held) : Type 0 where
+  pub in_place : Each (IsIn new) planned
+  pub others : SameOutside (paths_of planned) old new
+
+-- The first tables got their places, at least one of them, and the others did not, since a file could not be renamed: each table is the
+-- earlier one or the whole new one, and where it is the earlier one, the whole new one stands beside it.
+pub record AreTorn (planned : List PlannedText) (old new : Held) : Type 0 where
+  pub count : ℕ
+  pub some : 0 < count
+  pub fewer : count < length planned
+  pub in_place : Each (IsIn new) (take count planned)
+  pub beside : Each (IsBeside old new) (drop count planned)
+  pub others : SameOutside (paths_of planned) old new
 
 -- the places hold what they held, and no table is left under the names under which they are written
-pub record IsKeptBack (folder : List ℕ) (old new : Held) : Type 0 where
-  pub no_parts : HasNoParts folder new
-  pub others : SameApart folder part_names old new
+pub record AreKeptBack (planned : List PlannedText) (old new : Held) : Type 0 where
+  pub gone : AreGone planned new
+  pub others : SameOutside (from_paths planned) old new
 
 -- what a refusal leaves of tables that could not all be given their places
+abbrev pub IsLeftUnplaced : Refusal → List PlannedText → Held → Held → Type 0
+IsLeftUnplaced (Kept fault) planned old new = AreKeptBack planned old new
+IsLeftUnplaced (Torn fault) planned old new = AreTorn planned old new
+
+-- the paths of the tables that are not asked for
+abbrev pub other_paths : List ℕ → RunOutcome → List (List ℕ)
+other_paths folder run = map (path_in folder) (others_in run)
+
+-- The tables of an outcome that are asked for are in their places, nothing is left beside them, none of the other tables is there, and
+-- nothing else has changed.
+pub record IsWritten (folder : List ℕ) (run : RunOutcome) (old new : Held) : Type 0 where
+  pub in_place : Each (IsIn new) (plan_in folder run)
+  pub none_else : AreRemoved (other_paths folder run) new
+  pub others : SameOutside (paths_of (plan_in folder run) ++ other_paths folder run) old new
+
+-- what a refusal leaves of the tables of an outcome
 abbrev pub IsUnplaced : Refusal → List ℕ → RunOutcome → Held → Held → Type 0
-IsUnplaced (Kept fault) folder run old new = IsKeptBack folder old new
-IsUnplaced (Torn fault) folder run old new = IsTorn folder run old new
+IsUnplaced refusal folder run old new = IsLeftUnplaced refusal (plan_in folder run) old new
 
 -- a refusal leaves everything as it was
 pub record LeavesAll (refusal : Refusal) (old new : Held) (before after : List (List ℕ)) : Type 0 where

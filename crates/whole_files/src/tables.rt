@@ -1,100 +1,173 @@
-//! The tables of a run in a folder: each is written under a name of its own, and gets its place once all three are whole.
+//! The tables of a run in a folder: each that was asked for is written under a name of its own, and gets its place once all are whole.
 
-ghost use Rattle.std.specs.Prelude.{◌≡◌, ◌++◌, ◌∷◌, [], Some, IfOk, IfErr, OnOk};
+ghost use Rattle.std.specs.Prelude.{◌≡◌, ◌++◌, ◌∷◌, [], map, true, false, Some, option_map, IfOk, IfErr, OnOk, string_bytes};
+ghost use Rattle.std.specs.Io.KnownBytes.{Appends};
 ghost use Rattle.refusal.specs.Refusals.{fault_of, IsKept, IsTornRefusal};
+ghost use Rattle.reports.specs.Rows.{IsReportFault};
+ghost use Rattle.run_outcome.specs.Outcomes.{if_asked};
 ghost use Rattle.whole_files.specs.Files.{SameFiles, SameBut, IsWriteFault};
-ghost use Rattle.whole_files.specs.Tables.{part_names, parts, SameApart, AreMovesIn, InFolder, commands_of, stats_of, final_of, HoldsParts, HasNoParts, IsWritten, IsPlaced, IsPartlyPlaced, IsLeftBy};
+ghost use Rattle.whole_files.specs.Tables.{path_in, table_named, name_unless, commands_of, planned_in, from_paths, tables_in, others_in, parts, SameOutside, AreApart, AreStaged, AreGone, ArePlaced, ArePartlyPlaced, AreRemoved, ArePut, IsLeftUnplaced, IsWritten, IsLeftBy};
+ghost use Rattle.whole_files.specs.Planned.{text_in, planned_of};
 
 use crate::files::FileSet;
-use crate::moves::{Move, discard_one, move_in, place_one};
+use crate::moves::{Move, discard_one, move_in, path_of, place_one};
+use command_table::table::CommandTable;
 use refusal::reason::Reason;
 use refusal::refusal::Refusal;
 use reports::{write_commands_by, write_final, write_stats};
+use run_outcome::outcome::Outcome;
 use sim_base::fault::Fault;
-use statistics::outcome::Outcome;
+use statistics::final_state::FinalState;
+use statistics::stats::Stats;
 use std::alloc::Global;
+use std::io::Write;
 use std::thread::Threads;
 
-fn stage_commands<R: Threads + Sync, F: FileSet>(
+// The names of the tables, in the order in which they get their places.
+const COMMANDS: &str = "commands.csv";
+
+const STATS: &str = "stats.csv";
+
+const FINAL: &str = "final.csv";
+
+// What a table of a run is written from. The numbers are the ranks of each channel.
+#[derive(Clone, Copy)]
+enum Contents<'a> {
+    Commands(u32, &'a CommandTable),
+    Stats(&'a Stats),
+    Final(u32, &'a FinalState),
+}
+
+// A table that is to be written, and its way to its place.
+#[derive(Drop)]
+struct Planned<'a> {
+    contents: Contents<'a>,
+    way: Move,
+}
+
+// Writes what a table holds.
+fn write_contents<R: Threads + Sync, W: Write>(
+    rt: &R,
+    alloc: Global,
+    threads: usize,
+    contents: &Contents<'_>,
+    writer: &mut W,
+) -> Result<(), Fault>
+    ensures written { OnOk result (Appends (W.contents writer.old) (W.contents writer.new) (text_in contents.now)) }
+    ensures refused { IfErr result (λ e. IsReportFault e) }
+{
+    match contents {
+        Contents::Commands(ranks, commands) => {
+            write_commands_by(rt, alloc, threads, *ranks, commands, writer)
+        }
+        Contents::Stats(stats) => write_stats(alloc, stats, writer),
+        Contents::Final(ranks, last) => write_final(alloc, last, *ranks, writer),
+    }
+}
+
+// Writes a table under the name that ends in `.part`.
+fn stage_one<R: Threads + Sync, F: FileSet>(
     rt: &R,
     alloc: Global,
     threads: usize,
     files: &mut F,
-    path: &str,
-    run: &Outcome,
+    table: &Planned<'_>,
 ) -> Result<(), Reason>
-    ensures whole { OnOk result (F.tells → F.held files.new path.now ≡ Some (commands_of run.now)) }
-    ensures noted { OnOk result (F.tells → F.opened files.new ≡ F.opened files.old ++ path.now ∷ []) }
+    ensures whole { OnOk result (F.tells → F.held files.new (string_bytes table.now.way.from) ≡ Some (text_in table.now.contents)) }
+    ensures noted { OnOk result (F.tells → F.opened files.new ≡ F.opened files.old ++ string_bytes table.now.way.from ∷ []) }
     ensures fault { IfErr result (λ e. IsWriteFault e) }
-    ensures others { F.tells → SameBut path.now (F.held files.old) (F.held files.new) }
+    ensures others { F.tells → SameBut (string_bytes table.now.way.from) (F.held files.old) (F.held files.new) }
 {
-    let mut table = files.create(alloc, path)?;
-    if let Err(fault) = write_commands_by(
-        rt,
-        alloc,
-        threads,
-        run.ranks,
-        &run.commands,
-        &mut table,
-    ) {
-        return Err(files.cause(alloc, path, &table, fault));
+    let path = table.way.from.as_str();
+    let mut out = files.create(alloc, path)?;
+    if let Err(fault) = write_contents(rt, alloc, threads, &table.contents, &mut out) {
+        return Err(files.cause(alloc, path, &out, fault));
     }
-    files.close(alloc, path, table)
+    files.close(alloc, path, out)
 }
 
-fn stage_stats<F: FileSet>(
+// Adds a table to those that are to be written, if there is one.
+fn plan<'a>(
     alloc: Global,
-    files: &mut F,
-    path: &str,
-    run: &Outcome,
-) -> Result<(), Reason>
-    ensures whole { OnOk result (F.tells → F.held files.new path.now ≡ Some (stats_of run.now)) }
-    ensures noted { OnOk result (F.tells → F.opened files.new ≡ F.opened files.old ++ path.now ∷ []) }
-    ensures fault { IfErr result (λ e. IsWriteFault e) }
-    ensures others { F.tells → SameBut path.now (F.held files.old) (F.held files.new) }
-{
-    let mut table = files.create(alloc, path)?;
-    if let Err(fault) = write_stats(alloc, &run.stats, &mut table) {
-        return Err(files.cause(alloc, path, &table, fault));
-    }
-    files.close(alloc, path, table)
-}
-
-fn stage_final<F: FileSet>(
-    alloc: Global,
-    files: &mut F,
-    path: &str,
-    run: &Outcome,
-) -> Result<(), Reason>
-    ensures whole { OnOk result (F.tells → F.held files.new path.now ≡ Some (final_of run.now)) }
-    ensures noted { OnOk result (F.tells → F.opened files.new ≡ F.opened files.old ++ path.now ∷ []) }
-    ensures fault { IfErr result (λ e. IsWriteFault e) }
-    ensures others { F.tells → SameBut path.now (F.held files.old) (F.held files.new) }
-{
-    let mut table = files.create(alloc, path)?;
-    if let Err(fault) = write_final(alloc, &run.last, run.ranks, &mut table) {
-        return Err(files.cause(alloc, path, &table, fault));
-    }
-    files.close(alloc, path, table)
-}
-
-// The ways of all tables.
-#[derive(Drop)]
-struct Moves {
-    commands: Move,
-    stats: Move,
-    last: Move,
-}
-
-fn moves_of(alloc: Global, folder: &str) -> Result<Moves, Fault>
-    ensures ways { IfOk result (AreMovesIn folder.now) }
+    folder: &str,
+    name: &str,
+    contents: Option<Contents<'a>>,
+    planned: &mut Vec<Planned<'a>>,
+) -> Result<(), Fault>
+    ensures planned { OnOk result (map planned_of planned.new.items ≡ map planned_of planned.old.items ++ map (planned_in folder.now) (table_named name.now (option_map text_in contents.entry))) }
     ensures fault { IfErr result (λ e. e ≡ Fault.Memory) }
 {
-    Ok(Moves {
-        commands: move_in(alloc, folder, "commands.csv.part", "commands.csv")?,
-        stats: move_in(alloc, folder, "stats.csv.part", "stats.csv")?,
-        last: move_in(alloc, folder, "final.csv.part", "final.csv")?,
-    })
+    let Some(contents) = contents else {
+        return Ok(());
+    };
+    let part = format!(in alloc; "{name}.part")?;
+    let way = move_in(alloc, folder, part.as_str(), name)?;
+    match planned.push(Planned { contents, way }) {
+        Ok(()) => Ok(()),
+        Err(_) => Err(Fault::Memory),
+    }
+}
+
+// The contents of a table, if it is asked for.
+fn if_asked<'a>(asked: bool, contents: Contents<'a>) -> Option<Contents<'a>>
+    ensures { result ≡ if_asked asked contents.entry }
+{
+    if asked { Some(contents) } else { None }
+}
+
+fn commands_in(run: &Outcome) -> Option<Contents<'_>>
+    ensures { option_map text_in result ≡ commands_of run.now }
+{
+    match &run.commands {
+        Some(commands) => Some(Contents::Commands(run.ranks, commands)),
+        None => None,
+    }
+}
+
+// The tables of an outcome that are asked for, with their ways to their places in a folder.
+fn plan_all<'a>(alloc: Global, folder: &str, run: &'a Outcome) -> Result<Vec<Planned<'a>>, Fault>
+    ensures planned { IfOk result (λ planned. map planned_of planned.items ≡ map (planned_in folder.now) (tables_in run.entry.now)) }
+    ensures fault { IfErr result (λ e. e ≡ Fault.Memory) }
+{
+    let mut planned = Vec::new(alloc);
+    let stats = if_asked(run.tables.stats, Contents::Stats(&run.stats));
+    let last = if_asked(run.tables.last, Contents::Final(run.ranks, &run.last));
+    plan(alloc, folder, COMMANDS, commands_in(run), &mut planned)?;
+    plan(alloc, folder, STATS, stats, &mut planned)?;
+    plan(alloc, folder, FINAL, last, &mut planned)?;
+    Ok(planned)
+}
+
+// Adds the path of a table that is not asked for.
+fn add_other(
+    alloc: Global,
+    folder: &str,
+    name: &str,
+    asked: bool,
+    paths: &mut Vec<String>,
+) -> Result<(), Fault>
+    ensures paths { OnOk result (map string_bytes paths.new.items ≡ map string_bytes paths.old.items ++ map (path_in folder.now) (name_unless asked name.now)) }
+    ensures fault { IfErr result (λ e. e ≡ Fault.Memory) }
+{
+    if asked {
+        return Ok(());
+    }
+    match paths.push(path_of(alloc, folder, name)?) {
+        Ok(()) => Ok(()),
+        Err(_) => Err(Fault::Memory),
+    }
+}
+
+// The paths of the tables that are not asked for.
+fn others_of(alloc: Global, folder: &str, run: &Outcome) -> Result<Vec<String>, Fault>
+    ensures paths { IfOk result (λ paths. map string_bytes paths.items ≡ map (path_in folder.now) (others_in run.now)) }
+    ensures fault { IfErr result (λ e. e ≡ Fault.Memory) }
+{
+    let mut paths = Vec::new(alloc);
+    add_other(alloc, folder, COMMANDS, run.commands.is_some(), &mut paths)?;
+    add_other(alloc, folder, STATS, run.tables.stats, &mut paths)?;
+    add_other(alloc, folder, FINAL, run.tables.last, &mut paths)?;
+    Ok(paths)
 }
 
 // Writes the tables, one after the other, under the names that end in `.part`.
@@ -103,64 +176,153 @@ fn stage<R: Threads + Sync, F: FileSet>(
     alloc: Global,
     threads: usize,
     files: &mut F,
-    moves: &Moves,
-    run: &Outcome,
+    planned: &[Planned<'_>],
 ) -> Result<(), Reason>
-    ensures whole { OnOk result (InFolder moves.now (λ folder. F.tells → HoldsParts folder run.now (F.held files.new))) }
-    ensures noted { OnOk result (InFolder moves.now (λ folder. F.tells → F.opened files.new ≡ F.opened files.old ++ parts folder)) }
+    requires apart { AreApart (map planned_of planned.now) }
+    ensures whole { OnOk result (F.tells → AreStaged (map planned_of planned.now) (F.held files.new)) }
+    ensures noted { OnOk result (F.tells → F.opened files.new ≡ F.opened files.old ++ from_paths (map planned_of planned.now)) }
     ensures fault { IfErr result (λ e. IsWriteFault e) }
-    ensures others { InFolder moves.now (λ folder. F.tells → SameApart folder part_names (F.held files.old) (F.held files.new)) }
+    ensures others { F.tells → SameOutside (from_paths (map planned_of planned.now)) (F.held files.old) (F.held files.new) }
 {
-    stage_commands(rt, alloc, threads, files, moves.commands.from.as_str(), run)?;
-    stage_stats(alloc, files, moves.stats.from.as_str(), run)?;
-    stage_final(alloc, files, moves.last.from.as_str(), run)
-}
-
-// Tests whether each table could get its place.
-fn test_places<F: FileSet>(files: &mut F, moves: &Moves) -> Result<(), Reason>
-    ensures fault { IfErr result (λ e. IsWriteFault e) }
-    ensures same { F.tells → SameFiles (F.held files.old) (F.held files.new) }
-    ensures unopened { F.tells → F.opened files.new ≡ F.opened files.old }
-{
-    files.test_place(moves.commands.to.as_str())?;
-    files.test_place(moves.stats.to.as_str())?;
-    files.test_place(moves.last.to.as_str())
-}
-
-// Gives the tables their places, one right after the other. Faults that can be found beforehand are refused before the first has its place.
-fn place<F: FileSet>(alloc: Global, files: &mut F, moves: &Moves) -> Result<(), Refusal>
-    ensures placed { OnOk result (InFolder moves.now (λ folder. F.tells → IsPlaced folder (F.held files.old) (F.held files.new))) }
-    ensures kept { IfErr result (λ e. IsKept e → F.tells → SameFiles (F.held files.old) (F.held files.new)) }
-    ensures torn { IfErr result (λ e. IsTornRefusal e → InFolder moves.now (λ folder. F.tells → IsPartlyPlaced folder (F.held files.old) (F.held files.new))) }
-    ensures fault { IfErr result (λ e. IsWriteFault (fault_of e)) }
-    ensures unopened { F.tells → F.opened files.new ≡ F.opened files.old }
-{
-    test_places(files, moves)?;
-    place_one(alloc, files, &moves.commands)?;
-    if let Err(fault) = place_one(alloc, files, &moves.stats) {
-        return Err(Refusal::Torn(fault));
-    }
-    if let Err(fault) = place_one(alloc, files, &moves.last) {
-        return Err(Refusal::Torn(fault));
+    for table in planned {
+        stage_one(rt, alloc, threads, files, table)?;
     }
     Ok(())
 }
 
-// Removes all that was written under these names, in reverse order: if only the first is gone, the others are whole and wait for
-// their places.
-fn discard<F: FileSet>(files: &mut F, moves: &Moves)
-    ensures gone { InFolder moves.now (λ folder. F.tells → HasNoParts folder (F.held files.new)) }
-    ensures others { InFolder moves.now (λ folder. F.tells → SameApart folder part_names (F.held files.old) (F.held files.new)) }
+// Tests whether each table could get its place.
+fn test_places<F: FileSet>(files: &mut F, planned: &[Planned<'_>]) -> Result<(), Reason>
+    ensures fault { IfErr result (λ e. IsWriteFault e) }
+    ensures same { F.tells → SameFiles (F.held files.old) (F.held files.new) }
+    ensures unopened { F.tells → F.opened files.new ≡ F.opened files.old }
 {
-    discard_one(files, &moves.last);
-    discard_one(files, &moves.stats);
-    discard_one(files, &moves.commands);
+    for table in planned {
+        files.test_place(table.way.to.as_str())?;
+    }
+    Ok(())
 }
 
-/// Writes the tables of a run into a folder. Each is written under its name with `.part` appended, and when all three are whole, they
-/// get their places, one right after the other. If that fails before the first has its place, what was written is removed, and the
-/// places hold what they held before; if it fails later, the refusal is `Torn`, and nothing is removed. The table of commands is put
-/// together by at most `threads` threads.
+// Tests whether what may stand at these paths could be removed, as if it was replaced.
+fn test_others<F: FileSet>(files: &mut F, others: &[String]) -> Result<(), Reason>
+    ensures fault { IfErr result (λ e. IsWriteFault e) }
+    ensures same { F.tells → SameFiles (F.held files.old) (F.held files.new) }
+    ensures unopened { F.tells → F.opened files.new ≡ F.opened files.old }
+{
+    for path in others {
+        files.test_place(path.as_str())?;
+    }
+    Ok(())
+}
+
+// The refusal where a table could not get its place, after others got theirs or not.
+fn refusal_of(reason: Reason, placed: bool) -> Refusal
+    ensures fault { fault_of result ≡ reason }
+    ensures kept { IsKept result → placed ≡ false }
+    ensures torn { IsTornRefusal result → placed ≡ true }
+{
+    if placed {
+        Refusal::Torn(reason)
+    } else {
+        Refusal::Kept(reason)
+    }
+}
+
+// Gives the tables their places, one right after the other.
+fn place<F: FileSet>(alloc: Global, files: &mut F, planned: &[Planned<'_>]) -> Result<(), Refusal>
+    requires apart { AreApart (map planned_of planned.now) }
+    ensures placed { OnOk result (F.tells → ArePlaced (map planned_of planned.now) (F.held files.old) (F.held files.new)) }
+    ensures kept { IfErr result (λ e. IsKept e → F.tells → SameFiles (F.held files.old) (F.held files.new)) }
+    ensures torn { IfErr result (λ e. IsTornRefusal e → F.tells → ArePartlyPlaced (map planned_of planned.now) (F.held files.old) (F.held files.new)) }
+    ensures fault { IfErr result (λ e. IsWriteFault (fault_of e)) }
+    ensures unopened { F.tells → F.opened files.new ≡ F.opened files.old }
+{
+    let mut placed = false;
+    for table in planned {
+        if let Err(reason) = place_one(alloc, files, &table.way) {
+            return Err(refusal_of(reason, placed));
+        }
+        placed = true;
+    }
+    Ok(())
+}
+
+// Removes all that was written under the names that end in `.part`, in reverse order: if only the first is gone, the others are whole and
+// wait for their places.
+fn discard<F: FileSet>(files: &mut F, planned: &[Planned<'_>])
+    ensures gone { F.tells → AreGone (map planned_of planned.now) (F.held files.new) }
+    ensures others { F.tells → SameOutside (from_paths (map planned_of planned.now)) (F.held files.old) (F.held files.new) }
+{
+    let mut left = planned.len();
+    while left > 0 {
+        left -= 1;
+        discard_one(files, &planned[left].way);
+    }
+}
+
+// Removes what stands at these paths, as far as that can be.
+fn remove_all<F: FileSet>(files: &mut F, paths: &[String])
+    ensures removed { F.tells → AreRemoved (map string_bytes paths.now) (F.held files.new) }
+    ensures others { F.tells → SameOutside (map string_bytes paths.now) (F.held files.old) (F.held files.new) }
+    ensures unopened { F.tells → F.opened files.new ≡ F.opened files.old }
+{
+    for path in paths {
+        let _ = files.remove(path.as_str());
+    }
+}
+
+// Tests whether all places are free or may give way.
+fn test_all<F: FileSet>(
+    files: &mut F,
+    planned: &[Planned<'_>],
+    others: &[String],
+) -> Result<(), Reason>
+    ensures fault { IfErr result (λ e. IsWriteFault e) }
+    ensures same { F.tells → SameFiles (F.held files.old) (F.held files.new) }
+    ensures unopened { F.tells → F.opened files.new ≡ F.opened files.old }
+{
+    test_places(files, planned)?;
+    test_others(files, others)
+}
+
+// Writes the tables that are planned, and gives them their places. Faults that can be found beforehand are refused before the first has its
+// place.
+fn write_planned<R: Threads + Sync, F: FileSet>(
+    rt: &R,
+    alloc: Global,
+    threads: usize,
+    files: &mut F,
+    planned: &[Planned<'_>],
+    others: &[String],
+) -> Result<(), Refusal>
+    requires apart { AreApart (map planned_of planned.now) }
+    ensures placed { OnOk result (F.tells → ArePut (map planned_of planned.now) (F.held files.old) (F.held files.new)) }
+    ensures noted { OnOk result (F.tells → F.opened files.new ≡ F.opened files.old ++ from_paths (map planned_of planned.now)) }
+    ensures refused { IfErr result (λ e. F.tells → IsLeftUnplaced e (map planned_of planned.now) (F.held files.old) (F.held files.new)) }
+    ensures fault { IfErr result (λ e. IsWriteFault (fault_of e)) }
+{
+    if let Err(reason) = stage(rt, alloc, threads, files, planned) {
+        discard(files, planned);
+        return Err(Refusal::Kept(reason));
+    }
+    if let Err(reason) = test_all(files, planned, others) {
+        discard(files, planned);
+        return Err(Refusal::Kept(reason));
+    }
+    match place(alloc, files, planned) {
+        Ok(()) => Ok(()),
+        Err(Refusal::Kept(reason)) => {
+            discard(files, planned);
+            Err(Refusal::Kept(reason))
+        }
+        Err(Refusal::Torn(reason)) => Err(Refusal::Torn(reason)),
+    }
+}
+
+/// Writes the tables of a run that were asked for into a folder. Each is written under its name with `.part` appended, and when all are
+/// whole, they get their places, one right after the other, in the order of `commands.csv`, `stats.csv` and `final.csv`. Then those that
+/// were not asked for, which an earlier run may have left there, are removed. If that fails before the first has its place, what was written
+/// is removed, and the places hold what they held before; if it fails later, the refusal is `Torn`, and nothing is removed. The table of
+/// commands is put together by at most `threads` threads.
 pub fn write_tables<R: Threads + Sync, F: FileSet>(
     rt: &R,
     alloc: Global,
@@ -170,21 +332,13 @@ pub fn write_tables<R: Threads + Sync, F: FileSet>(
     run: &Outcome,
 ) -> Result<(), Refusal>
     ensures written { OnOk result (F.tells → IsWritten folder.now run.now (F.held files.old) (F.held files.new)) }
-    ensures noted { OnOk result (F.tells → F.opened files.new ≡ F.opened files.old ++ parts folder.now) }
+    ensures noted { OnOk result (F.tells → F.opened files.new ≡ F.opened files.old ++ parts folder.now run.now) }
     ensures refused { IfErr result (λ e. F.tells → IsLeftBy e folder.now run.now (F.held files.old) (F.held files.new) (F.opened files.old) (F.opened files.new)) }
     ensures fault { IfErr result (λ e. IsWriteFault (fault_of e)) }
 {
-    let moves = moves_of(alloc, folder)?;
-    if let Err(fault) = stage(rt, alloc, threads, files, &moves, run) {
-        discard(files, &moves);
-        return Err(Refusal::Kept(fault));
-    }
-    match place(alloc, files, &moves) {
-        Ok(()) => Ok(()),
-        Err(Refusal::Kept(fault)) => {
-            discard(files, &moves);
-            Err(Refusal::Kept(fault))
-        }
-        Err(Refusal::Torn(fault)) => Err(Refusal::Torn(fault)),
-    }
+    let planned = plan_all(alloc, folder, run)?;
+    let others = others_of(alloc, folder, run)?;
+    write_planned(rt, alloc, threads, files, &planned, &others)?;
+    remove_all(files, &others);
+    Ok(())
 }

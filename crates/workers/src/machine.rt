@@ -3,7 +3,7 @@
 ghost use Rattle.std.specs.Prelude.{◌≡◌, ◌<◌, ◌≤◌, ◌^◌, length, IfOk, IfErr};
 ghost use Rattle.shards.specs.Phases.{ended, jobs_of};
 ghost use Rattle.sim_base.specs.Machine.{cycles_run};
-ghost use Rattle.statistics.specs.Runs.{outcome_of};
+ghost use Rattle.run_outcome.specs.Outcomes.{outcome_of};
 ghost use Rattle.units.specs.Drained.{NotEnded};
 ghost use Rattle.units.specs.Stops.{stop_of};
 ghost use Rattle.units.specs.Views.{HasReached};
@@ -17,15 +17,16 @@ use cpu_trace::trace::Trace;
 use crew::bell::Patience;
 use crew::caller::Phases;
 use crew::run::{PhasedRun, Refused, with_crew};
+use in_place::rested::run_alone;
+use run_outcome::outcome::Outcome;
+use run_outcome::tables::Tables;
 use shards::job::{Done, Job};
 use shards::merging::{Phase, merge};
 use shards::planning::{Planned, plan};
-use shards::rested::run_alone;
 use shards::sharded::ShardedSim;
 use sim_base::config::Config;
 use sim_base::fault::{Fault, MergeFault};
 use sim_base::message::Cycle;
-use statistics::outcome::Outcome;
 use std::alloc::{AllocError, Global};
 use std::sync::Wait;
 use std::thread::Threads;
@@ -205,12 +206,13 @@ fn run_by<W: Watch, M: Mode>(
     watch: &mut W,
     config: &Config,
     traces: Vec<Trace>,
+    tables: Tables,
     cycles: Cycle,
     mode: &mut M,
 ) -> Result<Outcome, Fault>
     requires one_trace_a_core { length traces.items ≡ config.now.cores }
     requires limit { cycles ≤ 10 ^ 12 }
-    ensures outcome { IfOk result (λ o. o ≡ outcome_of config.now traces.items (cycles_run config.now traces.items cycles)) }
+    ensures outcome { IfOk result (λ o. o ≡ outcome_of tables config.now traces.items (cycles_run config.now traces.items cycles)) }
     ensures refused { IfErr result (λ fault. fault ≡ Fault.Memory) }
 {
     let plan = Plan {
@@ -219,12 +221,12 @@ fn run_by<W: Watch, M: Mode>(
         entries: entries_of(&traces),
     };
     let mut look = 0;
-    let mut sim = Sim::start(alloc, config, traces)?;
+    let mut sim = Sim::start(alloc, config, traces, tables)?;
     while let Some(stop) = sim.next_stop(cycles) {
         let until = stretch_end(&sim, alloc, stop, plan, watch, &mut look);
         sim = mode.run_to(sim, alloc, until)?;
     }
-    let outcome = sim.outcome(alloc)?;
+    let outcome = sim.outcome(alloc, tables)?;
     Ok(outcome)
 }
 
@@ -234,6 +236,7 @@ struct CrewRun<'a, W: Watch> {
     watch: &'a mut W,
     config: &'a Config,
     traces: Vec<Trace>,
+    tables: Tables,
     cycles: Cycle,
     split: Split,
     ghost one_trace_a_core: { length traces.items ≡ config.now.cores },
@@ -243,15 +246,16 @@ struct CrewRun<'a, W: Watch> {
 impl<'a, W: Watch> PhasedRun<Job, Done, Outcome> for CrewRun<'a, W> {
     ghost use Rattle.std.specs.Prelude.{◌≡◌};
     ghost use Rattle.sim_base.specs.Machine.{cycles_run};
-    ghost use Rattle.statistics.specs.Runs.{outcome_of};
+    ghost use Rattle.run_outcome.specs.Outcomes.{outcome_of};
 
-    ghost gives = { λ r o. o ≡ outcome_of r.config.now r.traces.items (cycles_run r.config.now r.traces.items r.cycles) };
+    ghost gives = { λ r o. o ≡ outcome_of r.tables r.config.now r.traces.items (cycles_run r.config.now r.traces.items r.cycles) };
 
     fn run<P: Phases<Job, Done>>(self, alloc: Global, crew: &mut P) -> Result<Outcome, AllocError> {
         let CrewRun {
             watch,
             config,
             traces,
+            tables,
             cycles,
             split,
         } = self;
@@ -259,7 +263,7 @@ impl<'a, W: Watch> PhasedRun<Job, Done, Outcome> for CrewRun<'a, W> {
             split,
             runner: Claims { crew },
         };
-        match run_by(alloc, watch, config, traces, cycles, &mut mode) {
+        match run_by(alloc, watch, config, traces, tables, cycles, &mut mode) {
             Ok(outcome) => Ok(outcome),
             Err(_) => Err(AllocError),
         }
@@ -293,13 +297,14 @@ fn run_together<R: Threads + Wait + Sync, G: Gate + Sync, W: Watch>(
     workers: Workers,
     config: &Config,
     traces: Vec<Trace>,
+    tables: Tables,
     cycles: Cycle,
 ) -> Result<Outcome, Fault>
     requires one_trace_a_core { length traces.items ≡ config.now.cores }
     requires some { 1 ≤ workers.count }
     requires few { workers.count ≤ 64 }
     requires limit { cycles ≤ 10 ^ 12 }
-    ensures outcome { IfOk result (λ o. o ≡ outcome_of config.now traces.items (cycles_run config.now traces.items cycles)) }
+    ensures outcome { IfOk result (λ o. o ≡ outcome_of tables config.now traces.items (cycles_run config.now traces.items cycles)) }
     ensures refused { IfErr result (IsRefusedTo workers.count) }
 {
     let Workers { count, sharing } = workers;
@@ -309,6 +314,7 @@ fn run_together<R: Threads + Wait + Sync, G: Gate + Sync, W: Watch>(
         watch,
         config,
         traces,
+        tables,
         cycles,
         split: Split { shards, sharing },
     };
@@ -329,23 +335,26 @@ fn run_watched<R: Threads + Wait + Sync, G: Gate + Sync, W: Watch>(
     workers: Workers,
     config: &Config,
     traces: Vec<Trace>,
+    tables: Tables,
     cycles: Cycle,
 ) -> Result<Outcome, Fault>
     requires one_trace_a_core { length traces.items ≡ config.now.cores }
     requires some { 1 ≤ workers.count }
     requires few { workers.count ≤ 64 }
     requires limit { cycles ≤ 10 ^ 12 }
-    ensures outcome { IfOk result (λ o. o ≡ outcome_of config.now traces.items (cycles_run config.now traces.items cycles)) }
+    ensures outcome { IfOk result (λ o. o ≡ outcome_of tables config.now traces.items (cycles_run config.now traces.items cycles)) }
     ensures refused { IfErr result (IsRefusedTo workers.count) }
 {
     if workers.count > 1 && units_of(config) >= workers.sharing.units {
-        return run_together(rt, alloc, gate, watch, workers, config, traces, cycles);
+        return run_together(
+            rt, alloc, gate, watch, workers, config, traces, tables, cycles,
+        );
     }
-    run_by(alloc, watch, config, traces, cycles, &mut InPlace)
+    run_by(alloc, watch, config, traces, tables, cycles, &mut InPlace)
 }
 
 /// Runs a machine over one trace a core, up to a limit of at most 10^12 cycles or, where the configuration ends it drained, until
-/// all is done, and gives its commands, its statistics and the state in which it ends. It is run by at most as many workers as are named, 1
+/// all is done, and gives its commands, if their table is asked for, its statistics and the state in which it ends. It is run by at most as many workers as are named, 1
 /// to 64: the caller, and threads that are started once, which share the machine out when `workers.sharing` says so. With one
 /// worker it is run in the thread of the caller, in place. The watcher is told how far the run is, and when it has ended. What comes out
 /// depends on neither it, nor the workers, nor how they share, nor the order in which they end: it is what the one-clock machine does. Only the
@@ -359,16 +368,19 @@ pub fn run_machine<R: Threads + Wait + Sync, G: Gate + Sync, W: Watch>(
     workers: Workers,
     config: &Config,
     traces: Vec<Trace>,
+    tables: Tables,
     cycles: Cycle,
 ) -> Result<Outcome, Fault>
     requires one_trace_a_core { length traces.items ≡ config.now.cores }
     requires some { 1 ≤ workers.count }
     requires few { workers.count ≤ 64 }
     requires limit { cycles ≤ 10 ^ 12 }
-    ensures outcome { IfOk result (λ o. o ≡ outcome_of config.now traces.items (cycles_run config.now traces.items cycles)) }
+    ensures outcome { IfOk result (λ o. o ≡ outcome_of tables config.now traces.items (cycles_run config.now traces.items cycles)) }
     ensures refused { IfErr result (IsRefusedTo workers.count) }
 {
-    let outcome = run_watched(rt, alloc, gate, watch, workers, config, traces, cycles);
+    let outcome = run_watched(
+        rt, alloc, gate, watch, workers, config, traces, tables, cycles,
+    );
     watch.end();
     outcome
 }

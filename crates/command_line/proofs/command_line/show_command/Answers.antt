@@ -7,5 +7,6 @@ pub returns : goal.returns
 returns c =
     let one = c.in_ok-arg.ensures.shape c.dir_arg.ensures.own ∙ ap₂ with_rule c.command.ensures.app c.dir_arg.ensures.rule in
     let two = c.in_ok-arg-2.ensures.shape c.all_arg.ensures.own ∙ ap₂ with_rule one c.all_arg.ensures.rule in
-    let three = c.in_ok-arg-3.ensures.shape c.known_config_arg.ensures.own ∙ ap₂ with_rule two c.known_config_arg.ensures.rule in
-    IfOk-weaker c.arg-4.result _ _ (λ r added. added.shape c.mhz_arg.ensures.own ∙ ap₂ with_rule three c.mhz_arg.ensures.rule) c.arg-4.ensures
+    let three = c.in_ok-arg-3.ensures.shape c.banks_arg.ensures.own ∙ ap₂ with_rule two c.banks_arg.ensures.rule in
+    let four = c.in_ok-arg-4.ensures.shape c.known_config_arg.ensures.own ∙ ap₂ with_rule three c.known_config_arg.ensures.rule in
+    IfOk-weaker c.arg-5.result _ _ (λ r added. added.shape c.mhz_arg.ensures.own ∙ ap₂ with_rule four c.mhz_arg.ensures.rule) c.arg-5.ensures

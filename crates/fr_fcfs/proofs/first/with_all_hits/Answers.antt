@@ -33,8 +33,10 @@ loop-bank-init c =
 
 pub loop-bank-smaller : goal.loop-bank-smaller
 loop-bank-smaller c =
-    size_less (λ k. is_in c.loop-bank.rest k) (λ k. is_in c.without-rest.result k) c.in-Some.bank 64 c.in-Some.ensures.within c.in-Some.ensures.first c.without-rest.ensures.same
-    c.without-rest.ensures.others
+    let bank = c.in-Some.bank in
+    let is = c.without_first-rest.ensures.same bank c.in-Some.ensures.first c.in-Some.ensures.lowest in
+    let others = c.without_first-rest.ensures.others bank c.in-Some.ensures.first c.in-Some.ensures.lowest in
+    size_less (λ k. is_in c.loop-bank.rest k) (λ k. is_in c.without_first-rest.result k) bank 64 c.in-Some.ensures.within c.in-Some.ensures.first is others
 
 pub loop-bank-preserved : goal.loop-bank-preserved
 loop-bank-preserved c =
@@ -42,9 +44,11 @@ loop-bank-preserved c =
     let write = c.args.write in
     let bank = c.in-Some.bank in
     let rest = c.loop-bank.rest in
-    let after = c.without-rest.result in
+    let after = c.without_first-rest.result in
+    let is = c.without_first-rest.ensures.same bank c.in-Some.ensures.first c.in-Some.ensures.lowest in
+    let others = c.without_first-rest.ensures.others bank c.in-Some.ensures.first c.in-Some.ensures.lowest in
     record {
-      within = λ k still. c.loop-bank.invariant.within k (left_before (λ j. is_in rest j) (λ j. is_in after j) bank c.without-rest.ensures.same c.without-rest.ensures.others k still);
+      within = λ k still. c.loop-bank.invariant.within k (left_before (λ j. is_in rest j) (λ j. is_in after j) bank is others k still);
       so_far = λ s history requests hits rows stands bank_candidates places before.
           let here = λ (cycle : ℕ). place_beside (λ k. is_in rest k) (hits_now s history (only write) cycle) requests in
           let so_far = λ (cycle : ℕ). earlier (hits cycle) (here cycle) in
@@ -54,8 +58,8 @@ loop-bank-preserved c =
           earlier_assoc (hits cycle) (here cycle) (hits_in s history requests (only write) bank cycle)
           ∙ ap (earlier (hits cycle))
           (sym
-          (beside_more (λ k. is_in rest k) (λ k. is_in after k) bank (hits_now s history (only write) cycle) requests c.in-Some.ensures.first c.without-rest.ensures.same
-          c.without-rest.ensures.others)))
+          (beside_more (λ k. is_in rest k) (λ k. is_in after k) bank (hits_now s history (only write) cycle) requests c.in-Some.ensures.first is
+          others)))
           (λ cycle late. refl)
           (c.with_hit.ensures s history requests so_far rows stands bank_candidates places (c.loop-bank.invariant.so_far s history requests hits rows stands bank_candidates places before));
     }

@@ -1,13 +1,15 @@
--- One bank less is left, and then none.
-use Rattle.std.proofs.Common.{◌≡◌, ℕ, Bool, true, false, not, ◌&&◌, None, refl, sym, length, ◌∙◌}
+-- Open banks are closed and closed ones opened; no other banks are left.
+use Rattle.std.proofs.Common.{◌≡◌, ℕ, Bool, true, false, not, ◌&&◌, ◌||◌, Option, None, Some, refl, sym, ap, length, ◌∙◌}
 use Rattle.std.proofs.lemmas.Bool.{and_parts}
+use Rattle.std.specs.Option.{is_some}
+use Rattle.sim_base.specs.declared.command.Kind.TheVariants as kind
 use Rattle.bank_candidates.specs.Candidates.{first_place}
-use Rattle.bank_candidates.specs.Moves.{earlier}
 use Rattle.bank_candidates.specs.Sets.{is_in}
 use Rattle.bank_candidates.specs.Stands.{bank_count, candidates_of_bank}
-use Rattle.fr_fcfs.specs.Offers.{rows_now, rows_in}
-use Rattle.fr_fcfs.proofs.Beside.{place_beside, beside_all, beside_more, beside_nothing, left_before, size_less}
+use Rattle.fr_fcfs.specs.Offers.{rows_now, rows_beside, row_kind}
+use Rattle.fr_fcfs.proofs.Beside.{beside_all, beside_same, beside_nothing}
 use Rattle.fr_fcfs.proofs.BankMore.{nowhere, row_none}
+use Rattle.fr_fcfs.proofs.Booleans.{or_false}
 use Rattle.fr_fcfs.proofs.SoFar.{so_far_same}
 use Rattle.fr_fcfs.proofs.first.with_rows.Goals as goal
 
@@ -15,61 +17,103 @@ not_true : (b : Bool) → not b ≡ true → b ≡ false
 not_true true is = sym is
 not_true false is = refl
 
-pub loop-bank-init : goal.loop-bank-init
-loop-bank-init c =
-    let now = c.args.now in
-    let accesses = c.args.accesses in
-    let asked = c.banks_with_candidate.result in
-    let hit = c.hit.result in
-    let rest = c.minus-rest.result in
-    record {
-      within = λ k left. c.banks_with_candidate.ensures.within k (and_parts (is_in asked k) (not (is_in hit k)) (sym (c.minus-rest.ensures k) ∙ left)).0;
-      no_hit = λ k d left.
-          let parts = and_parts (is_in asked k) (not (is_in hit k)) (sym (c.minus-rest.ensures k) ∙ left) in
-          sym (c.hit.ensures k d (c.banks_with_candidate.ensures.within k parts.0)) ∙ not_true (is_in hit k) parts.1;
-      so_far = λ s history requests hits stands bank_candidates places before.
-          so_far_same (length requests) now hits (λ cycle. None) hits (λ cycle. place_beside (λ k. is_in rest k) (rows_now s history requests accesses cycle) requests) c.args.best.now
-          (λ cycle late. refl)
-          (λ cycle late.
-          sym
-          (beside_nothing (λ k. is_in rest k) (bank_count c.args.bank_candidates.now) (rows_now s history requests accesses cycle) requests bank_candidates.within
-          (λ k exists off.
-          row_none s history _ requests accesses k (candidates_of_bank c.args.bank_candidates.now k nowhere) places (bank_candidates.candidates_are k nowhere exists) (bank_candidates.rows_are k nowhere exists)
-          ((λ i. (sym (c.banks_with_candidate.ensures.each k nowhere exists)) i && not ((sym (c.hit.ensures k nowhere exists)) i)) ∙ sym (c.minus-rest.ensures k) ∙ off) cycle)))
-          before;
-    }
+opens : (row : Option ℕ) → is_some row ≡ false → kind.Act ≡ row_kind row
+opens None is = refl
+opens (Some row) is = cc
 
-pub loop-bank-smaller : goal.loop-bank-smaller
-loop-bank-smaller c =
-    size_less (λ k. is_in c.loop-bank.rest k) (λ k. is_in c.without-rest.result k) c.in-Some.bank 64 c.in-Some.ensures.within c.in-Some.ensures.first c.without-rest.ensures.same
-    c.without-rest.ensures.others
+closes : (row : Option ℕ) → is_some row ≡ true → kind.Pre ≡ row_kind row
+closes None is = cc
+closes (Some row) is = refl
 
-pub loop-bank-preserved : goal.loop-bank-preserved
-loop-bank-preserved c =
-    let now = c.args.now in
-    let accesses = c.args.accesses in
-    let bank = c.in-Some.bank in
-    let rest = c.loop-bank.rest in
-    let after = c.without-rest.result in
-    let left = left_before (λ j. is_in rest j) (λ j. is_in after j) bank c.without-rest.ensures.same c.without-rest.ensures.others in
-    record {
-      within = λ k still. c.loop-bank.invariant.within k (left k still);
-      no_hit = λ k d still. c.loop-bank.invariant.no_hit k d (left k still);
-      so_far = λ s history requests hits stands bank_candidates places before.
-          let rows = λ (cycle : ℕ). place_beside (λ k. is_in rest k) (rows_now s history requests accesses cycle) requests in
-          so_far_same (length requests) now hits (λ cycle. earlier (rows cycle) (rows_in s history requests accesses bank cycle)) hits
-          (λ cycle. place_beside (λ k. is_in after k) (rows_now s history requests accesses cycle) requests) c.with_row.new.best (λ cycle late. refl)
-          (λ cycle late.
-          sym
-          (beside_more (λ k. is_in rest k) (λ k. is_in after k) bank (rows_now s history requests accesses cycle) requests c.in-Some.ensures.first c.without-rest.ensures.same
-          c.without-rest.ensures.others))
-          (c.with_row.ensures s history requests hits rows stands bank_candidates places (c.loop-bank.invariant.so_far s history requests hits stands bank_candidates places before));
-    }
+-- the banks that are asked for and not closed are open
+is_open : (asked opened : Bool) → (asked && not (asked && not opened)) ≡ true → opened ≡ true
+is_open true true is = refl
+is_open true false is = is
+is_open false true is = refl
+is_open false false is = is
+
+-- they are all that are asked for, with those that are closed
+either : (asked opened : Bool) → ((asked && not (asked && not opened)) || (asked && not opened)) ≡ asked
+either true true = refl
+either true false = refl
+either false opened = refl
+
+pub with_rows_of-requires-clause-within : goal.with_rows_of-requires-clause-within
+with_rows_of-requires-clause-within c k there =
+    let asked = (and_parts (is_in c.minus-asked.result k) (not (is_in c.minus-closed.result k)) (sym (c.minus-opened.ensures k) ∙ there)).0 in
+    c.banks_with_candidate.ensures.within k (and_parts (is_in c.banks_with_candidate.result k) (not (is_in c.hit.result k)) (sym (c.minus-asked.ensures k) ∙ asked)).0
+
+pub with_rows_of-requires-clause-some : goal.with_rows_of-requires-clause-some
+with_rows_of-requires-clause-some c k d there =
+    let asked = (and_parts (is_in c.minus-asked.result k) (not (is_in c.minus-closed.result k)) (sym (c.minus-opened.ensures k) ∙ there)).0 in
+    let parts = and_parts (is_in c.banks_with_candidate.result k) (not (is_in c.hit.result k)) (sym (c.minus-asked.ensures k) ∙ asked) in
+    sym (c.banks_with_candidate.ensures.each k d (c.banks_with_candidate.ensures.within k parts.0)) ∙ parts.0
+
+pub with_rows_of-requires-clause-no_hit : goal.with_rows_of-requires-clause-no_hit
+with_rows_of-requires-clause-no_hit c k d there =
+    let asked = (and_parts (is_in c.minus-asked.result k) (not (is_in c.minus-closed.result k)) (sym (c.minus-opened.ensures k) ∙ there)).0 in
+    let parts = and_parts (is_in c.banks_with_candidate.result k) (not (is_in c.hit.result k)) (sym (c.minus-asked.ensures k) ∙ asked) in
+    sym (c.hit.ensures k d (c.banks_with_candidate.ensures.within k parts.0)) ∙ not_true (is_in c.hit.result k) parts.1
+
+pub with_rows_of-requires-clause-kind : goal.with_rows_of-requires-clause-kind
+with_rows_of-requires-clause-kind c k d there =
+    let asked = (and_parts (is_in c.minus-asked.result k) (not (is_in c.minus-closed.result k)) (sym (c.minus-opened.ensures k) ∙ there)).0 in
+    let exists = c.banks_with_candidate.ensures.within k (and_parts (is_in c.banks_with_candidate.result k) (not (is_in c.hit.result k)) (sym (c.minus-asked.ensures k) ∙ asked)).0 in
+    closes (candidates_of_bank c.args.bank_candidates.now k d).row
+    (sym (c.open_banks.ensures k d exists)
+    ∙ is_open (is_in c.minus-asked.result k) (is_in c.open_banks.result k) (ap (λ b. is_in c.minus-asked.result k && not b) (sym (c.minus-closed.ensures k)) ∙ sym (c.minus-opened.ensures k) ∙ there))
+
+pub with_rows_of-requires-2-clause-within : goal.with_rows_of-requires-2-clause-within
+with_rows_of-requires-2-clause-within c k there =
+    let asked = (and_parts (is_in c.minus-asked.result k) (not (is_in c.open_banks.result k)) (sym (c.minus-closed.ensures k) ∙ there)).0 in
+    c.banks_with_candidate.ensures.within k (and_parts (is_in c.banks_with_candidate.result k) (not (is_in c.hit.result k)) (sym (c.minus-asked.ensures k) ∙ asked)).0
+
+pub with_rows_of-requires-2-clause-some : goal.with_rows_of-requires-2-clause-some
+with_rows_of-requires-2-clause-some c k d there =
+    let asked = (and_parts (is_in c.minus-asked.result k) (not (is_in c.open_banks.result k)) (sym (c.minus-closed.ensures k) ∙ there)).0 in
+    let parts = and_parts (is_in c.banks_with_candidate.result k) (not (is_in c.hit.result k)) (sym (c.minus-asked.ensures k) ∙ asked) in
+    sym (c.banks_with_candidate.ensures.each k d (c.banks_with_candidate.ensures.within k parts.0)) ∙ parts.0
+
+pub with_rows_of-requires-2-clause-no_hit : goal.with_rows_of-requires-2-clause-no_hit
+with_rows_of-requires-2-clause-no_hit c k d there =
+    let asked = (and_parts (is_in c.minus-asked.result k) (not (is_in c.open_banks.result k)) (sym (c.minus-closed.ensures k) ∙ there)).0 in
+    let parts = and_parts (is_in c.banks_with_candidate.result k) (not (is_in c.hit.result k)) (sym (c.minus-asked.ensures k) ∙ asked) in
+    sym (c.hit.ensures k d (c.banks_with_candidate.ensures.within k parts.0)) ∙ not_true (is_in c.hit.result k) parts.1
+
+pub with_rows_of-requires-2-clause-kind : goal.with_rows_of-requires-2-clause-kind
+with_rows_of-requires-2-clause-kind c k d there =
+    let closed = and_parts (is_in c.minus-asked.result k) (not (is_in c.open_banks.result k)) (sym (c.minus-closed.ensures k) ∙ there) in
+    let exists = c.banks_with_candidate.ensures.within k (and_parts (is_in c.banks_with_candidate.result k) (not (is_in c.hit.result k)) (sym (c.minus-asked.ensures k) ∙ closed.0)).0 in
+    opens (candidates_of_bank c.args.bank_candidates.now k d).row (sym (c.open_banks.ensures k d exists) ∙ not_true (is_in c.open_banks.result k) closed.1)
 
 pub returns : goal.returns
 returns c s history requests hits stands bank_candidates places before =
-    let rest = c.loop-bank.rest in
-    so_far_same (length requests) c.args.now hits (λ cycle. place_beside (λ k. is_in rest k) (rows_now s history requests c.args.accesses cycle) requests) hits
-    (λ cycle. first_place (rows_now s history requests c.args.accesses cycle) requests) c.loop-bank.best (λ cycle late. refl)
-    (λ cycle late. beside_all (λ k. is_in rest k) (rows_now s history requests c.args.accesses cycle) requests c.in_default.ensures.none)
-    (c.loop-bank.invariant.so_far s history requests hits stands bank_candidates places before)
+    let now = c.args.now in
+    let accesses = c.args.accesses in
+    let asked = c.minus-asked.result in
+    let closed = c.minus-closed.result in
+    let opened = c.minus-opened.result in
+    let whole : (k : ℕ) → (is_in opened k || is_in closed k) ≡ is_in asked k =
+    λ k.
+    (λ i. c.minus-opened.ensures k i || is_in closed k)
+    ∙ (λ i. (is_in asked k && not (c.minus-closed.ensures k i)) || c.minus-closed.ensures k i)
+    ∙ either (is_in asked k) (is_in c.open_banks.result k) in
+    let start =
+    so_far_same (length requests) now hits (λ cycle. None) hits (rows_beside s history requests accesses (λ k. is_in opened k || is_in closed k)) c.args.best.now (λ cycle late. refl)
+    (λ cycle late.
+    sym
+    (beside_nothing (λ k. is_in opened k || is_in closed k) (bank_count c.args.bank_candidates.now) (rows_now s history requests accesses cycle) requests bank_candidates.within
+    (λ k exists off.
+    row_none s history _ requests accesses k (candidates_of_bank c.args.bank_candidates.now k nowhere) places (bank_candidates.candidates_are k nowhere exists) (bank_candidates.rows_are k nowhere exists)
+    ((λ i. (sym (c.banks_with_candidate.ensures.each k nowhere exists)) i && not ((sym (c.hit.ensures k nowhere exists)) i)) ∙ sym (c.minus-asked.ensures k) ∙ sym (whole k) ∙ off) cycle)))
+    before in
+    let apart : (k : ℕ) → is_in opened k ≡ true → is_in closed k ≡ false =
+    λ k there. not_true (is_in closed k) (and_parts (is_in asked k) (not (is_in closed k)) (sym (c.minus-opened.ensures k) ∙ there)).1 in
+    let half = c.with_rows_of.ensures s history requests hits (λ k. is_in closed k) stands bank_candidates places apart start in
+    let rest =
+    so_far_same (length requests) now hits (rows_beside s history requests accesses (λ k. is_in closed k)) hits (rows_beside s history requests accesses (λ k. is_in closed k || false)) c.with_rows_of.new.best
+    (λ cycle late. refl)
+    (λ cycle late. beside_same (λ k. is_in closed k) (λ k. is_in closed k || false) (rows_now s history requests accesses cycle) requests (λ k. sym (or_false (is_in closed k)))) half in
+    so_far_same (length requests) now hits (rows_beside s history requests accesses (λ k. false)) hits (λ cycle. first_place (rows_now s history requests accesses cycle) requests) c.with_rows_of-2.new.best
+    (λ cycle late. refl) (λ cycle late. beside_all (λ k. false) (rows_now s history requests accesses cycle) requests (λ k. refl))
+    (c.with_rows_of-2.ensures s history requests hits (λ k. false) stands bank_candidates places (λ k there. refl) rest)

@@ -2,7 +2,7 @@
 use Rattle.std.proofs.Common.{◌≡◌, sym, ap, subst, ◌∙◌, arith}
 use Rattle.std.proofs.lemmas.Result.{IfOk-weaker}
 use Rattle.sim_base.specs.Machine.{cycles_run}
-use Rattle.statistics.specs.Runs.{outcome_of}
+use Rattle.run_outcome.specs.Outcomes.{outcome_of}
 use Rattle.one_clock.proofs.Runs.{cycles_run_none, cycles_run_more, cycles_run_ends}
 use Rattle.one_clock.proofs.machine.run_plain.Goals as goal
 
@@ -13,7 +13,7 @@ returns-then-branch c =
     record {
       outcome =
           IfOk-weaker c.outcome.result _ _
-          (λ o e. e ∙ ap (outcome_of c.args.s.now c.args.traces.now) (sym (cycles_run_ends c.args.s.now c.args.traces.now here c.args.cycles c.loop-cycle.invariant.goes_on over (omega arith))))
+          (λ o e. e ∙ ap (outcome_of c.args.tables c.args.s.now c.args.traces.now) (sym (cycles_run_ends c.args.s.now c.args.traces.now here c.args.cycles c.loop-cycle.invariant.goes_on over (omega arith))))
           c.outcome.ensures;
     }
 
@@ -32,4 +32,4 @@ pub returns : goal.returns
 returns c =
     let all : c.loop-cycle.cycle ≡ c.args.cycles = omega arith in
     let on = subst (λ n. cycles_run c.args.s.now c.args.traces.now n ≡ n) all c.loop-cycle.invariant.goes_on in
-    record { outcome = IfOk-weaker c.outcome-2.result _ _ (λ o e. e ∙ ap (outcome_of c.args.s.now c.args.traces.now) (sym on)) c.outcome-2.ensures }
+    record { outcome = IfOk-weaker c.outcome-2.result _ _ (λ o e. e ∙ ap (outcome_of c.args.tables c.args.s.now c.args.traces.now) (sym on)) c.outcome-2.ensures }

@@ -13,7 +13,7 @@ returns-clause-outcome g c =
       config_is = c.in_ok-document.ensures.bytes tells;
       traces_are = texts_held _ _ (λ t. t.now) (λ t. t) c.args.traces.now c.in_ok-texts.texts.items (c.in_ok-document.ensures.same tells) (c.in_ok-texts.ensures.texts tells);
       run_is = rw (c.deref-2.ensures.value, c.deref-3.ensures.value, c.in_ok-slices.ensures, c.deref.ensures.value) at ran;
-      legal = rw c.deref-2.ensures.value at legal;
+      legal = rw (c.deref-2.ensures.value, c.deref-3.ensures.value, c.in_ok-slices.ensures, c.deref.ensures.value) at legal;
     }) c.outcome_of.ensures.run c.outcome_of.ensures.legal
 
 pub returns-clause-ready : goal.returns-clause-ready
@@ -23,7 +23,7 @@ returns-clause-ready g c =
       read =
           run_texts _ _ _ _ _ (λ t. t.now) (λ t. t) c.args.traces.now c.in_ok-texts.texts.items c.in_ok-document.ensures.bytes c.in_ok-document.ensures.same
           c.in_ok-texts.ensures.count c.in_ok-texts.ensures.texts;
-      right = right_run _ _ _ _ run (rw (c.deref-2.ensures.value, c.deref-3.ensures.value, c.in_ok-slices.ensures, c.deref.ensures.value) at ran);
+      right = right_run _ _ _ _ _ run (rw (c.deref-2.ensures.value, c.deref-3.ensures.value, c.in_ok-slices.ensures, c.deref.ensures.value) at ran);
     }) c.outcome_of.ensures.run
 
 pub returns-clause-fault : goal.returns-clause-fault

@@ -1,9 +1,11 @@
 -- The run is that of the configuration and the traces.
-use Rattle.std.proofs.Common.{ap, ◌∙◌}
+use Rattle.std.proofs.Common.{Ok, ap, ◌∙◌}
 use Rattle.sim_base.specs.Machine.{cycles_run}
-use Rattle.statistics.specs.Runs.{outcome_of}
+use Rattle.run_outcome.specs.Outcomes.{outcome_of}
 use Rattle.simulation.proofs.TraceLists.{texts_from}
+use Rattle.simulation.specs.Runs.{IsLegalRun}
 use Rattle.simulation.proofs.Judged.{run-judged}
+use Rattle.simulation.proofs.Outcomes.{holds-of}
 use Rattle.reference.proofs.runs.simulate_plain.Goals as goal
 
 pub run_plain-requires-clause-one_trace_a_core : goal.run_plain-requires-clause-one_trace_a_core
@@ -19,13 +21,13 @@ returns-clause-run g c =
       read = given.input;
       outcome_is =
           (c.in-Ok-run_plain.ensures {u = tt}).outcome
-          ∙ ap (λ ts. outcome_of c.in-Ok.input.0 ts (cycles_run c.in-Ok.input.0 ts c.args.cycles)) c.deref.ensures.value;
+          ∙ ap (λ ts. outcome_of c.args.tables c.in-Ok.input.0 ts (cycles_run c.in-Ok.input.0 ts c.args.cycles)) c.deref.ensures.value;
     }
 
 pub returns-clause-legal : goal.returns-clause-legal
 returns-clause-legal g c =
     let given = c.in-Ok.ensures {u = tt} in
-    run-judged c.args.config.now c.in-Ok.input.0 (texts_from c.args.texts.now 0) c.in-Ok.input.1.items c.args.cycles c.in-Ok-run_plain.outcome
-    given.configured given.traces given.cycles
+    holds-of c.args.config.now (texts_from c.args.texts.now 0) c.args.cycles c.args.workers c.args.tables c.in-Ok.input.0 c.in-Ok.input.1.items IsLegalRun (Ok c.in-Ok-run_plain.outcome)
+    given.configured given.input (run-judged c.in-Ok.input.0 (texts_from c.args.texts.now 0) c.in-Ok.input.1.items c.args.cycles given.traces given.cycles)
     ((c.in-Ok-run_plain.ensures {u = tt}).outcome
-    ∙ ap (λ ts. outcome_of c.in-Ok.input.0 ts (cycles_run c.in-Ok.input.0 ts c.args.cycles)) c.deref.ensures.value)
+    ∙ ap (λ ts. outcome_of c.args.tables c.in-Ok.input.0 ts (cycles_run c.in-Ok.input.0 ts c.args.cycles)) c.deref.ensures.value)

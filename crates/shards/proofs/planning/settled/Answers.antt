@@ -10,7 +10,7 @@ use Rattle.sim_base.specs.declared.message.Message.{Message}
 use Rattle.links.specs.InFlight.{InFlight}
 use Rattle.shards.specs.Shards.{IsShard, lists_of}
 use Rattle.units.specs.Units.{unit_count}
-use Rattle.shards.specs.Wakes.{AreLowered}
+use Rattle.wake_words.specs.Wakes.{AreLowered}
 use Rattle.shards.specs.declared.shard.Shard.{Shard}
 use Rattle.shards.proofs.Setting.{left-next, seam-stop, stop-within, stops}
 use Rattle.shards.proofs.Splitting.{AreMade, made-push}

@@ -7,8 +7,8 @@ use Rattle.links.specs.InFlight.{InFlight}
 use Rattle.units.specs.Flight.{among}
 use Rattle.units.specs.Parts.{StandAt}
 use Rattle.shards.specs.Shards.{bound}
-use Rattle.shards.specs.Wakes.{IsAsleep}
-use Rattle.shards.proofs.Sharing.{among-all}
+use Rattle.wake_words.specs.Wakes.{IsAsleep}
+use Rattle.wake_words.proofs.Sharing.{among-all}
 use Rattle.shards.proofs.Splitting.{among-nothing, shard-seam}
 use Rattle.units.proofs.Standing.{stand-none, all-yielded}
 use Rattle.shards.proofs.split.join_all.Goals as goal

@@ -2,7 +2,7 @@ use Rattle.std.proofs.Common.{◌+◌, ◌∙◌, length, sym, ap, ap₂, subst,
 use Rattle.std.specs.Prelude.{fold}
 use Rattle.sim_base.specs.History.{insert_by_age}
 use Rattle.links.specs.InFlight.{InFlight}
-use Rattle.shards.specs.Wakes.{WaitAll}
+use Rattle.wake_words.specs.Wakes.{WaitAll}
 use Rattle.shards.specs.declared.shard.Shard.{Shard}
 use Rattle.shards.proofs.Splitting.{flight-next}
 use Rattle.shards.proofs.split.join_shard.Goals as goal

@@ -6,7 +6,7 @@ use Rattle.sim_base.specs.declared.message.Message.{Message}
 use Rattle.links.specs.InFlight.{InFlight}
 use Rattle.units.specs.Flight.{among}
 use Rattle.units.specs.Units.{unit_count}
-use Rattle.shards.specs.Wakes.{IsAsleep}
+use Rattle.wake_words.specs.Wakes.{IsAsleep}
 use Rattle.units.specs.declared.machine.Machine.{Machine}
 use Rattle.shards.specs.declared.shard.Shard.{Shard}
 use Rattle.shards.proofs.Splitting.{split-within, shard-asleep}

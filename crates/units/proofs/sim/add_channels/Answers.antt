@@ -12,5 +12,5 @@ loop-number-preserved c =
     let count = ap length items ∙ length_push _ _ in (
       omega (arith, count, l.invariant.0),
       λ traces h. subst (StandAt s traces 0) (sym items)
-          (first-channel s traces l.parts.items l.number c.in_ok-channel.channel c.new.result (l.invariant.1 traces h) l.invariant.0 (c.in_ok-channel.ensures {u = tt}) c.new.ensures),
+          (first-channel s traces l.parts.items l.number c.in_ok-channel.channel c.list_for-list.result (l.invariant.1 traces h) l.invariant.0 (c.in_ok-channel.ensures {u = tt}) c.list_for-list.ensures.none),
     )

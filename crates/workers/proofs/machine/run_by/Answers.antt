@@ -1,7 +1,7 @@
 -- The run did not end before the cycle where the simulator stands, and ends there: it has so many cycles.
 use Rattle.std.proofs.Common.{◌≡◌, ◌<◌, true, sym, ap, ap₂, ◌∙◌, arith}
 use Rattle.sim_base.specs.Machine.{cycles_run}
-use Rattle.statistics.specs.Runs.{outcome_of}
+use Rattle.run_outcome.specs.Outcomes.{outcome_of}
 use Rattle.span_laws.specs.Ends.{ends_before}
 use Rattle.span_laws.proofs.Over.{cycles-are_counted}
 use Rattle.workers.proofs.machine.run_by.Goals as goal
@@ -16,5 +16,5 @@ returns-clause-outcome g c =
     let counted : cycles_run s traces c.args.cycles ≡ now =
     cycles-are_counted s traces c.args.cycles now same.2 (λ last e. same.3 last (omega arith) (omega (arith, e))) ended in
     c.in_ok-outcome.ensures {u = tt}
-    ∙ ap₂ (λ m t. outcome_of m t now) same.0 same.1
-    ∙ ap (outcome_of s traces) (sym counted)
+    ∙ ap₂ (λ m t. outcome_of c.args.tables m t now) same.0 same.1
+    ∙ ap (outcome_of c.args.tables s traces) (sym counted)

@@ -3,7 +3,7 @@ use Rattle.channel_step.specs.Fit.{IsFit}
 use Rattle.channel_step.specs.Runs.{CanRun, IsDone}
 use Rattle.channel_session.specs.Keeps.{steps_of}
 use Rattle.channel_session.proofs.Advancing.{keeps-at, keeps-fit, can-run, has-gone}
-use Rattle.channel_session.proofs.Answering.{cut-at, ran-session}
+use Rattle.channel_session.proofs.Answering.{cut-at, ran-session, given-back, left-behind, still-within}
 use Rattle.channel_session.proofs.session.Session.advance.Goals as goal
 
 pub run-requires-clause-can_run : goal.run-requires-clause-can_run
@@ -33,16 +33,23 @@ returns-clause-done c p h =
     let lent : take count c.deref.result.now ≡ inbox = ap (take count) c.deref.ensures.value in
     let done = (c.in_ok-run.ensures {u = tt}) p.s p.channel steps k.mail k.stands (keeps-at p.s p.channel session.cycle p.sent)
     (subst (λ x. IsFit p.s p.channel steps k.mail x session.cycle until) (sym lent) fit) in
-    let gone = has-gone session.channel c.run.new.self p.s p.channel session.cycle session.firsts.items p.sent session.coming.items inbox rest until c.new-issued.result c.run.new.commands c.new-replies.result.items c.run.new.messages.items k cut c.requires.span c.requires.until
-    (subst (λ x. IsDone c.run.new.self p.s p.channel steps k.mail x session.cycle until c.new-issued.result c.run.new.commands c.new-replies.result.items c.run.new.messages.items) lent done) c.new-issued.ensures c.new-replies.ensures.items in
-    ran-session session _ p until rest c.run.new.commands c.run.new.messages.items h
+    let finished : IsDone c.run.new.self p.s p.channel steps k.mail inbox session.cycle until c.hand_out-commands.result c.run.new.commands c.forget_taken-2.new.self.all.items c.run.new.messages.items =
+    subst (λ x. IsDone c.run.new.self p.s p.channel steps k.mail x session.cycle until c.hand_out-commands.result c.run.new.commands c.forget_taken-2.new.self.all.items c.run.new.messages.items) lent done in
+    let gone = has-gone session.channel c.run.new.self p.s p.channel session.cycle session.firsts.items p.sent session.coming.items inbox rest until _ _ _ _ k cut c.requires.span c.requires.until finished in
+    let forgot = c.in_ok-forget_taken.ensures {u = tt} in
+    let kept = c.forget_taken-2.new.self in
+    let behind = given-back c.forget_taken.new.self c.take_back.new.self c.hand_out-commands.result c.run.new.commands _ finished.issued c.hand_out-commands.ensures.list finished.commands_behind
+    c.take_back.ensures.list (c.take_back.ensures.taken ∙ c.hand_out-commands.ensures.taken) (forgot.within h.has_commands) forgot.left in
+    ran-session session _ p until rest finished.issued finished.sent h
     (record {
       config_is = refl;
       number_is = refl;
       cycle_is = refl;
       firsts_are = refl;
       coming_are = c.remove_front.ensures;
-      commands_are = (c.in_ok-put_behind.ensures {u = tt}) ∙ ap (λ x. session.commands.items ++ x) (c.deref-2.ensures.value ∙ c.in_ok-to_vec.ensures {u = tt});
-      replies_are = (c.in_ok-put_behind-2.ensures {u = tt}) ∙ ap (λ x. session.replies.items ++ x) c.deref-3.ensures.value;
+      commands_are = behind.0;
+      replies_are = left-behind kept.taken kept.all.items c.run.new.messages.items _ finished.sent c.forget_taken-2.ensures.within finished.messages_behind c.forget_taken-2.ensures.left;
+      has_commands = behind.1;
+      has_replies = still-within kept.taken kept.all.items c.run.new.messages.items finished.sent c.forget_taken-2.ensures.within finished.messages_behind;
     })
     gone

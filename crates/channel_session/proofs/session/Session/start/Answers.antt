@@ -13,6 +13,8 @@ returns-clause-opened c =
       cores = sym c.in_ok-vec.field-0.ok.0 ∙ (c.in_ok-vec.ensures {u = tt}).len ∙ c.from-cores.ensures;
       stands = c.in_ok-start.ensures {u = tt};
       coming_are = c.new.ensures.items;
-      commands_are = c.new-2.ensures.items;
-      replies_are = c.new-3.ensures.items;
+      commands_are = c.new-2.ensures.none;
+      replies_are = c.new-3.ensures.none;
+      has_commands = c.new-2.ensures.within;
+      has_replies = c.new-3.ensures.within;
     })

@@ -1,7 +1,8 @@
 use Rattle.std.proofs.Common.{Bool, ◌≡◌, ◌-◌, ◌++◌, [], length, take, Some, None, sym, ap, ap₂, subst, ◌∙◌, arith}
 use Rattle.std.proofs.lemmas.List.{append-nil}
 use Rattle.sim_base.specs.History.{messages_at}
-use Rattle.channel_step.specs.Runs.{issued_in}
+use Rattle.channel_step.specs.Runs.{issued_in, with_more}
+use Rattle.channel_step.proofs.Running.{with_more-none}
 use Rattle.std.specs.Prelude.{replicate, is_some}
 use Rattle.refresh.specs.Refreshes.{lowest_owed}
 use Rattle.queue.specs.View.{is_draining}
@@ -165,13 +166,13 @@ returns-in_ok-issue-in-Some-clause-done c s channel steps mail stands at f =
     let from = i.from_now in
     let then = steps ++ replicate (c.in-Some.cycle - length steps) None in
     let len : length then ≡ c.in-Some.cycle = omega (arith, length-idle steps (c.in-Some.cycle - length steps)) in
-    let after = c.perform.ensures s channel then there k len i.command_is in
+    let after = (c.in_ok-perform-in-Some.ensures {u = tt}) s channel then there k len i.command_is in
     let told = c.in_ok-issue-in-Some.ensures {u = tt} in
     record {
       issued = issued_in channel c.in-Some.cycle (Some c.in-Some.chosen.command);
       sent = messages_at s channel c.in-Some.cycle (Some c.in-Some.chosen.command);
       has_run = acts c.wait.new.self c.perform.new.self s channel steps mail c.args.inbox.now c.args.now c.args.until n c.next_arrival-end.result c.in-Some.cycle c.in-Some.chosen.command g i k after;
-      commands_are = told.commands ∙ ap (λ x. c.args.commands.now ++ issued_in x c.in-Some.cycle (Some c.in-Some.chosen.command)) after.made_for.number_is;
+      commands_are = told.commands ∙ ap (λ x. with_more c.args.commands.now (issued_in x c.in-Some.cycle (Some c.in-Some.chosen.command))) after.made_for.number_is;
       messages_are = told.messages ∙ ap₂ (λ x y. c.args.messages.now.items ++ messages_at x y c.in-Some.cycle (Some c.in-Some.chosen.command)) after.made_for.config_is after.made_for.number_is;
     }
 
@@ -209,6 +210,6 @@ returns-in-None-clause-done c s channel steps mail stands at f =
       sent = [];
       has_run = waits c.wait-in-None.new.self s channel steps mail c.args.inbox.now c.args.now c.args.until n end g idle
           (waited-stands c.look.new.self c.wait-in-None.new.self s channel steps there (end - length steps) k (c.wait-in-None.ensures.in_cycle s channel steps there k) (omega (arith, within.0)));
-      commands_are = sym (append-nil c.args.commands.now);
+      commands_are = sym (with_more-none c.args.commands.now);
       messages_are = sym (append-nil c.args.messages.now.items);
     }

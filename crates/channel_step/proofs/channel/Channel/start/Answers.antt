@@ -15,3 +15,4 @@ returns c =
     ((c.in_ok-with_room-2.ensures {u = tt}).banks ∙ c.banks_of.ensures.banks)
     (c.in_ok-with_room-2.ensures {u = tt}).stands
     refl
+    refl

@@ -12,7 +12,7 @@ use Rattle.std.specs.Prelude.{fold}
 use Rattle.units.specs.Flight.{among, sent_by}
 use Rattle.shards.specs.Shards.{bound, lists_of}
 use Rattle.shards.specs.Jobs.{IsDone}
-use Rattle.shards.specs.Wakes.{AreLowered, HaveGone, IsAsleep}
+use Rattle.wake_words.specs.Wakes.{AreLowered, HaveGone, IsAsleep}
 use Rattle.units.specs.declared.machine.Machine.{Machine}
 use Rattle.shards.specs.declared.shard.Shard.{Shard}
 use Rattle.shards.proofs.Jobs.{taken-up, job-ends}

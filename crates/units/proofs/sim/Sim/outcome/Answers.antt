@@ -2,8 +2,9 @@ use Rattle.std.proofs.Common.{sym, ap, ◌∙◌}
 use Rattle.std.specs.Arc.{arc_value}
 use Rattle.sim_base.specs.History.{commands}
 use Rattle.sim_base.specs.Machine.{run}
-use Rattle.statistics.specs.Runs.{stats_of, final_of, outcome_after, outcome_of}
-use Rattle.statistics.specs.Values.{RunOutcome}
+use Rattle.statistics.specs.Runs.{stats_of, final_of}
+use Rattle.run_outcome.specs.Outcomes.{if_asked, outcome_after, outcome_of}
+use Rattle.run_outcome.specs.Values.{RunOutcome}
 use Rattle.units.specs.Views.{SimView}
 use Rattle.units.specs.declared.machine.Machine.{Machine}
 use Rattle.units.proofs.Ended.{outcome_is}
@@ -15,9 +16,9 @@ returns c =
     let f = c.self.inside in
     let s = (arc_value f.machine).config in
     let view = c.self.view_is in
-    let rows = c.in_ok-commands.ensures {u = tt} ∙ ap (λ (m : Machine). commands (run m.config m.traces.items f.now)) c.deref-3.ensures in
+    let rows = c.in_ok-commands.ensures {u = tt} ∙ ap (λ (m : Machine). if_asked c.args.tables.commands (commands (run m.config m.traces.items f.now))) c.deref-3.ensures in
     let last = c.in_ok-last.ensures {u = tt} ∙ ap (λ (m : Machine). final_of m.config m.traces.items (run m.config m.traces.items f.now)) c.deref.ensures in
     let stats = c.in_ok-stats.ensures {u = tt} ∙ ap (λ (v : SimView). stats_of v.machine v.traces (run v.machine v.traces v.now)) (sym view) in
-    ap {B = RunOutcome} (λ (m : Machine). record { commands = c.in_ok-commands.commands; stats = c.in_ok-stats.stats; last = c.in_ok-last.last; ranks = m.config.ranks }) c.deref-4.ensures
-    ∙ outcome_is s.ranks rows stats last
-    ∙ ap (λ (v : SimView). outcome_of v.machine v.traces v.now) view
+    ap {B = RunOutcome} (λ (m : Machine). record { tables = c.args.tables; commands = c.in_ok-commands.commands; stats = c.in_ok-stats.stats; last = c.in_ok-last.last; ranks = m.config.ranks }) c.deref-4.ensures
+    ∙ outcome_is c.args.tables s.ranks rows stats last
+    ∙ ap (λ (v : SimView). outcome_of c.args.tables v.machine v.traces v.now) view

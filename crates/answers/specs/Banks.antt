@@ -1,0 +1,24 @@
+-- What `show --banks` answers, from what the files hold that it names.
+--     IsShownWithBanks dir config held before after      the screen of a run and its banks were printed
+use Rattle.std.specs.Prelude.{ℕ, List, Option}
+use Rattle.std.specs.Io.KnownBytes.{Appends}
+use Rattle.sim_base.specs.declared.command.IssuedCommand.{IssuedCommand}
+use Rattle.page.specs.Rows.{IsOfRunAt}
+use Rattle.show.specs.Banks.{IsBanksScreen}
+use Rattle.statistics.specs.Values.{RunStats}
+use Rattle.whole_files.specs.Files.{Held}
+use Rattle.whole_files.specs.Tables.{path_in, stats_name, commands_name}
+use Rattle.answers.specs.Named.{IsConfigured}
+use Rattle.answers.specs.Pages.{AreTablesAt}
+
+-- a folder has the tables of a run, a configuration that is named is one that it fits, each command is of the run, and the screen of the run was
+-- printed with its banks
+pub record IsShownWithBanks (dir : List ℕ) (config : Option (List ℕ)) (held : Held) (before after : Option (List ℕ)) : Type 0 where
+  pub stats : RunStats
+  pub commands : List IssuedCommand
+  pub text : List ℕ
+  pub tables : AreTablesAt (path_in dir stats_name) (path_in dir commands_name) held stats commands
+  pub configured : IsConfigured config held stats
+  pub of_run : (place : ℕ) → IsOfRunAt stats commands place
+  pub screen : IsBanksScreen stats commands text
+  pub printed : Appends before after text

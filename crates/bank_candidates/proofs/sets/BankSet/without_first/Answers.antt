@@ -1,0 +1,9 @@
+use Rattle.std.proofs.Common.{arith}
+use Rattle.bank_candidates.proofs.Bits.{lowest_out}
+use Rattle.bank_candidates.proofs.sets.BankSet.without_first.Goals as goal
+
+pub returns-clause-same : goal.returns-clause-same
+returns-clause-same c bank there first = (lowest_out c.args.self.bits bank (omega arith) there first).0
+
+pub returns-clause-others : goal.returns-clause-others
+returns-clause-others c bank there first = (lowest_out c.args.self.bits bank (omega arith) there first).1

@@ -1,0 +1,68 @@
+//! The tables of a run, as words name them.
+
+ghost use Rattle.std.specs.Prelude.{◌≡◌, Some, fold, map, IfOk};
+ghost use Rattle.command_line.specs.Tables.{no_tables, with_table, and_table, tables_of};
+
+use run_outcome::tables::Tables;
+use std::alloc::{AllocError, Global};
+
+const NONE: Tables = Tables {
+    commands: false,
+    stats: false,
+    last: false,
+};
+
+// The tables with one more.
+fn with_table(tables: Tables, name: &str) -> Option<Tables>
+    ensures { result ≡ with_table tables name.now }
+{
+    let Tables {
+        commands,
+        stats,
+        last,
+    } = tables;
+    match name {
+        "commands" if !commands => Some(Tables {
+            commands: true,
+            stats,
+            last,
+        }),
+        "stats" if !stats => Some(Tables {
+            commands,
+            stats: true,
+            last,
+        }),
+        "final" if !last => Some(Tables {
+            commands,
+            stats,
+            last: true,
+        }),
+        _ => None,
+    }
+}
+
+fn and_table(tables: Option<Tables>, name: &str) -> Option<Tables>
+    ensures { result ≡ and_table tables name.now }
+{
+    match tables {
+        Some(tables) => with_table(tables, name),
+        None => None,
+    }
+}
+
+// The tables of these names.
+fn tables_named(names: &[&str]) -> Option<Tables>
+    ensures { result ≡ fold and_table (Some no_tables) (map (λ name. name.now) names.now) }
+{
+    names
+        .iter()
+        .fold(Some(NONE), |tables, name| and_table(tables, name))
+}
+
+/// The tables that a text lists: their names, joined by commas, each at most once. The only error is out of memory.
+pub fn read_tables(alloc: Global, text: &str) -> Result<Option<Tables>, AllocError>
+    ensures { IfOk result (λ tables. tables ≡ tables_of text.now) }
+{
+    let names: Vec<&str> = text.split(',').collect(alloc)?;
+    Ok(tables_named(&names))
+}

@@ -1,0 +1,70 @@
+-- One bank less is left, and then none but the others.
+use Rattle.std.proofs.Common.{◌||◌, refl, sym, ap, length, ◌∙◌, arith}
+use Rattle.bank_candidates.specs.Sets.{is_in}
+use Rattle.bank_candidates.specs.Moves.{earlier}
+use Rattle.fr_fcfs.specs.Offers.{rows_now, rows_in, rows_beside}
+use Rattle.fr_fcfs.proofs.Beside.{beside_more, beside_same, left_before, size_less}
+use Rattle.fr_fcfs.proofs.SoFar.{so_far_same}
+use Rattle.fr_fcfs.proofs.first.with_rows_of.Goals as goal
+
+pub loop-bank-init : goal.loop-bank-init
+loop-bank-init c = record {
+  among = λ k there. there;
+  so_far = λ s history requests hits left stands bank_candidates places apart before. before;
+}
+
+pub loop-bank-smaller : goal.loop-bank-smaller
+loop-bank-smaller c =
+    let bank = c.in-Some.bank in
+    let is = c.without_first-rest.ensures.same bank c.in-Some.ensures.first c.in-Some.ensures.lowest in
+    let others = c.without_first-rest.ensures.others bank c.in-Some.ensures.first c.in-Some.ensures.lowest in
+    size_less (λ k. is_in c.loop-bank.rest k) (λ k. is_in c.without_first-rest.result k) bank 64 c.in-Some.ensures.within c.in-Some.ensures.first is others
+
+pub with_row-requires-clause-bank_candidates : goal.with_row-requires-clause-bank_candidates
+with_row-requires-clause-bank_candidates c = c.requires.within c.in-Some.bank (c.loop-bank.invariant.among c.in-Some.bank c.in-Some.ensures.first)
+
+pub with_row-requires-clause-banks : goal.with_row-requires-clause-banks
+with_row-requires-clause-banks c =
+    let within = c.requires.within c.in-Some.bank (c.loop-bank.invariant.among c.in-Some.bank c.in-Some.ensures.first) in omega (arith, c.requires.same_banks)
+
+pub with_row-requires-clause-some : goal.with_row-requires-clause-some
+with_row-requires-clause-some c d = c.requires.some c.in-Some.bank d (c.loop-bank.invariant.among c.in-Some.bank c.in-Some.ensures.first)
+
+pub with_row-requires-clause-no_hit : goal.with_row-requires-clause-no_hit
+with_row-requires-clause-no_hit c d = c.requires.no_hit c.in-Some.bank d (c.loop-bank.invariant.among c.in-Some.bank c.in-Some.ensures.first)
+
+pub with_row-requires-clause-kind : goal.with_row-requires-clause-kind
+with_row-requires-clause-kind c d = c.requires.kind c.in-Some.bank d (c.loop-bank.invariant.among c.in-Some.bank c.in-Some.ensures.first)
+
+pub loop-bank-preserved : goal.loop-bank-preserved
+loop-bank-preserved c =
+    let now = c.args.now in
+    let accesses = c.args.commands.accesses in
+    let bank = c.in-Some.bank in
+    let rest = c.loop-bank.rest in
+    let after = c.without_first-rest.result in
+    let there = c.in-Some.ensures.first in
+    let is = c.without_first-rest.ensures.same bank there c.in-Some.ensures.lowest in
+    let others = c.without_first-rest.ensures.others bank there c.in-Some.ensures.lowest in
+    record {
+      among = λ k still. c.loop-bank.invariant.among k (left_before (λ j. is_in rest j) (λ j. is_in after j) bank is others k still);
+      so_far = λ s history requests hits left stands bank_candidates places apart before.
+          let rows = rows_beside s history requests accesses (λ k. is_in rest k || left k) in
+          so_far_same (length requests) now hits (λ cycle. earlier (rows cycle) (rows_in s history requests accesses bank cycle)) hits
+          (rows_beside s history requests accesses (λ k. is_in after k || left k)) c.with_row.new.best (λ cycle late. refl)
+          (λ cycle late.
+          sym
+          (beside_more (λ k. is_in rest k || left k) (λ k. is_in after k || left k) bank (rows_now s history requests accesses cycle) requests (ap (λ b. b || left bank) there)
+          (ap (λ b. b || left bank) is ∙ apart bank (c.loop-bank.invariant.among bank there))
+          (λ j other. ap (λ b. b || left j) (others j other))))
+          (c.with_row.ensures s history requests hits rows stands bank_candidates places (c.loop-bank.invariant.so_far s history requests hits left stands bank_candidates places apart before));
+    }
+
+pub returns : goal.returns
+returns c s history requests hits left stands bank_candidates places apart before =
+    let accesses = c.args.commands.accesses in
+    let rest = c.loop-bank.rest in
+    so_far_same (length requests) c.args.now hits (rows_beside s history requests accesses (λ k. is_in rest k || left k)) hits (rows_beside s history requests accesses left) c.loop-bank.best
+    (λ cycle late. refl)
+    (λ cycle late. beside_same (λ k. is_in rest k || left k) left (rows_now s history requests accesses cycle) requests (λ k. ap (λ b. b || left k) (c.in_default.ensures.none k)))
+    (c.loop-bank.invariant.so_far s history requests hits left stands bank_candidates places apart before)

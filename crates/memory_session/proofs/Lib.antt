@@ -1,0 +1,5 @@
+pub mod Earliest
+pub mod Acts
+pub mod Changed
+pub mod Kept
+pub mod Next

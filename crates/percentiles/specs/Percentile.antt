@@ -1,0 +1,22 @@
+-- Percentiles by the nearest rank.
+--     at_most value values      how many of the values are at most this one
+--     at_rank values rank      the value of a rank, counted from 1
+--     IsPercentile values percent value      the least of the values with at least this share of them at or below it
+use Rattle.std.specs.Prelude.{ℕ, zero, suc, ◌*◌, ◌≤◌, nat_le, List, length, count_by, Option, None, slice_get}
+use Rattle.std.specs.List.{Contains}
+
+-- how many of the values are at most this one
+abbrev pub at_most : ℕ → List ℕ → ℕ
+at_most value values = count_by (λ x. nat_le x value) values
+
+-- the value of a rank, counted from 1, among values in ascending order
+abbrev pub at_rank : List ℕ → ℕ → Option ℕ
+at_rank values zero = None
+at_rank values (suc place) = slice_get values place
+
+-- The percentile by the nearest rank: one of the values, such that at least this share of them, in percent, is at or below it; and the least
+-- of the values of which that is true.
+pub record IsPercentile (values : List ℕ) (percent value : ℕ) : Type 0 where
+  pub is_one : Contains values value
+  pub enough : percent * length values ≤ 100 * at_most value values
+  pub least : (other : ℕ) → Contains values other → percent * length values ≤ 100 * at_most other values → value ≤ other

@@ -1,0 +1,76 @@
+//! Runs of which only some tables are asked for, in a folder with those of an earlier run.
+
+use crate::files_in_memory::MemoryFiles;
+use crate::program_runs::{assert_text, files_by, said_to_run};
+use crate::table_lines::tables_of;
+use fixtures::worked_runs::{ONE_READ, Run};
+use std::process::Abort;
+use std::sync::Wait;
+use std::test::Fail;
+use std::thread::Threads;
+
+// The tables that are asked for, those that are opened, and which of the three are then in the folder.
+type Chosen<'a> = (&'a str, &'a str, [bool; 3]);
+
+static CHOSEN: [Chosen<'static>; 5] = [
+    (
+        "commands,stats,final",
+        "d/commands.csv.part d/stats.csv.part d/final.csv.part ",
+        [true, true, true],
+    ),
+    (
+        "final,stats",
+        "d/stats.csv.part d/final.csv.part ",
+        [false, true, true],
+    ),
+    ("commands", "d/commands.csv.part ", [true, false, false]),
+    ("stats", "d/stats.csv.part ", [false, true, false]),
+    ("final", "d/final.csv.part ", [false, false, true]),
+];
+
+// Asserts what a path holds: a text, or nothing where the table was not asked for.
+fn assert_at(
+    rt: &impl Abort,
+    name: &str,
+    files: &MemoryFiles,
+    path: &str,
+    text: &str,
+    asked: bool,
+) {
+    let wanted = if asked { text } else { "no table" };
+    assert_text(rt, name, files.text_at(path).unwrap_or("no table"), wanted);
+}
+
+// A run of which some tables are asked for leaves these in the folder, as the whole run does, and no others.
+fn assert_chosen<R: Abort + Threads + Wait + Sync + AllocGlobal>(
+    rt: &R,
+    run: &Run,
+    (tables, opened, asked): &Chosen<'_>,
+) -> Result<(), Fail> {
+    let whole = files_by(rt, run, 1)?;
+    let wanted = tables_of(&whole).ok_or("no tables")?;
+    let mut files = files_by(rt, run, 1)?;
+    files.opened.clear();
+    let words = format!(in rt.alloc(); "--cycles {} --workers 2 --tables {tables}", run.cycles)?;
+    said_to_run(rt, &mut files, run, words.as_str())?.assert_is(rt, tables, (0, "", ""));
+    assert_text(rt, tables, files.opened.as_str(), opened);
+    assert_at(
+        rt,
+        tables,
+        &files,
+        "d/commands.csv",
+        wanted.commands,
+        asked[0],
+    );
+    assert_at(rt, tables, &files, "d/stats.csv", wanted.stats, asked[1]);
+    assert_at(rt, tables, &files, "d/final.csv", wanted.last, asked[2]);
+    Ok(())
+}
+
+#[test]
+fn leaves_the_tables_that_are_asked_for(rt: HostRuntime) -> Result<(), Fail> {
+    for chosen in &CHOSEN {
+        assert_chosen(&rt, &ONE_READ, chosen)?;
+    }
+    Ok(())
+}

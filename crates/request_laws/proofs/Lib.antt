@@ -1,0 +1,2 @@
+pub mod Dated
+pub mod Adding

@@ -1,8 +1,0 @@
-use Rattle.std.proofs.Common.{arith}
-use Rattle.shards.proofs.Turning.{turns-later}
-use Rattle.shards.proofs.alone.later.Goals as goal
-
-pub returns-clause-turns : goal.returns-clause-turns
-returns-clause-turns c s traces slots links h =
-    let w = c.next_wake-begin in
-    turns-later s traces c.args.at.cores_at c.args.at.channels_at w.result slots c.args.words.now links h (omega (arith, c.if-begin-at.false)) (omega (arith, c.if-begin-at.false, c.requires.order)) w.ensures.sleep

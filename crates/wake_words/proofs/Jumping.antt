@@ -1,0 +1,183 @@
+-- A machine goes on to a cycle that is not past any of its wake words: no unit is touched, and the links stay as they are.
+use Rattle.std.proofs.Common.{◌≡◌, ℕ, zero, suc, ◌+◌, ◌-◌, ◌<◌, ◌≤◌, List, [], ◌∷◌, ◌++◌, length, replicate, get_or, ◌⊎◌, inl, inr, refl, sym, ap, ap₂, subst, ◌∙◌, add-zero, append-nil, arith}
+use Rattle.std.specs.Prelude.{filter, flat_map, fold, All}
+use Rattle.std.proofs.lemmas.Bool.{cases_lt}
+use Rattle.std.proofs.lemmas.List.{length-replicate, get_or-replicate, get_or_append_left}
+use Rattle.std.proofs.lemmas.Option.{slice_get-get_or}
+use Rattle.std.proofs.Math.Seq.{get_or-append_seam}
+use Rattle.statistics.proofs.Lists.{length-push_suc}
+use Rattle.sim_base.specs.declared.config.Config.{Config}
+use Rattle.sim_base.specs.Counts.{in_flight}
+use Rattle.sim_base.specs.History.{below, by_age, insert_by_age, is_to, messages}
+use Rattle.sim_base.specs.declared.message.Unit.{Unit as MachineUnit}
+use Rattle.span_laws.proofs.Arrivals.{mail-sent}
+use Rattle.span_laws.specs.Mail.{arriving}
+use Rattle.span_laws.specs.Units.{sent_of}
+use Rattle.sim_base.specs.Locality.{TravelsFor}
+use Rattle.sim_base.specs.Machine.{run}
+use Rattle.sim_base.specs.declared.message.Message.{Message}
+use Rattle.sim_base.specs.declared.trace.Entry.{Entry}
+use Rattle.sim_base.proofs.Below.{flat_map_below_more, flat_map_below_same}
+use Rattle.statistics.proofs.RunSteps.{travels}
+use Rattle.links.specs.InFlight.{InFlight, is_due}
+use Rattle.units.specs.Flight.{fresh, left, among}
+use Rattle.units.specs.Parts.{late, IsPart, IsSim}
+use Rattle.units.specs.declared.part.UnitState.{UnitState}
+use Rattle.units.specs.Units.{unit_at, unit_count}
+use Rattle.units.proofs.Due.{left-all, left-none, left-more, exists-at}
+use Rattle.units.proofs.Joining.{all-sent, fresh-is, join-flight}
+use Rattle.wake_words.specs.Wakes.{IsAsleep, IsStill, HasGoneOn, AreSlots, Sleeper, Waits, sleeper, sleeper_at}
+use Rattle.wake_words.specs.declared.slot.Slot.{Slot}
+use Rattle.wake_words.proofs.Sharing.{among-all}
+use Rattle.units.proofs.Standing.{same-default}
+use Rattle.wake_words.proofs.Waiting.{awake-waits, due-flight, known-phase, none-taken, untouched, untouched-none}
+
+-- a unit of a machine that has one
+pub some-slot : (slots : List Slot) → 0 < length slots → Slot
+some-slot [] l = absurd (omega (arith, l))
+some-slot (x ∷ xs) l = x
+
+pub all-none : (f : ℕ → List Message) (n : ℕ) → ((i : ℕ) → i < n → f i ≡ []) → flat_map f (below n) ≡ []
+all-none f zero h = refl
+all-none f (suc n) h = flat_map_below_more f n ∙ ap₂ (λ x y. x ++ y) (all-none f n (λ i l. h i (omega (arith, l)))) (h n (omega arith))
+
+-- A unit waits, and may be left alone up to a cycle.
+pub record RestsTo (s : Config) (traces : List (List Entry)) (now until : ℕ) (u : MachineUnit) : Type 0 where
+  pub slot : Sleeper
+  pub wakes : until ≤ slot.wake
+  pub waits : Waits s traces u now now slot
+
+-- so do all units of a machine
+abbrev pub AllRest : Config → List (List Entry) → ℕ → ℕ → Type 0
+AllRest s traces now until = (place : ℕ) → place < unit_count s → RestsTo s traces now until (unit_at s place)
+
+-- where nothing is sent, all messages are those that were there before
+still-messages : (s : Config) (traces : List (List Entry)) (now then : ℕ) → IsStill s traces now then → messages s traces (run s traces then) ≡ messages s traces (run s traces now)
+still-messages s traces now then h =
+    sym (all-sent s traces then)
+    ∙ flat_map_below_same (λ i. sent_of s traces then (unit_at s i)) (λ i. sent_of s traces now (unit_at s i)) (unit_count s) h.sent
+    ∙ all-sent s traces now
+
+-- a unit that waits waits on, up to its word, where nothing is sent
+pub still-waits : (s : Config) (traces : List (List Entry)) (u : MachineUnit) (now then : ℕ) (slot : Sleeper) → Waits s traces u now now slot → IsStill s traces now then → now ≤ then → then ≤ slot.wake
+    → Waits s traces u then then slot
+still-waits s traces u now then slot h still l w =
+    record {
+      behind = omega (arith, h.behind, l);
+      ahead = w;
+      stands = h.stands;
+      may = record {
+        silent = h.may.silent;
+        none = mail-sent s traces slot.at slot.wake u then
+            ∙ ap (λ ms. by_age (arriving slot.at slot.wake (filter (is_to s u) ms))) (still-messages s traces now then still)
+            ∙ sym (mail-sent s traces slot.at slot.wake u now)
+            ∙ h.may.none;
+      };
+    }
+
+-- a phase in which no unit is woken
+sleep-span : (s : Config) (traces : List (List Entry)) (now then until : ℕ) → AllRest s traces now until → now ≤ then → then ≤ until → TravelsFor s (then - now) → IsStill s traces now then
+sleep-span s traces now then until h l m t =
+    record { sent = λ k less. (gone k less).sent ∙ append-nil (sent_of s traces now (unit_at s k)); flight = same }
+  where
+    flying : List Message
+    flying = in_flight s traces (run s traces now)
+
+    gone : (k : ℕ) (less : k < unit_count s) → HasGoneOn s traces (unit_at s k) now now then (h k less).slot []
+    gone k less = untouched s traces (unit_at s k) now now then (h k less).slot (exists-at s k less) l (known-phase s traces now then (unit_at s k) l t) (omega (arith, m, (h k less).wakes)) (h k less).waits
+
+    sends-none : (k : ℕ) → k < unit_count s → fresh s traces now then k ≡ []
+    sends-none k less = fresh-is s traces now then k [] (gone k less).sent
+
+    none-comes : (k : ℕ) → k < unit_count s → filter (is_due s.channels (unit_at s k) now then) flying ≡ []
+    none-comes k less = due-flight s traces now now then (unit_at s k) (omega arith) ∙ untouched-none s traces (unit_at s k) now now then (h k less).slot (omega (arith, m, (h k less).wakes)) (h k less).waits
+
+    none-left : (k : ℕ) → k ≤ unit_count s → left s now then k flying ≡ flying
+    none-left zero less = left-none s now then flying
+    none-left (suc k) less =
+        sym (left-more s now then k flying)
+        ∙ ap (filter _) (none-left k (omega (arith, less)))
+        ∙ none-taken (is_due s.channels (unit_at s k) now then) flying (none-comes k (omega (arith, less)))
+
+    same : in_flight s traces (run s traces then) ≡ flying
+    same =
+        sym (join-flight s traces now then l t)
+        ∙ ap (fold insert_by_age (late then flying)) (all-none (fresh s traces now then) (unit_count s) sends-none)
+        ∙ sym (left-all s traces now then)
+        ∙ none-left (unit_count s) (omega arith)
+
+-- and any number of cycles, one after the other
+sleep-cycles : (s : Config) (traces : List (List Entry)) (now until : ℕ) → AllRest s traces now until → (n : ℕ) → now + n ≤ until → IsStill s traces now (now + n)
+sleep-cycles s traces now until h zero m = subst (IsStill s traces now) (sym (add-zero now)) (record { sent = λ k less. refl; flight = refl })
+sleep-cycles s traces now until h (suc n) m =
+    let before = sleep-cycles s traces now until h n (omega (arith, m)) in
+    let one : (now + suc n) - (now + n) ≡ 1 = omega arith in
+    let rest : AllRest s traces (now + n) until = λ k less.
+    let r = h k less in
+    record { slot = r.slot; wakes = r.wakes; waits = still-waits s traces (unit_at s k) now (now + n) r.slot r.waits before (omega arith) (omega (arith, m, r.wakes)) } in
+    let then = sleep-span s traces (now + n) (now + suc n) until rest (omega arith) m (subst (TravelsFor s) (sym one) (travels s)) in
+    record { sent = λ k less. then.sent k less ∙ before.sent k less; flight = then.flight ∙ before.flight }
+
+pub sleep-on : (s : Config) (traces : List (List Entry)) (now then : ℕ) → AllRest s traces now then → now ≤ then → IsStill s traces now then
+sleep-on s traces now then h l =
+    let e : now + (then - now) ≡ then = omega (arith, l) in
+    subst (IsStill s traces now) e (sleep-cycles s traces now then h (then - now) (omega (arith, l)))
+
+-- the cycle where units stand is not past any word
+pub asleep-until : (s : Config) (traces : List (List Entry)) (first now : ℕ) (slots : List Slot) (words : List ℕ) (links : InFlight) → IsAsleep s traces first now slots words links → All (λ w. now ≤ w) words
+asleep-until s traces first now slots words links h k d less =
+    let i : k < length slots = omega (arith, less, h.words_count) in
+    let e : get_or words k 0 ≡ get_or words k d = same-default words k 0 d less in
+    subst (λ w. now ≤ w) e (h.wait k (some-slot slots (omega (arith, i))) i).ahead
+
+none-first_of : (k : ℕ) → 0 + k ≡ k
+none-first_of k = omega arith
+
+-- all units stand where the machine does, and are asked in the next phase
+pub awake-sim : (s : Config) (traces : List (List Entry)) (now phase : ℕ) (parts : List UnitState) (links : InFlight) (slots : List Slot) (words : List ℕ) → IsSim s traces now phase parts links
+    → AreSlots now parts slots → words ≡ replicate (length parts) now → IsAsleep s traces 0 now slots words links
+awake-sim s traces now phase parts links slots words h e f =
+    record {
+      early = h.early;
+      within = omega (arith, e.count, h.count);
+      words_count = ap length f ∙ length-replicate (length parts) now ∙ sym e.count;
+      wait = λ k d l.
+          let less : k < length parts = omega (arith, l, e.count) in
+          let p = some-part parts (omega (arith, less)) in
+          let word : get_or words k 0 ≡ now = ap (λ z. get_or z k 0) f ∙ get_or-replicate (length parts) k now 0 less in
+          let stands = subst (IsPart s traces (unit_at s k) now) (sym (e.parts_are k d p less)) (h.stand k (get_or parts k p) (slice_get-get_or parts k p less)) in
+          subst (λ i. Waits s traces (unit_at s i) now now (sleeper_at slots words k d)) (sym (none-first_of k))
+          (awake-waits s traces (unit_at s k) now (sleeper (get_or slots k d) (get_or words k 0)) stands (e.stand k d less) word);
+      flight = h.flight
+          ∙ ap {B = InFlight} (λ z. record { channels = s.channels; messages = z }) (sym (among-all s traces now))
+          ∙ ap {B = InFlight} (λ n. record { channels = s.channels; messages = among s 0 n (in_flight s traces (run s traces now)) }) (sym (none-first_of (length slots) ∙ e.count ∙ h.count));
+    }
+  where
+    some-part : (xs : List UnitState) → 0 < length xs → UnitState
+    some-part [] l = absurd (omega (arith, l))
+    some-part (x ∷ xs) l = x
+
+-- one unit more that stands at a cycle
+pub slots-push : (now : ℕ) (parts : List UnitState) (slots : List Slot) (p : UnitState) (slot : Slot) → AreSlots now parts slots → slot.part.value ≡ p → slot.at ≡ now → AreSlots now (parts ++ p ∷ []) (slots ++ slot ∷ [])
+slots-push now parts slots p slot h e f = record {
+  count = length-push_suc slots slot ∙ ap suc h.count ∙ sym (length-push_suc parts p);
+  parts_are = λ k d g l. part-at k d g (omega (arith, l, length-push_suc parts p)) (cases_lt k (length parts));
+  stand = λ k d l. at k d (omega (arith, l, length-push_suc parts p)) (cases_lt k (length parts));
+}
+  where
+    part-at : (k : ℕ) (d : Slot) (g : UnitState) → k < suc (length parts) → (k < length parts) ⊎ (length parts ≤ k) → (get_or (slots ++ slot ∷ []) k d).part.value ≡ get_or (parts ++ p ∷ []) k g
+    part-at k d g l (inl m) =
+        ap (λ (x : Slot). x.part.value) (get_or_append_left slots (slot ∷ []) d k (omega (arith, m, h.count))) ∙ h.parts_are k d g m ∙ sym (get_or_append_left parts (p ∷ []) g k m)
+    part-at k d g l (inr m) =
+        let last : k ≡ length parts = omega (arith, l, m) in
+        ap (λ n. (get_or (slots ++ slot ∷ []) n d).part.value) (last ∙ sym h.count) ∙ ap (λ (x : Slot). x.part.value) (get_or-append_seam slots slot [] d) ∙ e
+        ∙ sym (ap (λ n. get_or (parts ++ p ∷ []) n g) last ∙ get_or-append_seam parts p [] g)
+
+    at : (k : ℕ) (d : Slot) → k < suc (length parts) → (k < length parts) ⊎ (length parts ≤ k) → (get_or (slots ++ slot ∷ []) k d).at ≡ now
+    at k d l (inl m) = ap (λ (x : Slot). x.at) (get_or_append_left slots (slot ∷ []) d k (omega (arith, m, h.count))) ∙ h.stand k d m
+    at k d l (inr m) =
+        let last : k ≡ length parts = omega (arith, l, m) in
+        ap (λ n. (get_or (slots ++ slot ∷ []) n d).at) (last ∙ sym h.count) ∙ ap (λ (x : Slot). x.at) (get_or-append_seam slots slot [] d) ∙ f
+
+pub slots-none : (now : ℕ) (slots : List Slot) → slots ≡ [] → AreSlots now [] slots
+slots-none now slots e = record { count = ap length e; parts_are = λ k d g l. absurd (omega (arith, l)); stand = λ k d l. absurd (omega (arith, l)) }

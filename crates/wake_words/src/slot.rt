@@ -1,0 +1,129 @@
+//! A unit that stands at a cycle of its own.
+
+ghost use Rattle.std.specs.Prelude.{◌≡◌, ◌<◌, ◌≤◌, ◌^◌, ℕ, List, [], IfOk, OnOk, filter, not};
+ghost use Rattle.sim_base.specs.declared.config.Config.{Config};
+ghost use Rattle.sim_base.specs.declared.message.Unit.{Unit as MachineUnit};
+ghost use Rattle.sim_base.specs.declared.trace.Entry.{Entry};
+ghost use Rattle.links.specs.InFlight.{is_due};
+ghost use Rattle.units.specs.Parts.{IsPart, IsReady, IsReadyFor};
+ghost use Rattle.units.specs.Quiet.{IsInSomeRun};
+ghost use Rattle.units.specs.Units.{unit_at, unit_count};
+ghost use Rattle.span_laws.specs.Quiet.{IsSilent};
+ghost use Rattle.wake_words.specs.Wakes.{HasRunAndTells, IsBrought, Waits, AddsWhatItSent, sleeper};
+
+use links::flight::Links;
+use sim_base::message::{Cycle, Message, Unit};
+use std::alloc::{AllocError, Global};
+use units::machine::{Machine, unit_at};
+use units::mail::Mail;
+use units::part::UnitState;
+
+/// A span over which units of a kind go on: from where they stand up to a cycle, while those that send to them stand at a cycle of theirs.
+#[derive(Clone, Copy)]
+pub struct Span {
+    pub here: Cycle,
+    pub there: Cycle,
+    pub until: Cycle,
+}
+
+/// A unit, and the cycle where it stands.
+#[derive(Drop)]
+pub struct Slot {
+    pub part: Box<UnitState>,
+    pub at: Cycle,
+}
+
+/// A cycle, not before `from`, where the unit stands, before which it sends nothing, if nothing arrives at it; the last of all words,
+/// where it never does.
+fn send_word(part: &mut UnitState, from: Cycle) -> Cycle
+    requires stands { IsInSomeRun part.old from }
+    ensures same { part.new ≡ part.old }
+    ensures silent { (s : Config) (traces : List (List Entry)) (unit : MachineUnit) → IsPart s traces unit from part.old → IsSilent s traces from result unit }
+    ensures since { (s : Config) (traces : List (List Entry)) (unit : MachineUnit) → IsPart s traces unit from part.old → from ≤ result }
+{
+    match part {
+        UnitState::Core(core) => core.silent_until(from),
+        UnitState::Channel(channel, _) => channel.next_act(from).unwrap_or(Cycle::MAX),
+    }
+}
+
+/// Runs a unit over a span, in which these messages arrive at it, and puts what it sends behind what a list holds. Gives a cycle,
+/// not before the end of the span, before which it sends nothing more, if nothing arrives at it.
+fn run_and_tell(
+    part: &mut UnitState,
+    inbox: &[Message],
+    from: Cycle,
+    until: Cycle,
+    sent: &mut Vec<Message>,
+) -> Result<Cycle, AllocError>
+    requires ready { IsReady part.old inbox.now from until }
+    ensures { (s : Config) (traces : List (List Entry)) (unit : MachineUnit) → IsReadyFor s traces unit part.old inbox.now from until
+        → IfOk result (HasRunAndTells s traces unit from until part.new sent.old.items sent.new.items) }
+{
+    part.run(inbox, from, until, sent)?;
+    Ok(send_word(part, until))
+}
+
+/// The first cycle from `from` on in which a message in flight may arrive at a unit, or a cycle that comes sooner.
+fn arrival_word(links: &Links, unit: Unit, from: Cycle, send: Cycle) -> Cycle
+    requires { from ≤ send }
+    ensures since { from ≤ result }
+    ensures within { result ≤ send }
+    ensures first { (word : ℕ) → word ≤ result → filter (is_due links.now.channels unit from word) links.now.messages ≡ [] }
+{
+    match links.next_arrival_at(unit) {
+        Some(arrival) => arrival.max(from).min(send),
+        None => send,
+    }
+}
+
+impl Slot {
+    /// Runs the unit at a place, whose kind stands at a cycle, up to another, with what arrives at it, and puts what it sends at the end of
+    /// a list. Gives its next word.
+    pub fn woken(
+        &mut self,
+        machine: &Machine,
+        links: &mut Links,
+        mail: &mut Mail,
+        word: Cycle,
+        place: usize,
+        span: &Span,
+    ) -> Result<Cycle, AllocError>
+        requires place { place < unit_count machine.now.config }
+        requires order { span.now.here ≤ span.now.until }
+        requires early { span.now.until ≤ 10 ^ 12 }
+        requires waits { Waits machine.now.config machine.now.traces.items (unit_at machine.now.config place) span.now.here span.now.there (sleeper self.old word) }
+        requires brought { IsBrought machine.now.config machine.now.traces.items span.now.here span.now.there span.now.until (unit_at machine.now.config place) links.old }
+        ensures gone { IfOk result (λ wake. AddsWhatItSent machine.now.config machine.now.traces.items (unit_at machine.now.config place) span.now.here span.now.there span.now.until (sleeper self.new wake) mail.old.sent.items mail.new.sent.items) }
+        ensures links { OnOk result (links.new ≡ record links.old { messages = filter (λ m. not (is_due machine.now.config.channels (unit_at machine.now.config place) span.now.here span.now.until m)) links.old.messages }) }
+    {
+        let until = span.until;
+        let unit = unit_at(&machine.config, place);
+        let Mail { inbox, sent } = mail;
+        inbox.clear();
+        links.take_due_into(unit, until, inbox)?;
+        let send = run_and_tell(&mut self.part, inbox, self.at, until, sent)?;
+        self.at = until;
+        Ok(arrival_word(links, unit, until, send))
+    }
+
+    /// The unit at a cycle before which nothing arrives at it.
+    pub fn brought_up(
+        self,
+        machine: &Machine,
+        mail: &mut Mail,
+        word: Cycle,
+        place: usize,
+        now: Cycle,
+    ) -> Result<UnitState, AllocError>
+        requires place { place < unit_count machine.now.config }
+        requires early { now ≤ 10 ^ 12 }
+        requires waits { Waits machine.now.config machine.now.traces.items (unit_at machine.now.config place) now now (sleeper self word) }
+        ensures { IfOk result (λ part. IsPart machine.now.config machine.now.traces.items (unit_at machine.now.config place) now part) }
+    {
+        let Slot { mut part, at, .. } = self;
+        mail.inbox.clear();
+        part.run(&mail.inbox, at, now, &mut mail.sent)?;
+        Ok(Box::into_inner(part))
+    }
+}

@@ -1,0 +1,10 @@
+-- No file has changed.
+use Rattle.std.proofs.Common.{◌≡◌}
+use Rattle.whole_files.specs.Files.{SameFiles}
+use Rattle.whole_files.proofs.tables.test_places.Given as goal
+
+abbrev pub invariant-loop-table : goal.invariant-loop-table
+invariant-loop-table g l = record {
+  same : g.F.FileSet.tells → SameFiles (g.F.FileSet.held l.fn.files) (g.F.FileSet.held l.files);
+  unopened : g.F.FileSet.tells → g.F.FileSet.opened l.files ≡ g.F.FileSet.opened l.fn.files;
+}
