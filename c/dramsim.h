@@ -1,14 +1,15 @@
-/* A channel of DDR4 memory as dramsim simulates it, driven by a program in C.
+/* DDR4 memory as dramsim simulates it, driven by a program in C: a channel, or a memory of all channels of a machine.
  *
  * A channel is sent requests, run up to a cycle, and then gives its commands and replies one after the other: those of the channel
- * that the configuration describes, for the requests that it was sent, whatever the steps in which it is run. Its memory does not grow
- * with what was taken.
+ * that the configuration describes, for the requests that it was sent, whatever the steps in which it is run. A memory sends each request to
+ * the channel of its address, and runs all channels. What either holds does not grow with what was taken.
  *
  * What C owes, since nothing checks it:
- * - A channel begins as DRAMSIM_CLOSED_CHANNEL, and nothing but these calls reads or writes it; it is not copied while it is open.
+ * - A channel begins as DRAMSIM_CLOSED_CHANNEL and a memory as DRAMSIM_CLOSED_MEMORY, and nothing but these calls reads or writes it; it is
+ *   not copied while it is open.
  * - No pointer is null, and each leads to one value of its type (a text: `length` bytes, room for one: `room` bytes), which nothing else uses
  *   during the call.
- * - One call at a time for each channel; any number of channels, each in the thread that opened it.
+ * - One call at a time for each channel or memory; any number of them, each in the thread that opened it.
  * - malloc, realloc and free are those of the C library. No call comes from a signal handler.
  */
 #ifndef DRAMSIM_H
@@ -26,8 +27,8 @@ extern "C" {
 enum dramsim_status {
     DRAMSIM_OK = 0,
     DRAMSIM_MEMORY = 1,          /* memory was refused */
-    DRAMSIM_CLOSED = 2,          /* the channel is closed */
-    DRAMSIM_ALREADY_OPEN = 3,    /* the channel is open already */
+    DRAMSIM_CLOSED = 2,          /* the channel or memory is closed */
+    DRAMSIM_ALREADY_OPEN = 3,    /* the channel or memory is open already */
     DRAMSIM_CONFIGURATION = 4,   /* the configuration is refused: dramsim_fault_text says why */
     DRAMSIM_NO_SUCH_CHANNEL = 5, /* the machine has no channel with this number */
     DRAMSIM_NO_SUCH_CORE = 6,    /* the machine has no core with this number */
@@ -53,6 +54,13 @@ struct dramsim_channel {
     void *at;
 };
 #define DRAMSIM_CLOSED_CHANNEL {false, NULL}
+
+/* A memory: all channels of a machine. */
+struct dramsim_memory {
+    bool is_open;
+    void *at;
+};
+#define DRAMSIM_CLOSED_MEMORY {false, NULL}
 
 /* A read or write of the line of 64 bytes at an address, for an entry of a core, and the cycle in which it arrives at the channel. */
 struct dramsim_request {
@@ -131,6 +139,43 @@ bool dramsim_stats(struct dramsim_channel *channel, struct dramsim_statistics *r
 
 /* Closes a channel, whether it is open or not, and frees all of its memory. */
 void dramsim_close(struct dramsim_channel *channel);
+
+/* The same calls for a memory. It is opened with all channels of the machine whose configuration a text states, before their first cycle. OK,
+ * MEMORY, ALREADY_OPEN or CONFIGURATION; where it is not OK the memory is as it was. */
+uint32_t dramsim_memory_open(const uint8_t *text, size_t length, struct dramsim_memory *memory);
+
+/* Sends a request to the channel of its address; what was sent to another channel does not matter to it. OK, MEMORY, CLOSED, NO_SUCH_CORE or 8
+ * to 11, each of that channel; where it is not OK the memory is as if there had been no call. */
+uint32_t dramsim_memory_send(struct dramsim_memory *memory, const struct dramsim_request *request);
+
+/* Runs all channels over the cycles before `until`. OK, CLOSED, END_PASSED or END_TOO_LATE, which change nothing; MEMORY closes it. */
+uint32_t dramsim_memory_run(struct dramsim_memory *memory, uint64_t until);
+
+/* The first command of the cycles that are over which was not taken, by cycle and then by channel, and the number of its channel; it is taken
+ * then. A reply: of the first of each channel which was not taken, the one that arrives first, and of these that of the lowest channel. False
+ * where there is none, or the memory is closed; the number and the row are left as they were then. */
+bool dramsim_memory_next_command(struct dramsim_memory *memory, uint32_t *channel, struct dramsim_command *row);
+bool dramsim_memory_next_reply(struct dramsim_memory *memory, uint32_t *channel, struct dramsim_reply *row);
+
+/* The next cycle, from the one where an open memory stands on, in which a channel acts, if nothing more is sent: none issues anything before
+ * that cycle, and in it, one issues a command or a request that was sent arrives. False where there is none, or the memory is closed; the
+ * cycle is left as it was then. */
+bool dramsim_memory_next_act(struct dramsim_memory *memory, uint64_t *cycle);
+
+/* The cycle where an open memory stands: this many are over. 0 where it is closed. */
+uint64_t dramsim_memory_now(struct dramsim_memory *memory);
+
+/* Where the line of 64 bytes at an address lies in an open memory. False where it is closed. */
+bool dramsim_memory_place(struct dramsim_memory *memory, uint64_t address, struct dramsim_line_place *row);
+
+/* The least address of the line at a place in an open memory. OK, CLOSED or NO_SUCH_PLACE; where it is not OK the address is left as it was. */
+uint32_t dramsim_memory_address(struct dramsim_memory *memory, const struct dramsim_line_place *place, uint64_t *address);
+
+/* The statistics of a channel of an open memory. OK, CLOSED or NO_SUCH_CHANNEL; where it is not OK the row is left as it was. */
+uint32_t dramsim_memory_stats(struct dramsim_memory *memory, uint32_t channel, struct dramsim_statistics *row);
+
+/* Closes a memory, whether it is open or not, and frees all that it holds. */
+void dramsim_memory_close(struct dramsim_memory *memory);
 
 /* The line for which `dramsim run` refuses a configuration, as `fault 3: configuration range nCL`, without its end and without a 0, and its
  * length; the length is 0 where the configuration is not refused. OK; TOO_SHORT, where the line is longer than `room`, which writes the length

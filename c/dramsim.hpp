@@ -10,7 +10,6 @@
 #include <string>
 #include <string_view>
 #include <utility>
-#include <vector>
 
 namespace dramsim {
 
@@ -26,8 +25,8 @@ inline const char *text_of(std::uint32_t status) {
     switch (status) {
     case DRAMSIM_OK: return "done";
     case DRAMSIM_MEMORY: return "memory was refused";
-    case DRAMSIM_CLOSED: return "the channel is closed";
-    case DRAMSIM_ALREADY_OPEN: return "the channel is open already";
+    case DRAMSIM_CLOSED: return "the channel or memory is closed";
+    case DRAMSIM_ALREADY_OPEN: return "the channel or memory is open already";
     case DRAMSIM_CONFIGURATION: return "the configuration is refused";
     case DRAMSIM_NO_SUCH_CHANNEL: return "no such channel";
     case DRAMSIM_NO_SUCH_CORE: return "no such core";
@@ -134,84 +133,60 @@ template <typename Row> struct Of {
 };
 
 // A memory: all channels of a machine, open from its construction on. A request goes to the channel of its address. It can be moved and not be
-// copied.
+// copied; one that was moved from is closed.
 class Memory {
   public:
     explicit Memory(std::string_view configuration) {
-        channels_.emplace_back(configuration);
-        while (add(configuration)) {}
+        detail::check_configured(dramsim_memory_open(detail::bytes_of(configuration), configuration.size(), &memory_), configuration);
     }
-
-    void send(const Request &request) { channels_.at(place_of(request.address).channel).channel.send(request); }
-
-    // Runs all channels over the cycles before `until`. Where one is refused memory, the memory can only be destroyed.
-    void run(std::uint64_t until) {
-        for (auto &each : channels_) each.channel.run(until);
+    Memory(Memory &&other) noexcept : memory_(std::exchange(other.memory_, {})) {}
+    Memory &operator=(Memory &&other) noexcept {
+        std::swap(memory_, other.memory_);
+        return *this;
     }
-    std::uint64_t now() { return channels_.front().channel.now(); }
+    Memory(const Memory &) = delete;
+    Memory &operator=(const Memory &) = delete;
+    ~Memory() { dramsim_memory_close(&memory_); }
+
+    void send(const Request &request) { detail::check(dramsim_memory_send(&memory_, &request)); }
+    // Runs all channels over the cycles before `until`.
+    void run(std::uint64_t until) { detail::check(dramsim_memory_run(&memory_, until)); }
+    std::uint64_t now() { return dramsim_memory_now(&memory_); }
 
     // The next command, by cycle and then by channel.
     std::optional<Of<Command>> next_command() {
-        for (auto &each : channels_)
-            if (!each.command) each.command = each.channel.next_command();
-        return take_first(&Kept::command, [](const Command &row) { return row.cycle; });
+        Of<Command> next;
+        return dramsim_memory_next_command(&memory_, &next.channel, &next.row) ? std::optional<Of<Command>>(next) : std::nullopt;
     }
     // Of the next reply of each channel, the one that arrives first, and of these that of the lowest channel.
     std::optional<Of<Reply>> next_reply() {
-        for (auto &each : channels_)
-            if (!each.reply) each.reply = each.channel.next_reply();
-        return take_first(&Kept::reply, [](const Reply &row) { return row.arrival; });
+        Of<Reply> next;
+        return dramsim_memory_next_reply(&memory_, &next.channel, &next.row) ? std::optional<Of<Reply>>(next) : std::nullopt;
     }
     // The next cycle in which a channel issues a command, or in which a request that was sent arrives, if nothing more is sent.
     std::optional<std::uint64_t> next_act() {
-        std::optional<std::uint64_t> first;
-        for (auto &each : channels_) {
-            auto cycle = each.channel.next_act();
-            if (cycle && (!first || *cycle < *first)) first = cycle;
-        }
-        return first;
+        std::uint64_t cycle = 0;
+        return dramsim_memory_next_act(&memory_, &cycle) ? std::optional<std::uint64_t>(cycle) : std::nullopt;
     }
-    Place place_of(std::uint64_t address) { return channels_.front().channel.place_of(address); }
-    std::uint64_t address_of(const Place &place) { return channels_.front().channel.address_of(place); }
+    Place place_of(std::uint64_t address) {
+        Place row;
+        if (!dramsim_memory_place(&memory_, address, &row)) throw Refused(DRAMSIM_CLOSED);
+        return row;
+    }
+    // The least address of the line at a place.
+    std::uint64_t address_of(const Place &place) {
+        std::uint64_t address = 0;
+        detail::check(dramsim_memory_address(&memory_, &place, &address));
+        return address;
+    }
     Statistics statistics(std::uint32_t channel) {
-        if (channel >= channels_.size()) throw Refused(DRAMSIM_NO_SUCH_CHANNEL);
-        return channels_[channel].channel.statistics();
+        Statistics row;
+        detail::check(dramsim_memory_stats(&memory_, channel, &row));
+        return row;
     }
 
   private:
-    // A channel, and the first command and reply that were taken from it and not from the memory.
-    struct Kept {
-        explicit Kept(std::string_view configuration, std::uint32_t number = 0) : channel(configuration, number) {}
-        Channel channel;
-        std::optional<Command> command;
-        std::optional<Reply> reply;
-    };
-
-    // Opens one channel more, if the machine has one.
-    bool add(std::string_view configuration) {
-        try {
-            channels_.emplace_back(configuration, static_cast<std::uint32_t>(channels_.size()));
-            return true;
-        } catch (const Refused &refused) {
-            if (refused.status != DRAMSIM_NO_SUCH_CHANNEL) throw;
-            return false;
-        }
-    }
-
-    // Takes the first of what is kept, by its time and then by channel.
-    template <typename Row, typename Time> std::optional<Of<Row>> take_first(std::optional<Row> Kept::*kept, Time time) {
-        std::optional<std::uint32_t> first;
-        for (std::uint32_t number = 0; number < channels_.size(); number++) {
-            const auto &row = channels_[number].*kept;
-            if (row && (!first || time(*row) < time(*(channels_[*first].*kept)))) first = number;
-        }
-        if (!first) return std::nullopt;
-        Of<Row> taken{*first, *(channels_[*first].*kept)};
-        (channels_[*first].*kept).reset();
-        return taken;
-    }
-
-    std::vector<Kept> channels_;
+    dramsim_memory memory_ = {};
 };
 
 // What is at fault in a table of commands (docs/FORMATS.md), as `dramsim check` says; nothing where it is legal.

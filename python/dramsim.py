@@ -15,7 +15,7 @@ import subprocess
 import sys
 import tempfile
 from pathlib import Path
-from typing import Iterable, Iterator, NamedTuple, Sequence
+from typing import Iterable, Iterator, NamedTuple, Self, Sequence
 
 __all__ = [
     "Channel", "Command", "Kind", "Memory", "Place", "Reply", "ReplyKind", "Refused", "Statistics", "Status", "Tables", "Verdict",
@@ -141,7 +141,7 @@ class Verdict(NamedTuple):
 
 
 class _Handle(ctypes.Structure):
-    """A channel."""
+    """A channel or a memory."""
 
     _fields_ = [("is_open", ctypes.c_bool), ("at", ctypes.c_void_p)]
 
@@ -220,6 +220,17 @@ def _calls() -> dict[str, tuple]:
         "address": (status, handle, to(_Place), to(ctypes.c_uint64)),
         "stats": (flag, handle, to(_Stats)),
         "close": (None, handle),
+        "memory_open": (status, text, length, handle),
+        "memory_send": (status, handle, to(_Request)),
+        "memory_run": (status, handle, cycle),
+        "memory_next_command": (flag, handle, to(number), to(_Command)),
+        "memory_next_reply": (flag, handle, to(number), to(_Reply)),
+        "memory_next_act": (flag, handle, to(cycle)),
+        "memory_now": (cycle, handle),
+        "memory_place": (flag, handle, ctypes.c_uint64, to(_Place)),
+        "memory_address": (status, handle, to(_Place), to(ctypes.c_uint64)),
+        "memory_stats": (status, handle, number, to(_Stats)),
+        "memory_close": (None, handle),
         "fault_text": (status, text, length, ctypes.c_char_p, length, to(length)),
         "check": (status, text, length, text, length, to(_Verdict)),
     }
@@ -252,6 +263,13 @@ def _check(status: int, configuration: bytes | None = None) -> None:
         raise Refused(status)
 
 
+def _fitting(bits: int, number: int) -> int:
+    """The number, where so many bits hold it."""
+    if not 0 <= number < 1 << bits:
+        raise OverflowError(f"{number} is no number of {bits} bits")
+    return number
+
+
 def _command_of(row: _Command) -> Command:
     return Command(row.cycle, Kind(row.kind), row.rank, row.group, row.bank, row.row, row.column, row.core, row.entry)
 
@@ -268,23 +286,22 @@ def _statistics_of(row: _Stats) -> Statistics:
     )
 
 
-class Channel:
-    """One channel of the machine that a configuration describes, before its first cycle. Use it in a `with`, or close it.
+class _Kept:
+    """What a program keeps by a handle: a channel or a memory, whose calls of the library begin with `_calls`. Use it in a `with`, or close it."""
 
-    It is driven in steps of any length: what it answers depends on the requests that it was sent, and not on the steps.
-    """
+    _calls: str
 
-    def __init__(self, configuration: str | os.PathLike[str] | bytes, number: int = 0) -> None:
-        """Opens the channel with a number. `configuration` is a path, or the text of a file as bytes."""
+    def __init__(self, configuration: str | os.PathLike[str] | bytes, *words: object) -> None:
         text = _text_of(configuration)
         self._library = _library()
         self._handle = _Handle()
-        _check(self._library.dramsim_open(text, len(text), number, ctypes.byref(self._handle)), text)
+        open_call = getattr(self._library, f"{self._calls}open")
+        _check(open_call(text, len(text), *words, ctypes.byref(self._handle)), text)
 
     def _call(self, name: str, *words: object) -> int:
-        return getattr(self._library, f"dramsim_{name}")(ctypes.byref(self._handle), *words)
+        return getattr(self._library, self._calls + name)(ctypes.byref(self._handle), *words)
 
-    def __enter__(self) -> Channel:
+    def __enter__(self) -> Self:
         return self
 
     def __exit__(self, *_: object) -> None:
@@ -295,16 +312,17 @@ class Channel:
             self.close()
 
     def close(self) -> None:
-        """Frees what the channel holds. A closed channel refuses every call."""
+        """Frees what it holds. Closed, it refuses every call."""
         self._call("close")
 
     def send(self, address: int, *, arrival: int, entry: int, core: int = 0, write: bool = False) -> None:
-        """Sends a request that arrives in a cycle at or after `now`, and after those that were sent before."""
-        _check(self._call("send", ctypes.byref(_Request(address, arrival, entry, core, write))))
+        """Sends a request that arrives in a cycle at or after `now`, and after those that were sent to its channel before."""
+        request = _Request(_fitting(64, address), _fitting(64, arrival), _fitting(64, entry), _fitting(16, core), write)
+        _check(self._call("send", ctypes.byref(request)))
 
     def run(self, until: int) -> None:
-        """Runs the channel over the cycles before `until`."""
-        _check(self._call("run", until))
+        """Runs it over the cycles before `until`. Where memory is refused, it is closed."""
+        _check(self._call("run", _fitting(64, until)))
 
     @property
     def now(self) -> int:
@@ -312,9 +330,36 @@ class Channel:
         return self._call("now")
 
     def next_act(self) -> int | None:
-        """The next cycle in which it issues a command, or a request that was sent arrives, if nothing more is sent; None where there is none."""
+        """The next cycle in which a command is issued, or a request that was sent arrives, if nothing more is sent; None where there is none."""
         cycle = ctypes.c_uint64()
         return cycle.value if self._call("next_act", ctypes.byref(cycle)) else None
+
+    def place_of(self, address: int) -> Place:
+        """Where the line of an address lies: a request goes to the channel with the number `channel`."""
+        row = _Place()
+        if not self._call("place", _fitting(64, address), ctypes.byref(row)):
+            raise Refused(Status.CLOSED)
+        return Place(*(getattr(row, name) for name in Place._fields))
+
+    def address_of(self, place: Place) -> int:
+        """The least address of the line at a place."""
+        address = ctypes.c_uint64()
+        row = _Place(*(_fitting(32, number) for number in place))
+        _check(self._call("address", ctypes.byref(row), ctypes.byref(address)))
+        return address.value
+
+
+class Channel(_Kept):
+    """One channel of the machine that a configuration describes, before its first cycle. Use it in a `with`, or close it.
+
+    It is driven in steps of any length: what it answers depends on the requests that it was sent, and not on the steps.
+    """
+
+    _calls = "dramsim_"
+
+    def __init__(self, configuration: str | os.PathLike[str] | bytes, number: int = 0) -> None:
+        """Opens the channel with a number. `configuration` is a path, or the text of a file as bytes."""
+        super().__init__(configuration, _fitting(32, number))
 
     def commands(self) -> Iterator[Command]:
         """Takes the commands of the cycles that are over, which were not taken."""
@@ -328,19 +373,6 @@ class Channel:
         while self._call("next_reply", ctypes.byref(row)):
             yield _reply_of(row)
 
-    def place_of(self, address: int) -> Place:
-        """Where the line of an address lies: a request goes to the channel with the number `channel`."""
-        row = _Place()
-        if not self._call("place", address, ctypes.byref(row)):
-            raise Refused(Status.CLOSED)
-        return Place(*(getattr(row, name) for name in Place._fields))
-
-    def address_of(self, place: Place) -> int:
-        """The least address of the line at a place."""
-        address = ctypes.c_uint64()
-        _check(self._call("address", ctypes.byref(_Place(*place)), ctypes.byref(address)))
-        return address.value
-
     @property
     def statistics(self) -> Statistics:
         """The statistics of the cycles that are over."""
@@ -350,72 +382,38 @@ class Channel:
         return _statistics_of(row)
 
 
-class Memory:
+class Memory(_Kept):
     """All channels of the machine that a configuration describes, before its first cycle. Use it in a `with`, or close it.
 
     A request goes to the channel of its address, and `run` runs all. As with a `Channel`, what it answers does not depend on the steps.
     """
 
+    _calls = "dramsim_memory_"
+
     def __init__(self, configuration: str | os.PathLike[str] | bytes) -> None:
         """Opens the memory. `configuration` is a path, or the text of a file as bytes."""
-        text = _text_of(configuration)
-        self.channels = [Channel(text)]
-        try:
-            while True:
-                self.channels.append(Channel(text, len(self.channels)))
-        except Refused as refused:
-            if refused.status != Status.NO_SUCH_CHANNEL:
-                raise
-
-    def __enter__(self) -> Memory:
-        return self
-
-    def __exit__(self, *_: object) -> None:
-        self.close()
-
-    def close(self) -> None:
-        """Frees what the channels hold. A closed memory refuses every call."""
-        for channel in self.channels:
-            channel.close()
-
-    def send(self, address: int, *, arrival: int, entry: int, core: int = 0, write: bool = False) -> None:
-        """Sends a request to the channel of its address, in which it arrives at or after `now`, and after those that were sent to it before."""
-        channel = self.channels[self.place_of(address).channel]
-        channel.send(address, arrival=arrival, entry=entry, core=core, write=write)
-
-    def run(self, until: int) -> None:
-        """Runs all channels over the cycles before `until`. Where one is refused memory, the memory can only be closed."""
-        for channel in self.channels:
-            channel.run(until)
-
-    @property
-    def now(self) -> int:
-        """How many cycles are over."""
-        return self.channels[0].now
-
-    def next_act(self) -> int | None:
-        """The next cycle in which a channel issues a command, or a request that was sent arrives, if nothing more is sent; None where there is none."""
-        return min((cycle for channel in self.channels if (cycle := channel.next_act()) is not None), default=None)
+        super().__init__(configuration)
 
     def commands(self) -> Iterator[tuple[int, Command]]:
         """Takes the commands of the cycles that are over, which were not taken, each with the number of its channel: by cycle and then by channel."""
-        rows = [(number, command) for number, channel in enumerate(self.channels) for command in channel.commands()]
-        return iter(sorted(rows, key=lambda row: row[1].cycle))
+        number, row = ctypes.c_uint32(), _Command()
+        while self._call("next_command", ctypes.byref(number), ctypes.byref(row)):
+            yield number.value, _command_of(row)
 
     def replies(self) -> Iterator[tuple[int, Reply]]:
-        """Takes the replies and credits that were sent in the cycles that are over, which were not taken, each with the number of its channel: by arrival."""
-        rows = [(number, reply) for number, channel in enumerate(self.channels) for reply in channel.replies()]
-        return iter(sorted(rows, key=lambda row: row[1].arrival))
+        """Takes the replies and credits that were sent in the cycles that are over, which were not taken, each with the number of its channel.
 
-    def place_of(self, address: int) -> Place:
-        """Where the line of an address lies."""
-        return self.channels[0].place_of(address)
+        Of the next one of each channel, the one that arrives first comes first, and of these that of the lowest channel.
+        """
+        number, row = ctypes.c_uint32(), _Reply()
+        while self._call("next_reply", ctypes.byref(number), ctypes.byref(row)):
+            yield number.value, _reply_of(row)
 
     def statistics(self, channel: int) -> Statistics:
         """The statistics of the cycles of a channel that are over."""
-        if not 0 <= channel < len(self.channels):
-            raise Refused(Status.NO_SUCH_CHANNEL)
-        return self.channels[channel].statistics
+        row = _Stats()
+        _check(self._call("stats", _fitting(32, channel), ctypes.byref(row)))
+        return _statistics_of(row)
 
 
 def check(configuration: str | os.PathLike[str] | bytes, table: str | os.PathLike[str] | bytes) -> Verdict | None:
@@ -429,17 +427,18 @@ def check(configuration: str | os.PathLike[str] | bytes, table: str | os.PathLik
 
 
 class Tables(NamedTuple):
-    """The tables of a run, row by row, each a dict by the names of the columns."""
+    """The tables of a run that were asked for, row by row, each a dict by the names of the columns; None for the others."""
 
-    commands: list[dict[str, str]]
-    stats: list[dict[str, str]]
-    final: list[dict[str, str]]
+    commands: list[dict[str, str]] | None = None
+    stats: list[dict[str, str]] | None = None
+    final: list[dict[str, str]] | None = None
+    requests: list[dict[str, str]] | None = None
 
     def frames(self) -> tuple:
-        """The tables as frames of pandas, where it is installed."""
+        """The tables as frames of pandas, where it is installed, in the same order; None for those that were not asked for."""
         import pandas
 
-        return tuple(pandas.DataFrame(rows) for rows in self)
+        return tuple(None if rows is None else pandas.DataFrame(rows) for rows in self)
 
 
 def configure(preset: str, machine: str, **keys: int | str) -> bytes:
@@ -461,11 +460,13 @@ def run(
     cycles: int,
     workers: int = 1,
     *,
+    tables: Sequence[str] = ("commands", "stats", "final"),
     options: Sequence[str] = (),
 ) -> Tables:
     """Runs the program on a configuration and a trace for each core, up to a cycle, and gives its tables.
 
-    `configuration` is a path, or the text of a file as bytes; `options` are further words of `dramsim run`.
+    `configuration` is a path, or the text of a file as bytes; `tables` are those that are wanted, of `commands`, `stats`, `final` and
+    `requests`; `options` are further words of `dramsim run`.
     """
     program = os.environ.get("DRAMSIM", "dramsim")
     with tempfile.TemporaryDirectory() as folder:
@@ -473,10 +474,11 @@ def run(
             text, configuration = configuration, Path(folder) / "config.toml"
             configuration.write_bytes(text)
         words = [program, "run", os.fspath(configuration), "--cycles", str(cycles), "--workers", str(workers), "--out", folder]
+        words += ["--tables", ",".join(tables)]
         done = subprocess.run([*words, *options, *map(os.fspath, traces)], capture_output=True, text=True)
         if done.returncode != 0:
             raise Refused(done.returncode, done.stderr.strip())
-        return Tables(*(_rows(Path(folder) / f"{name}.csv") for name in Tables._fields))
+        return Tables(**{name: _rows(Path(folder) / f"{name}.csv") for name in tables})
 
 
 def _rows(path: Path) -> list[dict[str, str]]:

@@ -1,27 +1,8 @@
 /* channel CONFIG TWO: drives a channel of examples/profile_s.toml through each call, and a channel of the same machine with two channels, and
  * compares with what was worked out by hand. */
-#include "dramsim.h"
+#include "common.h"
 
-#include <stdio.h>
-#include <stdlib.h>
 #include <string.h>
-
-#define EXPECT(what, expected) expect(#what, (uint64_t)(what), (uint64_t)(expected))
-
-static void expect(const char *what, uint64_t got, uint64_t expected) {
-    if (got != expected) {
-        fprintf(stderr, "channel: %s is %llu, and not %llu\n", what, (unsigned long long)got, (unsigned long long)expected);
-        exit(1);
-    }
-}
-
-static size_t read_text(const char *path, uint8_t *text, size_t room) {
-    FILE *file = fopen(path, "rb");
-    if (!file) { perror(path); exit(1); }
-    size_t length = fread(text, 1, room, file);
-    fclose(file);
-    return length;
-}
 
 static void expect_command(struct dramsim_channel *channel, uint64_t cycle, uint8_t kind, uint32_t row, uint64_t entry) {
     struct dramsim_command command;

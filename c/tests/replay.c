@@ -1,26 +1,6 @@
-/* replay CONFIG STEP CYCLES < requests > table: drives all channels of a machine over CYCLES cycles in steps of STEP cycles, shorter where a
- * credit is waited for, and prints their commands as dramsim writes commands.csv. A request is a line: its arrival, core, entry, 1 for a write,
- * and address. */
-#include "dramsim.h"
-
-#include <inttypes.h>
-#include <stdio.h>
-#include <stdlib.h>
-
-static const char *const kinds[] = {"ACT", "RD", "WR", "PRE", "PREA", "REF"};
-
-static void fail(const char *what, uint32_t status) {
-    fprintf(stderr, "replay: %s: status %u\n", what, status);
-    exit(1);
-}
-
-static size_t read_text(const char *path, uint8_t *text, size_t room) {
-    FILE *file = fopen(path, "rb");
-    if (!file) { perror(path); exit(1); }
-    size_t length = fread(text, 1, room, file);
-    fclose(file);
-    return length;
-}
+/* replay CONFIG STEP CYCLES < requests > table: drives the channels of a machine, each by a handle of its own, over CYCLES cycles in steps of
+ * STEP cycles, shorter where a credit is waited for, and prints their commands as dramsim writes commands.csv. */
+#include "requests.h"
 
 /* The channels, and of each the next command, if there is one. */
 static struct { struct dramsim_channel channel; struct dramsim_command command; bool has_command; } all[1 << 10];
@@ -36,29 +16,7 @@ static void open_all(const uint8_t *text, size_t length) {
 static bool has_ranks(void) {
     struct dramsim_line_place place = {.rank = 1};
     uint64_t address;
-    uint32_t status = dramsim_address(&all[0].channel, &place, &address);
-    if (status != DRAMSIM_OK && status != DRAMSIM_NO_SUCH_PLACE) fail("address", status);
-    return status == DRAMSIM_OK;
-}
-
-static bool read_request(struct dramsim_request *request) {
-    unsigned core, is_write;
-    if (scanf("%" SCNu64 " %u %" SCNu64 " %u %" SCNu64, &request->arrival, &core, &request->entry, &is_write, &request->address) != 5) return false;
-    request->core = (uint16_t)core;
-    request->is_write = is_write == 1;
-    return true;
-}
-
-static void print_command(uint32_t channel, const struct dramsim_command *command, bool ranks) {
-    bool named = command->kind != DRAMSIM_PREA && command->kind != DRAMSIM_REF, moves = command->kind == DRAMSIM_RD || command->kind == DRAMSIM_WR;
-    printf("%" PRIu64 ",%u,%s,", command->cycle, channel, kinds[command->kind]);
-    if (ranks) printf("%u,", command->rank);
-    if (!named) { printf(",,,,,\n"); return; }
-    printf("%u,%u,", command->group, command->bank);
-    if (command->kind != DRAMSIM_PRE) printf("%u", command->row);
-    printf(",");
-    if (moves) printf("%u", command->column);
-    printf(",%u,%" PRIu64 "\n", command->core, command->entry);
+    return has_rank(dramsim_address(&all[0].channel, &place, &address));
 }
 
 /* Prints the commands by cycle and then by channel, and takes the replies. */
@@ -100,7 +58,7 @@ int main(int count, char **words) {
     bool ranks = has_ranks();
     struct dramsim_request next;
     bool there = read_request(&next);
-    printf("cycle,channel,command,%sgroup,bank,row,column,core,entry\n", ranks ? "rank," : "");
+    print_header(ranks);
     for (uint64_t now = 0; now < cycles; now = dramsim_now(&all[0].channel)) {
         uint64_t until = send_before(now + step < cycles ? now + step : cycles, &next, &there);
         for (uint32_t number = 0; number < channels; number++) {

@@ -1,7 +1,7 @@
-"""A machine of cores and links over channels of the library: what `dramsim run` simulates, with its cores in Python.
+"""A machine of cores and links over a memory of the library: what `dramsim run` simulates, with its cores in Python.
 
-It goes cycle by cycle: replies and credits that have come, entries that retire, entries that issue, and then the channels.
-`machine.py CONFIG CYCLES TRACE...` prints the requests that the channels are sent, as c/tests/replay.c reads them.
+It goes cycle by cycle: replies and credits that have come, entries that retire, entries that issue, and then the memory.
+`machine.py CONFIG CYCLES TRACE...` prints the requests that the channels are sent, as c/tests/replay.c and replay_memory.c read them.
 """
 from __future__ import annotations
 
@@ -83,32 +83,32 @@ def simulate(configuration: Path, traces: list[Path], cycles: int):
     keys = tomllib.loads(configuration.read_text())
     links = Link(keys)
     cores = [Core(number, read_trace(trace), keys) for number, trace in enumerate(traces)]
-    channels = [dramsim.Channel(configuration, number) for number in range(keys["channels"])]
+    channels = range(keys["channels"])
     on_the_way: list = []
     coming: list[list] = [[] for _ in channels]
     commands: list[list] = [[] for _ in channels]
     requests: list[list] = [[] for _ in channels]
-    for now in range(cycles):
-        while on_the_way and on_the_way[0][0] <= now:
-            _, _, channel, reply = heapq.heappop(on_the_way)
-            cores[reply.core].receive(channel, reply)
-        for core in cores:
-            for channel, entry, kind, address in core.step(channels[0].place_of):
-                link = 3 * (core.number * len(channels) + channel)
-                heapq.heappush(coming[channel], (now + links.latency(link), link, core.number, entry, kind, address))
-        for number, channel in enumerate(channels):
-            while coming[number] and coming[number][0][0] <= now:
-                arrival, _, core, entry, kind, address = heapq.heappop(coming[number])
-                request = dict(address=address, arrival=arrival, entry=entry, core=core, write=kind == "write")
-                channel.send(**request)
-                requests[number].append(request)
-            channel.run(now + 1)
-            commands[number] += channel.commands()
-            for count, reply in enumerate(channel.replies()):
-                heapq.heappush(on_the_way, (reply.arrival, (now, number, count), number, reply))
-    statistics = [channel.statistics for channel in channels]
-    for channel in channels:
-        channel.close()
+    with dramsim.Memory(configuration) as memory:
+        for now in range(cycles):
+            while on_the_way and on_the_way[0][0] <= now:
+                _, _, channel, reply = heapq.heappop(on_the_way)
+                cores[reply.core].receive(channel, reply)
+            for core in cores:
+                for channel, entry, kind, address in core.step(memory.place_of):
+                    link = 3 * (core.number * len(channels) + channel)
+                    heapq.heappush(coming[channel], (now + links.latency(link), link, core.number, entry, kind, address))
+            for channel in channels:
+                while coming[channel] and coming[channel][0][0] <= now:
+                    arrival, _, core, entry, kind, address = heapq.heappop(coming[channel])
+                    request = dict(address=address, arrival=arrival, entry=entry, core=core, write=kind == "write")
+                    memory.send(**request)
+                    requests[channel].append(request)
+            memory.run(now + 1)
+            for channel, command in memory.commands():
+                commands[channel].append(command)
+            for count, (channel, reply) in enumerate(memory.replies()):
+                heapq.heappush(on_the_way, (reply.arrival, (now, count), channel, reply))
+        statistics = [memory.statistics(channel) for channel in channels]
     return commands, requests, statistics
 
 
@@ -132,7 +132,7 @@ def replay(configuration: Path, number: int, requests: list[dict], cycles: int, 
 
 
 def lines_of(requests: list[list[dict]]) -> str:
-    """The requests of all channels by arrival, as c/tests/replay.c reads them."""
+    """The requests of all channels by arrival, as the programs in c/tests read them."""
     all = sorted((request for sent in requests for request in sent), key=lambda request: request["arrival"])
     return "".join("{arrival} {core} {entry} {write:d} {address}\n".format(**request) for request in all)
 

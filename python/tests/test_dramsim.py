@@ -1,5 +1,5 @@
 """Runs, and channels and memories that Python and C drive, beside the program: python -m unittest discover python/tests, with DRAMSIM,
-DRAMSIM_LIBRARY and DRAMSIM_REPLAY set, the last one to the programs that c/tests/replay.c makes, with colons between.
+DRAMSIM_LIBRARY and DRAMSIM_REPLAY set, the last one to the programs that c/tests/replay.c and replay_memory.c make, with colons between.
 
 `Runs` needs the program alone.
 """
@@ -11,7 +11,9 @@ import subprocess
 import sys
 import tempfile
 import tomllib
+import types
 import unittest
+import unittest.mock
 from pathlib import Path
 
 sys.path.insert(0, str(Path(__file__).resolve().parents[1]))
@@ -23,6 +25,7 @@ from out_of_order import Core, Instruction
 
 EXAMPLES = Path(__file__).resolve().parents[2] / "examples"
 SMALL = EXAMPLES / "profile_s.toml"
+TWO = EXAMPLES / "cases" / "two_channels" / "config.toml"
 LONGEST = 3000
 
 
@@ -33,9 +36,9 @@ def traces_of(case: Path, cores: int) -> list[Path]:
 
 
 def made_up(seed: int, folder: Path) -> tuple[Path, list[Path]]:
-    """A machine and traces that a seed makes."""
+    """A machine of several channels, and traces, that a seed makes."""
     chance = random.Random(seed)
-    cores, channels, ranks = chance.randint(1, 3), chance.choice((1, 2)), chance.choice((1, 2))
+    cores, channels, ranks = chance.randint(1, 3), chance.choice((2, 4)), chance.choice((1, 2))
     fields = ["channel", "column", "rank", "group", "bank", "row"]
     chance.shuffle(fields)
     text = SMALL.read_text().splitlines()
@@ -80,7 +83,7 @@ def replay_in_c(program: str, configuration: Path, requests: list[list[dict]], c
 
 
 class Machines(unittest.TestCase):
-    """Cores in Python over channels of the library issue the very commands of `dramsim run`, in steps of any length."""
+    """Cores in Python over a memory of the library issue the very commands of `dramsim run`, in steps of any length; its channels do too."""
 
     def compare(self, configuration: Path, traces: list[Path], cycles: int) -> None:
         keys = tomllib.loads(configuration.read_text())
@@ -127,6 +130,26 @@ class Runs(unittest.TestCase):
         tables = dramsim.run(SMALL, [EXAMPLES / "rows" / "read.trace"], 64)
         self.assertEqual([(row["cycle"], row["command"]) for row in tables.commands], [("2", "ACT"), ("5", "RD")])
         self.assertEqual(tables.stats[0], {"scope": "run", "id": "0", "name": "cycles", "value": "64"})
+
+    def test_requests(self) -> None:
+        # The one ACT is the first read's. The write of its neighbour has no reply, and the read behind it waits for it.
+        case = EXAMPLES / "cases" / "same_line"
+        tables = dramsim.run(case / "config.toml", [case / "c0.trace"], 64, tables=["stats", "requests"])
+        self.assertIsNone(tables.commands)
+        self.assertEqual([(row["served"], row["replied"], row["hit"]) for row in tables.requests], [("5", "15", "0"), ("12", "", "1"), ("21", "31", "1")])
+
+    def test_unknown_table(self) -> None:
+        with self.assertRaises(dramsim.Refused) as raised:
+            dramsim.run(SMALL, [EXAMPLES / "rows" / "read.trace"], 64, tables=["stats", "stats"])
+        self.assertTrue(raised.exception.lines.startswith("fault 14"))
+
+    def test_frames(self) -> None:
+        # pandas need not be installed here; what it is handed is what `run` gives.
+        pandas = types.ModuleType("pandas")
+        pandas.DataFrame = list
+        tables = dramsim.run(SMALL, [EXAMPLES / "rows" / "read.trace"], 64)
+        with unittest.mock.patch.dict(sys.modules, pandas=pandas):
+            self.assertEqual(tables.frames(), (tables.commands, tables.stats, tables.final, None))
 
     def test_workers(self) -> None:
         traces = sorted((EXAMPLES / "ddr4_2400").glob("*.trace"))
@@ -182,29 +205,51 @@ class Refusals(unittest.TestCase):
                     self.assertEqual(str(raised.exception), raised.exception.lines)
 
     def test_memory(self) -> None:
-        with dramsim.Memory(SMALL) as memory:
+        with dramsim.Memory(TWO) as memory:
             memory.run(10)
+            # Line 0 lies in channel 0, line 1 in channel 1: neither takes notice of what the other is sent.
+            memory.send(64, arrival=20, entry=9)
             memory.send(0, arrival=12, entry=3)
             self.refused(dramsim.Status.NO_SUCH_CORE, memory.send, 0, arrival=13, entry=4, core=1)
             self.refused(dramsim.Status.IN_THE_PAST, memory.send, 0, arrival=9, entry=4)
-            self.refused(dramsim.Status.OUT_OF_ORDER, memory.send, 0, arrival=12, entry=4)
+            self.refused(dramsim.Status.OUT_OF_ORDER, memory.send, 64, arrival=20, entry=10)
             self.refused(dramsim.Status.ENTRY_PASSED, memory.send, 0, arrival=13, entry=3)
             self.refused(dramsim.Status.END_PASSED, memory.run, 9)
             self.refused(dramsim.Status.END_TOO_LATE, memory.run, 2**62 + 1)
-            self.refused(dramsim.Status.NO_SUCH_CHANNEL, memory.statistics, 1)
+            self.refused(dramsim.Status.NO_SUCH_CHANNEL, memory.statistics, 2)
             memory.run(40)
-            self.assertEqual([(number, command.cycle) for number, command in memory.commands()], [(0, 12), (0, 15)])
-            self.assertEqual(memory.statistics(0).rd, 1)
+            self.assertEqual([(number, command.cycle) for number, command in memory.commands()], [(0, 12), (0, 15), (1, 20), (1, 23)])
+            self.assertEqual([(number, reply.arrival) for number, reply in memory.replies()], [(0, 25), (0, 17), (1, 33), (1, 25)])
+            self.assertEqual((memory.statistics(0).rd, memory.now, memory.next_act()), (1, 40, None))
         self.refused(dramsim.Status.CLOSED, memory.run, 41)
+        self.refused(dramsim.Status.CLOSED, memory.send, 0, arrival=41, entry=11)
         self.refused(dramsim.Status.CLOSED, memory.statistics, 0)
-        self.assertEqual(list(memory.commands()), [])
+        self.refused(dramsim.Status.CLOSED, memory.place_of, 0)
+        self.assertEqual((list(memory.commands()), list(memory.replies()), memory.now, memory.next_act()), ([], [], 0, None))
+
+    def test_numbers(self) -> None:
+        # What no number of C holds is refused before the library is asked.
+        with dramsim.Memory(SMALL) as memory:
+            for words in (dict(address=-1), dict(address=2**64), dict(arrival=-1), dict(arrival=2**64), dict(entry=2**64), dict(core=2**16)):
+                with self.subTest(words=words), self.assertRaises(OverflowError):
+                    memory.send(**(dict(address=0, arrival=0, entry=0) | words))
+            for call, number in ((memory.run, 2**64), (memory.statistics, 2**32), (memory.statistics, -1), (memory.place_of, -1)):
+                with self.subTest(call=call), self.assertRaises(OverflowError):
+                    call(number)
+            with self.assertRaises(OverflowError):
+                memory.address_of(dramsim.Place(0, 0, 0, 0, 2**32, 0))
+            with self.assertRaises(OverflowError):
+                dramsim.Channel(SMALL, 2**32)
+            self.assertEqual((memory.now, list(memory.commands())), (0, []))
 
     def test_places(self) -> None:
-        with dramsim.Channel(SMALL) as channel:
+        with dramsim.Channel(SMALL) as channel, dramsim.Memory(SMALL) as memory:
             # 128 lines a row, 2 groups and 4 banks: row 1 begins at 65,536 bytes.
             self.assertEqual(channel.address_of(dramsim.Place(0, 0, 1, 0, 1, 3)), 65536 + 8192 + 3 * 64)
+            self.assertEqual(memory.place_of(65536 + 8192 + 3 * 64), dramsim.Place(0, 0, 1, 0, 1, 3))
             for place in ((1, 0, 0, 0, 0, 0), (0, 1, 0, 0, 0, 0), (0, 0, 2, 0, 0, 0), (0, 0, 0, 4, 0, 0), (0, 0, 0, 0, 65536, 0), (0, 0, 0, 0, 0, 128)):
                 self.refused(dramsim.Status.NO_SUCH_PLACE, channel.address_of, dramsim.Place(*place))
+                self.refused(dramsim.Status.NO_SUCH_PLACE, memory.address_of, dramsim.Place(*place))
 
     def test_check(self) -> None:
         # The PRE of row 4 comes 10 cycles after the WR, where nCWL + 4 + nWR = 11. A row with a word that is no command is none.
@@ -245,6 +290,20 @@ class Refusals(unittest.TestCase):
         self.refused(dramsim.Status.CLOSED, channel.send, 0, arrival=0, entry=0)
         self.assertEqual(list(channel.commands()), [])
         self.assertEqual(channel.now, 0)
+
+
+class Install(unittest.TestCase):
+    """`pip install` of the folder, with no index at hand."""
+
+    def test_pip(self) -> None:
+        if subprocess.run([sys.executable, "-m", "pip", "--version"], capture_output=True).returncode != 0:
+            self.skipTest("there is no pip")
+        with tempfile.TemporaryDirectory() as folder:
+            words = ["--quiet", "--no-index", "--no-cache-dir", "--disable-pip-version-check", "--target", folder, Path(dramsim.__file__).parent]
+            subprocess.run([sys.executable, "-m", "pip", "install", *words], check=True, capture_output=True)
+            program = f"import dramsim; print(dramsim.__file__); print(dramsim.Memory({str(SMALL)!r}).place_of(65536).row)"
+            done = subprocess.run([sys.executable, "-c", program], cwd=folder, check=True, capture_output=True, text=True)
+            self.assertEqual(done.stdout.split(), [str(Path(folder) / "dramsim.py"), "1"])
 
 
 class Cores(unittest.TestCase):

@@ -2,3 +2,4 @@ pub mod ManyFiles
 pub mod NamedFacts
 pub mod PageFacts
 pub mod RefusedFacts
+pub mod RequestFacts

@@ -23,12 +23,13 @@ use Rattle.statistics.specs.Values.{RunStats}
 use Rattle.rule_check.specs.Verdict.{records_of, verdict}
 use Rattle.rule_check.specs.declared.verdict.Verdict.{Verdict}
 use Rattle.rule_check.specs.declared.verdict.Verdict.TheVariants.{Legal, Broken}
-use Rattle.show.specs.Screen.{IsScreen}
 use Rattle.compare.specs.Comparison.{comparison_text}
 use Rattle.compare.specs.declared.layout.Layout.{Layout}
 use Rattle.whole_files.specs.Files.{Held}
 use Rattle.whole_files.specs.Tables.{path_in, stats_name}
+use Rattle.request_table.specs.declared.times.RequestTimes.{RequestTimes}
 use Rattle.answers.specs.Named.{IsConfigured}
+use Rattle.answers.specs.Requests.{requests_path, AreRequestsAt, IsRunScreen, AreTails}
 
 -- what `check` finds of the table that a file holds, under the configuration that another holds
 pub record IsVerdict (config commands : List ℕ) (held : Held) (found : Verdict) : Type 0 where
@@ -89,13 +90,16 @@ pub record IsStatsOf (path : List ℕ) (held : Held) (stats : RunStats) : Type 0
   pub table_is : held path ≡ Some table
   pub rows_are : records_of table ≡ stats_header ∷ stats_rows stats
 
--- a folder has the table of statistics, a configuration that is named is one that they fit, and their screen was printed
+-- a folder has the table of statistics, a configuration that is named is one that they fit, and their screen was printed, with that of the requests
+-- where the folder has their table too
 pub record IsShown (dir : List ℕ) (config : Option (List ℕ)) (held : Held) (before after : Option (List ℕ)) : Type 0 where
   pub stats : RunStats
+  pub requests : Option (List RequestTimes)
   pub text : List ℕ
   pub stats_are : IsStatsOf (path_in dir stats_name) held stats
   pub configured : IsConfigured config held stats
-  pub screen : IsScreen stats text
+  pub requests_are : AreRequestsAt (held (requests_path dir)) stats requests
+  pub screen : IsRunScreen stats requests text
   pub printed : Appends before after text
 
 -- the file of the statistics in a folder
@@ -112,8 +116,10 @@ pub record AreStatsOf (dirs : List (List ℕ)) (held : Held) (runs : List RunSta
   pub tables_are : map held (map stats_path dirs) ≡ map Some tables
   pub rows_are : map records_of tables ≡ map stats_table runs
 
--- each folder has the table of statistics, and their comparison was printed
+-- each folder has the table of statistics, and their comparison was printed, with p99 of the read latencies where each has a table of requests
 pub record IsCompared (dirs : List (List ℕ)) (layout : Layout) (held : Held) (before after : Option (List ℕ)) : Type 0 where
   pub runs : List RunStats
+  pub tails : List (Option ℕ)
   pub runs_are : AreStatsOf dirs held runs
-  pub printed : Appends before after (comparison_text layout dirs runs)
+  pub tails_are : AreTails dirs held runs tails
+  pub printed : Appends before after (comparison_text layout dirs runs tails)

@@ -4,21 +4,24 @@ use Rattle.std.specs.Prelude.{ℕ, List, Option}
 use Rattle.std.specs.Io.KnownBytes.{Appends}
 use Rattle.sim_base.specs.declared.command.IssuedCommand.{IssuedCommand}
 use Rattle.page.specs.Rows.{IsOfRunAt}
-use Rattle.show.specs.Banks.{IsBanksScreen}
+use Rattle.request_table.specs.declared.times.RequestTimes.{RequestTimes}
 use Rattle.statistics.specs.Values.{RunStats}
 use Rattle.whole_files.specs.Files.{Held}
 use Rattle.whole_files.specs.Tables.{path_in, stats_name, commands_name}
 use Rattle.answers.specs.Named.{IsConfigured}
 use Rattle.answers.specs.Pages.{AreTablesAt}
+use Rattle.answers.specs.Requests.{requests_path, AreRequestsAt, IsRunBanksScreen}
 
 -- a folder has the tables of a run, a configuration that is named is one that it fits, each command is of the run, and the screen of the run was
--- printed with its banks
+-- printed with its banks, and with its requests where the folder has their table too
 pub record IsShownWithBanks (dir : List ℕ) (config : Option (List ℕ)) (held : Held) (before after : Option (List ℕ)) : Type 0 where
   pub stats : RunStats
   pub commands : List IssuedCommand
+  pub requests : Option (List RequestTimes)
   pub text : List ℕ
   pub tables : AreTablesAt (path_in dir stats_name) (path_in dir commands_name) held stats commands
   pub configured : IsConfigured config held stats
   pub of_run : (place : ℕ) → IsOfRunAt stats commands place
-  pub screen : IsBanksScreen stats commands text
+  pub requests_are : AreRequestsAt (held (requests_path dir)) stats requests
+  pub screen : IsRunBanksScreen stats commands requests text
   pub printed : Appends before after text

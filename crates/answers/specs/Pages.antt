@@ -17,7 +17,9 @@ use Rattle.refusal.specs.declared.warning.LargePage.{LargePage}
 use Rattle.whole_files.specs.Files.{Held}
 use Rattle.whole_files.specs.Tables.{path_in, stats_name, commands_name}
 use Rattle.whole_files.specs.WholeFile.{IsWhole}
+use Rattle.request_table.specs.declared.times.RequestTimes.{RequestTimes}
 use Rattle.answers.specs.Named.{IsConfigured}
+use Rattle.answers.specs.Requests.{requests_path, AreRequestsAt}
 
 -- one table has just the records of the statistics, and the other a row for each command, by their cycles, below its header
 pub record AreTablesIn (stats_table commands_table : List ℕ) (stats : RunStats) (commands : List IssuedCommand) : Type 0 where
@@ -40,14 +42,16 @@ IsNoPage stats commands Memory = ⊤
 IsNoPage stats commands Write = ⊤
 IsNoPage stats commands _ = ⊥
 
--- the folder has the tables of a run, a configuration that is named is one that it fits, each command is of the run, the file is a new one,
--- nothing else has changed, and a page of more than 50 MB is warned of
+-- the folder has the tables of a run, a configuration that is named is one that it fits, each command is of the run, so is a table of requests, where there is one, the file is
+-- a new one, nothing else has changed, and a page of more than 50 MB is warned of
 pub record IsPageDone (dir file : List ℕ) (config : Option (List ℕ)) (warning : Option LargePage) (old new : Held) : Type 0 where
   pub stats : RunStats
   pub commands : List IssuedCommand
+  pub requests : Option (List RequestTimes)
   pub text : List ℕ
   pub tables : AreTablesAt (path_in dir stats_name) (path_in dir commands_name) old stats commands
   pub configured : IsConfigured config old stats
+  pub requests_are : AreRequestsAt (old (requests_path dir)) stats requests
   pub of_run : (place : ℕ) → IsOfRunAt stats commands place
   pub written : IsWhole file text old new
   pub warned : IsWarningOf text warning

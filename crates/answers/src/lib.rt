@@ -8,6 +8,7 @@ mod explained;
 pub mod pages;
 pub mod places;
 pub mod print;
+mod requests;
 pub mod screens;
 mod tables;
 pub mod verdicts;

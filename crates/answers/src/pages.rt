@@ -9,33 +9,58 @@ ghost use Rattle.answers.specs.Named.{with_config};
 ghost use Rattle.answers.specs.Pages.{IsNoPage, IsPageDone};
 ghost use Rattle.answers.specs.Refused.{IsPageFault, IsRightPage, IsAnswerFault};
 
+use crate::requests::requests_in;
 use crate::tables::{RunTables, stranger, tables_in};
 use page::fault::PageFault;
 use page::page::write_page;
-use page::window::{View, Window};
+use page::window::{Beside, View, Window};
 use refusal::reason::Reason;
 use refusal::warning::{LARGE_PAGE, LargePage};
+use request_table::times::RequestTimes;
 use sim_base::fault::Fault;
 use std::alloc::Global;
 use whole_files::files::FileSet;
 use whole_files::whole_file::write_whole;
 
+/// What a page shows: its window and its clock, and the requests of the run, if there is a table of them.
+#[derive(Clone, Copy)]
+struct Shown<'a> {
+    view: View,
+    requests: Option<&'a [RequestTimes]>,
+}
+
 /// How many windows are tried for a page that is not too long.
 const MOST_TRIED: u32 = 8;
 
+// Requests that may be there.
+fn rows_of(requests: &Option<Vec<RequestTimes>>) -> Option<&[RequestTimes]> {
+    match requests {
+        Some(requests) => Some(requests.as_slice()),
+        None => None,
+    }
+}
+
 // The text of the page, which is made before a file is opened.
-fn page_text(alloc: Global, dir: &str, found: &RunTables, view: View) -> Result<Vec<u8>, Reason>
+fn page_text(
+    alloc: Global,
+    dir: &str,
+    found: &RunTables,
+    shown: Shown<'_>,
+) -> Result<Vec<u8>, Reason>
     ensures of_run { OnOk result ((place : ℕ) → IsOfRunAt found.now.run.stats found.now.commands place) }
     ensures fault { IfErr result (IsNoPage found.now.run.stats found.now.commands) }
 {
     let mut text = Vec::new(alloc);
-    let config = found.run.config.as_ref();
+    let beside = Beside {
+        config: found.run.config.as_ref(),
+        requests: shown.requests,
+    };
     match write_page(
         alloc,
         &found.run.stats,
         &found.commands,
-        config,
-        view,
+        beside,
+        shown.view,
         &mut text,
     ) {
         Ok(()) => Ok(text),
@@ -59,21 +84,22 @@ fn cycles_that_fit(
     alloc: Global,
     dir: &str,
     found: &RunTables,
-    view: View,
+    shown: Shown<'_>,
     bytes: u64,
 ) -> Option<u64> {
-    let window = view.window;
-    let shown = found.run.stats.cycles.saturating_sub(window.from);
+    let View { window, khz } = shown.view;
+    let left = found.run.stats.cycles.saturating_sub(window.from);
     let mut fewer = Window {
         from: window.from,
-        cycles: window.cycles.min(shown),
+        cycles: window.cycles.min(left),
     };
     let mut bytes = bytes;
     for _ in 0..MOST_TRIED {
         fewer.cycles = in_proportion(fewer.cycles, bytes);
-        let khz = view.khz;
         let view = View { window: fewer, khz };
-        bytes = page_text(alloc, dir, found, view).ok()?.len() as u64;
+        bytes = page_text(alloc, dir, found, Shown { view, ..shown })
+            .ok()?
+            .len() as u64;
         if bytes <= LARGE_PAGE {
             return Some(fewer.cycles);
         }
@@ -86,7 +112,7 @@ fn warning_of(
     alloc: Global,
     dir: &str,
     found: &RunTables,
-    view: View,
+    shown: Shown<'_>,
     text: &[u8],
 ) -> Option<LargePage>
     ensures { IsWarningOf text.now result }
@@ -97,18 +123,18 @@ fn warning_of(
     }
     Some(LargePage {
         bytes,
-        cycles: cycles_that_fit(alloc, dir, found, view, bytes),
+        cycles: cycles_that_fit(alloc, dir, found, shown, bytes),
     })
 }
 
 /// `page DIR FILE [--config FILE] [--mhz N] [--from N] [--cycles N]`: draws the run whose tables are in a folder, and its commands in a window of
-/// cycles, with what its configuration and its clock add, as a file that is written whole or not at all. What is given back is a warning of a page of more than
+/// cycles, with what its configuration, its clock and its table of requests add, as a file that is written whole or not at all. What is given back is a warning of a page of more than
 /// 50 MB (50,000,000 bytes), with how many cycles of the window would give one that is not.
 ///
 /// # Errors
 ///
 /// `Fault::Read`, the first fault of the configuration, the faults of the tables, `Fault::ConfigRange` of `cores` or `channels` where the
-/// configuration has another number of them than the run, `Fault::CheckRow` for the first command that is not of the run, `Fault::Write`
+/// configuration has another number of them than the run, `Fault::CheckRow` for the first command or request that is not of the run, `Fault::Write`
 /// where the file cannot be written, and `Fault::Memory`.
 pub fn perform_page<F: FileSet>(
     alloc: Global,
@@ -124,8 +150,13 @@ pub fn perform_page<F: FileSet>(
     ensures fault { IfErr result (IsAnswerFault F.tells (F.held files.old) (with_config (option_map (λ c. c.now) config.entry) (path_in dir.now stats_name ∷ path_in dir.now commands_name ∷ [])) IsPageFault IsRightPage) }
 {
     let found = tables_in(alloc, files, config, dir)?;
-    let text = page_text(alloc, dir, &found, view)?;
-    let warning = warning_of(alloc, dir, &found, view, &text);
+    let requests = requests_in(alloc, files, dir, &found.run.stats)?;
+    let shown = Shown {
+        view,
+        requests: rows_of(&requests),
+    };
+    let text = page_text(alloc, dir, &found, shown)?;
+    let warning = warning_of(alloc, dir, &found, shown, &text);
     write_whole(alloc, files, file, &text)?;
     Ok(warning)
 }

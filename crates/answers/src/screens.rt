@@ -1,18 +1,21 @@
 //! What a run did, on one screen.
 
-ghost use Rattle.std.specs.Prelude.{◌≡◌, ◌∷◌, [], option_map, IfOk, IfErr, OnOk};
+ghost use Rattle.std.specs.Prelude.{◌≡◌, ◌∷◌, [], option_map, string_bytes, IfOk, IfErr, OnOk};
 ghost use Rattle.answers.specs.Answers.{IsStatsOf, IsShown};
 ghost use Rattle.answers.specs.Named.{with_config, IsConfigured};
+ghost use Rattle.answers.specs.Requests.{IsRunScreen};
 ghost use Rattle.answers.specs.Refused.{IsShowFault, IsRightShow, IsReady, IsInputFault, IsAnswerFault};
 ghost use Rattle.whole_files.specs.Files.{SameFiles};
 ghost use Rattle.whole_files.specs.Tables.{path_in, stats_name};
 
 use crate::described::{RunRecord, described, document_at};
 use crate::print::print_text;
+use crate::requests::{add_requests, requests_in};
 use refusal::reason::Reason;
+use request_table::times::RequestTimes;
 use show::options::Options;
 use show::show_text;
-use std::alloc::Global;
+use std::alloc::{AllocError, Global};
 use std::io::Write;
 use whole_files::files::FileSet;
 use whole_files::moves::path_of;
@@ -54,12 +57,26 @@ fn run_in<F: FileSet>(
     run_at(alloc, files, config, path.as_str())
 }
 
-/// `show DIR [--all] [--config FILE] [--mhz N]`: prints what the run did whose tables are in a folder, with what its configuration and its clock
-/// add. It opens and changes no file.
+// The screen of a run, with what there is to say of its requests.
+fn screen_of(
+    alloc: Global,
+    run: &RunRecord,
+    requests: &Option<Vec<RequestTimes>>,
+    options: Options,
+) -> Result<String, AllocError>
+    ensures { IfOk result (λ text. IsRunScreen run.now.stats (option_map (λ r. r.items) requests.now) (string_bytes text)) }
+{
+    let mut screen = show_text(alloc, &run.stats, options, run.config.as_ref())?;
+    add_requests(alloc, &run.stats, requests, options, &mut screen)?;
+    Ok(screen)
+}
+
+/// `show DIR [--all] [--config FILE] [--mhz N]`: prints what the run did whose tables are in a folder, with what its configuration, its clock and
+/// its table of requests add. It opens and changes no file.
 ///
 /// # Errors
 ///
-/// `Fault::Read`, the first fault of the configuration, the fault of the table, `Fault::ConfigRange` of `cores` or `channels` where the
+/// `Fault::Read`, the first fault of the configuration, the fault of the table, that of the requests, `Fault::CheckRow` where they are not of the run, `Fault::ConfigRange` of `cores` or `channels` where the
 /// configuration has another number of them than the run, `Fault::Write` where the answer cannot be written, and `Fault::Memory`.
 pub fn perform_show<F: FileSet, P: Write>(
     alloc: Global,
@@ -75,6 +92,7 @@ pub fn perform_show<F: FileSet, P: Write>(
     ensures unopened { F.tells → F.opened files.new ≡ F.opened files.old }
 {
     let run = run_in(alloc, files, config, dir)?;
-    let screen = show_text(alloc, &run.stats, options, run.config.as_ref())?;
+    let requests = requests_in(alloc, files, dir, &run.stats)?;
+    let screen = screen_of(alloc, &run, &requests, options)?;
     print_text(alloc, output, screen.as_str())
 }

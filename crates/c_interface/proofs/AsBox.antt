@@ -24,12 +24,12 @@ FromLoose = plain (λ _. loose.the_row session.the_row heap.the_row ghosts)
 abbrev pub FromHandle : Slot 0
 FromHandle = plain (λ _. handle.the_row)
 
--- the session of a handle that holds one
-unfoldable pub held : (value : Option session.the_row.Denot) → Holds value → session.the_row.Denot
+-- the value of a handle that holds one
+unfoldable pub held : {T : Type 0} → (value : Option T) → Holds value → T
 held (Some x) h = x
 held None h = absurd h
 
-pub is_held : (value : Option session.the_row.Denot) (h : Holds value) → value ≡ Some (held value h)
+pub is_held : {T : Type 0} → (value : Option T) (h : Holds value) → value ≡ Some (held value h)
 unfolding held
 is_held (Some x) h = refl
 is_held None h = absurd h

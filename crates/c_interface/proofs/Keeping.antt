@@ -8,7 +8,8 @@ use Rattle.channel_session.specs.declared.session.Session.{Session}
 use Rattle.sim_base.specs.Values.{Values, values_of}
 use Rattle.sim_base.specs.declared.config.Config.{Config}
 use Rattle.sim_base.specs.declared.fault.Fault.{Fault}
-use Rattle.c_interface.specs.Channels.{IsWellAt, IsNewSession, open_refusal, IsMemory, IsOpenAnswer, IsCallAnswer}
+use Rattle.c_interface.specs.Channels.{IsNewSession, open_refusal}
+use Rattle.c_interface.specs.Kept.{IsWellAt, IsMemory, IsOpenAnswer, IsCallAnswer}
 use Rattle.c_interface.specs.declared.fault.CallFault.{CallFault}
 use Rattle.c_interface.specs.declared.fault.CallFault.TheVariants as call
 
@@ -16,17 +17,17 @@ use Rattle.c_interface.specs.declared.fault.CallFault.TheVariants as call
 pub new-is-open : (text : List ℕ) (number : ℕ) (session : Session) → IsNewSession text number session → IsOpen session
 new-is-open text number session h = record { past = no_past h.config number; is_session = h.past }
 
--- the session of a channel that has one has some past
-abbrev IsThere : Option Session → Type 0
-IsThere (Some session) = Unit {0}
-IsThere None = ⊥
+-- what is open has a value that is fit
+abbrev IsSome : {A : Type 0} → Option A → Type 0
+IsSome (Some value) = Unit {0}
+IsSome None = ⊥
 
-well-some : (is_open : Bool) (session : Session) → IsWellAt is_open (Some session) → IsOpen session
-well-some true session h = h
-well-some false session h = absurd (subst IsThere h tt)
+well-some : {A : Type 0} (IsFit : A → Type 0) (is_open : Bool) (value : A) → IsWellAt IsFit is_open (Some value) → IsFit value
+well-some IsFit true value h = h
+well-some IsFit false value h = absurd (subst IsSome h tt)
 
-pub well-open : (is_open : Bool) (value : Option Session) (session : Session) → Some session ≡ value → IsWellAt is_open value → IsOpen session
-well-open is_open value session is h = well-some is_open session (subst (IsWellAt is_open) (sym is) h)
+pub well-open : {A : Type 0} (IsFit : A → Type 0) (is_open : Bool) (kept : Option A) (value : A) → Some value ≡ kept → IsWellAt IsFit is_open kept → IsFit value
+well-open IsFit is_open kept value is h = well-some IsFit is_open value (subst (IsWellAt IsFit is_open) (sym is) h)
 
 -- the answer of a session that refuses, and of one that does not, is that of the call
 abbrev IsDone : Result (Unit {0}) SessionFault → Type 0
@@ -77,26 +78,25 @@ is-opened text number config session configured h =
     subst (λ (d : Result Values Fault). open_refusal d number ≡ None) (sym configured) (there-is (nat_lt number config.channels) session h)
 
 -- a box that is refused is refused for memory
-pub boxed-answer : {B : Type 0} (text : List ℕ) (number : ℕ) (r : Result B CallFault) → IfErr r (λ e. e ≡ call.Session Memory)
-    → open_refusal (document_of text) number ≡ None → IsOpenAnswer text number r
-boxed-answer text number (Ok owner) h is = is
-boxed-answer text number (Err e) h is = inl (inr h)
+pub boxed-answer : {B : Type 0} (refusal : Option CallFault) (r : Result B CallFault) → IfErr r (λ e. e ≡ call.Session Memory) → refusal ≡ None → IsOpenAnswer refusal r
+boxed-answer refusal (Ok owner) h is = is
+boxed-answer refusal (Err e) h is = inl (inr h)
 
--- a new session in a box
-pub new-boxed : {B : Type 0} (text : List ℕ) (number : ℕ) (value : B → Session) (session : Session) (r : Result B CallFault)
-    → IfOk r (λ owner. value owner ≡ session) → IsNewSession text number session → IfOk r (λ owner. IsNewSession text number (value owner))
-new-boxed text number value session (Ok owner) is h = subst (IsNewSession text number) (sym is) h
-new-boxed text number value session (Err fault) is h = tt
+-- a new value in a box
+pub new-boxed : {A B : Type 0} (IsNew : A → Type 0) (value_of : B → A) (value : A) (r : Result B CallFault)
+    → IfOk r (λ owner. value_of owner ≡ value) → IsNew value → IfOk r (λ owner. IsNew (value_of owner))
+new-boxed IsNew value_of value (Ok owner) is h = subst IsNew (sym is) h
+new-boxed IsNew value_of value (Err fault) is h = tt
 
--- a channel that a session with some past was put in
-pub well-put : (is_open : Bool) (value : Option Session) (session : Session) → is_open ≡ true → value ≡ Some session → IsOpen session → IsWellAt is_open value
-well-put is_open value session opened is h = subst (λ (b : Bool). IsWellAt b value) (sym opened) (subst (IsWellAt true) (sym is) h)
+-- what a value that is fit was put in
+pub well-put : {A : Type 0} (IsFit : A → Type 0) (is_open : Bool) (kept : Option A) (value : A) → is_open ≡ true → kept ≡ Some value → IsFit value → IsWellAt IsFit is_open kept
+well-put IsFit is_open kept value opened is h = subst (λ (b : Bool). IsWellAt IsFit b kept) (sym opened) (subst (IsWellAt IsFit true) (sym is) h)
 
--- one session is held
-session-or : Session → Option Session → Session
-session-or other (Some session) = session
-session-or other None = other
+-- one value is held
+value-or : {A : Type 0} → A → Option A → A
+value-or other (Some value) = value
+value-or other None = other
 
-pub same-session : (value : Option Session) (a b : Session) → Some a ≡ value → value ≡ Some b → a ≡ b
-unfolding session-or
-same-session value a b is was = ap (session-or a) is ∙ ap (session-or a) was
+pub same-value : {A : Type 0} (kept : Option A) (a b : A) → Some a ≡ kept → kept ≡ Some b → a ≡ b
+unfolding value-or
+same-value kept a b is was = ap (value-or a) is ∙ ap (value-or a) was

@@ -7,12 +7,15 @@ ghost use Rattle.channel_session.specs.Keeps.{steps_of, waiting};
 ghost use Rattle.channel_session.specs.Sessions.{Past, IsSession, IsOpen, next_command_of, next_reply_of, with_sent, with_command, with_reply, refusal, end_refusal};
 ghost use Rattle.channel_session.specs.declared.session.Session.{Session};
 ghost use Rattle.channel_session.specs.declared.fault.SessionFault.TheVariants.{Memory};
-ghost use Rattle.c_interface.specs.Channels.{IsWell, HasPast, StandsAt, IsClosed, IsNewSession, IsOpened, IsOpenAnswer, IsAddressAnswer, IsCallAnswer};
+ghost use Rattle.c_interface.specs.Channels.{IsWell, HasPast, StandsAt, IsClosed, IsNewSession, IsOpened, open_refusal, IsAddressAnswer};
+ghost use Rattle.c_interface.specs.Kept.{IsOpenAnswer, IsCallAnswer};
+ghost use Rattle.config_reader.specs.Document.{document_of};
 ghost use Rattle.sim_base.specs.Places.{place_of};
 ghost use Rattle.statistics.specs.Channels.{channel_stats};
 ghost use Rattle.c_interface.specs.Rows.{reply_row};
 ghost use Rattle.c_interface.specs.declared.fault.CallFault.TheVariants as call;
 
+use crate::boxes::boxed;
 use crate::fault::CallFault;
 use crate::handle::Handle;
 use crate::rows::ReplyRow;
@@ -35,21 +38,10 @@ pub struct KeptChannel {
     handle: Handle,
 }
 
-/// A session in a box.
-fn boxed(alloc: Global, session: Session) -> Result<Box<Session>, CallFault>
-    ensures value { IfOk result (λ owner. owner.value ≡ session) }
-    ensures memory { IfErr result (λ e. e ≡ call.Session Memory) }
-{
-    match Box::new(alloc, session) {
-        Ok(owner) => Ok(owner),
-        Err(_) => Err(CallFault::Session(SessionFault::Memory)),
-    }
-}
-
 /// The session of the channel with a number, of the machine whose configuration a text states.
 fn opened(alloc: Global, text: &[u8], number: ChannelId) -> Result<Box<Session>, CallFault>
     ensures opened { IfOk result (λ owner. IsNewSession text.now number owner.value) }
-    ensures answer { IsOpenAnswer text.now number result }
+    ensures answer { IsOpenAnswer (open_refusal (document_of text.now) number) result }
 {
     let config = match read_config(alloc, text) {
         Ok(config) => config,
@@ -108,7 +100,7 @@ impl KeptChannel {
         requires well { IsWell self.old }
         ensures well { IsWell self.new }
         ensures opened { OnOk result (IsOpened text.now number self.new) }
-        ensures answer { IsClosed self.old → IsOpenAnswer text.now number result }
+        ensures answer { IsClosed self.old → IsOpenAnswer (open_refusal (document_of text.now) number) result }
         ensures already { self.old.is_open ≡ true → result ≡ Err call.AlreadyOpen }
         ensures same { OnErr result (self.new ≡ self.old) }
     {

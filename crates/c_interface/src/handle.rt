@@ -2,7 +2,7 @@
 
 ghost use Rattle.std.specs.Prelude.{Option};
 ghost use Rattle.channel_session.specs.declared.session.Session.{Session};
-ghost use Rattle.c_interface.specs.Owned.{handle_owns, session_coded, Holds};
+ghost use Rattle.c_interface.specs.Owned.{session_owns, session_coded, Holds};
 
 use crate::loose::Loose;
 use channel_session::session::Session;
@@ -20,7 +20,7 @@ pub struct Handle {
 }
 
 impl Model for Handle {
-    ghost also_owns = { λ h. handle_owns h.alloc h.at h.value };
+    ghost also_owns = { λ h. session_owns h.alloc h.at h.value };
 }
 
 impl Handle {

@@ -1,6 +1,7 @@
 //! A channel that a program in C keeps and drives: its calls, and the rows that it hands over; why a configuration is refused, and the verdict on a table.
 #![tactic(auto)]
 
+pub mod boxes;
 pub mod channel;
 pub mod fault;
 mod handle;

@@ -3,7 +3,7 @@
 
 pub mod fault;
 mod held;
-mod places;
+pub mod places;
 pub mod requests;
 mod rows;
 pub mod session;

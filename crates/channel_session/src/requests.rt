@@ -1,11 +1,12 @@
 //! A request as it is sent to a session, and the message that carries it.
 
 ghost use Rattle.std.specs.Prelude.{◌≡◌};
+ghost use Rattle.sim_base.specs.Places.{place_of};
 ghost use Rattle.channel_session.specs.Sent.{request_of, message_of};
 
-use address_map::place_of;
 use sim_base::config::Config;
 use sim_base::message::{ChannelId, CoreId, Cycle, Load, Message, Request};
+use sim_base::place::Place;
 
 /// A request as it is sent: a Read or Write of the line of 64 bytes at an address, for an entry of a core's trace, and the cycle in
 /// which it arrives at the channel.
@@ -23,7 +24,8 @@ pub struct SentRequest {
 }
 
 /// The request with its place and link.
-fn request_of(config: &Config, number: ChannelId, sent: &SentRequest) -> Request
+fn request_of(config: &Config, number: ChannelId, sent: &SentRequest, place: Place) -> Request
+    requires { place ≡ place_of config.now sent.now.address }
     ensures { result ≡ request_of config.now number sent.now }
 {
     Request {
@@ -31,17 +33,23 @@ fn request_of(config: &Config, number: ChannelId, sent: &SentRequest) -> Request
         write: sent.write,
         entry: sent.entry,
         address: sent.address,
-        place: place_of(config, sent.address),
+        place,
         arrival: sent.arrival,
         link: config.request_link(sent.core, number),
     }
 }
 
-/// The message that carries a request to the channel with a number, on the link of its core.
-pub(crate) fn message_of(config: &Config, number: ChannelId, sent: &SentRequest) -> Message
+/// The message that carries a request to the channel with a number, on the link of its core. The place is that of its address.
+pub(crate) fn message_of(
+    config: &Config,
+    number: ChannelId,
+    sent: &SentRequest,
+    place: Place,
+) -> Message
+    requires { place ≡ place_of config.now sent.now.address }
     ensures { result ≡ message_of config.now number sent.now }
 {
-    let request = request_of(config, number, sent);
+    let request = request_of(config, number, sent, place);
     Message {
         link: request.link,
         arrival: request.arrival,

@@ -15,10 +15,10 @@ ghost use Rattle.channel_session.specs.declared.fault.SessionFault.TheVariants.{
 
 use crate::fault::SessionFault;
 use crate::held::{HeldCommands, HeldReplies};
-use crate::places::is_place;
+use crate::places::address_of;
 use crate::requests::{SentRequest, message_of};
 use crate::rows::{queue_room, remove_front};
-use address_map::{address_of, place_of};
+use address_map::place_of;
 use channel_step::channel::Channel;
 use sim_base::command::IssuedCommand;
 use sim_base::config::Config;
@@ -120,19 +120,25 @@ impl Session {
         queue_room(&self.config).saturating_sub(waits) <= self.coming.len()
     }
 
-    /// Why a request is refused where so many requests wait, if it is.
-    fn refusal(&self, request: &SentRequest, waits: usize) -> Option<SessionFault>
+    /// Why a request is refused where so many requests wait, if it is. The place and the message are those of the request.
+    fn refusal(
+        &self,
+        request: &SentRequest,
+        place: Place,
+        message: &Message,
+        waits: usize,
+    ) -> Option<SessionFault>
+        requires place { place ≡ place_of self.now.config request.now.address }
+        requires message { message.now ≡ message_of self.now.config self.now.number request.now }
         ensures { result ≡ refusal self.now waits request.now }
     {
-        let place = place_of(&self.config, request.address);
-        let message = message_of(&self.config, self.number, request);
         if self.config.cores <= request.core {
             Some(SessionFault::NoSuchCore)
         } else if place.channel != self.number {
             Some(SessionFault::OtherChannel)
         } else if request.arrival < self.cycle {
             Some(SessionFault::InThePast)
-        } else if !self.is_last(&message) {
+        } else if !self.is_last(message) {
             Some(SessionFault::OutOfOrder)
         } else if !self.is_unasked(request) {
             Some(SessionFault::EntryPassed)
@@ -143,17 +149,17 @@ impl Session {
         }
     }
 
-    /// Puts a request behind those on their way: it was asked for then. The only error is out of memory.
-    fn take(&mut self, request: &SentRequest) -> Result<(), SessionFault>
+    /// Puts a request, carried by its message, behind those on their way: it was asked for then. The only error is out of memory.
+    fn take(&mut self, request: &SentRequest, message: Message) -> Result<(), SessionFault>
         requires core { request.now.core < length self.old.firsts.items }
         requires entry { request.now.entry < 2 ^ 64 - 1 }
+        requires message { message ≡ message_of self.old.config self.old.number request.now }
         ensures taken { OnOk result (HasTaken self.old self.new request.now) }
         ensures left { (p : Past) → IsSession self.old p → OnErr result (IsSession self.new p) }
         ensures memory { IfErr result (λ e. e ≡ Memory) }
         ensures now { self.new.cycle ≡ self.old.cycle }
     {
         let core = usize::from(request.core);
-        let message = message_of(&self.config, self.number, request);
         self.coming.push(message)?;
         self.firsts[core] = request.entry + 1;
         Ok(())
@@ -172,10 +178,27 @@ impl Session {
         ensures now { self.new.cycle ≡ self.old.cycle }
         ensures open { IsOpen self.old → IsOpen self.new }
     {
+        let place = place_of(&self.config, request.address);
+        self.send_to(request, place)
+    }
+
+    /// Sends a request to the place of its address, as `send` does.
+    pub fn send_to(&mut self, request: &SentRequest, place: Place) -> Result<(), SessionFault>
+        requires place { place ≡ place_of self.old.config request.now.address }
+        ensures answer { (p : Past) → IsSession self.old p
+            → IsAnswer (refusal self.old (waiting p.s p.channel p.sent self.old.cycle) request.now) result }
+        ensures sent { (p : Past) → IsSession self.old p
+            → OnOk result (IsSession self.new (with_sent p (message_of p.s p.channel request.now))) }
+        ensures left { (p : Past) → IsSession self.old p → OnErr result (IsSession self.new p) }
+        ensures same { IfErr result (λ e. e ≢ Memory → self.new ≡ self.old) }
+        ensures now { self.new.cycle ≡ self.old.cycle }
+        ensures open { IsOpen self.old → IsOpen self.new }
+    {
+        let message = message_of(&self.config, self.number, request, place);
         let waits = self.channel.requests().len();
-        match self.refusal(request, waits) {
+        match self.refusal(request, place, &message, waits) {
             Some(fault) => Err(fault),
-            None => self.take(request),
+            None => self.take(request, message),
         }
     }
 
@@ -266,11 +289,7 @@ impl Session {
     pub fn address_of(&self, place: &Place) -> Option<u64>
         ensures { IsAddress self.now.config place.now result }
     {
-        if is_place(&self.config, place) {
-            Some(address_of(&self.config, place))
-        } else {
-            None
-        }
+        address_of(&self.config, place)
     }
 
     /// The number of the core that a reply or a credit of this channel goes to: that of its link.

@@ -8,7 +8,7 @@ use Rattle.std.specs.Str.{bytes_eq}
 use Rattle.run_outcome.specs.declared.tables.Tables.{Tables}
 
 abbrev pub no_tables : Tables
-no_tables = record { commands = false; stats = false; last = false }
+no_tables = record { commands = false; stats = false; last = false; requests = false }
 
 -- these tables, unless one was there already
 abbrev pub unless_there : Bool → Tables → Option Tables
@@ -20,6 +20,7 @@ with_table tables name =
     if bytes_eq name (codes "commands") then unless_there tables.commands (record tables { commands = true })
     else if bytes_eq name (codes "stats") then unless_there tables.stats (record tables { stats = true })
     else if bytes_eq name (codes "final") then unless_there tables.last (record tables { last = true })
+    else if bytes_eq name (codes "requests") then unless_there tables.requests (record tables { requests = true })
     else None
 
 abbrev pub and_table : Option Tables → List ℕ → Option Tables

@@ -123,7 +123,7 @@ fn tables_arg<'a>(alloc: Global) -> Arg<'a>
     ensures rule { rule_of result ≡ word_rule (codes "tables") }
     ensures own { result.global ≡ false }
 {
-    let help = "The tables, of commands, stats and final [default: all]";
+    let help = "Of commands, stats, final and requests [default: the first 3]";
     word_arg(alloc, "tables", "LIST", help)
 }
 

@@ -10,32 +10,29 @@ const NONE: Tables = Tables {
     commands: false,
     stats: false,
     last: false,
+    requests: false,
 };
 
 // The tables with one more.
 fn with_table(tables: Tables, name: &str) -> Option<Tables>
     ensures { result ≡ with_table tables name.now }
 {
-    let Tables {
-        commands,
-        stats,
-        last,
-    } = tables;
     match name {
-        "commands" if !commands => Some(Tables {
+        "commands" if !tables.commands => Some(Tables {
             commands: true,
-            stats,
-            last,
+            ..tables
         }),
-        "stats" if !stats => Some(Tables {
-            commands,
+        "stats" if !tables.stats => Some(Tables {
             stats: true,
-            last,
+            ..tables
         }),
-        "final" if !last => Some(Tables {
-            commands,
-            stats,
+        "final" if !tables.last => Some(Tables {
             last: true,
+            ..tables
+        }),
+        "requests" if !tables.requests => Some(Tables {
+            requests: true,
+            ..tables
         }),
         _ => None,
     }

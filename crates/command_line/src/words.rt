@@ -349,7 +349,7 @@ fn explain_run_word(alloc: Global, found: &ArgMatches<'_>) -> Result<String, All
             format!(in alloc; "'{text}' is no WHEN of --share: auto or always\n")
         }
         (_, Some(text)) => format!(in alloc;
-            "'{text}' is no LIST of --tables: commands, stats and final, or some of these, joined by commas, each at most once\n"
+            "'{text}' is no LIST of --tables: some of commands, stats, final and requests, joined by commas, each at most once\n"
         ),
         _ => Ok(String::new(alloc)),
     }

@@ -1,6 +1,6 @@
 -- Runs beside the first of them.
---     comparison_text layout names runs      a column for each run, and a line for each measure
-use Rattle.std.specs.Prelude.{ℕ, ◌+◌, List, [], ◌∷◌, ◌++◌, codes, decimal, flat_map, length, slice_index_or}
+--     comparison_text layout names runs tails      a column for each run, a line for each measure, and one for p99
+use Rattle.std.specs.Prelude.{ℕ, ◌+◌, List, [], ◌∷◌, ◌++◌, codes, decimal, flat_map, length, slice_index_or, Option}
 use Rattle.sim_base.specs.History.{below}
 use Rattle.statistics.specs.Values.{RunStats}
 use Rattle.compare.specs.Lines.{lines_text}
@@ -35,10 +35,12 @@ unfoldable pub headings_text : Layout → ℕ → List ℕ
 headings_text layout others =
     cell_text layout 12 (codes "run 1") ++ flat_map (λ place. heading_text layout (place + 2)) (below others) ++ codes "\n"
 
-unfoldable pub runs_text : Layout → List (List ℕ) → RunStats → List RunStats → List ℕ
-runs_text layout names base others = head_text layout names ++ headings_text layout (length others) ++ lines_text layout base others
+-- the headings of runs, and lines below them
+unfoldable pub runs_text : Layout → List (List ℕ) → ℕ → List ℕ → List ℕ
+runs_text layout names others lines = head_text layout names ++ headings_text layout others ++ lines
 
--- runs beside the first of them: their names and headings, and a line for each measure; nothing for no runs
-abbrev pub comparison_text : Layout → List (List ℕ) → List RunStats → List ℕ
-comparison_text layout names [] = []
-comparison_text layout names (base ∷ others) = runs_text layout names base others
+-- runs beside the first of them: their names and headings, a line for each measure, and one for p99 where it is known of each run; nothing for no
+-- runs
+abbrev pub comparison_text : Layout → List (List ℕ) → List RunStats → List (Option ℕ) → List ℕ
+comparison_text layout names [] tails = []
+comparison_text layout names (base ∷ others) tails = runs_text layout names (length others) (lines_text layout base others tails)

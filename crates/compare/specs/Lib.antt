@@ -7,3 +7,4 @@ pub mod Measures
 pub mod Quotients
 pub mod Sums
 pub mod Texts
+pub mod Tails

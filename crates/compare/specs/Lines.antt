@@ -1,13 +1,14 @@
 -- The lines of a comparison.
 --     cells_text layout base measure run      the value of a run, and its change from the first one
 --     line_text layout base others measure      the line of a measure
---     lines_text layout base others      a line for each
-use Rattle.std.specs.Prelude.{ℕ, List, ◌++◌, codes, flat_map}
+--     lines_text layout base others tails      a line for each, and one for p99
+use Rattle.std.specs.Prelude.{ℕ, List, ◌++◌, codes, flat_map, Option}
 use Rattle.statistics.specs.Values.{RunStats}
 use Rattle.compare.specs.Cells.{cell_of}
 use Rattle.compare.specs.Measures.{value_of, decimals_of, label_of}
 use Rattle.compare.specs.Texts.{value_text, change_text, cell_text, label_text}
-use Rattle.compare.specs.declared.measures.TheConstants.{MEASURES}
+use Rattle.compare.specs.Tails.{tails_text}
+use Rattle.compare.specs.declared.measures.TheConstants.{FIRST_MEASURES, LAST_MEASURES}
 use Rattle.compare.specs.declared.layout.Layout.{Layout}
 use Rattle.compare.specs.declared.measures.Measure.{Measure}
 
@@ -26,6 +27,7 @@ beginning_text layout base measure =
 unfoldable pub line_text : Layout → RunStats → List RunStats → Measure → List ℕ
 line_text layout base others measure = beginning_text layout base measure ++ flat_map (cells_text layout base measure) others ++ codes "\n"
 
--- a line for each measure
-unfoldable pub lines_text : Layout → RunStats → List RunStats → List ℕ
-lines_text layout base others = flat_map (line_text layout base others) MEASURES
+-- a line for each measure, and one for p99 where it is known of each run
+unfoldable pub lines_text : Layout → RunStats → List RunStats → List (Option ℕ) → List ℕ
+lines_text layout base others tails =
+    flat_map (line_text layout base others) FIRST_MEASURES ++ tails_text layout tails ++ flat_map (line_text layout base others) LAST_MEASURES

@@ -6,6 +6,7 @@ ghost use Rattle.compare.specs.Comparison.{name_text, names_text, screen_head, h
 use crate::layout::Layout;
 use crate::lines::{CHANGE_WIDTH, VALUE_WIDTH, lines_text};
 use crate::texts::{cell_text, label_text};
+use sim_base::message::Cycle;
 use statistics::stats::Stats;
 use std::alloc::{AllocError, Global};
 
@@ -77,22 +78,22 @@ fn headings_text(alloc: Global, layout: Layout, others: usize) -> Result<String,
     Ok(headings)
 }
 
-// Runs behind the first, beside that.
+// The headings of runs, and lines below them.
 #[tactic(auto, unfolding(crate::specs::Comparison::runs_text))]
 fn runs_text(
     alloc: Global,
     layout: Layout,
     names: &[&str],
-    base: &Stats,
-    others: &[Stats],
+    others: usize,
+    lines: &str,
 ) -> Result<String, AllocError>
-    ensures { IfOk result (λ text. string_bytes text ≡ runs_text layout (map (λ n. n.now) names.now) base.now others.now) }
+    requires { others < 2 ^ 63 }
+    ensures { IfOk result (λ text. string_bytes text ≡ runs_text layout (map (λ n. n.now) names.now) others lines.now) }
 {
     let mut text = head_text(alloc, layout, names)?;
-    let headings = headings_text(alloc, layout, others.len())?;
-    let lines = lines_text(alloc, layout, base, others)?;
+    let headings = headings_text(alloc, layout, others)?;
     text.push_str(headings.as_str())?;
-    text.push_str(lines.as_str())?;
+    text.push_str(lines)?;
     Ok(text)
 }
 
@@ -101,8 +102,10 @@ fn runs_text(
 ///
 /// The lines are: the cycles; the entries a cycle of all cores, of the core that retired the fewest and of the one that retired the most; RDs and
 /// WRs; the row hits in % of them; the cycles in which the data buses were taken, in % of the cycles of all channels; the mean latency in cycles of the
-/// reads that were answered; the mean length of a queue, and the greatest; the cycles in which a refresh was due, and in which writes were drained, in %; and
+/// reads that were answered, and behind it the 99th percentile, where it is given; the mean length of a queue, and the greatest; the cycles in which a refresh was due, and in which writes were drained, in %; and
 /// the cores whose entries a cycle gained and lost most of those that the run and the first one have, by their numbers, with the change of that core.
+///
+/// The 99th percentile of read latency is given of each run, or of none: then there is no line for it. It is missing of a run of which no read was answered.
 ///
 /// There is no value where there is nothing to divide by, of the drain where no channel ever does, or of a core where none gained or lost; and no change where a
 /// value is missing or that of the first run is 0. Only memory can be refused.
@@ -111,11 +114,15 @@ pub fn compare_text(
     layout: Layout,
     names: &[&str],
     runs: &[Stats],
+    tails: &[Option<Cycle>],
 ) -> Result<String, AllocError>
-    ensures { IfOk result (λ text. string_bytes text ≡ comparison_text layout (map (λ n. n.now) names.now) runs.now) }
+    ensures { IfOk result (λ text. string_bytes text ≡ comparison_text layout (map (λ n. n.now) names.now) runs.now tails.now) }
 {
     match runs.split_first() {
-        Some((base, others)) => runs_text(alloc, layout, names, base, others),
+        Some((base, others)) => {
+            let lines = lines_text(alloc, layout, base, others, tails)?;
+            runs_text(alloc, layout, names, others.len(), lines.as_str())
+        }
         None => Ok(String::new(alloc)),
     }
 }

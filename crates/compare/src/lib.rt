@@ -10,6 +10,7 @@ mod lines;
 mod measures;
 mod quotients;
 mod sums;
+mod tails;
 mod texts;
 
 pub use comparison::compare_text;

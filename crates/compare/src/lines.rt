@@ -5,8 +5,10 @@ ghost use Rattle.compare.specs.Lines.{cells_text, beginning_text, line_text, lin
 
 use crate::cells::cell_of;
 use crate::layout::Layout;
-use crate::measures::{MEASURES, Measure, decimals_of, label_of, value_of};
+use crate::measures::{FIRST_MEASURES, LAST_MEASURES, Measure, decimals_of, label_of, value_of};
+use crate::tails::tails_text;
 use crate::texts::{cell_text, change_text, label_text, value_text};
+use sim_base::message::Cycle;
 use statistics::stats::Stats;
 use std::alloc::{AllocError, Global};
 
@@ -90,15 +92,19 @@ fn lines_of(
     Ok(lines)
 }
 
-/// A line for each measure.
+/// A line for each measure, and one for p99 where it is known of each run.
 #[tactic(auto, unfolding(crate::specs::Lines::lines_text))]
 pub(crate) fn lines_text(
     alloc: Global,
     layout: Layout,
     base: &Stats,
     others: &[Stats],
+    tails: &[Option<Cycle>],
 ) -> Result<String, AllocError>
-    ensures { IfOk result (λ text. string_bytes text ≡ lines_text layout base.now others.now) }
+    ensures { IfOk result (λ text. string_bytes text ≡ lines_text layout base.now others.now tails.now) }
 {
-    lines_of(alloc, layout, base, others, &MEASURES)
+    let first = lines_of(alloc, layout, base, others, &FIRST_MEASURES)?;
+    let tail = tails_text(alloc, layout, tails)?;
+    let last = lines_of(alloc, layout, base, others, &LAST_MEASURES)?;
+    format!(in alloc; "{first}{tail}{last}")
 }

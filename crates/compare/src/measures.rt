@@ -32,8 +32,8 @@ pub(crate) enum Measure {
     MostLost,
 }
 
-/// The lines, in their order.
-pub(crate) const MEASURES: [Measure; 15] = [
+/// The lines up to the one that p99 stands behind, in their order.
+pub(crate) const FIRST_MEASURES: [Measure; 9] = [
     Measure::Cycles,
     Measure::Rate,
     Measure::LeastRate,
@@ -43,6 +43,10 @@ pub(crate) const MEASURES: [Measure; 15] = [
     Measure::RowHits,
     Measure::DataBus,
     Measure::ReadLatency,
+];
+
+/// The lines behind it.
+pub(crate) const LAST_MEASURES: [Measure; 6] = [
     Measure::QueueMean,
     Measure::QueueMax,
     Measure::RefreshDue,

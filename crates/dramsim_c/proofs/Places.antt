@@ -1,5 +1,6 @@
 -- The row of a place that is there.
-use Rattle.std.proofs.Common.{◌≡◌, Option, Some, None, ap}
+use Rattle.std.proofs.Common.{◌≡◌, true, false, Option, Some, None, ap}
+use Rattle.std.specs.Prelude.{is_some}
 use Rattle.sim_base.specs.declared.place.Place.{Place}
 use Rattle.c_interface.specs.Rows.{place_row}
 
@@ -10,3 +11,6 @@ place-or other None = other
 pub same-row : (a b : Place) → Some a ≡ Some b → place_row a ≡ place_row b
 unfolding place-or
 same-row a b is = ap (λ (o : Option Place). place_row (place-or a o)) is
+
+pub none-there : (a : Place) → None ≡ Some a → false ≡ true
+none-there a is = ap is_some is

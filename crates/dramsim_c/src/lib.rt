@@ -1,4 +1,4 @@
-//! A channel of the simulator for programs in C: what `dramsim.h` declares.
+//! A channel of the simulator, and a memory of all channels, for programs in C: what `dramsim.h` declares.
 #![tactic(auto)]
 
 ghost use Rattle.std.specs.Prelude.{◌≡◌, ◌≢◌, ◌⊎◌, ℕ, ◌+◌, true, false, None, Some, ◌<◌, ◌++◌, if◌then◌else◌, List, drop, length, option_map, is_some};
@@ -15,6 +15,8 @@ ghost use Rattle.c_interface.specs.Channels.{open_refusal, IsWell, HasPast, Stan
 ghost use Rattle.c_interface.specs.Rows.{sent_request, command_row, reply_row, place_row, place_in, stats_row};
 ghost use Rattle.c_interface.specs.Statuses.{IsStatus, open_status, text_status, IsJudgedAs};
 ghost use Rattle.c_interface.specs.Texts.{fault_text};
+
+pub mod memory;
 
 use c_interface::channel::KeptChannel;
 use c_interface::fault::{fault_number, status};

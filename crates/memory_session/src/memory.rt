@@ -11,6 +11,7 @@ ghost use Rattle.memory_session.specs.Memories.{Pasts, IsChannelOf, IsMemory, Is
 
 use crate::cycles::{earlier, sooner};
 use channel_session::fault::SessionFault;
+use channel_session::places::address_of;
 use channel_session::requests::SentRequest;
 use channel_session::session::Session;
 use sim_base::command::IssuedCommand;
@@ -67,6 +68,7 @@ impl MemorySession {
     pub fn open(alloc: Global, config: &Config) -> Result<MemorySession, SessionFault>
         ensures opened { IfOk result (λ memory. IsMemory memory (no_pasts config.now)) }
         ensures now { IfOk result (λ memory. memory.cycle ≡ 0) }
+        ensures config { IfOk result (λ memory. memory.config ≡ config.now) }
         ensures memory { IfErr result (λ e. e ≡ Memory) }
     {
         Ok(MemorySession {
@@ -91,6 +93,13 @@ impl MemorySession {
         address_map::place_of(&self.config, address)
     }
 
+    /// The least address of the line at a place, if the memory has that place.
+    pub fn address_of(&self, place: &Place) -> Option<u64>
+        ensures { IsAddress self.now.config place.now result }
+    {
+        address_of(&self.config, place)
+    }
+
     /// Sends a request to the channel of its address, and nothing to another one. It is refused as that channel refuses it, which leaves
     /// the memory with the pasts that it had.
     pub fn send(&mut self, request: &SentRequest) -> Result<(), SessionFault>
@@ -104,8 +113,8 @@ impl MemorySession {
         ensures now { self.new.cycle ≡ self.old.cycle }
         ensures config { self.new.config ≡ self.old.config }
     {
-        let number = self.place_of(request.address).channel as usize;
-        self.sessions[number].send(request)
+        let place = self.place_of(request.address);
+        self.sessions[place.channel as usize].send_to(request, place)
     }
 
     /// Why a run up to a cycle is refused, if it is.

@@ -96,7 +96,7 @@ fn replies_now(alloc: Global, now: u64, inbox: &[Message]) -> Result<Vec<Message
 
 /// The cycle in which an entry issues; the number of cycles, if it does not.
 #[tactic(auto, using(crate::proofs::Counted::issue_cycle_found, crate::proofs::Counted::issue_cycle_none, crate::proofs::Counted::issued_none, crate::proofs::Counted::issued_more))]
-fn cycle_of_issue(past_steps: &[CoreStep], entry: u64) -> u64
+pub(crate) fn cycle_of_issue(past_steps: &[CoreStep], entry: u64) -> u64
     requires { length past_steps.now < 2 ^ 40 }
     ensures { result ≡ issue_cycle past_steps.now entry }
 {
@@ -235,7 +235,7 @@ fn needs_no_act(history: &[IssuedCommand], source: Option<Source>) -> bool
     }
 }
 
-fn is_command_hit(history: &[IssuedCommand], command: Command) -> bool
+pub(crate) fn is_command_hit(history: &[IssuedCommand], command: Command) -> bool
     ensures { result ≡ is_hit history.now command }
 {
     command.is_column() && needs_no_act(history, command.source())

@@ -5,6 +5,7 @@
 mod counting;
 mod ending;
 pub mod machine;
+mod requests;
 mod sending;
 mod state;
 mod tally;

@@ -619,6 +619,7 @@ impl Machine {
         requires machine { HoldsRun s.now traces.now cycle self }
         ensures { IfOk result (λ o. o ≡ outcome_of tables s.now traces.now cycle) }
     {
+        let requests = self.requests_if_asked(alloc, s, traces, cycle, tables.requests)?;
         let (cores, channels) = units_left(alloc, s, traces, cycle, &self)?;
         let last = FinalState {
             cores,
@@ -633,6 +634,7 @@ impl Machine {
         Ok(Outcome {
             tables,
             commands: table_if_asked(alloc, &self.commands, tables.commands)?,
+            requests,
             stats,
             last,
             ranks: s.ranks,

@@ -5,10 +5,9 @@ ghost use Rattle.page.specs.Rows.{IsOfRunAt, IsReason};
 
 use crate::fault::PageFault;
 use crate::rows::check_rows;
-use crate::window::View;
+use crate::window::{Beside, View};
 use command_table::list::CommandList;
 use run_pictures::document::{Run, write_document};
-use sim_base::config::Config;
 use statistics::stats::Stats;
 use std::alloc::Global;
 use std::io::{ErrorKind, Write};
@@ -17,7 +16,8 @@ use std::io::{ErrorKind, Write};
 /// after the other. The commands are taken in the order of the list, which is to be that of their cycles. Where the configuration is given,
 /// the page also has its keys with their values and the share of the cycles that refreshes take, and draws a REF for as long as it takes.
 /// Where the clock is given, it also has the cycles, the finish and the mean read latency of each core in ns, and the data rate of each channel
-/// in GB/s.
+/// in GB/s. Where the requests are given, which are to be of the run, it also has a histogram of the read latency of each core, the median and
+/// 99th percentile of all over the run, and where the time of the reads of each channel went.
 ///
 /// The page is made in memory before it is written. It grows with the channels, the banks that the run uses and the commands of the window,
 /// but not with the length of the run.
@@ -30,7 +30,7 @@ pub fn write_page<W: Write>(
     alloc: Global,
     stats: &Stats,
     commands: &CommandList,
-    config: Option<&Config>,
+    beside: Beside<'_>,
     view: View,
     writer: &mut W,
 ) -> Result<(), PageFault>
@@ -41,8 +41,9 @@ pub fn write_page<W: Write>(
     let run = Run {
         stats,
         commands,
-        config,
+        config: beside.config,
         khz: view.khz,
+        requests: beside.requests,
         from: view.window.from,
         end: view.window.end_in(stats.cycles),
     };

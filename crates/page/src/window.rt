@@ -1,6 +1,9 @@
-//! What a page shows: the cycles of its timeline, and its clock.
+//! What a page shows: the cycles of its timeline, its clock, and what is known of the run.
 
 ghost use Rattle.std.specs.Prelude.{◌≡◌, ◌+◌, min};
+
+use request_table::times::RequestTimes;
+use sim_base::config::Config;
 
 /// A number of cycles, from a cycle on.
 #[derive(Clone, Copy, PartialEq, Eq, Debug)]
@@ -14,6 +17,13 @@ pub struct Window {
 pub struct View {
     pub window: Window,
     pub khz: Option<u64>,
+}
+
+/// What is known of a run beside its statistics and its commands: its configuration and its requests.
+#[derive(Clone, Copy)]
+pub struct Beside<'a> {
+    pub config: Option<&'a Config>,
+    pub requests: Option<&'a [RequestTimes]>,
 }
 
 impl Window {

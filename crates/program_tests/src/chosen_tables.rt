@@ -9,23 +9,50 @@ use std::sync::Wait;
 use std::test::Fail;
 use std::thread::Threads;
 
-// The tables that are asked for, those that are opened, and which of the three are then in the folder.
-type Chosen<'a> = (&'a str, &'a str, [bool; 3]);
+// The words that ask for tables, those that are opened, and which of the four are then in the folder.
+type Chosen<'a> = (&'a str, &'a str, [bool; 4]);
 
-static CHOSEN: [Chosen<'static>; 5] = [
+static CHOSEN: [Chosen<'static>; 8] = [
     (
-        "commands,stats,final",
+        "--share auto",
         "d/commands.csv.part d/stats.csv.part d/final.csv.part ",
-        [true, true, true],
+        [true, true, true, false],
     ),
     (
-        "final,stats",
-        "d/stats.csv.part d/final.csv.part ",
-        [false, true, true],
+        "--tables requests,commands,stats,final",
+        "d/commands.csv.part d/stats.csv.part d/final.csv.part d/requests.csv.part ",
+        [true, true, true, true],
     ),
-    ("commands", "d/commands.csv.part ", [true, false, false]),
-    ("stats", "d/stats.csv.part ", [false, true, false]),
-    ("final", "d/final.csv.part ", [false, false, true]),
+    (
+        "--tables final,stats",
+        "d/stats.csv.part d/final.csv.part ",
+        [false, true, true, false],
+    ),
+    (
+        "--tables requests,stats",
+        "d/stats.csv.part d/requests.csv.part ",
+        [false, true, false, true],
+    ),
+    (
+        "--tables commands",
+        "d/commands.csv.part ",
+        [true, false, false, false],
+    ),
+    (
+        "--tables stats",
+        "d/stats.csv.part ",
+        [false, true, false, false],
+    ),
+    (
+        "--tables final",
+        "d/final.csv.part ",
+        [false, false, true, false],
+    ),
+    (
+        "--tables requests",
+        "d/requests.csv.part ",
+        [false, false, false, true],
+    ),
 ];
 
 // Asserts what a path holds: a text, or nothing where the table was not asked for.
@@ -51,7 +78,7 @@ fn assert_chosen<R: Abort + Threads + Wait + Sync + AllocGlobal>(
     let wanted = tables_of(&whole).ok_or("no tables")?;
     let mut files = files_by(rt, run, 1)?;
     files.opened.clear();
-    let words = format!(in rt.alloc(); "--cycles {} --workers 2 --tables {tables}", run.cycles)?;
+    let words = format!(in rt.alloc(); "--cycles {} --workers 2 {tables}", run.cycles)?;
     said_to_run(rt, &mut files, run, words.as_str())?.assert_is(rt, tables, (0, "", ""));
     assert_text(rt, tables, files.opened.as_str(), opened);
     assert_at(
@@ -64,6 +91,14 @@ fn assert_chosen<R: Abort + Threads + Wait + Sync + AllocGlobal>(
     );
     assert_at(rt, tables, &files, "d/stats.csv", wanted.stats, asked[1]);
     assert_at(rt, tables, &files, "d/final.csv", wanted.last, asked[2]);
+    assert_at(
+        rt,
+        tables,
+        &files,
+        "d/requests.csv",
+        wanted.requests,
+        asked[3],
+    );
     Ok(())
 }
 

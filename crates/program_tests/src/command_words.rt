@@ -45,7 +45,7 @@ const RUN_CHOSEN: &[&str] = &[
     "--workers",
     "2",
     "--tables",
-    "final,stats",
+    "requests,stats",
     "--out",
     "tables",
     "t0",
@@ -55,7 +55,8 @@ const RUN_CHOSEN: &[&str] = &[
 const CHOSEN: Tables = Tables {
     commands: false,
     stats: true,
-    last: true,
+    last: false,
+    requests: true,
 };
 
 fn is_run(ask: &Ask<'_>, wanted: Share, chosen: Tables) -> bool {

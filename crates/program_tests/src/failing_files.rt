@@ -11,18 +11,22 @@ use std::thread::Threads;
 
 const OLD: &str = "of an earlier run\n";
 
+const WORDS: &str = "--cycles 16 --workers 1 --tables commands,stats,final,requests";
+
 // The tables, and the names under which they are written.
-static TABLES: [(&str, &str); 3] = [
+static TABLES: [(&str, &str); 4] = [
     ("d/commands.csv", "d/commands.csv.part"),
     ("d/stats.csv", "d/stats.csv.part"),
     ("d/final.csv", "d/final.csv.part"),
+    ("d/requests.csv", "d/requests.csv.part"),
 ];
 
 // A folder with the tables of an earlier run, of which one was left under the name under which it was written.
-static OLD_FILES: [(&str, &str); 4] = [
+static OLD_FILES: [(&str, &str); 5] = [
     ("d/commands.csv", OLD),
     ("d/stats.csv", OLD),
     ("d/final.csv", OLD),
+    ("d/requests.csv", OLD),
     ("d/stats.csv.part", OLD),
 ];
 
@@ -68,35 +72,42 @@ fn assert_refused<R: Abort + Threads + Wait + Sync + AllocGlobal>(
     let good = files_by(rt, &ONE_READ, 1)?;
     let mut files = files_with(rt.alloc(), &OLD_FILES)?;
     files.failing = Some(*case);
-    let said = said_to_run(rt, &mut files, &ONE_READ, "--cycles 16 --workers 1")?;
+    let said = said_to_run(rt, &mut files, &ONE_READ, WORDS)?;
     said.assert_is(rt, case.1, (2, "", told));
     assert_text(rt, case.1, files.opened.as_str(), opened);
     assert_left(rt, case.1, &files, &good, left);
     Ok(())
 }
 
-static KEPT: [(&str, &str); 3] = [("old", "nothing"), ("old", "nothing"), ("old", "nothing")];
+static KEPT: [(&str, &str); 4] = [("old", "nothing"); 4];
 
 const ONE_OPENED: &str = "d/commands.csv.part ";
 
 const TWO_OPENED: &str = "d/commands.csv.part d/stats.csv.part ";
 
-const ALL_OPENED: &str = "d/commands.csv.part d/stats.csv.part d/final.csv.part ";
+const THREE_OPENED: &str = "d/commands.csv.part d/stats.csv.part d/final.csv.part ";
+
+const ALL_OPENED: &str =
+    "d/commands.csv.part d/stats.csv.part d/final.csv.part d/requests.csv.part ";
 
 // What goes wrong before the first table has its place, and what is opened until then.
-static EARLY: [(Case, &str); 13] = [
+static EARLY: [(Case, &str); 17] = [
     ((Failure::Opening, "d/commands.csv.part"), ONE_OPENED),
     ((Failure::Opening, "d/stats.csv.part"), TWO_OPENED),
-    ((Failure::Opening, "d/final.csv.part"), ALL_OPENED),
+    ((Failure::Opening, "d/final.csv.part"), THREE_OPENED),
+    ((Failure::Opening, "d/requests.csv.part"), ALL_OPENED),
     ((Failure::Writing, "d/commands.csv.part"), ONE_OPENED),
     ((Failure::Writing, "d/stats.csv.part"), TWO_OPENED),
-    ((Failure::Writing, "d/final.csv.part"), ALL_OPENED),
+    ((Failure::Writing, "d/final.csv.part"), THREE_OPENED),
+    ((Failure::Writing, "d/requests.csv.part"), ALL_OPENED),
     ((Failure::Closing, "d/commands.csv.part"), ONE_OPENED),
     ((Failure::Closing, "d/stats.csv.part"), TWO_OPENED),
-    ((Failure::Closing, "d/final.csv.part"), ALL_OPENED),
+    ((Failure::Closing, "d/final.csv.part"), THREE_OPENED),
+    ((Failure::Closing, "d/requests.csv.part"), ALL_OPENED),
     ((Failure::Placing, "d/commands.csv"), ALL_OPENED),
     ((Failure::Placing, "d/stats.csv"), ALL_OPENED),
     ((Failure::Placing, "d/final.csv"), ALL_OPENED),
+    ((Failure::Placing, "d/requests.csv"), ALL_OPENED),
     ((Failure::Renaming, "d/commands.csv"), ALL_OPENED),
 ];
 
@@ -113,24 +124,50 @@ the tables are of two runs: what is missing of this one stands beside them under
 ";
 
 // What goes wrong, what is told and opened, and what is left: the folder is not there; or a table is refused after the first has its place.
-static LATE: [(Case, &str, &str, Left<'static>); 3] = [
+static LATE: [(Case, &str, &str, Left<'static>); 4] = [
     (
         (Failure::Folder, "d"),
         "fault 12: write\n",
         "",
-        &[("old", "nothing"), ("old", "old"), ("old", "nothing")],
+        &[
+            ("old", "nothing"),
+            ("old", "old"),
+            ("old", "nothing"),
+            ("old", "nothing"),
+        ],
     ),
     (
         (Failure::Renaming, "d/stats.csv"),
         TORN,
         ALL_OPENED,
-        &[("new", "nothing"), ("old", "new"), ("old", "new")],
+        &[
+            ("new", "nothing"),
+            ("old", "new"),
+            ("old", "new"),
+            ("old", "new"),
+        ],
     ),
     (
         (Failure::Renaming, "d/final.csv"),
         TORN,
         ALL_OPENED,
-        &[("new", "nothing"), ("new", "nothing"), ("old", "new")],
+        &[
+            ("new", "nothing"),
+            ("new", "nothing"),
+            ("old", "new"),
+            ("old", "new"),
+        ],
+    ),
+    (
+        (Failure::Renaming, "d/requests.csv"),
+        TORN,
+        ALL_OPENED,
+        &[
+            ("new", "nothing"),
+            ("new", "nothing"),
+            ("new", "nothing"),
+            ("old", "new"),
+        ],
     ),
 ];
 
@@ -142,13 +179,13 @@ fn tells_what_is_left(rt: HostRuntime) -> Result<(), Fail> {
     Ok(())
 }
 
-static NEW: [(&str, &str); 3] = [("new", "nothing"), ("new", "nothing"), ("new", "nothing")];
+static NEW: [(&str, &str); 4] = [("new", "nothing"); 4];
 
 #[test]
 fn replaces_old_tables(rt: HostRuntime) -> Result<(), Fail> {
     let good = files_by(&rt, &ONE_READ, 1)?;
     let mut files = files_with(rt.alloc(), &OLD_FILES)?;
-    let said = said_to_run(&rt, &mut files, &ONE_READ, "--cycles 16 --workers 1")?;
+    let said = said_to_run(&rt, &mut files, &ONE_READ, WORDS)?;
     said.assert_is(&rt, "old tables", (0, "", ""));
     assert_left(&rt, "old tables", &files, &good, &NEW);
     Ok(())

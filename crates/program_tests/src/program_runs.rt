@@ -123,7 +123,10 @@ pub(crate) fn said_to_run<R: Threads + Wait + Sync + AllocGlobal>(
     said_to(rt, files, line.as_str())
 }
 
-/// Asserts that a run by this number of workers, which always share the machine out, succeeds and says nothing.
+/// The words that ask for all tables.
+pub(crate) const ALL_TABLES: &str = "--tables commands,stats,final,requests";
+
+/// Asserts that a run with all tables by this number of workers, which always share the machine out, succeeds and says nothing.
 fn assert_quiet<R: Abort + Threads + Wait + Sync + AllocGlobal>(
     rt: &R,
     files: &mut MemoryFiles,
@@ -131,7 +134,7 @@ fn assert_quiet<R: Abort + Threads + Wait + Sync + AllocGlobal>(
     workers: u64,
 ) -> Result<(), Fail> {
     let words = format!(in rt.alloc();
-        "--cycles {} --workers {workers} --share always",
+        "--cycles {} --workers {workers} --share always {ALL_TABLES}",
         run.cycles
     )?;
     let said = said_to_run(rt, files, run, words.as_str())?;

@@ -91,15 +91,15 @@ const BAD_SHARE: &str = "fault 14: command line
 ";
 
 const BAD_LIST: &str = "fault 14: command line
-'stats,stats' is no LIST of --tables: commands, stats and final, or some of these, joined by commas, each at most once
+'stats,stats' is no LIST of --tables: some of commands, stats, final and requests, joined by commas, each at most once
 ";
 
 const NO_TABLE: &str = "fault 14: command line
-'stats,requests' is no LIST of --tables: commands, stats and final, or some of these, joined by commas, each at most once
+'stats,request' is no LIST of --tables: some of commands, stats, final and requests, joined by commas, each at most once
 ";
 
 const NO_LIST: &str = "fault 14: command line
-'' is no LIST of --tables: commands, stats and final, or some of these, joined by commas, each at most once
+'' is no LIST of --tables: some of commands, stats, final and requests, joined by commas, each at most once
 ";
 
 static REFUSED: [Refused<'static>; 18] = [
@@ -237,7 +237,7 @@ static REFUSED: [Refused<'static>; 18] = [
             name: "no table's name",
             ..ONE_READ
         },
-        "--cycles 64 --workers 1 --tables stats,requests",
+        "--cycles 64 --workers 1 --tables stats,request",
         NO_TABLE,
     ),
     (

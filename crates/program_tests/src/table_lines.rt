@@ -2,12 +2,13 @@
 
 use crate::files_in_memory::MemoryFiles;
 
-/// The three tables of a run.
+/// The tables of a run.
 #[derive(Clone, Copy)]
 pub(crate) struct Tables<'a> {
     pub(crate) commands: &'a str,
     pub(crate) stats: &'a str,
     pub(crate) last: &'a str,
+    pub(crate) requests: &'a str,
 }
 
 pub(crate) fn tables_of(files: &MemoryFiles) -> Option<Tables<'_>> {
@@ -15,5 +16,6 @@ pub(crate) fn tables_of(files: &MemoryFiles) -> Option<Tables<'_>> {
         commands: files.text_at("d/commands.csv")?,
         stats: files.text_at("d/stats.csv")?,
         last: files.text_at("d/final.csv")?,
+        requests: files.text_at("d/requests.csv")?,
     })
 }

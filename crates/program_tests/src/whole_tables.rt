@@ -11,12 +11,13 @@ use std::thread::Threads;
 
 // Asserts the tables of a run, and that they are opened one after the other.
 fn assert_tables(rt: &impl Abort, files: &MemoryFiles, name: &str, want: &Tables<'_>) {
-    let opened = "d/commands.csv.part d/stats.csv.part d/final.csv.part ";
+    let opened = "d/commands.csv.part d/stats.csv.part d/final.csv.part d/requests.csv.part ";
     assert_text(rt, name, files.opened.as_str(), opened);
     for (path, text) in [
         ("d/commands.csv", want.commands),
         ("d/stats.csv", want.stats),
         ("d/final.csv", want.last),
+        ("d/requests.csv", want.requests),
     ] {
         assert_text(rt, name, files.text_at(path).unwrap_or("no table"), text);
     }

@@ -1,63 +1,66 @@
 -- The texts of pieces, one after the other.
-use Rattle.std.proofs.Common.{◌≡◌, ℕ, ◌+◌, ◌-◌, ◌<◌, ◌≤◌, List, [], ◌∷◌, ◌++◌, length, get_or, take, map, Result, Ok, Err, Vec, Global, sym, ap, ◌∙◌, arith, suc, zero}
+use Rattle.std.proofs.Common.{◌≡◌, ℕ, ◌+◌, ◌-◌, ◌<◌, ◌≤◌, List, [], ◌∷◌, ◌++◌, length, get_or, take, map, Result, Ok, Err, Vec, Global, refl, sym, ap, ◌∙◌, arith, suc, zero}
 use Rattle.std.proofs.lemmas.Grind.{flat_map-append}
 use Rattle.std.proofs.lemmas.List.{append-nil, take_more}
 use Rattle.std.specs.List.{AllZip, Contains, flat_map, slice_range}
 use Rattle.std.specs.Prelude.{MatchResult, IfOk, IfErr}
 use Rattle.rayon.specs.Shown.{take-add}
-use Rattle.sim_base.specs.declared.command.IssuedCommand.{IssuedCommand}
 use Rattle.sim_base.specs.declared.fault.Fault.{Fault}
-use Rattle.reports.specs.Rows.{IsReportFault}
-use Rattle.reports.specs.Commands.{lines_text, IsTextOf}
-use Rattle.reports.proofs.TableLemmas.{lines_text-none, lines_text-append}
+use Rattle.reports.specs.Rows.{IsReportFault, IsTextOf, rows_text}
+use Rattle.reports.proofs.TableLemmas.{mapped_none, lines-append}
+
+-- each of these pieces has its text, or why there is none
+abbrev pub HaveTexts : {A : Type 0} → (A → List ℕ) → List A → List (Result (Vec ℕ Global) Fault) → Type 0
+HaveTexts lines pieces results = AllZip (λ piece. IsTextOf (lines piece)) pieces results
 
 -- the texts of pieces are the text of their rows
-pub texts_joined : (ranks : ℕ) (pieces : List (List IssuedCommand)) (texts : List (Vec ℕ Global)) → AllZip (IsTextOf ranks) pieces (map Ok texts)
-    → flat_map (λ text. text.items) texts ≡ lines_text ranks (flat_map (λ piece. piece) pieces)
-texts_joined ranks [] [] all = sym (lines_text-none ranks)
-texts_joined ranks [] (text ∷ texts) all = absurd all
-texts_joined ranks (piece ∷ pieces) [] all = absurd all
-texts_joined ranks (piece ∷ pieces) (text ∷ texts) all =
-    (λ i. all.0 i ++ texts_joined ranks pieces texts all.1 i) ∙ sym (lines_text-append ranks piece (flat_map (λ rows. rows) pieces))
+texts_joined : {A : Type 0} (lines : A → List ℕ) (pieces : List A) (texts : List (Vec ℕ Global)) → HaveTexts lines pieces (map Ok texts)
+    → flat_map (λ text. text.items) texts ≡ flat_map lines pieces
+texts_joined lines [] [] all = refl
+texts_joined lines [] (text ∷ texts) all = absurd all
+texts_joined lines (piece ∷ pieces) [] all = absurd all
+texts_joined lines (piece ∷ pieces) (text ∷ texts) all = λ i. all.0 i ++ texts_joined lines pieces texts all.1 i
 
 -- why a piece has no text is why a report may be refused
-pub fault_of_report : (ranks : ℕ) (pieces : List (List IssuedCommand)) (results : List (Result (Vec ℕ Global) Fault)) (fault : Fault)
-    → AllZip (IsTextOf ranks) pieces results → Contains results (Err fault) → IsReportFault fault
-fault_of_report ranks [] [] fault all at = absurd (omega (arith, at.1))
-fault_of_report ranks [] (result ∷ results) fault all at = absurd all
-fault_of_report ranks (piece ∷ pieces) [] fault all at = absurd all
-fault_of_report ranks (piece ∷ pieces) (result ∷ results) fault all (zero, inside, is) = rw is at all.0
-fault_of_report ranks (piece ∷ pieces) (result ∷ results) fault all (suc k, inside, is) = fault_of_report ranks pieces results fault all.1 (k, omega (arith, inside), is)
+fault_of_report : {A : Type 0} (lines : A → List ℕ) (pieces : List A) (results : List (Result (Vec ℕ Global) Fault)) (fault : Fault)
+    → HaveTexts lines pieces results → Contains results (Err fault) → IsReportFault fault
+fault_of_report lines [] [] fault all at = absurd (omega (arith, at.1))
+fault_of_report lines [] (result ∷ results) fault all at = absurd all
+fault_of_report lines (piece ∷ pieces) [] fault all at = absurd all
+fault_of_report lines (piece ∷ pieces) (result ∷ results) fault all (zero, inside, is) = rw is at all.0
+fault_of_report lines (piece ∷ pieces) (result ∷ results) fault all (suc k, inside, is) = fault_of_report lines pieces results fault all.1 (k, omega (arith, inside), is)
 
 -- what is collected of the results of pieces: their texts, or why one has none
 abbrev pub AreCollected : List (Result (Vec ℕ Global) Fault) → Result (Vec (Vec ℕ Global) Global) Fault → Type 0
 AreCollected results collected =
     MatchResult collected (λ all. (texts : List (Vec ℕ Global)) × (results ≡ map Ok texts) × (all.items ≡ texts)) (λ fault. Contains results (Err fault))
 
-pub collected_texts : (ranks : ℕ) (pieces : List (List IssuedCommand)) (results : List (Result (Vec ℕ Global) Fault)) (collected : Result (Vec (Vec ℕ Global) Global) Fault)
-    → AllZip (IsTextOf ranks) pieces results → AreCollected results collected
-    → IfOk collected (λ texts. flat_map (λ text. text.items) texts.items ≡ lines_text ranks (flat_map (λ piece. piece) pieces))
-collected_texts ranks pieces results (Ok all) are (texts, same, is) = rw is (texts_joined ranks pieces texts (rw same at are))
-collected_texts ranks pieces results (Err fault) are why = tt
+pub collected_texts : {A : Type 0} (lines : A → List ℕ) (pieces : List A) (results : List (Result (Vec ℕ Global) Fault)) (collected : Result (Vec (Vec ℕ Global) Global) Fault)
+    → HaveTexts lines pieces results → AreCollected results collected
+    → IfOk collected (λ texts. flat_map (λ text. text.items) texts.items ≡ flat_map lines pieces)
+collected_texts lines pieces results (Ok all) are (texts, same, is) = rw is (texts_joined lines pieces texts (rw same at are))
+collected_texts lines pieces results (Err fault) are why = tt
 
-pub collected_fault : (ranks : ℕ) (pieces : List (List IssuedCommand)) (results : List (Result (Vec ℕ Global) Fault)) (collected : Result (Vec (Vec ℕ Global) Global) Fault)
-    → AllZip (IsTextOf ranks) pieces results → AreCollected results collected → IfErr collected (λ fault. IsReportFault fault)
-collected_fault ranks pieces results (Ok all) are texts = tt
-collected_fault ranks pieces results (Err fault) are why = fault_of_report ranks pieces results fault are why
-
--- no piece has no row
-pub lines_of-none : (ranks : ℕ) (pieces : List (List IssuedCommand)) → lines_text ranks (flat_map (λ piece. piece) (take 0 pieces)) ≡ []
-lines_of-none ranks pieces = lines_text-none ranks
+pub collected_fault : {A : Type 0} (lines : A → List ℕ) (pieces : List A) (results : List (Result (Vec ℕ Global) Fault)) (collected : Result (Vec (Vec ℕ Global) Global) Fault)
+    → HaveTexts lines pieces results → AreCollected results collected → IfErr collected (λ fault. IsReportFault fault)
+collected_fault lines pieces results (Ok all) are texts = tt
+collected_fault lines pieces results (Err fault) are why = fault_of_report lines pieces results fault are why
 
 -- a round more
-pub lines_of-more : (ranks : ℕ) (pieces : List (List IssuedCommand)) (done end : ℕ) → done ≤ end
-    → lines_text ranks (flat_map (λ piece. piece) (take done pieces)) ++ lines_text ranks (flat_map (λ piece. piece) (slice_range pieces done end)) ≡ lines_text ranks (flat_map (λ piece. piece) (take end pieces))
-lines_of-more ranks pieces done end within =
+pub lines_of-more : {A : Type 0} (lines : A → List ℕ) (pieces : List A) (done end : ℕ) → done ≤ end
+    → flat_map lines (take done pieces) ++ flat_map lines (slice_range pieces done end) ≡ flat_map lines (take end pieces)
+lines_of-more lines pieces done end within =
     let few = take done pieces in
     let round = slice_range pieces done end in
     let reached : done + (end - done) ≡ end = omega arith in
-    sym (lines_text-append ranks (flat_map (λ piece. piece) few) (flat_map (λ piece. piece) round))
-    ∙ ap (lines_text ranks) (sym (flat_map-append (λ piece. piece) few round) ∙ ap (flat_map (λ piece. piece)) (sym (take-add done (end - done) pieces) ∙ ap (λ k. take k pieces) reached))
+    sym (flat_map-append lines few round) ∙ ap (flat_map lines) (sym (take-add done (end - done) pieces) ∙ ap (λ k. take k pieces) reached)
+
+-- the rows of all pieces
+pub lines-joined : {A : Type 0} (fields : A → List (List ℕ)) (pieces : List (List A))
+    → flat_map (λ rows. rows_text (map fields rows)) pieces ≡ rows_text (map fields (flat_map (λ piece. piece) pieces))
+lines-joined fields [] = sym (mapped_none fields)
+lines-joined fields (piece ∷ pieces) =
+    (λ i. rows_text (map fields piece) ++ lines-joined fields pieces i) ∙ sym (lines-append fields piece (flat_map (λ rows. rows) pieces))
 
 -- one text more
 pub texts-more : (texts : List (Vec ℕ Global)) (i : ℕ) (d : Vec ℕ Global) → i < length texts

@@ -7,9 +7,11 @@ use Rattle.std.specs.Io.KnownBytes.{Appends}
 use Rattle.std.specs.List.{enumerate_from, flat_map}
 use Rattle.reports.specs.Rows.{row_text, rows_text, table_text, numbered}
 use Rattle.reports.specs.Commands.{header, command_fields, lines_text, commands_text}
+use Rattle.reports.specs.Requests.{request_header, request_fields, request_lines, requests_text}
 use Rattle.reports.specs.Final as final
 use Rattle.reports.specs.Final.{final_header, final_rows, final_text, progress_rows, credits_of_core, flight_fields}
 use Rattle.reports.specs.Stats.{stats_header, value_fields, core_rows, usual_values, draining_values, channel_rows, stats_rows, stats_text}
+use Rattle.request_table.specs.declared.times.RequestTimes.{RequestTimes}
 use Rattle.statistics.specs.Values.{RunStats, LastState}
 use Rattle.statistics.specs.declared.channels.ChannelStats.{ChannelStats}
 use Rattle.sim_base.specs.declared.command.IssuedCommand.{IssuedCommand}
@@ -103,24 +105,23 @@ pub written_last : {T E : Type 0} (r : Result T E) (old mid new : Option (List �
 written_last (Ok x) old mid new first more before after = Appends-trans old mid new first more before after
 written_last (Err e) old mid new first more before after = tt
 
--- the rows of no command
-pub lines_text-none : (ranks : ℕ) → lines_text ranks [] ≡ []
-lines_text-none ranks = mapped_none (command_fields ranks)
-
--- rows after rows
-pub lines_text-append : (ranks : ℕ) (rows more : List IssuedCommand) → lines_text ranks (rows ++ more) ≡ lines_text ranks rows ++ lines_text ranks more
-lines_text-append ranks rows more =
-    let fields = command_fields ranks in
-    ap rows_text (map-append fields rows more) ∙ rows_text-append (map fields rows) (map fields more)
+-- rows after rows, of items of one kind
+pub lines-append : {A : Type 0} (fields : A → List (List ℕ)) (rows more : List A) → rows_text (map fields (rows ++ more)) ≡ rows_text (map fields rows) ++ rows_text (map fields more)
+lines-append fields rows more = ap rows_text (map-append fields rows more) ∙ rows_text-append (map fields rows) (map fields more)
 
 -- one row more
-pub lines_text-more : (ranks : ℕ) (rows : List IssuedCommand) (row : IssuedCommand) → lines_text ranks (rows ++ row ∷ []) ≡ lines_text ranks rows ++ row_text (command_fields ranks row)
-lines_text-more ranks rows row = lines_text-append ranks rows (row ∷ []) ∙ ap (λ t. lines_text ranks rows ++ t) (rows_text-one (command_fields ranks row))
+pub lines-more : {A : Type 0} (fields : A → List (List ℕ)) (rows : List A) (row : A) → rows_text (map fields (rows ++ row ∷ [])) ≡ rows_text (map fields rows) ++ row_text (fields row)
+lines-more fields rows row = lines-append fields rows (row ∷ []) ∙ ap (λ t. rows_text (map fields rows) ++ t) (rows_text-one (fields row))
 
 -- a table of commands is its header and its rows
 pub commands_text-parts : (ranks : ℕ) (rows : List IssuedCommand) → commands_text ranks rows ≡ row_text (header ranks) ++ lines_text ranks rows
 unfolding commands_text
 commands_text-parts ranks rows = table_text-parts (header ranks) (map (command_fields ranks) rows)
+
+-- a table of requests is its header and its rows
+pub requests_text-parts : (rows : List RequestTimes) → requests_text rows ≡ row_text request_header ++ request_lines rows
+unfolding requests_text
+requests_text-parts rows = table_text-parts request_header (map request_fields rows)
 
 -- the parts of the table of statistics
 pub stats_text-parts : (stats : RunStats) → stats_text stats

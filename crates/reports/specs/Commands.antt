@@ -4,17 +4,14 @@
 --     command_fields ranks row      the fields of a row
 --     lines_text ranks rows      the rows without the header
 --     commands_text ranks rows      the whole table
---     IsTextOf ranks rows result      the text of rows without the header, or why there is none
-use Rattle.std.specs.Prelude.{ℕ, nat_lt, List, [], ◌∷◌, ◌++◌, map, codes, decimal, if◌then◌else◌, ◌≡◌, Result, MatchResult, Vec}
+use Rattle.std.specs.Prelude.{ℕ, nat_lt, List, [], ◌∷◌, ◌++◌, map, codes, decimal, if◌then◌else◌}
 use Rattle.sim_base.specs.Rules.{kind_of, rank_of}
 use Rattle.sim_base.specs.declared.command.Kind.{Kind}
 use Rattle.sim_base.specs.declared.command.Kind.TheVariants as kind
 use Rattle.sim_base.specs.declared.command.Command.{Command}
 use Rattle.sim_base.specs.declared.command.Command.TheVariants.{Act, Rd, Wr, Pre, Prea, Ref}
 use Rattle.sim_base.specs.declared.command.IssuedCommand.{IssuedCommand}
-use Rattle.sim_base.specs.declared.fault.Fault.{Fault}
-use Rattle.std.specs.declared.alloc.Global.{Global}
-use Rattle.reports.specs.Rows.{rows_text, table_text, IsReportFault}
+use Rattle.reports.specs.Rows.{rows_text, table_text}
 
 -- a field of the column of the rank, present only if there are several ranks
 abbrev pub rank_field : ℕ → List ℕ → List (List ℕ)
@@ -61,7 +58,3 @@ lines_text ranks rows = rows_text (map (command_fields ranks) rows)
 -- the table of commands, in this order
 unfoldable pub commands_text : ℕ → List IssuedCommand → List ℕ
 commands_text ranks rows = table_text (header ranks) (map (command_fields ranks) rows)
-
--- the text of rows without the header, or why there is none
-abbrev pub IsTextOf : ℕ → List IssuedCommand → Result (Vec ℕ Global) Fault → Type 0
-IsTextOf ranks rows result = MatchResult result (λ text. text.items ≡ lines_text ranks rows) IsReportFault

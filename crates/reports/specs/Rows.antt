@@ -7,12 +7,14 @@
 --     numbered f xs      what the items of a list give with their numbers
 --     plain_writer      how csv writes: never with quotes
 --     IsReportFault fault      why a table may be refused
-use Rattle.std.specs.Prelude.{ℕ, List, [], ◌∷◌, ◌++◌, ⊤, codes, decimal, Option, Some, None}
+--     IsTextOf text result      a text, or why there is none
+use Rattle.std.specs.Prelude.{◌≡◌, ℕ, List, [], ◌∷◌, ◌++◌, ⊤, codes, decimal, Option, Some, None, Result, MatchResult, Vec}
 use Rattle.std.specs.List.{enumerate_from, flat_map, join_with_byte}
 use Rattle.csv.specs.Writing.{default_writer, with_style}
 use Rattle.csv.specs.declared.writer.QuoteStyle.TheVariants as style
 use Rattle.csv.specs.declared.writer.WriterBuilder.{WriterBuilder}
 use Rattle.sim_base.specs.declared.fault.Fault.{Fault}
+use Rattle.std.specs.declared.alloc.Global.{Global}
 use Rattle.sim_base.specs.declared.fault.Fault.TheVariants.{Memory, Write}
 
 -- the text of a value; an empty field where there is none
@@ -58,3 +60,7 @@ abbrev pub IsReportFault : Fault → Type 0
 IsReportFault Memory = ⊤
 IsReportFault Write = ⊤
 IsReportFault _ = ⊥
+
+-- a text, or why there is none
+abbrev pub IsTextOf : List ℕ → Result (Vec ℕ Global) Fault → Type 0
+IsTextOf text result = MatchResult result (λ found. found.items ≡ text) IsReportFault

@@ -8,6 +8,7 @@ ghost use Rattle.reports.specs.Tables.{held};
 ghost use Rattle.reports.specs.Commands.{header, kind_word, operand_fields, command_fields, lines_text, commands_text};
 
 use crate::line::{Line, put, put_last, put_last_word, put_rank, put_word};
+use crate::pieces::{MOST, TableLines, write_pieces, write_whole};
 use crate::table::Table;
 use command_table::table::{CommandTable, Rows};
 use sim_base::command::{Command, IssuedCommand, Kind, Source};
@@ -15,6 +16,7 @@ use sim_base::fault::Fault;
 use sim_base::place::BankId;
 use std::alloc::Global;
 use std::io::Write;
+use std::thread::Threads;
 
 // The fields of a command of a request, after that of the rank.
 #[inline(always)]
@@ -93,19 +95,6 @@ fn columns(ranks: u32) -> &'static [u8]
     }
 }
 
-/// The header.
-pub(crate) fn write_header<W: Write>(
-    table: &mut Table,
-    ranks: u32,
-    writer: &mut W,
-) -> Result<(), Fault>
-    ensures written { OnOk result (Appends (held W.contents writer.old table.old) (held W.contents writer.new table.new) (row_text (header ranks))) }
-    ensures refused { IfErr result (λ e. IsReportFault e) }
-{
-    let start = put_last_word(&mut table.line, columns(ranks));
-    table.write_row(start, writer)
-}
-
 // The fields of a row, from the last to the first.
 #[inline(always)]
 fn put_command(line: &mut Line, ranks: u32, row: &IssuedCommand) -> usize
@@ -132,8 +121,8 @@ fn write_command<W: Write>(
     table.write_row(start, writer)
 }
 
-/// Each command that is left.
-pub(crate) fn write_each<W: Write>(
+// Each command that is left.
+fn write_each<W: Write>(
     table: &mut Table,
     ranks: u32,
     mut rows: Rows<'_>,
@@ -148,19 +137,37 @@ pub(crate) fn write_each<W: Write>(
     Ok(())
 }
 
-// The header, and then each command.
-fn write_rows<W: Write>(
-    alloc: Global,
-    table: &mut Table,
+/// The lines of the table of commands, for channels of so many ranks.
+#[derive(Clone, Copy)]
+struct CommandLines {
     ranks: u32,
-    commands: &CommandTable,
-    writer: &mut W,
-) -> Result<(), Fault>
-    ensures written { OnOk result (Appends (held W.contents writer.old table.old) (held W.contents writer.new table.new) (commands_text ranks commands.now)) }
-    ensures refused { IfErr result (λ e. IsReportFault e) }
-{
-    write_header(table, ranks, writer)?;
-    write_each(table, ranks, commands.rows(alloc)?, writer)
+}
+
+impl<'a> TableLines<Rows<'a>> for CommandLines {
+    ghost header_line = { λ of. row_text (header of.ranks) };
+
+    ghost lines = { λ of rows. lines_text of.ranks rows };
+
+    fn write_header<W: Write>(&self, table: &mut Table, writer: &mut W) -> Result<(), Fault>
+        ensures written { OnOk result (Appends (held W.contents writer.old table.old) (held W.contents writer.new table.new) (row_text (header self.now.ranks))) }
+        ensures refused { IfErr result (λ e. IsReportFault e) }
+    {
+        let start = put_last_word(&mut table.line, columns(self.ranks));
+        table.write_row(start, writer)
+    }
+
+    fn write_lines<W: Write>(
+        &self,
+        alloc: Global,
+        piece: &Rows<'a>,
+        table: &mut Table,
+        writer: &mut W,
+    ) -> Result<(), Fault>
+        ensures written { OnOk result (Appends (held W.contents writer.old table.old) (held W.contents writer.new table.new) (lines_text self.now.ranks piece.now)) }
+        ensures refused { IfErr result (λ e. IsReportFault e) }
+    {
+        write_each(table, self.ranks, piece.copied(alloc)?, writer)
+    }
 }
 
 /// Writes the table of commands: a header, and then a row for each command, in their order.
@@ -181,7 +188,36 @@ pub fn write_commands<W: Write>(
     ensures written { OnOk result (Appends (W.contents writer.old) (W.contents writer.new) (commands_text ranks commands.now)) }
     ensures refused { IfErr result (λ e. IsReportFault e) }
 {
-    let mut table = Table::new(alloc);
-    write_rows(alloc, &mut table, ranks, commands, writer)?;
-    table.finish(writer)
+    let rows = commands.rows(alloc)?;
+    write_whole(alloc, &CommandLines { ranks }, &rows, writer)
+}
+
+/// Writes the table of commands as `write_commands` does, put together by at most `threads` threads. If there are few commands,
+/// or only one thread, the caller alone puts it together.
+///
+/// In addition to the memory of `write_commands`, the call takes that of the texts of as many pieces as there are threads, each of
+/// at most 4,096 commands per channel.
+///
+/// # Errors
+///
+/// As of `write_commands`.
+pub fn write_commands_by<R: Threads + Sync, W: Write>(
+    rt: &R,
+    alloc: Global,
+    threads: usize,
+    ranks: u32,
+    commands: &CommandTable,
+    writer: &mut W,
+) -> Result<(), Fault>
+    ensures written { OnOk result (Appends (W.contents writer.old) (W.contents writer.new) (commands_text ranks commands.now)) }
+    ensures refused { IfErr result (λ e. IsReportFault e) }
+{
+    if threads < 2 {
+        return write_commands(alloc, ranks, commands, writer);
+    }
+    let pieces = commands.pieces(alloc, MOST)?;
+    if pieces.len() < 2 {
+        return write_commands(alloc, ranks, commands, writer);
+    }
+    write_pieces(rt, alloc, threads, &CommandLines { ranks }, &pieces, writer)
 }

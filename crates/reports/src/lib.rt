@@ -6,10 +6,11 @@ mod commands;
 mod final_state;
 mod line;
 mod pieces;
+mod requests;
 mod stats;
 mod table;
 
-pub use commands::write_commands;
+pub use commands::{write_commands, write_commands_by};
 pub use final_state::write_final;
-pub use pieces::write_commands_by;
+pub use requests::{write_requests, write_requests_by};
 pub use stats::write_stats;

@@ -1,73 +1,130 @@
-//! The table of commands in pieces, whose texts are put together in parallel.
+//! Tables whose rows come in pieces, the texts of which are put together in parallel.
 
-ghost use Rattle.std.specs.Prelude.{◌≡◌, ◌<◌, flat_map, IfOk, IfErr, OnOk};
+ghost use Rattle.std.specs.Prelude.{◌≡◌, ◌<◌, ◌++◌, List, ℕ, flat_map, IfOk, IfErr, OnOk};
 ghost use Rattle.std.specs.Io.KnownBytes.{Appends};
-ghost use Rattle.reports.specs.Rows.{row_text, IsReportFault};
-ghost use Rattle.reports.specs.Commands.{header, lines_text, commands_text, IsTextOf};
+ghost use Rattle.reports.specs.Rows.{IsTextOf, IsReportFault};
+ghost use Rattle.reports.specs.Tables.{held};
 
-use crate::commands::{write_commands, write_each, write_header};
 use crate::table::Table;
-use command_table::table::{CommandTable, Rows};
 use rayon::prelude::*;
 use sim_base::fault::Fault;
 use std::alloc::Global;
 use std::io::Write;
 use std::thread::Threads;
 
-// How many commands of a channel a piece has at most. With 2 to 8 channels its text is some 256 KB to 1 MB.
-const MOST: usize = 4096;
+/// How many rows of a channel a piece has at most. With 2 to 8 channels its text is some 256 KB to 1 MB.
+pub(crate) const MOST: usize = 4096;
 
-// The header alone.
-fn write_header_alone<W: Write>(alloc: Global, ranks: u32, writer: &mut W) -> Result<(), Fault>
-    ensures written { OnOk result (Appends (W.contents writer.old) (W.contents writer.new) (row_text (header ranks))) }
+/// How the lines of a table are written whose rows come in pieces of a type.
+pub(crate) trait TableLines<P> {
+    /// The line of the header.
+    ghost header_line: { Self → List ℕ };
+
+    /// The lines of the rows of a piece.
+    ghost lines: { Self → P → List ℕ };
+
+    /// Writes the header.
+    fn write_header<W: Write>(&self, table: &mut Table, writer: &mut W) -> Result<(), Fault>
+        ensures written { OnOk result (Appends (held W.contents writer.old table.old) (held W.contents writer.new table.new) (header_line self.now)) }
+        ensures refused { IfErr result (λ e. IsReportFault e) };
+
+    /// Writes the rows of a piece.
+    fn write_lines<W: Write>(
+        &self,
+        alloc: Global,
+        piece: &P,
+        table: &mut Table,
+        writer: &mut W,
+    ) -> Result<(), Fault>
+        ensures written { OnOk result (Appends (held W.contents writer.old table.old) (held W.contents writer.new table.new) (lines self.now piece.now)) }
+        ensures refused { IfErr result (λ e. IsReportFault e) };
+}
+
+// Writes the header alone.
+fn write_header_alone<P, T: TableLines<P>, W: Write>(
+    alloc: Global,
+    of: &T,
+    writer: &mut W,
+) -> Result<(), Fault>
+    ensures written { OnOk result (Appends (W.contents writer.old) (W.contents writer.new) (T.header_line of.now)) }
     ensures refused { IfErr result (λ e. IsReportFault e) }
 {
     let mut table = Table::new(alloc);
-    write_header(&mut table, ranks, writer)?;
+    of.write_header(&mut table, writer)?;
     table.finish(writer)
 }
 
-// Writes the commands of a piece.
-fn write_piece<W: Write>(
+// Writes the rows of a piece alone.
+fn write_piece<P, T: TableLines<P>, W: Write>(
     alloc: Global,
-    ranks: u32,
-    piece: &Rows<'_>,
+    of: &T,
+    piece: &P,
     writer: &mut W,
 ) -> Result<(), Fault>
-    ensures written { OnOk result (Appends (W.contents writer.old) (W.contents writer.new) (lines_text ranks piece.now)) }
+    ensures written { OnOk result (Appends (W.contents writer.old) (W.contents writer.new) (T.lines of.now piece.now)) }
     ensures refused { IfErr result (λ e. IsReportFault e) }
 {
     let mut table = Table::new(alloc);
-    write_each(&mut table, ranks, piece.copied(alloc)?, writer)?;
+    of.write_lines(alloc, piece, &mut table, writer)?;
+    table.finish(writer)
+}
+
+// Writes the header and the rows of a piece through a table.
+fn write_both<P, T: TableLines<P>, W: Write>(
+    alloc: Global,
+    of: &T,
+    rows: &P,
+    table: &mut Table,
+    writer: &mut W,
+) -> Result<(), Fault>
+    ensures written { OnOk result (Appends (held W.contents writer.old table.old) (held W.contents writer.new table.new) (T.header_line of.now ++ T.lines of.now rows.now)) }
+    ensures refused { IfErr result (λ e. IsReportFault e) }
+{
+    of.write_header(table, writer)?;
+    of.write_lines(alloc, rows, table, writer)
+}
+
+/// Writes a table whose rows are one piece: the header, and then the rows.
+pub(crate) fn write_whole<P, T: TableLines<P>, W: Write>(
+    alloc: Global,
+    of: &T,
+    rows: &P,
+    writer: &mut W,
+) -> Result<(), Fault>
+    ensures written { OnOk result (Appends (W.contents writer.old) (W.contents writer.new) (T.header_line of.now ++ T.lines of.now rows.now)) }
+    ensures refused { IfErr result (λ e. IsReportFault e) }
+{
+    let mut table = Table::new(alloc);
+    write_both(alloc, of, rows, &mut table, writer)?;
     table.finish(writer)
 }
 
 // The text of a piece.
-fn text_of(alloc: Global, ranks: u32, piece: &Rows<'_>) -> Result<Vec<u8>, Fault>
-    ensures { IsTextOf ranks piece.now result }
+fn text_of<P, T: TableLines<P>>(alloc: Global, of: &T, piece: &P) -> Result<Vec<u8>, Fault>
+    ensures { IsTextOf (T.lines of.now piece.now) result }
 {
     let mut text = Vec::new(alloc);
-    write_piece(alloc, ranks, piece, &mut text)?;
+    write_piece(alloc, of, piece, &mut text)?;
     Ok(text)
 }
 
 // The texts of some pieces, put together in as many threads as there are pieces, or as the machine has processors.
-fn texts_of<R: Threads + Sync>(
+fn texts_of<R: Threads + Sync, P: Sync, T: TableLines<P> + Sync>(
     rt: &R,
     alloc: Global,
-    ranks: u32,
-    pieces: &[Rows<'_>],
+    of: &T,
+    pieces: &[P],
 ) -> Result<Vec<Vec<u8>>, Fault>
-    ensures texts { IfOk result (λ texts. flat_map (λ text. text.items) texts.items ≡ lines_text ranks (flat_map (λ piece. piece) pieces.now)) }
+    ensures texts { IfOk result (λ texts. flat_map (λ text. text.items) texts.items ≡ flat_map (T.lines of.now) pieces.now) }
     ensures refused { IfErr result (λ e. IsReportFault e) }
 {
     pieces
         .par_iter()
         .with_min_len(1)
         .map(
-            |piece: &Rows<'_>| -> Result<Vec<u8>, Fault>
-                ensures { IsTextOf ranks piece.now result }
-            { text_of(alloc, ranks, piece) },
+            |piece: &P| -> Result<Vec<u8>, Fault>
+                ensures { IsTextOf (T.lines of.entry.now piece.now) result }
+            { text_of(alloc, of, piece) },
         )
         .collect::<Result<Vec<Vec<u8>>, Fault>>(rt, alloc)?
 }
@@ -85,70 +142,56 @@ fn write_texts<W: Write>(texts: &[Vec<u8>], writer: &mut W) -> Result<(), Fault>
     Ok(())
 }
 
-// Writes the commands of some pieces; all their texts are put together before the first is written.
-fn write_round<R: Threads + Sync, W: Write>(
+// Writes the rows of some pieces; all their texts are put together before the first is written.
+fn write_round<R: Threads + Sync, P: Sync, T: TableLines<P> + Sync, W: Write>(
     rt: &R,
     alloc: Global,
-    ranks: u32,
-    pieces: &[Rows<'_>],
+    of: &T,
+    pieces: &[P],
     writer: &mut W,
 ) -> Result<(), Fault>
-    ensures written { OnOk result (Appends (W.contents writer.old) (W.contents writer.new) (lines_text ranks (flat_map (λ piece. piece) pieces.now))) }
+    ensures written { OnOk result (Appends (W.contents writer.old) (W.contents writer.new) (flat_map (T.lines of.now) pieces.now)) }
     ensures refused { IfErr result (λ e. IsReportFault e) }
 {
-    let texts = texts_of(rt, alloc, ranks, pieces)?;
+    let texts = texts_of(rt, alloc, of, pieces)?;
     write_texts(&texts, writer)
 }
 
-// Writes the commands of all pieces, `threads` pieces at a time.
-fn write_pieces<R: Threads + Sync, W: Write>(
+// Writes the rows of all pieces, `threads` pieces at a time.
+fn write_rounds<R: Threads + Sync, P: Sync, T: TableLines<P> + Sync, W: Write>(
     rt: &R,
     alloc: Global,
     threads: usize,
-    ranks: u32,
-    pieces: &[Rows<'_>],
+    of: &T,
+    pieces: &[P],
     writer: &mut W,
 ) -> Result<(), Fault>
     requires some { 0 < threads }
-    ensures written { OnOk result (Appends (W.contents writer.old) (W.contents writer.new) (lines_text ranks (flat_map (λ piece. piece) pieces.now))) }
+    ensures written { OnOk result (Appends (W.contents writer.old) (W.contents writer.new) (flat_map (T.lines of.now) pieces.now)) }
     ensures refused { IfErr result (λ e. IsReportFault e) }
 {
     let mut done = 0;
     while done < pieces.len() {
         let end = done + threads.min(pieces.len() - done);
-        write_round(rt, alloc, ranks, &pieces[done..end], writer)?;
+        write_round(rt, alloc, of, &pieces[done..end], writer)?;
         done = end;
     }
     Ok(())
 }
 
-/// Writes the table of commands as `write_commands` does, put together by at most `threads` threads. If there are few commands,
-/// or only one thread, the caller alone puts it together.
-///
-/// In addition to the memory of `write_commands`, the call takes that of the texts of as many pieces as there are threads, each of
-/// at most 4,096 commands per channel.
-///
-/// # Errors
-///
-/// As of `write_commands`.
-pub fn write_commands_by<R: Threads + Sync, W: Write>(
+/// Writes a table: the header, and then the rows of the pieces, whose texts are put together by at most `threads` threads.
+pub(crate) fn write_pieces<R: Threads + Sync, P: Sync, T: TableLines<P> + Sync, W: Write>(
     rt: &R,
     alloc: Global,
     threads: usize,
-    ranks: u32,
-    commands: &CommandTable,
+    of: &T,
+    pieces: &[P],
     writer: &mut W,
 ) -> Result<(), Fault>
-    ensures written { OnOk result (Appends (W.contents writer.old) (W.contents writer.new) (commands_text ranks commands.now)) }
+    requires some { 0 < threads }
+    ensures written { OnOk result (Appends (W.contents writer.old) (W.contents writer.new) (T.header_line of.now ++ flat_map (T.lines of.now) pieces.now)) }
     ensures refused { IfErr result (λ e. IsReportFault e) }
 {
-    if threads < 2 {
-        return write_commands(alloc, ranks, commands, writer);
-    }
-    let pieces = commands.pieces(alloc, MOST)?;
-    if pieces.len() < 2 {
-        return write_commands(alloc, ranks, commands, writer);
-    }
-    write_header_alone(alloc, ranks, writer)?;
-    write_pieces(rt, alloc, threads, ranks, &pieces, writer)
+    write_header_alone(alloc, of, writer)?;
+    write_rounds(rt, alloc, threads, of, pieces, writer)
 }

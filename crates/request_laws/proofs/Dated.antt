@@ -31,7 +31,8 @@ use Rattle.statistics.proofs.Lists.{length-push_suc, take-push}
 use Rattle.laws.proofs.Chosen.{IfSome-weaker}
 use Rattle.laws.proofs.Receivers.{receiver_request, place_in, Each-filter_passes}
 use Rattle.laws.proofs.Sent.{Each-messages, messages-none, issues-each, commands-each, sends-each}
-use Rattle.request_laws.specs.Arrivals.{arrival_of, RequestsArriveAsIssued}
+use Rattle.request_table.specs.Requests.{arrival_of}
+use Rattle.request_laws.specs.Arrivals.{RequestsArriveAsIssued}
 
 -- a test that all numbers below n pass, and n does not
 prefix_below : (p : ℕ → Bool) (n : ℕ) → ((k : ℕ) → k < n → p k ≡ true) → p n ≡ false → (m a : ℕ) → a + m ≡ n → prefix_len p (range_with_len a (suc m)) ≡ m

@@ -1,2 +1,3 @@
 pub mod Dated
 pub mod Adding
+pub mod Serving

@@ -1,2 +1,3 @@
 pub mod Arrivals
 pub mod Served
+pub mod Timed

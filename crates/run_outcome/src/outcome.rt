@@ -2,6 +2,7 @@
 
 use crate::tables::Tables;
 use command_table::table::CommandTable;
+use request_table::table::RequestTable;
 use statistics::final_state::FinalState;
 use statistics::stats::Stats;
 use std::marker::Model;
@@ -13,6 +14,8 @@ pub struct Outcome {
     pub tables: Tables,
     /// The commands of all channels, by cycle and then by channel, if their table was asked for.
     pub commands: Option<CommandTable>,
+    /// The requests that were served, in the order of their commands, if their table was asked for.
+    pub requests: Option<RequestTable>,
     pub stats: Stats,
     /// The state before the cycle that would be the run's next.
     pub last: FinalState,
@@ -25,5 +28,5 @@ impl Model for Outcome {
 
     ghost Value = { RunOutcome };
 
-    ghost view = { λ o. record { tables = o.tables; commands = o.commands; stats = o.stats; last = o.last; ranks = o.ranks } };
+    ghost view = { λ o. record { tables = o.tables; commands = o.commands; requests = o.requests; stats = o.stats; last = o.last; ranks = o.ranks } };
 }

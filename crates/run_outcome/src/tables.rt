@@ -12,6 +12,8 @@ pub struct Tables {
     pub stats: bool,
     /// The state in which the run ends, `final.csv`.
     pub last: bool,
+    /// The times of each request, `requests.csv`.
+    pub requests: bool,
 }
 
 impl Tables {
@@ -23,6 +25,7 @@ impl Tables {
             commands: true,
             stats: true,
             last: true,
+            requests: false,
         }
     }
 }

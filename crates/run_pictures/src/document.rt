@@ -11,6 +11,8 @@ use crate::tables::{put_channels, put_core_summary, put_cores};
 use command_table::list::CommandList;
 use drawing::markup::{Piece, put, put_legend};
 use drawing::scales::share_of;
+use request_pictures::section::put_requests;
+use request_table::times::RequestTimes;
 use sim_base::config::Config;
 use statistics::cores::CoreStats;
 use statistics::stats::Stats;
@@ -20,14 +22,15 @@ use std::io::{self, Write};
 /// More cores than this have a summary, with their table and their bars folded.
 const MOST_CORES: usize = 16;
 
-/// What a document shows: a run, its configuration and its clock in kHz if they are given, and the window of its timeline, which is from a cycle up
-/// to, but not including, another. The commands are taken in the order of the list.
+/// What a document shows: a run, its configuration, its clock in kHz and its requests if they are given, and the window of its timeline, which
+/// is from a cycle up to, but not including, another. The commands are taken in the order of the list.
 #[derive(Clone, Copy)]
 pub struct Run<'a> {
     pub stats: &'a Stats,
     pub commands: &'a CommandList,
     pub config: Option<&'a Config>,
     pub khz: Option<u64>,
+    pub requests: Option<&'a [RequestTimes]>,
     pub from: u64,
     pub end: u64,
 }
@@ -150,8 +153,26 @@ fn put_activity(
 }
 
 // Where a page with commands leads to.
-fn contents_of(commands: &CommandList) -> &'static str {
-    if commands.is_empty() { "" } else { CONTENTS }
+fn contents_of(run: &Run<'_>) -> &'static str {
+    if run.commands.is_empty() {
+        ""
+    } else if run.requests.is_some() {
+        CONTENTS_WITH_LATENCY
+    } else {
+        CONTENTS
+    }
+}
+
+// What the requests tell, if they are given.
+fn put_latency(alloc: Global, run: &Run<'_>, out: &mut String) -> Result<(), AllocError> {
+    let Some(requests) = run.requests else {
+        return Ok(());
+    };
+    let n_cl = match run.config {
+        Some(config) => Some(config.timing.n_cl),
+        None => None,
+    };
+    put_requests(alloc, run.stats, n_cl, requests, out)
 }
 
 // The tables, and what the channels did if there are commands. A REF is drawn for as long as it takes, or for a cycle if that is not known.
@@ -165,7 +186,7 @@ fn put_run(alloc: Global, run: &Run<'_>, out: &mut String) -> Result<(), AllocEr
         from: run.from,
         end: run.end,
     };
-    out.push_str(contents_of(run.commands))?;
+    out.push_str(contents_of(run))?;
     let measures = Measures {
         cycles: stats.cycles,
         refresh,
@@ -173,6 +194,7 @@ fn put_run(alloc: Global, run: &Run<'_>, out: &mut String) -> Result<(), AllocEr
     };
     put_channels(measures, &stats.channels, out)?;
     put_all_cores(alloc, measures, &stats.cores, out)?;
+    put_latency(alloc, run, out)?;
     if run.commands.is_empty() {
         return out.push_str("<p>No command was issued.</p>\n");
     }
@@ -206,8 +228,8 @@ fn put_document(alloc: Global, run: &Run<'_>, out: &mut String) -> Result<(), Al
     out.push_str(TAIL)
 }
 
-/// Writes a run as one HTML document: its statistics, what its channels did over the whole run, and what they did in the window, one
-/// command after the other.
+/// Writes a run as one HTML document: its statistics, how long its reads took if its requests are given, what its channels did over the whole
+/// run, and what they did in the window, one command after the other.
 ///
 /// # Errors
 ///
@@ -236,6 +258,10 @@ const BODY: &str = r#"</style>
 
 const CONTENTS: &str =
     r##"<nav><a href="#channels">Channels</a><a href="#cores">Cores</a><a href="#steps">Whole run</a><a href="#timeline">Timeline</a></nav>
+"##;
+
+const CONTENTS_WITH_LATENCY: &str =
+    r##"<nav><a href="#channels">Channels</a><a href="#cores">Cores</a><a href="#latency">Read latency</a><a href="#steps">Whole run</a><a href="#timeline">Timeline</a></nav>
 "##;
 
 const TIMELINE: &str =

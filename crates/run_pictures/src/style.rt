@@ -42,7 +42,7 @@ i { font-style: normal; } i b { font-weight: 400; }
 .lane { position: absolute; left: 0; right: 0; height: 12px; background: var(--lane); } .lane.odd { background: var(--odd); }
 .lane b { position: absolute; right: 100%; padding-right: 5px; white-space: nowrap; }
 .bar { display: flex; align-items: center; font-size: 12px; line-height: 15px; margin-bottom: 2px; font-variant-numeric: tabular-nums; }
-.bar b { flex: 0 0 62px; font-weight: 400; color: var(--soft); } .bar svg { flex: 1; height: 14px; min-width: 0; margin-right: 16px; }
+.bar b { flex: 0 0 72px; font-weight: 400; white-space: nowrap; color: var(--soft); } .bar svg { flex: 1; height: 14px; min-width: 0; margin-right: 16px; }
 .bar p { flex: 1; display: flex; justify-content: space-between; max-width: none; margin: 0 16px 0 0; font-size: 11px; }
 .bar p i { width: 0; display: flex; justify-content: center; white-space: nowrap; }
 svg { display: block; }
@@ -51,7 +51,7 @@ svg path { vector-effect: non-scaling-stroke; } svg rect { shape-rendering: cris
 .act { fill: var(--act); } .rd { fill: var(--rd); } .wr { fill: var(--wr); } .pre { fill: var(--pre); } .prea { fill: var(--prea); } .ref { fill: var(--ref); fill-opacity: .7; }
 .band { fill: var(--band); fill-opacity: .38; }
 .bus { fill: var(--rd); } .open { fill: var(--pre); } .pale { fill-opacity: .3; }
-.line { fill: none; stroke-width: 1.4; } .line.bus { stroke: var(--rd); } .line.hits { stroke: var(--wr); } .line.open { stroke: var(--pre); }
+.line { fill: none; stroke-width: 1.4; } .line.bus { stroke: var(--rd); } .line.hits { stroke: var(--wr); } .line.open { stroke: var(--pre); } .line.tail { stroke: var(--act); }
 .credit { fill: var(--wr); } .window { fill: var(--stall); } .memory { fill: var(--memory); } .width { fill: var(--pre); } .end { fill: var(--none); }
 @media (max-width: 700px) { main { padding: 12px; } th, td { padding: 3px 7px; } }
 @media print {

@@ -2,11 +2,16 @@ pub mod Canonical
 pub mod CommandsBack
 pub mod Exact
 pub mod FourFields
+pub mod OrderedRows
+pub mod ReadRequests
 pub mod ReadRows
 pub mod Refused
+pub mod RequestRows
+pub mod RequestsBack
 pub mod RisingRows
 pub mod RowReads
 pub mod RowValues
+pub mod RunRequests
 pub mod RunStats
 pub mod Standing
 pub mod StatsBack

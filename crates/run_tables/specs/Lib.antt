@@ -4,3 +4,5 @@ pub mod Numbers
 pub mod Lines
 pub mod Stats
 pub mod Units
+pub mod RequestRows
+pub mod Requests

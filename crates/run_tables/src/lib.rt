@@ -1,4 +1,4 @@
-//! Reads the tables of a run: its statistics and its commands.
+//! Reads the tables of a run: its statistics, its commands and its requests.
 #![tactic(auto)]
 
 mod commands;
@@ -6,7 +6,9 @@ mod fields;
 mod numbers;
 pub mod read_back;
 mod records;
+mod requests;
 mod stats;
 
 pub use commands::read_commands;
+pub use requests::read_requests;
 pub use stats::read_stats;

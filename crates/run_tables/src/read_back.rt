@@ -14,7 +14,11 @@ ghost use Rattle.table_laws.specs.Written.{RowIsOf};
 ghost use Rattle.reports.specs.Stats.{stats_text};
 ghost use Rattle.statistics.specs.Runs.{stats_of};
 ghost use Rattle.statistics.specs.Values.{RunStats};
+ghost use Rattle.request_table.specs.Requests.{requests_of};
+ghost use Rattle.request_table.specs.declared.times.RequestTimes.{RequestTimes};
+ghost use Rattle.reports.specs.Requests.{requests_text};
 ghost use Rattle.run_tables.specs.Commands.{IsCommandTable};
+ghost use Rattle.run_tables.specs.Requests.{RequestFits, IsInOrder, IsRequestTable};
 ghost use Rattle.run_tables.specs.Stats.{StatsFit, IsStatsTable};
 
 /// A table of commands in cycles that do not fall is read as it was written, under each configuration that has its rows, and so is
@@ -33,4 +37,11 @@ pub fn stats_are_read_back()
     ensures written { (stats : RunStats) → StatsFit stats → IsStatsTable (records_of (stats_text stats)) stats }
     ensures run { (s : Config) (traces : List (List Entry)) (n : ℕ) → n ≤ 2 ^ 62 → All (λ t. length t ≤ 2 ^ 62) traces
         → IsStatsTable (records_of (stats_text (stats_of s traces (run s traces n)))) (stats_of s traces (run s traces n)) }
+{}
+
+/// A table of requests in their ranges and in order is read as it was written, and so is that of a run.
+pub fn requests_are_read_back()
+    ensures written { (rows : List RequestTimes) → All RequestFits rows → IsInOrder rows → IsRequestTable (records_of (requests_text rows)) rows }
+    ensures run { (s : Config) (traces : List (List Entry)) (n : ℕ) → n ≤ 2 ^ 62 → All (λ t. length t ≤ 2 ^ 62) traces
+        → IsRequestTable (records_of (requests_text (requests_of s (run s traces n)))) (requests_of s (run s traces n)) }
 {}

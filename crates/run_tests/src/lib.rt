@@ -20,6 +20,8 @@ mod phase_counts;
 #[cfg(test)]
 mod phases;
 #[cfg(test)]
+mod request_times;
+#[cfg(test)]
 mod same;
 #[cfg(test)]
 mod shared_out;

@@ -3,13 +3,12 @@
 ghost use Rattle.std.specs.Prelude.{◌≡◌, ◌≢◌, ◌<◌, false, All, IfOk, IsPermutation};
 
 use crate::expect::{expect, expect_at};
-use crate::outcomes::commands_of;
+use crate::outcomes::{EVERY, commands_of};
 use cpu_trace::trace::Trace;
 use fixtures::small::{RANK_FIELD, small};
 use ordered::order::Order;
 use ordered::run::run_in_order;
 use run_outcome::outcome::Outcome;
-use run_outcome::tables::Tables;
 use shards::job::{Done, Job};
 use shards::planning::{Planned, plan};
 use shards::sharded::ShardedSim;
@@ -114,7 +113,7 @@ fn started(alloc: Global, changes: &[&str]) -> Result<Sim, AllocError>
     let first = Trace::from_entries(alloc, &line)?;
     let second = Trace::from_entries(alloc, &line)?;
     let traces = Vec::from_array(alloc, [first, second])?;
-    Sim::start(alloc, &config, traces, Tables::usual())
+    Sim::start(alloc, &config, traces, EVERY)
 }
 
 /// Lines of the small machine for two cores.
@@ -144,7 +143,7 @@ fn did_by<O: Order>(alloc: Global, shards: usize, order: &mut O) -> Result<Did, 
 {
     let sim = started(alloc, TWO_CORES)?;
     let sim = run_in_order(sim, alloc, shards, 16, order)?;
-    let outcome = sim.outcome(alloc, Tables::usual())?;
+    let outcome = sim.outcome(alloc, EVERY)?;
     Ok(did(alloc, &outcome)?)
 }
 

@@ -5,6 +5,8 @@ use fixtures::small::small_text;
 use fixtures::texts::texts_of;
 use reference::runs::simulate_plain;
 use reports::{write_commands, write_final, write_stats};
+use request_table::table::RequestTable;
+use request_table::times::{Access, RequestTimes};
 use run_outcome::outcome::Outcome;
 use run_outcome::tables::Tables;
 use sim_base::command::IssuedCommand;
@@ -35,11 +37,48 @@ pub(crate) fn auto(count: u64) -> Workers {
     }
 }
 
+/// All tables of a run.
+pub(crate) const EVERY: Tables = Tables {
+    commands: true,
+    stats: true,
+    last: true,
+    requests: true,
+};
+
+/// The numbers of a row of requests.
+fn numbers_of(row: &RequestTimes) -> [u64; 9] {
+    [
+        u64::from(row.core),
+        row.entry,
+        u64::from(row.access == Access::Write),
+        u64::from(row.channel),
+        row.issued,
+        row.arrived,
+        row.served,
+        row.replied.unwrap_or(u64::MAX),
+        u64::from(row.hit),
+    ]
+}
+
+/// The numbers of all rows of a table of requests, as bytes.
+fn request_bytes(alloc: Global, requests: &RequestTable) -> Result<Vec<u8>, AllocError> {
+    let mut bytes = Vec::new(alloc);
+    for row in &requests.to_vec(alloc)? {
+        for number in numbers_of(row) {
+            bytes.extend_from_slice(&number.to_le_bytes())?;
+        }
+    }
+    Ok(bytes)
+}
+
 /// The bytes of an outcome's tables, one behind the other.
 pub(crate) fn tables_of(alloc: Global, outcome: &Outcome) -> Result<Vec<u8>, Fault> {
     let mut tables = Vec::new(alloc);
     if let Some(commands) = &outcome.commands {
         write_commands(alloc, outcome.ranks, commands, &mut tables)?;
+    }
+    if let Some(requests) = &outcome.requests {
+        tables.extend_from_slice(&request_bytes(alloc, requests)?)?;
     }
     write_stats(alloc, &outcome.stats, &mut tables)?;
     write_final(alloc, &outcome.last, outcome.ranks, &mut tables)?;
@@ -120,7 +159,7 @@ pub(crate) fn plain_outcome<R: Threads + Sync>(
         &texts,
         run.cycles,
         workers,
-        Tables::usual(),
+        EVERY,
     )
 }
 
@@ -145,7 +184,7 @@ pub(crate) fn outcome_of<R: Threads + Wait + Sync, G: Gate + Sync, W: Watch>(
 ) -> Result<Outcome, Fault> {
     let bytes = run.config.as_bytes();
     let texts = slices_of(alloc, run.texts)?;
-    let tables = Tables::usual();
+    let tables = EVERY;
     simulate(
         rt, alloc, gate, watch, bytes, &texts, run.cycles, workers, tables,
     )

@@ -2,9 +2,8 @@
 //! something is sent or arrives.
 
 use crate::expect::expect;
-use crate::outcomes::Texts;
+use crate::outcomes::{EVERY, Texts};
 use crate::shared_out::{LONGEST, run_up_to, started};
-use run_outcome::tables::Tables;
 use shards::job::{Done, Job};
 use sim_base::fault::Fault;
 use sim_base::message::Cycle;
@@ -88,7 +87,7 @@ fn spans_of<R: Threads + Sync>(
         serial: Serial::new(alloc, &Open),
         spans: Vec::new(alloc),
     };
-    run_up_to(sim, alloc, counted.cycles, 2, &mut noting)?.outcome(alloc, Tables::usual())?;
+    run_up_to(sim, alloc, counted.cycles, 2, &mut noting)?.outcome(alloc, EVERY)?;
     Ok(noting.spans)
 }
 

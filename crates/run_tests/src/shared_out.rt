@@ -5,12 +5,11 @@ ghost use Rattle.std.specs.Prelude.{◌<◌};
 
 use crate::expect::expect;
 use crate::generated::TRACES;
-use crate::outcomes::{Run, Texts, plain_tables, tables_of};
+use crate::outcomes::{EVERY, Run, Texts, plain_tables, tables_of};
 use config_reader::read_config;
 use fixtures::generated::made_up;
 use fixtures::random::Random;
 use fixtures::texts::traces_of;
-use run_outcome::tables::Tables;
 use shards::job::{Done, Job};
 use sim_base::fault::Fault;
 use sim_base::message::Cycle;
@@ -37,7 +36,7 @@ pub(crate) fn started<R: Threads + Sync>(
     if traces.len() != usize::from(config.cores) {
         return Err(Fault::TraceCount);
     }
-    Ok(Sim::start(alloc, &config, traces, Tables::usual())?)
+    Ok(Sim::start(alloc, &config, traces, EVERY)?)
 }
 
 /// Runs the jobs of a phase one after the other, and gives their results from the last to the first.
@@ -103,7 +102,7 @@ fn tables_by<R: Threads + Sync>(
 {
     let sim = started(rt, alloc, run)?;
     let sim = run_in_shards(sim, alloc, run.cycles, stop, shards)?;
-    let outcome = sim.outcome(alloc, Tables::usual())?;
+    let outcome = sim.outcome(alloc, EVERY)?;
     tables_of(alloc, &outcome)
 }
 

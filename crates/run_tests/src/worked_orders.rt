@@ -5,14 +5,13 @@ ghost use Rattle.std.specs.Prelude.{◌<◌};
 
 use crate::expect::expect_at;
 use crate::ordered_runs::{AsTheyCome, Reversed};
-use crate::outcomes::{Run, plain_tables, tables_of};
+use crate::outcomes::{EVERY, Run, plain_tables, tables_of};
 use crate::same::{ROWS, texts_with};
 use crate::shared_out::{LONGEST, started};
 use fixtures::small::small;
 use fixtures::worked_runs::{FAST_LINK, Run as Row};
 use ordered::order::Order;
 use ordered::run::run_in_order;
-use run_outcome::tables::Tables;
 use shards::job::Done;
 use sim_base::fault::Fault;
 use std::alloc::Global;
@@ -63,7 +62,7 @@ fn tables_by<R: Threads + Sync, O: Order>(
         return Err(Fault::Cycles);
     }
     let sim = run_in_order(sim, alloc, shards, run.cycles, order)?;
-    tables_of(alloc, &sim.outcome(alloc, Tables::usual())?)
+    tables_of(alloc, &sim.outcome(alloc, EVERY)?)
 }
 
 fn tables_in<R: Threads + Sync>(

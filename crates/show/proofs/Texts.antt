@@ -1,7 +1,11 @@
 -- Texts that grow.
-use Rattle.std.proofs.Common.{◌≡◌, ℕ, ◌+◌, List, [], ◌++◌, length, sym, ap, ap₂, subst, ◌∙◌, add-one, append-nil, append_assoc}
+use Rattle.std.proofs.Common.{◌≡◌, ℕ, ◌+◌, List, [], ◌++◌, Option, Some, None, length, sym, ap, ap₂, subst, ◌∙◌, add-one, append-nil, append_assoc}
 use Rattle.show.specs.Screen.{Extends, IsScreen, channels_head, cores_head}
 use Rattle.show.specs.Banks.{AreBanksOf, AreBanks}
+use Rattle.show.specs.Requests.{latencies_head, waits_head, replies_of, AreRequests}
+use Rattle.request_measures.specs.Latency.{read_latencies, AreLatenciesOf}
+use Rattle.request_measures.specs.declared.latency.Latencies.{Latencies}
+use Rattle.request_table.specs.declared.times.RequestTimes.{RequestTimes}
 use Rattle.sim_base.specs.declared.command.IssuedCommand.{IssuedCommand}
 use Rattle.statistics.specs.Values.{RunStats}
 
@@ -32,3 +36,19 @@ pub one_more_channel : (commands : List IssuedCommand) (channel : ℕ) (old more
     → AreBanks commands (channel + 1) new
 one_more_channel commands channel old more new before after joined =
     subst (λ n. AreBanks commands n new) (sym (add-one channel)) (record { old = old; more = more; before_is = before; after_is = after; text_is = joined })
+
+-- how many replies came, from their percentiles
+pub replies_are : (requests : List RequestTimes) (found : Option Latencies) → AreLatenciesOf requests found → replies_of found ≡ length (read_latencies requests)
+replies_are requests None none = sym (ap length none)
+replies_are requests (Some found) are = are.count
+
+-- what the screen has of requests, from its parts
+pub requests_of : (requests : List RequestTimes) (above below text : List ℕ) → Extends (latencies_head (length (read_latencies requests))) above → Extends (waits_head (length requests)) below
+    → text ≡ above ++ below → AreRequests requests text
+requests_of requests above below text upper lower joined = record {
+  latency_lines = upper.0;
+  wait_lines = lower.0;
+  text_is =
+      joined ∙ ap₂ (λ s t. s ++ t) upper.1 lower.1
+      ∙ sym (append_assoc (latencies_head (length (read_latencies requests)) ++ upper.0) (waits_head (length requests)) lower.0);
+}

@@ -4,9 +4,11 @@
 mod banks;
 mod number;
 pub mod options;
+mod requests;
 mod rows;
 mod screen;
 mod table;
 
 pub use banks::show_banks;
+pub use requests::show_requests;
 pub use screen::show_text;

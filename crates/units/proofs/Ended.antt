@@ -23,6 +23,7 @@ use Rattle.sim_base.specs.History.{below, trace_of}
 use Rattle.sim_base.proofs.Below.{flat_map_below_more}
 use Rattle.statistics.specs.Runs.{credits_of, core_last, row_of_bank, open_rows_left, channel_last, last_of_core, last_of_channel}
 use Rattle.statistics.specs.Values.{LastCore, LastChannel, LastState, RunStats}
+use Rattle.request_table.specs.declared.times.RequestTimes.{RequestTimes}
 use Rattle.run_outcome.specs.Values.{RunOutcome}
 use Rattle.run_outcome.specs.declared.tables.Tables.{Tables}
 use Rattle.laws.proofs.Legal.{length-channel_steps_of}
@@ -100,6 +101,8 @@ pub state_of : {cores cores' : List LastCore} → {channels channels' : List Las
     → ◌≡◌ {A = LastState} (record { cores = cores; channels = channels; in_flight = flight }) (record { cores = cores'; channels = channels'; in_flight = flight' })
 state_of e f g = cc
 
-pub outcome_is : {rows rows' : Option (List IssuedCommand)} → {stats stats' : RunStats} → {last last' : LastState} → (tables : Tables) (ranks : ℕ) → rows ≡ rows' → stats ≡ stats' → last ≡ last'
-    → ◌≡◌ {A = RunOutcome} (record { tables = tables; commands = rows; stats = stats; last = last; ranks = ranks }) (record { tables = tables; commands = rows'; stats = stats'; last = last'; ranks = ranks })
-outcome_is tables ranks e f g = cc
+pub outcome_is : {rows rows' : Option (List IssuedCommand)} → {requests requests' : Option (List RequestTimes)} → {stats stats' : RunStats} → {last last' : LastState} → (tables : Tables) (ranks : ℕ)
+    → rows ≡ rows' → requests ≡ requests' → stats ≡ stats' → last ≡ last'
+    → ◌≡◌ {A = RunOutcome} (record { tables = tables; commands = rows; requests = requests; stats = stats; last = last; ranks = ranks })
+    (record { tables = tables; commands = rows'; requests = requests'; stats = stats'; last = last'; ranks = ranks })
+outcome_is tables ranks e f g h = cc

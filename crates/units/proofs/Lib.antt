@@ -10,3 +10,5 @@ pub mod Ended
 pub mod Lasting
 pub mod Resting
 pub mod Stopping
+pub mod Requested
+pub mod Keeping

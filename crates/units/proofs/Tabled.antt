@@ -1,15 +1,14 @@
 -- The table of all commands: the lists of the channels, read by cycle.
-use Rattle.std.proofs.Common.{◌≡◌, ℕ, zero, suc, ◌+◌, ◌-◌, ◌<◌, ◌≤◌, Bool, true, false, ◌&&◌, ltb, eqb, List, [], ◌∷◌, ◌++◌, map, get_or, refl, sym, ap, ap₂, subst, ◌∙◌, ◌⊎◌, inl, inr, add-one, arith}
+use Rattle.std.proofs.Common.{◌≡◌, ℕ, zero, suc, ◌+◌, ◌<◌, ◌≤◌, Bool, true, false, ◌&&◌, ltb, eqb, List, [], ◌∷◌, ◌++◌, map, get_or, refl, sym, ap, ap₂, ◌∙◌, add-one, arith}
 use Rattle.std.specs.Prelude.{All, filter, flat_map}
 use Rattle.std.specs.List.{AllByRecursion as Each}
-use Rattle.std.proofs.lemmas.Bool.{cond-true, cond-false, lt-ltb, cases_lt}
+use Rattle.std.proofs.lemmas.Bool.{cond-true, cond-false, lt-ltb}
 use Rattle.std.proofs.lemmas.Bool.Decides.{nat_tests}
 use Rattle.std.proofs.lemmas.List.{append-nil}
 use Rattle.std.proofs.lemmas.List.Concat.{flat_map-append}
 use Rattle.std.proofs.lemmas.List.Elements.{All-from_get_or, All-from_recursion, recursion_from_All, filter-append}
 use Rattle.sim_base.specs.declared.config.Config.{Config}
 use Rattle.sim_base.specs.declared.command.IssuedCommand.{IssuedCommand}
-use Rattle.sim_base.specs.declared.message.Unit.TheVariants as unit
 use Rattle.sim_base.specs.declared.trace.Entry.{Entry}
 use Rattle.sim_base.specs.History.{below, commands}
 use Rattle.sim_base.specs.Machine.{run}
@@ -21,11 +20,8 @@ use Rattle.laws.specs.Tables.{rows_on, stands_before, IsOrdered}
 use Rattle.laws.proofs.Legal.{cycles_ascend}
 use Rattle.laws.proofs.Tabled.{rows_on-commands, tables_are_ordered}
 use Rattle.span_laws.proofs.Merged.{commands-within}
-use Rattle.units.specs.Parts.{IsPart}
-use Rattle.units.specs.Units.{unit_at}
-use Rattle.units.specs.declared.part.UnitState.{UnitState}
 use Rattle.units.proofs.Filters.{filter-filter, filter-all}
-use Rattle.units.proofs.Standing.{core-at_place, channel-at_place, places-more}
+use Rattle.units.proofs.Standing.{places-more}
 
 -- each row stands before those after it
 abbrev Ordered : List IssuedCommand → Type 0
@@ -119,26 +115,6 @@ more-channels k n xs o =
 -- the lists of the channels below a number
 abbrev pub lists_below : Config → List (List Entry) → ℕ → ℕ → List (List IssuedCommand)
 lists_below s traces now n = map (history_of s traces now) (below n)
-
--- the lists of the channels among the units so far, with one unit more
-pub listed-more : (s : Config) (traces : List (List Entry)) (now place : ℕ) (p : UnitState) (old new : List (List IssuedCommand)) → IsPart s traces (unit_at s place) now p
-    → ((core : ℕ) → IsPart s traces (unit.Core core) now p → new ≡ old)
-    → ((channel : ℕ) → IsPart s traces (unit.Channel channel) now p → new ≡ old ++ history_of s traces now channel ∷ [])
-    → old ≡ lists_below s traces now (place - s.cores) → new ≡ lists_below s traces now (suc place - s.cores)
-listed-more s traces now place p old new stands core channel was = go (cases_lt place s.cores)
-  where
-    go : (place < s.cores) ⊎ (s.cores ≤ place) → new ≡ lists_below s traces now (suc place - s.cores)
-    go (inl l) =
-        let none : place - s.cores ≡ suc place - s.cores = omega arith in
-        core place (subst (λ u. IsPart s traces u now p) (core-at_place s place l) stands) ∙ was ∙ ap (lists_below s traces now) none
-    go (inr l) =
-        let k = place - s.cores in
-        let at : place ≡ s.cores + k = omega arith in
-        let next : suc k ≡ suc place - s.cores = omega arith in
-        channel k (subst (λ u. IsPart s traces u now p) (channel-at_place s place k at) stands)
-        ∙ ap (λ z. z ++ history_of s traces now k ∷ []) was
-        ∙ places-more (history_of s traces now) k
-        ∙ ap (lists_below s traces now) next
 
 -- one behind the other, in each cycle
 lower-rows : (s : Config) (traces : List (List Entry)) (now n : ℕ) → n ≤ s.channels → HaveSameCycles (flat_map (λ rows. rows) (lists_below s traces now n)) (lower n (commands (run s traces now)))

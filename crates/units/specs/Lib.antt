@@ -6,3 +6,4 @@ pub mod Flight
 pub mod Drained
 pub mod Quiet
 pub mod Stops
+pub mod Kept

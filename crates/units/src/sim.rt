@@ -7,6 +7,7 @@ ghost use Rattle.sim_base.specs.Machine.{run, is_over};
 ghost use Rattle.span_laws.specs.Ends.{ends_before};
 ghost use Rattle.run_outcome.specs.Outcomes.{outcome_of};
 ghost use Rattle.statistics.specs.Runs.{stats_of, final_of};
+ghost use Rattle.channel_step.specs.Channels.{StandsFor as ChannelStandsFor};
 ghost use Rattle.units.specs.Units.{unit_count};
 ghost use Rattle.units.specs.Parts.{StandAt, IsSim};
 ghost use Rattle.units.specs.Drained.{GoesOn, NotEnded};
@@ -16,7 +17,7 @@ use crate::drained::{all_finished, cores_until, flight_until};
 use crate::ending::{channels_left, cores_left};
 use crate::machine::Machine;
 use crate::part::UnitState;
-use crate::tables::commands_if_asked;
+use crate::tables::{Kept, command_table, kept_by_channel, request_table};
 use channel_step::channel::Channel;
 use command_table::list::CommandList;
 use core_window::core_unit::Core;
@@ -25,7 +26,7 @@ use links::flight::Links;
 use run_outcome::outcome::Outcome;
 use run_outcome::tables::Tables;
 use sim_base::config::Config;
-use sim_base::message::Cycle;
+use sim_base::message::{ChannelId, Cycle};
 use statistics::final_state::FinalState;
 use statistics::stats::Stats;
 use std::alloc::{AllocError, Global};
@@ -91,6 +92,22 @@ fn list_for(alloc: Global, kept: bool) -> Option<CommandList>
     }
 }
 
+/// The channel with a number, before the first cycle. It may keep the requests that it serves.
+fn first_channel(
+    alloc: Global,
+    config: &Config,
+    number: ChannelId,
+    keeps_served: bool,
+) -> Result<Channel, AllocError>
+    ensures { IfOk result (λ channel. ChannelStandsFor channel config.now number [] []) }
+{
+    let mut channel = Channel::start(alloc, config, number)?;
+    if keeps_served {
+        channel.keep_served(alloc);
+    }
+    Ok(channel)
+}
+
 /// Puts the channels of a machine before the first cycle behind its cores. They keep what these tables hold.
 fn add_channels(
     alloc: Global,
@@ -103,7 +120,7 @@ fn add_channels(
     ensures stand { OnOk result ((traces : List (List Entry)) → StandAt config.now traces 0 parts.old.items → StandAt config.now traces 0 parts.new.items) }
 {
     for number in 0..u32::from(config.channels) {
-        let channel = Channel::start(alloc, config, number)?;
+        let channel = first_channel(alloc, config, number, tables.requests)?;
         let list = list_for(alloc, tables.commands);
         parts.push(UnitState::Channel(channel, list))?;
     }
@@ -222,9 +239,9 @@ impl Sim {
         Ok(stats)
     }
 
-    /// What the run of the cycles that are over did and left: the commands of all channels by cycle and then by channel, if their table is
-    /// asked for, the statistics, and the state before the cycle where the simulator stands. The only error is out of memory; a table that
-    /// is asked for here and was not at the start is refused in the same way.
+    /// What the run of the cycles that are over did and left: the commands of all channels by cycle and then by channel, and the requests that
+    /// they serve, if their table is asked for, the statistics, and the state before the cycle where the simulator stands. The only error is out
+    /// of memory; a table that is asked for here and was not at the start is refused in the same way.
     pub fn outcome(self, alloc: Global, tables: Tables) -> Result<Outcome, AllocError>
         ensures { IfOk result (λ outcome. outcome ≡ outcome_of tables self.machine self.traces self.now) }
     {
@@ -237,10 +254,11 @@ impl Sim {
             links,
         } = self;
         let last = final_state(alloc, &machine, now, phase, &parts, &links)?;
-        let commands = commands_if_asked(alloc, &machine, now, parts, tables.commands)?;
+        let Kept { commands, served } = kept_by_channel(alloc, &machine, now, parts, tables)?;
         Ok(Outcome {
             tables,
-            commands,
+            commands: command_table(&machine, now, commands),
+            requests: request_table(alloc, &machine, now, served)?,
             stats,
             last,
             ranks: machine.config.ranks,

@@ -1,6 +1,6 @@
-//! The table of all commands of a machine.
+//! The tables of all commands and of all requests of a machine.
 
-ghost use Rattle.std.specs.Prelude.{◌≡◌, ◌++◌, ℕ, List, [], ◌∷◌, length, map, IfOk, OnOk};
+ghost use Rattle.std.specs.Prelude.{◌≡◌, ◌<◌, ◌++◌, ℕ, List, [], ◌∷◌, length, map, is_some, All, IfOk, IfSome, OnOk};
 ghost use Rattle.run_outcome.specs.Outcomes.{if_asked};
 ghost use Rattle.sim_base.specs.History.{below, commands};
 ghost use Rattle.sim_base.specs.Machine.{run};
@@ -8,81 +8,132 @@ ghost use Rattle.sim_base.specs.declared.config.Config.{Config};
 ghost use Rattle.sim_base.specs.declared.message.Unit.TheVariants as unit;
 ghost use Rattle.sim_base.specs.declared.trace.Entry.{Entry};
 ghost use Rattle.laws.specs.Commands.{history_of};
+ghost use Rattle.served_requests.specs.declared.ServedRequest.{ServedRequest};
+ghost use Rattle.sim_base.specs.declared.command.IssuedCommand.{IssuedCommand};
+ghost use Rattle.span_laws.specs.Channels.{IsChannelAt};
+ghost use Rattle.request_table.specs.Requests.{requests_of};
+ghost use Rattle.units.specs.Kept.{AreHeld, served_of};
 ghost use Rattle.units.specs.Units.{unit_count};
 ghost use Rattle.units.specs.Parts.{IsPart, StandAt};
 
 use crate::machine::Machine;
 use crate::part::UnitState;
+use channel_step::channel::Channel;
 use command_table::list::CommandList;
 use command_table::table::CommandTable;
+use request_table::left::ServedList;
+use request_table::table::RequestTable;
+use run_outcome::tables::Tables;
 use sim_base::message::Cycle;
 use std::alloc::{AllocError, Global};
 
-/// Puts the commands of a unit behind those of the units before it, if it is a channel. The unit is gone. A channel that kept none is refused
-/// as if there was no memory to keep them.
-fn add_commands(lists: &mut Vec<CommandList>, part: UnitState) -> Result<(), AllocError>
-    ensures core { (s : Config) (traces : List (List Entry)) (core now : ℕ) → IsPart s traces (unit.Core core) now part
-        → OnOk result (lists.new.items ≡ lists.old.items) }
-    ensures channel { (s : Config) (traces : List (List Entry)) (channel now : ℕ) → IsPart s traces (unit.Channel channel) now part
-        → OnOk result (lists.new.items ≡ lists.old.items ++ history_of s traces now channel ∷ []) }
+/// What the channels of a machine kept, by number: the commands of each, and the requests that it served, where a table is asked for.
+#[derive(Drop)]
+pub(crate) struct Kept {
+    pub(crate) commands: Option<Vec<CommandList>>,
+    pub(crate) served: Option<Vec<ServedList>>,
+}
+
+/// No lists, where some are asked for.
+fn lists_if<T: Drop>(alloc: Global, asked: bool) -> Option<Vec<T>>
+    ensures asked { is_some result ≡ asked }
+    ensures held { AreHeld result [] }
 {
-    match part {
-        UnitState::Core(_) => Ok(()),
-        UnitState::Channel(_, kept) => match kept {
-            Some(commands) => Ok(lists.push(commands)?),
+    if asked { Some(Vec::new(alloc)) } else { None }
+}
+
+/// Adds the list of a channel to those of the channels before it, where they are asked for. A channel that kept none is refused as if there was
+/// no memory to keep it.
+fn add<T: Drop>(lists: &mut Option<Vec<T>>, list: Option<T>) -> Result<(), AllocError>
+    ensures asked { OnOk result (is_some lists.new ≡ is_some lists.old) }
+    ensures held { (rows : List T) (row : T) → AreHeld lists.old rows → IfSome list (λ own. own ≡ row) → OnOk result (AreHeld lists.new (rows ++ row ∷ [])) }
+{
+    match lists {
+        None => Ok(()),
+        Some(lists) => match list {
+            Some(list) => Ok(lists.push(list)?),
             None => Err(AllocError),
         },
     }
 }
 
-/// The commands of each channel, by number.
-fn commands_by_channel(
-    alloc: Global,
-    machine: &Machine,
-    now: Cycle,
-    parts: Vec<UnitState>,
-) -> Result<Vec<CommandList>, AllocError>
-    requires count { length parts.items ≡ unit_count machine.now.config }
-    requires stand { StandAt machine.now.config machine.now.traces.items now parts.items }
-    ensures { IfOk result (λ lists. lists.items ≡ map (history_of machine.now.config machine.now.traces.items now) (below machine.now.config.channels)) }
+/// The requests that a channel served, as a list, if they were kept.
+fn list_of(channel: Channel) -> Option<ServedList>
+    ensures { (s : Config) (traces : List (List Entry)) (number now : ℕ) → number < s.channels → IsChannelAt s traces number now channel
+        → IfSome result (λ list. list ≡ served_of s traces now number) }
 {
-    let mut lists = Vec::new(alloc);
-    for part in parts {
-        add_commands(&mut lists, part)?;
+    Some(ServedList::of(channel.into_served()?))
+}
+
+/// Adds what a unit kept to what the units before it kept, if it is a channel. The unit is gone.
+fn add_part(kept: &mut Kept, part: UnitState) -> Result<(), AllocError>
+    ensures commands_asked { OnOk result (is_some kept.new.commands ≡ is_some kept.old.commands) }
+    ensures served_asked { OnOk result (is_some kept.new.served ≡ is_some kept.old.served) }
+    ensures core { (s : Config) (traces : List (List Entry)) (core now : ℕ) → IsPart s traces (unit.Core core) now part → OnOk result (kept.new ≡ kept.old) }
+    ensures commands { (s : Config) (traces : List (List Entry)) (channel now : ℕ) (rows : List (List IssuedCommand)) → IsPart s traces (unit.Channel channel) now part
+        → AreHeld kept.old.commands rows → OnOk result (AreHeld kept.new.commands (rows ++ history_of s traces now channel ∷ [])) }
+    ensures served { (s : Config) (traces : List (List Entry)) (channel now : ℕ) (rows : List (List ServedRequest)) → channel < s.channels → IsPart s traces (unit.Channel channel) now part
+        → AreHeld kept.old.served rows → OnOk result (AreHeld kept.new.served (rows ++ served_of s traces now channel ∷ [])) }
+{
+    match part {
+        UnitState::Core(_) => Ok(()),
+        UnitState::Channel(channel, commands) => {
+            add(&mut kept.commands, commands)?;
+            add(&mut kept.served, list_of(channel))
+        }
     }
-    Ok(lists)
 }
 
-/// The commands of all channels, by cycle and then by channel. They stay where they are: no list is copied, and none is sorted.
-fn all_commands(
+/// What each channel kept, by number, where these tables are asked for. A channel that did not keep what is asked for is refused as if there was no memory to keep it.
+pub(crate) fn kept_by_channel(
     alloc: Global,
     machine: &Machine,
     now: Cycle,
     parts: Vec<UnitState>,
-) -> Result<CommandTable, AllocError>
+    tables: Tables,
+) -> Result<Kept, AllocError>
     requires count { length parts.items ≡ unit_count machine.now.config }
     requires stand { StandAt machine.now.config machine.now.traces.items now parts.items }
-    ensures { IfOk result (λ table. table ≡ commands (run machine.now.config machine.now.traces.items now)) }
+    ensures commands_asked { IfOk result (λ kept. is_some kept.commands ≡ tables.commands) }
+    ensures served_asked { IfOk result (λ kept. is_some kept.served ≡ tables.requests) }
+    ensures commands { IfOk result (λ kept. AreHeld kept.commands (map (history_of machine.now.config machine.now.traces.items now) (below machine.now.config.channels))) }
+    ensures served { IfOk result (λ kept. AreHeld kept.served (map (served_of machine.now.config machine.now.traces.items now) (below machine.now.config.channels))) }
 {
-    let lists = commands_by_channel(alloc, machine, now, parts)?;
-    Ok(CommandTable::of(lists))
+    let mut kept = Kept {
+        commands: lists_if(alloc, tables.commands),
+        served: lists_if(alloc, tables.requests),
+    };
+    for part in parts {
+        add_part(&mut kept, part)?;
+    }
+    Ok(kept)
 }
 
-/// The commands of all channels, by cycle and then by channel, if they are asked for.
-pub(crate) fn commands_if_asked(
+/// The commands of all channels, by cycle and then by channel, if they were kept. They stay where they are: no list is copied, and none is sorted.
+pub(crate) fn command_table(
+    machine: &Machine,
+    now: Cycle,
+    lists: Option<Vec<CommandList>>,
+) -> Option<CommandTable>
+    requires { AreHeld lists (map (history_of machine.now.config machine.now.traces.items now) (below machine.now.config.channels)) }
+    ensures { result ≡ if_asked (is_some lists) (commands (run machine.now.config machine.now.traces.items now)) }
+{
+    Some(CommandTable::of(lists?))
+}
+
+/// The requests of all channels, by the cycle of their command and then by channel, if they were kept. They stay where they are as well. The only
+/// error is out of memory.
+pub(crate) fn request_table(
     alloc: Global,
     machine: &Machine,
     now: Cycle,
-    parts: Vec<UnitState>,
-    asked: bool,
-) -> Result<Option<CommandTable>, AllocError>
-    requires count { length parts.items ≡ unit_count machine.now.config }
-    requires stand { StandAt machine.now.config machine.now.traces.items now parts.items }
-    ensures { IfOk result (λ table. table ≡ if_asked asked (commands (run machine.now.config machine.now.traces.items now))) }
+    lists: Option<Vec<ServedList>>,
+) -> Result<Option<RequestTable>, AllocError>
+    requires { AreHeld lists (map (served_of machine.now.config machine.now.traces.items now) (below machine.now.config.channels)) }
+    ensures { IfOk result (λ table. table ≡ if_asked (is_some lists) (requests_of machine.now.config (run machine.now.config machine.now.traces.items now))) }
 {
-    if asked {
-        Ok(Some(all_commands(alloc, machine, now, parts)?))
-    } else {
-        Ok(None)
+    match lists {
+        Some(lists) => Ok(Some(RequestTable::of(alloc, &machine.config, now, lists)?)),
+        None => Ok(None),
     }
 }

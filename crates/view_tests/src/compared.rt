@@ -140,8 +140,30 @@ fn three_runs(rt: HostRuntime) -> Result<(), Fail> {
     let runs = vec![in alloc; first(alloc)?, second(alloc)?, third(alloc)?]?;
     let names = ["base", "wide", "out/two channels"];
     for (layout, want) in [(Layout::Screen, THREE), (Layout::Csv, THREE_CSV)] {
-        let text = compare_text(alloc, layout, &names, &runs)?;
+        let text = compare_text(alloc, layout, &names, &runs, &[])?;
         expect(&rt, &text.as_str(), &want);
+    }
+    Ok(())
+}
+
+// 21 / 99 is 21.21 per cent. No read of the third run was answered.
+const TAIL: &str = "
+read latency p99                  99           120       +21.2             -           -
+queue mean ";
+
+const TAIL_CSV: &str = "
+read latency p99,99,120,+21.2,,
+queue mean,";
+
+#[test]
+fn p99_behind_the_mean(rt: HostRuntime) -> Result<(), Fail> {
+    let alloc = rt.alloc();
+    let runs = vec![in alloc; first(alloc)?, second(alloc)?, third(alloc)?]?;
+    let names = ["base", "wide", "out/two channels"];
+    let tails = [Some(99), Some(120), None];
+    for (layout, want) in [(Layout::Screen, TAIL), (Layout::Csv, TAIL_CSV)] {
+        let text = compare_text(alloc, layout, &names, &runs, &tails)?;
+        assert!(rt; text.contains(want), "{text}");
     }
     Ok(())
 }
@@ -151,7 +173,7 @@ fn a_first_run_of_no_cycles(rt: HostRuntime) -> Result<(), Fail> {
     let alloc = rt.alloc();
     let none = Stats::of_parts(alloc, 0, &[CoreStats::new()], &[ChannelStats::new()])?;
     let runs = vec![in alloc; none, first(alloc)?]?;
-    let text = compare_text(alloc, Layout::Screen, &["none", "base"], &runs)?;
+    let text = compare_text(alloc, Layout::Screen, &["none", "base"], &runs, &[])?;
     expect(&rt, &text.as_str(), &NO_CYCLES);
     Ok(())
 }

@@ -1,6 +1,6 @@
 //! Writers that fail.
 
-use crate::page_runs::{list_of, one_read, stats_of};
+use crate::page_runs::{ALONE, list_of, one_read, stats_of};
 use page::fault::PageFault;
 use page::page::write_page;
 use page::window::{View, Window};
@@ -47,7 +47,7 @@ fn a_writer_that_fails_is_told(rt: HostRuntime) -> Result<(), Fail> {
     for left in [0, 1, 2, 5, 9] {
         for fails in [false, true] {
             let mut writer = Failing { left, fails };
-            let ended = write_page(alloc, &stats, &commands, None, view, &mut writer);
+            let ended = write_page(alloc, &stats, &commands, ALONE, view, &mut writer);
             assert_eq!(rt; ended, Err(PageFault::Write), "after {left} writes");
         }
     }
@@ -56,7 +56,7 @@ fn a_writer_that_fails_is_told(rt: HostRuntime) -> Result<(), Fail> {
         fails: true,
     };
     assert_eq!(rt;
-        write_page(alloc, &stats, &commands, None, view, &mut writer),
+        write_page(alloc, &stats, &commands, ALONE, view, &mut writer),
         Ok(())
     );
     Ok(())

@@ -21,6 +21,8 @@ mod explained_others;
 #[cfg(test)]
 mod failing_pages;
 #[cfg(test)]
+mod latency_pages;
+#[cfg(test)]
 mod page_runs;
 #[cfg(test)]
 mod pages;
@@ -28,6 +30,8 @@ mod pages;
 mod progress_lines;
 #[cfg(test)]
 mod ranks;
+#[cfg(test)]
+mod requests;
 #[cfg(test)]
 mod screens;
 #[cfg(test)]

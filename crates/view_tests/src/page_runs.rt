@@ -3,7 +3,7 @@
 use command_table::list::CommandList;
 use page::fault::PageFault;
 use page::page::write_page;
-use page::window::{View, Window};
+use page::window::{Beside, View, Window};
 use sim_base::command::{Command, IssuedCommand, Source};
 use sim_base::config::Config;
 use sim_base::place::BankId;
@@ -13,6 +13,12 @@ use statistics::stats::Stats;
 use std::alloc::{AllocError, Global};
 use std::process::Abort;
 use std::test::Fail;
+
+/// Nothing is known of a run beside its statistics and its commands.
+pub(crate) const ALONE: Beside<'static> = Beside {
+    config: None,
+    requests: None,
+};
 
 /// A bank of a rank, in group 0.
 pub(crate) fn bank_of(rank: u32, bank: u32) -> BankId {
@@ -105,7 +111,17 @@ pub(crate) fn page_of(
     let list = list_of(alloc, rows)?;
     let mut text = Vec::new(alloc);
     let view = View { window, khz: None };
-    let ended = write_page(alloc, &stats, &list, config, view, &mut text);
+    let ended = write_page(
+        alloc,
+        &stats,
+        &list,
+        Beside {
+            config,
+            requests: None,
+        },
+        view,
+        &mut text,
+    );
     Ok((text, ended))
 }
 

@@ -2,7 +2,7 @@
 //! it; a strip has 250 cycles.
 
 use crate::page_runs::{
-    SOURCE, assert_page, bank_of, list_of, one_read, page_of, row_of, stats_of,
+    ALONE, SOURCE, assert_page, bank_of, list_of, one_read, page_of, row_of, stats_of,
 };
 use fixtures::small::small;
 use page::fault::PageFault;
@@ -206,7 +206,7 @@ fn a_page_with_a_clock(rt: HostRuntime) -> Result<(), Fail> {
     for (khz, there) in [(Some(1_250_000), true), (None, false)] {
         let mut text = Vec::new(alloc);
         let view = View { window, khz };
-        let ended = write_page(alloc, &stats, &list, None, view, &mut text);
+        let ended = write_page(alloc, &stats, &list, ALONE, view, &mut text);
         assert_eq!(rt; ended, Ok(()));
         let page = str::from_utf8(text.as_slice())?;
         for fragment in CLOCKED {

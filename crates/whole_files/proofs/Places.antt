@@ -1,7 +1,7 @@
 -- Paths in a folder, and what several steps change.
 use Rattle.std.proofs.Common.{◌≡◌, ◌≢◌, ℕ, zero, suc, ◌+◌, ◌-◌, ◌<◌, ◌≤◌, Bool, true, false, List, [], ◌∷◌, ◌++◌, ◌⊎◌, length, map, take, drop, get_or, codes, Option, Some, None, string_bytes, refl, sym, ap, ap₂, subst, ◌∙◌, inl, inr, add-one, arith}
 use Rattle.std.specs.Prelude.{is_some, option_map}
-use Rattle.std.specs.List.{AllByRecursion as Each}
+use Rattle.std.specs.List.{AllByRecursion as Each, flat_map}
 use Rattle.std.specs.Str.{bytes_eq}
 use Rattle.std.proofs.lemmas.List.{append_cancel_left, append_assoc, append-nil, take_more, map-append, length-map}
 use Rattle.std.proofs.lemmas.Slice.Eq.{bytes_eq-Decides}
@@ -10,7 +10,7 @@ use Rattle.sim_base.proofs.Each.{Each-append}
 use Rattle.sim_base.proofs.Ordered.{Each-weaker}
 use Rattle.run_outcome.specs.Values.{RunOutcome}
 use Rattle.whole_files.specs.Files.{Held, SameFiles, SameBut, SameButTwo, IsRenamed}
-use Rattle.whole_files.specs.Tables.{path_in, commands_name, stats_name, final_name, part_name, NamedText, table_named, commands_of, stats_of, final_of, tables_in, name_unless, others_in, PlannedText, planned_in, plan_in, from_paths, paths_of, SameOutside, IsApartFrom, AreApart, AreStaged, AreGone, AreRemoved, IsMoved, IsWaiting, ArePlaced, ArePartlyPlaced, IsIn, IsBeside, ArePut, AreTorn, AreKeptBack, IsLeftUnplaced, other_paths, IsWritten, IsUnplaced, IsLeftBy}
+use Rattle.whole_files.specs.Tables.{path_in, commands_name, stats_name, final_name, requests_name, part_name, NamedText, table_named, commands_of, stats_of, final_of, requests_of, tables_in, name_unless, others_in, PlannedText, planned_in, plan_in, from_paths, paths_of, SameOutside, IsApartFrom, AreApart, AreStaged, AreGone, AreRemoved, IsMoved, IsWaiting, ArePlaced, ArePartlyPlaced, IsIn, IsBeside, ArePut, AreTorn, AreKeptBack, IsLeftUnplaced, other_paths, IsWritten, IsUnplaced, IsLeftBy}
 use Rattle.whole_files.specs.Planned.{planned_of}
 use Rattle.whole_files.specs.declared.tables.Planned.{Planned}
 use Rattle.refusal.specs.declared.refusal.Refusal.{Refusal}
@@ -329,78 +329,110 @@ left_from refusal folder run a b c before mid after same unopened (inr unplaced)
 
 -- ---- the tables of a run
 
--- a table of a name
-abbrev named_text : List ℕ → List ℕ → NamedText
-named_text name text = record { name = name; text = text }
+-- a name that a table may have, and its text where it is asked for
+abbrev Slot : Type 0
+Slot = List ℕ × Option (List ℕ)
 
-far-commands-stats : (folder x y : List ℕ) → IsApartFrom (planned_in folder (named_text commands_name x)) (planned_in folder (named_text stats_name y))
-far-commands-stats folder x y =
-    record {
-      froms = apart folder (part_name commands_name) (part_name stats_name) refl;
-      from_to = apart folder (part_name commands_name) stats_name refl;
-      to_from = apart folder commands_name (part_name stats_name) refl;
-      tos = apart folder commands_name stats_name refl;
-    }
+abbrev named : List Slot → List NamedText
+named slots = flat_map (λ slot. table_named slot.0 slot.1) slots
 
-far-commands-final : (folder x y : List ℕ) → IsApartFrom (planned_in folder (named_text commands_name x)) (planned_in folder (named_text final_name y))
-far-commands-final folder x y =
-    record {
-      froms = apart folder (part_name commands_name) (part_name final_name) refl;
-      from_to = apart folder (part_name commands_name) final_name refl;
-      to_from = apart folder commands_name (part_name final_name) refl;
-      tos = apart folder commands_name final_name refl;
-    }
+abbrev unnamed : List Slot → List (List ℕ)
+unnamed slots = flat_map (λ slot. name_unless (is_some slot.1) slot.0) slots
 
-far-stats-final : (folder x y : List ℕ) → IsApartFrom (planned_in folder (named_text stats_name x)) (planned_in folder (named_text final_name y))
-far-stats-final folder x y =
-    record {
-      froms = apart folder (part_name stats_name) (part_name final_name) refl;
-      from_to = apart folder (part_name stats_name) final_name refl;
-      to_from = apart folder stats_name (part_name final_name) refl;
-      tos = apart folder stats_name final_name refl;
-    }
+-- two tables of these names have no path in common
+abbrev AreFar : List ℕ → List ℕ → Type 0
+AreFar a b =
+    (bytes_eq (part_name a) (part_name b) ≡ false) × (bytes_eq (part_name a) b ≡ false) × (bytes_eq a (part_name b) ≡ false) × (bytes_eq a b ≡ false)
 
--- the tables that are asked for, where these have a text
-abbrev chosen : Option (List ℕ) → Option (List ℕ) → Option (List ℕ) → List NamedText
-chosen commands stats last = table_named commands_name commands ++ (table_named stats_name stats ++ table_named final_name last)
+abbrev IsFarFromSlots : List ℕ → List Slot → Type 0
+IsFarFromSlots name slots = Each (λ (slot : Slot). AreFar name slot.0) slots
 
-chosen-apart : (folder : List ℕ) (commands stats last : Option (List ℕ)) → AreApart (map (planned_in folder) (chosen commands stats last))
-chosen-apart folder None None None = tt
-chosen-apart folder None None (Some z) = (apart folder (part_name final_name) final_name refl, tt, tt)
-chosen-apart folder None (Some y) None = (apart folder (part_name stats_name) stats_name refl, tt, tt)
-chosen-apart folder None (Some y) (Some z) = (apart folder (part_name stats_name) stats_name refl, (far-stats-final folder y z, tt), (apart folder (part_name final_name) final_name refl, tt, tt))
-chosen-apart folder (Some x) None None = (apart folder (part_name commands_name) commands_name refl, tt, tt)
-chosen-apart folder (Some x) None (Some z) = (apart folder (part_name commands_name) commands_name refl, (far-commands-final folder x z, tt), (apart folder (part_name final_name) final_name refl, tt, tt))
-chosen-apart folder (Some x) (Some y) None = (apart folder (part_name commands_name) commands_name refl, (far-commands-stats folder x y, tt), (apart folder (part_name stats_name) stats_name refl, tt, tt))
-chosen-apart folder (Some x) (Some y) (Some z) = (apart folder (part_name commands_name) commands_name refl, (far-commands-stats folder x y, (far-commands-final folder x z, tt)), (apart folder (part_name stats_name) stats_name refl, (far-stats-final folder y z, tt), (apart folder (part_name final_name) final_name refl, tt, tt)))
+abbrev AllAreFar : List Slot → Type 0
+AllAreFar [] = Unit {0}
+AllAreFar (slot ∷ slots) = (bytes_eq (part_name slot.0) slot.0 ≡ false) × IsFarFromSlots slot.0 slots × AllAreFar slots
 
-pub plan-apart : (folder : List ℕ) (run : RunOutcome) → AreApart (plan_in folder run)
-plan-apart folder run = chosen-apart folder (commands_of run) (stats_of run) (final_of run)
+abbrev table_of : List ℕ → List ℕ → List ℕ → PlannedText
+table_of folder name text = planned_in folder (record { name = name; text = text })
 
--- the names of the others
-abbrev left_out : Option (List ℕ) → Option (List ℕ) → Option (List ℕ) → List (List ℕ)
-left_out commands stats last = name_unless (is_some commands) commands_name ++ (name_unless (is_some stats) stats_name ++ name_unless (is_some last) final_name)
+far_from_named : (folder name text : List ℕ) (slots : List Slot) → IsFarFromSlots name slots → Each (IsApartFrom (table_of folder name text)) (map (planned_in folder) (named slots))
+far_from_named folder name text [] far = tt
+far_from_named folder name text ((other, None) ∷ slots) far = far_from_named folder name text slots far.1
+far_from_named folder name text ((other, Some its) ∷ slots) far = (
+  record {
+    froms = apart folder (part_name name) (part_name other) far.0.0;
+    from_to = apart folder (part_name name) other far.0.1;
+    to_from = apart folder name (part_name other) far.0.2;
+    tos = apart folder name other far.0.3;
+  },
+  far_from_named folder name text slots far.1,
+)
+
+slots_apart : (folder : List ℕ) (slots : List Slot) → AllAreFar slots → AreApart (map (planned_in folder) (named slots))
+slots_apart folder [] far = tt
+slots_apart folder ((name, None) ∷ slots) far = slots_apart folder slots far.2
+slots_apart folder ((name, Some text) ∷ slots) far = (apart folder (part_name name) name far.0, far_from_named folder name text slots far.1, slots_apart folder slots far.2)
 
 -- neither path of a table is one of these
 abbrev IsFarFrom : List (List ℕ) → PlannedText → Type 0
 IsFarFrom paths p = Each (λ q. p.to ≢ q) paths × Each (λ q. p.from ≢ q) paths
 
-chosen-far : (folder : List ℕ) (commands stats last : Option (List ℕ)) → Each (IsFarFrom (map (path_in folder) (left_out commands stats last))) (map (planned_in folder) (chosen commands stats last))
-chosen-far folder None None None = tt
-chosen-far folder None None (Some z) = (((apart folder final_name commands_name refl, (apart folder final_name stats_name refl, tt)), (apart folder (part_name final_name) commands_name refl, (apart folder (part_name final_name) stats_name refl, tt))), tt)
-chosen-far folder None (Some y) None = (((apart folder stats_name commands_name refl, (apart folder stats_name final_name refl, tt)), (apart folder (part_name stats_name) commands_name refl, (apart folder (part_name stats_name) final_name refl, tt))), tt)
-chosen-far folder None (Some y) (Some z) = (((apart folder stats_name commands_name refl, tt), (apart folder (part_name stats_name) commands_name refl, tt)), (((apart folder final_name commands_name refl, tt), (apart folder (part_name final_name) commands_name refl, tt)), tt))
-chosen-far folder (Some x) None None = (((apart folder commands_name stats_name refl, (apart folder commands_name final_name refl, tt)), (apart folder (part_name commands_name) stats_name refl, (apart folder (part_name commands_name) final_name refl, tt))), tt)
-chosen-far folder (Some x) None (Some z) = (((apart folder commands_name stats_name refl, tt), (apart folder (part_name commands_name) stats_name refl, tt)), (((apart folder final_name stats_name refl, tt), (apart folder (part_name final_name) stats_name refl, tt)), tt))
-chosen-far folder (Some x) (Some y) None = (((apart folder commands_name final_name refl, tt), (apart folder (part_name commands_name) final_name refl, tt)), (((apart folder stats_name final_name refl, tt), (apart folder (part_name stats_name) final_name refl, tt)), tt))
-chosen-far folder (Some x) (Some y) (Some z) = ((tt, tt), ((tt, tt), ((tt, tt), tt)))
+far_from_unnamed : (folder name text : List ℕ) (slots : List Slot) → IsFarFromSlots name slots → IsFarFrom (map (path_in folder) (unnamed slots)) (table_of folder name text)
+far_from_unnamed folder name text [] far = (tt, tt)
+far_from_unnamed folder name text ((other, None) ∷ slots) far =
+    let rest = far_from_unnamed folder name text slots far.1 in
+    ((apart folder name other far.0.3, rest.0), (apart folder (part_name name) other far.0.1, rest.1))
+far_from_unnamed folder name text ((other, Some its) ∷ slots) far = far_from_unnamed folder name text slots far.1
+
+-- neither path of a table is this one
+abbrev IsFarFromPath : List ℕ → PlannedText → Type 0
+IsFarFromPath path p = (p.to ≢ path) × (p.from ≢ path)
+
+named_far_from : (folder name : List ℕ) (slots : List Slot) → IsFarFromSlots name slots → Each (IsFarFromPath (path_in folder name)) (map (planned_in folder) (named slots))
+named_far_from folder name [] far = tt
+named_far_from folder name ((other, None) ∷ slots) far = named_far_from folder name slots far.1
+named_far_from folder name ((other, Some its) ∷ slots) far = ((flip (apart folder name other far.0.3), flip (apart folder name (part_name other) far.0.2)), named_far_from folder name slots far.1)
+
+slots_far : (folder : List ℕ) (slots : List Slot) → AllAreFar slots → Each (IsFarFrom (map (path_in folder) (unnamed slots))) (map (planned_in folder) (named slots))
+slots_far folder [] far = tt
+slots_far folder ((name, None) ∷ slots) far =
+    let others = map (path_in folder) (unnamed slots) in
+    Each-two (IsFarFrom others) (IsFarFromPath (path_in folder name)) (IsFarFrom (path_in folder name ∷ others)) (λ p rest first. ((first.0, rest.0), (first.1, rest.1))) (map (planned_in folder) (named slots))
+    (slots_far folder slots far.2) (named_far_from folder name slots far.1)
+slots_far folder ((name, Some text) ∷ slots) far = (far_from_unnamed folder name text slots far.1, slots_far folder slots far.2)
+
+-- the tables of an outcome
+abbrev slots_of : RunOutcome → List Slot
+slots_of run = (commands_name, commands_of run) ∷ (stats_name, stats_of run) ∷ (final_name, final_of run) ∷ (requests_name, requests_of run) ∷ []
+
+slots_are_far : (run : RunOutcome) → AllAreFar (slots_of run)
+slots_are_far run = (
+  refl,
+  ((refl, refl, refl, refl), ((refl, refl, refl, refl), ((refl, refl, refl, refl), tt))),
+  (refl, ((refl, refl, refl, refl), ((refl, refl, refl, refl), tt)), (refl, ((refl, refl, refl, refl), tt), (refl, tt, tt))),
+)
+
+named_of : (run : RunOutcome) → named (slots_of run) ≡ tables_in run
+named_of run = ap (λ ts. table_named commands_name (commands_of run) ++ (table_named stats_name (stats_of run) ++ (table_named final_name (final_of run) ++ ts))) (append-nil (table_named requests_name (requests_of run)))
+
+unnamed_of : (run : RunOutcome) → unnamed (slots_of run) ≡ others_in run
+unnamed_of run =
+    ap (λ ns. name_unless (is_some (commands_of run)) commands_name ++ (name_unless (is_some (stats_of run)) stats_name ++ (name_unless (is_some (final_of run)) final_name ++ ns)))
+    (append-nil (name_unless (is_some (requests_of run)) requests_name))
+
+pub plan-apart : (folder : List ℕ) (run : RunOutcome) → AreApart (plan_in folder run)
+plan-apart folder run = subst (λ ts. AreApart (map (planned_in folder) ts)) (named_of run) (slots_apart folder (slots_of run) (slots_are_far run))
+
+plan-far : (folder : List ℕ) (run : RunOutcome) → Each (IsFarFrom (other_paths folder run)) (plan_in folder run)
+plan-far folder run =
+    subst (λ ts. Each (IsFarFrom (other_paths folder run)) (map (planned_in folder) ts)) (named_of run)
+    (subst (λ ns. Each (IsFarFrom (map (path_in folder) ns)) (map (planned_in folder) (named (slots_of run)))) (unnamed_of run) (slots_far folder (slots_of run) (slots_are_far run)))
 
 -- tables that got their places, and others that were removed
 pub written : (folder : List ℕ) (run : RunOutcome) (z a b : Held) → ArePut (plan_in folder run) z a → AreRemoved (other_paths folder run) b → SameOutside (other_paths folder run) a b → IsWritten folder run z b
 written folder run z a b put removed after =
     record {
       in_place = Each-two (IsFarFrom (other_paths folder run)) (IsIn a) (IsIn b) (λ p far is. (after p.to far.0 ∙ is.0, after p.from far.1 ∙ is.1)) (plan_in folder run)
-          (chosen-far folder (commands_of run) (stats_of run) (final_of run)) put.in_place;
+          (plan-far folder run) put.in_place;
       none_else = removed;
       others = λ path w.
           let planned = paths_of (plan_in folder run) in

@@ -5,9 +5,10 @@ use Rattle.std.specs.Prelude.{ℕ, List, string_bytes}
 use Rattle.reports.specs.Commands.{commands_text}
 use Rattle.reports.specs.Stats.{stats_text}
 use Rattle.reports.specs.Final.{final_text}
+use Rattle.reports.specs.Requests.{requests_text}
 use Rattle.whole_files.specs.Tables.{PlannedText}
 use Rattle.whole_files.specs.declared.tables.Contents.{Contents}
-use Rattle.whole_files.specs.declared.tables.Contents.TheVariants.{Commands, Stats, Final}
+use Rattle.whole_files.specs.declared.tables.Contents.TheVariants.{Commands, Stats, Final, Requests}
 use Rattle.whole_files.specs.declared.tables.Planned.{Planned}
 
 -- the text of a table
@@ -15,6 +16,7 @@ abbrev pub text_in : Contents → List ℕ
 text_in (Commands ranks commands) = commands_text ranks commands.now
 text_in (Stats stats) = stats_text stats.now
 text_in (Final ranks last) = final_text ranks last.now
+text_in (Requests requests) = requests_text requests.now
 
 -- its paths and its text
 abbrev pub planned_of : Planned → PlannedText

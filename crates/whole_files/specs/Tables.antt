@@ -22,6 +22,7 @@ use Rattle.run_outcome.specs.Values.{RunOutcome}
 use Rattle.reports.specs.Commands.{commands_text}
 use Rattle.reports.specs.Stats.{stats_text}
 use Rattle.reports.specs.Final.{final_text}
+use Rattle.reports.specs.Requests.{requests_text}
 use Rattle.refusal.specs.Refusals.{IsKept}
 use Rattle.whole_files.specs.Files.{Held, IsUntouched}
 use Rattle.whole_files.specs.declared.moves.Move.{Move}
@@ -41,6 +42,9 @@ stats_name = codes "stats.csv"
 
 abbrev pub final_name : List ℕ
 final_name = codes "final.csv"
+
+abbrev pub requests_name : List ℕ
+requests_name = codes "requests.csv"
 
 -- the name under which a table is written
 abbrev pub part_name : List ℕ → List ℕ
@@ -71,9 +75,14 @@ stats_of run = if_asked run.tables.stats (stats_text run.stats)
 abbrev pub final_of : RunOutcome → Option (List ℕ)
 final_of run = if_asked run.tables.last (final_text run.ranks run.last)
 
+abbrev pub requests_of : RunOutcome → Option (List ℕ)
+requests_of run = option_map requests_text run.requests
+
 -- the tables that are asked for, in the order in which they get their places
 abbrev pub tables_in : RunOutcome → List NamedText
-tables_in run = table_named commands_name (commands_of run) ++ (table_named stats_name (stats_of run) ++ table_named final_name (final_of run))
+tables_in run =
+    table_named commands_name (commands_of run)
+    ++ (table_named stats_name (stats_of run) ++ (table_named final_name (final_of run) ++ table_named requests_name (requests_of run)))
 
 -- a name, where its table is not asked for
 abbrev pub name_unless : Bool → List ℕ → List (List ℕ)
@@ -83,7 +92,8 @@ name_unless asked name = if asked then [] else name ∷ []
 abbrev pub others_in : RunOutcome → List (List ℕ)
 others_in run =
     name_unless (is_some (commands_of run)) commands_name
-    ++ (name_unless (is_some (stats_of run)) stats_name ++ name_unless (is_some (final_of run)) final_name)
+    ++ (name_unless (is_some (stats_of run)) stats_name
+    ++ (name_unless (is_some (final_of run)) final_name ++ name_unless (is_some (requests_of run)) requests_name))
 
 -- a table that is to be written to one path, and then to get another, with this text
 pub record PlannedText : Type 0 where

@@ -6,7 +6,7 @@ ghost use Rattle.refusal.specs.Refusals.{fault_of, IsKept, IsTornRefusal};
 ghost use Rattle.reports.specs.Rows.{IsReportFault};
 ghost use Rattle.run_outcome.specs.Outcomes.{if_asked};
 ghost use Rattle.whole_files.specs.Files.{SameFiles, SameBut, IsWriteFault};
-ghost use Rattle.whole_files.specs.Tables.{path_in, table_named, name_unless, commands_of, planned_in, from_paths, tables_in, others_in, parts, SameOutside, AreApart, AreStaged, AreGone, ArePlaced, ArePartlyPlaced, AreRemoved, ArePut, IsLeftUnplaced, IsWritten, IsLeftBy};
+ghost use Rattle.whole_files.specs.Tables.{path_in, table_named, name_unless, commands_of, requests_of, planned_in, from_paths, tables_in, others_in, parts, SameOutside, AreApart, AreStaged, AreGone, ArePlaced, ArePartlyPlaced, AreRemoved, ArePut, IsLeftUnplaced, IsWritten, IsLeftBy};
 ghost use Rattle.whole_files.specs.Planned.{text_in, planned_of};
 
 use crate::files::FileSet;
@@ -14,7 +14,8 @@ use crate::moves::{Move, discard_one, move_in, path_of, place_one};
 use command_table::table::CommandTable;
 use refusal::reason::Reason;
 use refusal::refusal::Refusal;
-use reports::{write_commands_by, write_final, write_stats};
+use reports::{write_commands_by, write_final, write_requests_by, write_stats};
+use request_table::table::RequestTable;
 use run_outcome::outcome::Outcome;
 use sim_base::fault::Fault;
 use statistics::final_state::FinalState;
@@ -30,12 +31,15 @@ const STATS: &str = "stats.csv";
 
 const FINAL: &str = "final.csv";
 
+const REQUESTS: &str = "requests.csv";
+
 // What a table of a run is written from. The numbers are the ranks of each channel.
 #[derive(Clone, Copy)]
 enum Contents<'a> {
     Commands(u32, &'a CommandTable),
     Stats(&'a Stats),
     Final(u32, &'a FinalState),
+    Requests(&'a RequestTable),
 }
 
 // A table that is to be written, and its way to its place.
@@ -62,6 +66,7 @@ fn write_contents<R: Threads + Sync, W: Write>(
         }
         Contents::Stats(stats) => write_stats(alloc, stats, writer),
         Contents::Final(ranks, last) => write_final(alloc, last, *ranks, writer),
+        Contents::Requests(requests) => write_requests_by(rt, alloc, threads, requests, writer),
     }
 }
 
@@ -124,6 +129,15 @@ fn commands_in(run: &Outcome) -> Option<Contents<'_>>
     }
 }
 
+fn requests_in(run: &Outcome) -> Option<Contents<'_>>
+    ensures { option_map text_in result ≡ requests_of run.now }
+{
+    match &run.requests {
+        Some(requests) => Some(Contents::Requests(requests)),
+        None => None,
+    }
+}
+
 // The tables of an outcome that are asked for, with their ways to their places in a folder.
 fn plan_all<'a>(alloc: Global, folder: &str, run: &'a Outcome) -> Result<Vec<Planned<'a>>, Fault>
     ensures planned { IfOk result (λ planned. map planned_of planned.items ≡ map (planned_in folder.now) (tables_in run.entry.now)) }
@@ -135,6 +149,7 @@ fn plan_all<'a>(alloc: Global, folder: &str, run: &'a Outcome) -> Result<Vec<Pla
     plan(alloc, folder, COMMANDS, commands_in(run), &mut planned)?;
     plan(alloc, folder, STATS, stats, &mut planned)?;
     plan(alloc, folder, FINAL, last, &mut planned)?;
+    plan(alloc, folder, REQUESTS, requests_in(run), &mut planned)?;
     Ok(planned)
 }
 
@@ -167,6 +182,7 @@ fn others_of(alloc: Global, folder: &str, run: &Outcome) -> Result<Vec<String>, 
     add_other(alloc, folder, COMMANDS, run.commands.is_some(), &mut paths)?;
     add_other(alloc, folder, STATS, run.tables.stats, &mut paths)?;
     add_other(alloc, folder, FINAL, run.tables.last, &mut paths)?;
+    add_other(alloc, folder, REQUESTS, run.requests.is_some(), &mut paths)?;
     Ok(paths)
 }
 
@@ -319,10 +335,10 @@ fn write_planned<R: Threads + Sync, F: FileSet>(
 }
 
 /// Writes the tables of a run that were asked for into a folder. Each is written under its name with `.part` appended, and when all are
-/// whole, they get their places, one right after the other, in the order of `commands.csv`, `stats.csv` and `final.csv`. Then those that
-/// were not asked for, which an earlier run may have left there, are removed. If that fails before the first has its place, what was written
-/// is removed, and the places hold what they held before; if it fails later, the refusal is `Torn`, and nothing is removed. The table of
-/// commands is put together by at most `threads` threads.
+/// whole, they get their places, one right after the other, in the order of `commands.csv`, `stats.csv`, `final.csv` and
+/// `requests.csv`. Then those that were not asked for, which an earlier run may have left there, are removed. If that fails before the first
+/// has its place, what was written is removed, and the places hold what they held before; if it fails later, the refusal is `Torn`, and
+/// nothing is removed. The tables of commands and of requests are put together by at most `threads` threads.
 pub fn write_tables<R: Threads + Sync, F: FileSet>(
     rt: &R,
     alloc: Global,

@@ -1,6 +1,8 @@
 use Rattle.std.proofs.lemmas.Result.{IfOk-weaker, IfErr-weaker}
-use Rattle.answers.specs.Answers.{stats_path}
-use Rattle.answers.proofs.ManyFiles.{stats_at, many_texts, right_compare, compare_refused}
+use Rattle.std.proofs.Common.{◌∙◌}
+use Rattle.rule_check.specs.Verdict.{records_of}
+use Rattle.answers.specs.Answers.{stats_path, stats_table}
+use Rattle.answers.proofs.ManyFiles.{stats_at, many_texts, right_compare, compare_refused, same_count}
 use Rattle.answers.proofs.comparisons.runs_in.Goals as goal
 
 pub returns-clause-runs : goal.returns-clause-runs
@@ -22,3 +24,9 @@ returns-clause-fault g c =
     IfErr-weaker c.runs_of.result _ _ (λ fault refused. compare_refused _ _ _ _ fault
     (many_texts _ _ (λ d. stats_path d.now) (λ t. t.bytes.items) c.args.dirs.now c.in_ok-tables.tables.items c.in_ok-tables.ensures.count c.in_ok-tables.ensures.texts)
     refused) c.runs_of.ensures.fault
+
+pub returns-clause-count : goal.returns-clause-count
+returns-clause-count g c =
+    IfOk-weaker c.runs_of.result _ _ (λ runs read.
+    same_count (λ t. records_of t.bytes.items) stats_table c.in_ok-tables.tables.items runs.items (rw c.deref.ensures.value at read) ∙ c.in_ok-tables.ensures.count)
+    c.runs_of.ensures.read

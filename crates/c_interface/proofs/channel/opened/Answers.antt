@@ -1,3 +1,5 @@
+use Rattle.config_reader.specs.Document.{document_of}
+use Rattle.c_interface.specs.Channels.{IsNewSession, open_refusal}
 use Rattle.c_interface.proofs.Keeping.{new-boxed, boxed-answer, is-opened, not-opened}
 use Rattle.c_interface.proofs.channel.opened.Goals as goal
 
@@ -5,13 +7,13 @@ use Rattle.c_interface.proofs.channel.opened.Goals as goal
 pub returns-in-Ok-open-clause-opened : goal.returns-in-Ok-open-clause-opened
 returns-in-Ok-open-clause-opened c =
     let session = c.in-Ok-open.ensures {u = tt} in
-    new-boxed c.args.text.now c.args.number (λ owner. owner.value) c.in-Ok-open.session c.boxed.result c.boxed.ensures.value
+    new-boxed (IsNewSession c.args.text.now c.args.number) (λ owner. owner.value) c.in-Ok-open.session c.boxed.result c.boxed.ensures.value
     (record { config = c.in-Ok.config; configured = (c.in-Ok.ensures {u = tt}).ok; past = session.opened; now = session.now })
 
 -- src/channel.rt:44:1
 pub returns-in-Ok-open-clause-answer : goal.returns-in-Ok-open-clause-answer
 returns-in-Ok-open-clause-answer c =
-    boxed-answer c.args.text.now c.args.number c.boxed.result c.boxed.ensures.memory
+    boxed-answer (open_refusal (document_of c.args.text.now) c.args.number) c.boxed.result c.boxed.ensures.memory
     (is-opened c.args.text.now c.args.number c.in-Ok.config c.in-Ok-open.session (c.in-Ok.ensures {u = tt}).ok (c.in-Ok-open.ensures {u = tt}).answer)
 
 pub returns-clause-answer : goal.returns-clause-answer

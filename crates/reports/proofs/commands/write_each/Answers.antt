@@ -1,11 +1,12 @@
 use Rattle.std.proofs.Common.{◌≡◌, [], ◌∷◌, ◌++◌, length, sym, ap, ◌∙◌, refl, append_assoc, arith}
 use Rattle.std.proofs.KnownBytes.{Appends-trans}
 use Rattle.std.proofs.lemmas.List.{append-nil}
-use Rattle.reports.proofs.TableLemmas.{lines_text-none, lines_text-more, nothing_written}
+use Rattle.reports.specs.Commands.{command_fields}
+use Rattle.reports.proofs.TableLemmas.{mapped_none, lines-more, nothing_written}
 use Rattle.reports.proofs.commands.write_each.Goals as goal
 
 pub loop-row-init : goal.loop-row-init
-loop-row-init g c = ([], refl, nothing_written _ _ (lines_text-none c.args.ranks))
+loop-row-init g c = ([], refl, nothing_written _ _ (mapped_none (command_fields c.args.ranks)))
 
 pub loop-row-smaller : goal.loop-row-smaller
 loop-row-smaller g c = let e = ap length ((c.in-Some.ensures {u = tt}).some) in omega (arith, e)
@@ -17,7 +18,7 @@ loop-row-preserved g c =
     let joined = Appends-trans _ _ _ _ _ was.2 c.in_ok-write_command.ensures.written in (
       was.0 ++ row ∷ [],
       append_assoc was.0 (row ∷ []) _ ∙ ap (λ z. was.0 ++ z) (sym (c.in-Some.ensures {u = tt}).some) ∙ was.1,
-      rw (← lines_text-more) at joined,
+      rw (← lines-more (command_fields c.args.ranks)) at joined,
     )
 
 pub returns-clause-written : goal.returns-clause-written

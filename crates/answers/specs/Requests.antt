@@ -1,0 +1,115 @@
+-- The requests of a run, where a file of its folder holds their table.
+--     requests_path dir      the file of the requests in a folder
+--     AreRequestsOf table stats requests      a table holds these requests, which are of the run of these statistics
+--     AreRequestsAt found stats requests      the same of what a path holds, if it holds a file
+--     IsNoRequests table stats fault      why a table holds no requests of the run
+--     IsRequestsFault tells found stats fault      the same of what a path holds
+--     AreShown requests text      what a screen has of requests, where there are any
+--     IsTailAt found stats tail      the 99th percentile of the read latencies that a path holds
+--     AreTails dirs held runs tails      the same of each folder, or none
+use Rattle.std.specs.Prelude.{◌≡◌, ◌⊎◌, ℕ, ◌<◌, ⊤, List, [], ◌++◌, length, codes, slice_get, Option, Some, None, MatchOption}
+use Rattle.sim_base.specs.declared.command.IssuedCommand.{IssuedCommand}
+use Rattle.sim_base.specs.declared.fault.Fault.{Fault}
+use Rattle.sim_base.specs.declared.fault.Fault.TheVariants.{CheckRow, Memory}
+use Rattle.percentiles.specs.Percentile.{IsPercentile}
+use Rattle.request_check.specs.Agreement.{AreOfRun, IsMismatch, row_of}
+use Rattle.request_check.specs.declared.agreement.Mismatch.{Mismatch}
+use Rattle.request_measures.specs.Latency.{read_latencies}
+use Rattle.request_table.specs.declared.times.RequestTimes.{RequestTimes}
+use Rattle.rule_check.specs.Verdict.{records_of}
+use Rattle.run_tables.specs.Records.{IsFirstWrong}
+use Rattle.run_tables.specs.Requests.{IsRequestTable, HoldsRequests}
+use Rattle.show.specs.Banks.{IsBanksScreen}
+use Rattle.show.specs.Requests.{AreRequests}
+use Rattle.show.specs.Screen.{IsScreen}
+use Rattle.statistics.specs.Values.{RunStats}
+use Rattle.whole_files.specs.Files.{Held}
+use Rattle.whole_files.specs.Tables.{path_in}
+
+-- the file of the requests in a folder
+abbrev pub requests_path : List ℕ → List ℕ
+requests_path dir = path_in dir (codes "requests.csv")
+
+-- a table holds these requests, which are of the run of these statistics
+pub record AreRequestsOf (table : List ℕ) (stats : RunStats) (requests : List RequestTimes) : Type 0 where
+  pub is_table : IsRequestTable (records_of table) requests
+  pub of_run : AreOfRun stats requests
+
+-- the same of what a path holds; none where it holds no file
+abbrev pub AreRequestsAt : Option (List ℕ) → RunStats → Option (List RequestTimes) → Type 0
+AreRequestsAt None stats None = ⊤
+AreRequestsAt (Some table) stats (Some requests) = AreRequestsOf table stats requests
+AreRequestsAt _ stats _ = ⊥
+
+-- a table is one of requests, and they stop being of the run in this row
+pub record IsOfOtherRun (table : List ℕ) (stats : RunStats) (row : ℕ) : Type 0 where
+  pub requests : List RequestTimes
+  pub mismatch : Mismatch
+  pub is_table : IsRequestTable (records_of table) requests
+  pub differs : IsMismatch stats requests mismatch
+  pub row_is : row ≡ row_of mismatch (length requests)
+
+-- why a table holds no requests of the run: it is no table of requests from this row on, or of another run; or memory was refused
+abbrev pub IsNoRequests : List ℕ → RunStats → Fault → Type 0
+IsNoRequests table stats (CheckRow row) = IsFirstWrong HoldsRequests (records_of table) row ⊎ IsOfOtherRun table stats row
+IsNoRequests table stats Memory = ⊤
+IsNoRequests table stats _ = ⊥
+
+-- the same of what a path holds
+abbrev pub IsRequestsFault : Option (List ℕ) → RunStats → Fault → Type 0
+IsRequestsFault (Some table) stats fault = IsNoRequests table stats fault
+IsRequestsFault None stats fault = fault ≡ Memory
+
+-- what a screen has of requests, where there are any
+abbrev pub AreShown : Option (List RequestTimes) → List ℕ → Type 0
+AreShown None text = text ≡ []
+AreShown (Some requests) text = AreRequests requests text
+
+-- it was put behind a text
+abbrev pub AddsRequests : Option (List RequestTimes) → List ℕ → List ℕ → Type 0
+AddsRequests requests old new = (more : List ℕ) × (new ≡ old ++ more) × AreShown requests more
+
+-- the screen of a run, and behind it what there is to say of its requests
+pub record IsRunScreen (stats : RunStats) (requests : Option (List RequestTimes)) (text : List ℕ) : Type 0 where
+  pub above : List ℕ
+  pub below : List ℕ
+  pub screen : IsScreen stats above
+  pub requests_shown : AreShown requests below
+  pub text_is : text ≡ above ++ below
+
+-- the same with the banks of the run
+pub record IsRunBanksScreen (stats : RunStats) (commands : List IssuedCommand) (requests : Option (List RequestTimes)) (text : List ℕ) : Type 0 where
+  pub above : List ℕ
+  pub below : List ℕ
+  pub screen : IsBanksScreen stats commands above
+  pub requests_shown : AreShown requests below
+  pub text_is : text ≡ above ++ below
+
+-- the 99th percentile of the latencies of these requests, if a read was answered
+abbrev pub IsTailOf : List RequestTimes → Option ℕ → Type 0
+IsTailOf requests tail = MatchOption tail (read_latencies requests ≡ []) (IsPercentile (read_latencies requests) 99)
+
+-- the same of the requests that a path holds
+pub record IsTailAt (found : Option (List ℕ)) (stats : RunStats) (tail : Option ℕ) : Type 0 where
+  pub requests : List RequestTimes
+  pub requests_are : AreRequestsAt found stats (Some requests)
+  pub tail_is : IsTailOf requests tail
+
+-- the same, if it holds a file
+abbrev pub IsTailIn : Option (List ℕ) → RunStats → Option (Option ℕ) → Type 0
+IsTailIn found stats (Some tail) = IsTailAt found stats tail
+IsTailIn found stats None = found ≡ None
+
+-- the same of each folder, in which its run's tables are
+pub record HaveTails (dirs : List (List ℕ)) (held : Held) (runs : List RunStats) (tails : List (Option ℕ)) : Type 0 where
+  pub count : length tails ≡ length dirs
+  pub tails_are : (k : ℕ) (dir : List ℕ) (run : RunStats) (tail : Option ℕ) → slice_get dirs k ≡ Some dir → slice_get runs k ≡ Some run → slice_get tails k ≡ Some tail
+      → IsTailAt (held (requests_path dir)) run tail
+
+-- one of the folders has no requests
+abbrev pub LackRequests : List (List ℕ) → Held → Type 0
+LackRequests dirs held = (k : ℕ) × (dir : List ℕ) × (slice_get dirs k ≡ Some dir) × (held (requests_path dir) ≡ None)
+
+-- each folder has requests, and these are their 99th percentiles; or one has none, and so there are none
+abbrev pub AreTails : List (List ℕ) → Held → List RunStats → List (Option ℕ) → Type 0
+AreTails dirs held runs tails = HaveTails dirs held runs tails ⊎ ((tails ≡ []) × LackRequests dirs held)

@@ -1,0 +1,19 @@
+use Rattle.std.proofs.Common.{subst}
+use Rattle.memory_session.specs.Memories.{memory_refusal, with_request}
+use Rattle.c_interface.specs.Statuses.{IsStatus}
+use Rattle.c_memory.specs.Memories.{HasPasts}
+use Rattle.dramsim_c.proofs.Statuses.{done, not-done, status-of}
+use Rattle.dramsim_c.proofs.memory.dramsim_memory_send.Goals as goal
+
+pub returns-clause-status : goal.returns-clause-status
+returns-clause-status c m pasts other is h =
+    subst (λ r. IsStatus (memory_refusal m pasts other r) c.status.result) c.to_request.ensures
+    (status-of (memory_refusal m pasts other c.to_request.result) c.send.result c.status.result c.status.ensures (c.send.ensures.answer m pasts other is h))
+
+pub returns-clause-sent : goal.returns-clause-sent
+returns-clause-sent c s pasts of h zero =
+    subst (λ r. HasPasts c.send.new.self (with_request s pasts r)) c.to_request.ensures
+    (done (HasPasts c.send.new.self (with_request s pasts c.to_request.result)) c.send.result c.status.result c.status.ensures (c.send.ensures.sent s pasts of h) zero)
+
+pub returns-clause-left : goal.returns-clause-left
+returns-clause-left c pasts h some = not-done (HasPasts c.send.new.self pasts) c.send.result c.status.result c.status.ensures (c.send.ensures.left pasts h) some

@@ -1,0 +1,165 @@
+//! The table of requests, `requests.csv`.
+
+ghost use Rattle.std.specs.Prelude.{◌≡◌, ◌<◌, ◌≤◌, ◌+◌, ◌++◌, ◌∷◌, [], length, drop, decimal, IfErr, OnOk};
+ghost use Rattle.std.specs.Io.KnownBytes.{Appends};
+ghost use Rattle.std.specs.List.{join_with_byte};
+ghost use Rattle.reports.specs.Rows.{comma, row_text, optional, IsReportFault};
+ghost use Rattle.reports.specs.Tables.{held};
+ghost use Rattle.reports.specs.Requests.{request_header, access_word, hit_field, request_fields, request_lines, requests_text};
+
+use crate::line::{Line, put, put_last, put_last_word, put_word};
+use crate::pieces::{MOST, TableLines, write_pieces, write_whole};
+use crate::table::Table;
+use request_table::table::{RequestTable, Rows};
+use request_table::times::{Access, RequestTimes};
+use sim_base::fault::Fault;
+use std::alloc::Global;
+use std::io::Write;
+use std::thread::Threads;
+
+fn columns() -> &'static [u8]
+    ensures names { result.now ≡ join_with_byte comma request_header }
+    ensures some { 0 < length result.now }
+    ensures short { length result.now ≤ 64 }
+{
+    b"core,entry,access,channel,issued,arrived,served,replied,hit"
+}
+
+// The word of what a request asks, before the fields behind it.
+#[inline(always)]
+fn put_access(line: &mut Line, end: usize, access: Access) -> usize
+    requires { (6 ≤ end) × (end ≤ 256) }
+    ensures text { drop result line.new ≡ access_word access ++ comma ∷ drop end line.old }
+    ensures low { end ≤ result + 6 }
+    ensures high { result < end }
+{
+    match access {
+        Access::Read => put_word(line, end, b"read"),
+        Access::Write => put_word(line, end, b"write"),
+    }
+}
+
+// The fields of when the request was where, from the last to the first.
+#[inline(always)]
+fn put_times(line: &mut Line, row: &RequestTimes) -> usize
+    ensures text { drop result line.new ≡ join_with_byte comma (decimal row.now.issued ∷ decimal row.now.arrived ∷ decimal row.now.served ∷ optional row.now.replied ∷ hit_field row.now.hit ∷ []) }
+    ensures low { 131 ≤ result }
+    ensures high { result ≤ 256 }
+{
+    let start = put_last(line, Some(u64::from(row.hit)));
+    let start = put(line, start, row.replied);
+    let start = put(line, start, Some(row.served));
+    let start = put(line, start, Some(row.arrived));
+    put(line, start, Some(row.issued))
+}
+
+// The fields of a row, from the last to the first.
+#[inline(always)]
+fn put_request(line: &mut Line, row: &RequestTimes) -> usize
+    ensures text { drop result line.new ≡ join_with_byte comma (request_fields row.now) }
+    ensures some { result < 256 }
+{
+    let start = put_times(line, row);
+    let start = put(line, start, Some(u64::from(row.channel)));
+    let start = put_access(line, start, row.access);
+    let start = put(line, start, Some(row.entry));
+    put(line, start, Some(u64::from(row.core)))
+}
+
+fn write_request<W: Write>(
+    table: &mut Table,
+    row: &RequestTimes,
+    writer: &mut W,
+) -> Result<(), Fault>
+    ensures written { OnOk result (Appends (held W.contents writer.old table.old) (held W.contents writer.new table.new) (row_text (request_fields row.now))) }
+    ensures refused { IfErr result (λ e. IsReportFault e) }
+{
+    let start = put_request(&mut table.line, row);
+    table.write_row(start, writer)
+}
+
+// Each request that is left.
+fn write_each<W: Write>(table: &mut Table, mut rows: Rows<'_>, writer: &mut W) -> Result<(), Fault>
+    ensures written { OnOk result (Appends (held W.contents writer.old table.old) (held W.contents writer.new table.new) (request_lines rows.entry)) }
+    ensures refused { IfErr result (λ e. IsReportFault e) }
+{
+    while let Some(row) = rows.next() {
+        write_request(table, &row, writer)?;
+    }
+    Ok(())
+}
+
+/// The lines of the table of requests.
+#[derive(Clone, Copy)]
+struct RequestLines;
+
+impl<'a> TableLines<Rows<'a>> for RequestLines {
+    ghost header_line = { λ of. row_text request_header };
+
+    ghost lines = { λ of rows. request_lines rows };
+
+    fn write_header<W: Write>(&self, table: &mut Table, writer: &mut W) -> Result<(), Fault>
+        ensures written { OnOk result (Appends (held W.contents writer.old table.old) (held W.contents writer.new table.new) (row_text request_header)) }
+        ensures refused { IfErr result (λ e. IsReportFault e) }
+    {
+        let start = put_last_word(&mut table.line, columns());
+        table.write_row(start, writer)
+    }
+
+    fn write_lines<W: Write>(
+        &self,
+        alloc: Global,
+        piece: &Rows<'a>,
+        table: &mut Table,
+        writer: &mut W,
+    ) -> Result<(), Fault>
+        ensures written { OnOk result (Appends (held W.contents writer.old table.old) (held W.contents writer.new table.new) (request_lines piece.now)) }
+        ensures refused { IfErr result (λ e. IsReportFault e) }
+    {
+        write_each(table, piece.copied(alloc)?, writer)
+    }
+}
+
+/// Writes the table of requests: a header, and then a row for each request, in their order. The call takes as much memory as
+/// `write_commands`.
+///
+/// # Errors
+///
+/// As of `write_commands`.
+pub fn write_requests<W: Write>(
+    alloc: Global,
+    requests: &RequestTable,
+    writer: &mut W,
+) -> Result<(), Fault>
+    ensures written { OnOk result (Appends (W.contents writer.old) (W.contents writer.new) (requests_text requests.now)) }
+    ensures refused { IfErr result (λ e. IsReportFault e) }
+{
+    let rows = requests.rows(alloc)?;
+    write_whole(alloc, &RequestLines, &rows, writer)
+}
+
+/// Writes the table of requests as `write_requests` does, put together by at most `threads` threads, as `write_commands_by` puts the
+/// table of commands together.
+///
+/// # Errors
+///
+/// As of `write_commands`.
+pub fn write_requests_by<R: Threads + Sync, W: Write>(
+    rt: &R,
+    alloc: Global,
+    threads: usize,
+    requests: &RequestTable,
+    writer: &mut W,
+) -> Result<(), Fault>
+    ensures written { OnOk result (Appends (W.contents writer.old) (W.contents writer.new) (requests_text requests.now)) }
+    ensures refused { IfErr result (λ e. IsReportFault e) }
+{
+    if threads < 2 {
+        return write_requests(alloc, requests, writer);
+    }
+    let pieces = requests.pieces(alloc, MOST)?;
+    if pieces.len() < 2 {
+        return write_requests(alloc, requests, writer);
+    }
+    write_pieces(rt, alloc, threads, &RequestLines, &pieces, writer)
+}

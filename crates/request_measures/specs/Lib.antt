@@ -1,0 +1,2 @@
+pub mod Latency
+pub mod Waiting

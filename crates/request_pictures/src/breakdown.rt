@@ -1,0 +1,225 @@
+//! Where the time of the reads of each channel went, as bars. A bar's unit is a hundredth of a cycle.
+
+use drawing::markup::{LegendEntry, Piece, put, put_legend};
+use drawing::scales::share_of;
+use request_table::times::RequestTimes;
+use std::alloc::{AllocError, Global};
+
+/// What each part of a bar stands for, where nCL is known.
+static LEGEND: [LegendEntry; 4] = [
+    LegendEntry {
+        class: "end",
+        text: "the way there: from the issue to the arrival at the channel",
+    },
+    LegendEntry {
+        class: "window",
+        text: "in the queue: up to the RD",
+    },
+    LegendEntry {
+        class: "width",
+        text: "from the RD to the end of the data: nCL + 4",
+    },
+    LegendEntry {
+        class: "credit",
+        text: "the way back: up to the reply at the core",
+    },
+];
+
+/// The same where it is not.
+static SHORT_LEGEND: [LegendEntry; 3] = [
+    LegendEntry {
+        class: "end",
+        text: "the way there: from the issue to the arrival at the channel",
+    },
+    LegendEntry {
+        class: "window",
+        text: "in the queue: up to the RD",
+    },
+    LegendEntry {
+        class: "credit",
+        text: "from the RD to the reply at the core",
+    },
+];
+
+/// The mean times of the answered reads of a channel, in hundredths of a cycle: to the channel, in its queue, from RD to the end of the data, which is 0
+/// where it is not known, and from there to the core.
+#[derive(Clone, Copy)]
+struct Parts {
+    there: u64,
+    queue: u64,
+    data: u64,
+    back: u64,
+}
+
+impl Parts {
+    fn total(self) -> u64 {
+        let before = self.there.saturating_add(self.queue);
+        before.saturating_add(self.data).saturating_add(self.back)
+    }
+}
+
+/// The sums of the same over reads, but for the last two, which are together.
+#[derive(Clone, Copy)]
+struct Sums {
+    reads: u64,
+    there: u128,
+    queue: u128,
+    after: u128,
+}
+
+impl Sums {
+    // One read more.
+    fn with(self, request: &RequestTimes, replied: u64) -> Sums {
+        let there = request.arrived.saturating_sub(request.issued);
+        let queue = request.served.saturating_sub(request.arrived);
+        let after = replied.saturating_sub(request.served);
+        Sums {
+            reads: self.reads.saturating_add(1),
+            there: self.there.saturating_add(u128::from(there)),
+            queue: self.queue.saturating_add(u128::from(queue)),
+            after: self.after.saturating_add(u128::from(after)),
+        }
+    }
+}
+
+// The sums of the answered reads of a channel.
+fn sums_of(channel: usize, requests: &[RequestTimes]) -> Sums {
+    let mut sums = Sums {
+        reads: 0,
+        there: 0,
+        queue: 0,
+        after: 0,
+    };
+    for request in requests {
+        if request.channel as usize == channel
+            && let Some(replied) = request.replied
+        {
+            sums = sums.with(request, replied);
+        }
+    }
+    sums
+}
+
+// The means, where the data take so many cycles from the RD on, if that is known.
+fn parts_of(sums: Sums, data: Option<u64>) -> Parts {
+    let after = share_of(sums.after, sums.reads, 100);
+    let data = data.unwrap_or(0).saturating_mul(100).min(after);
+    Parts {
+        there: share_of(sums.there, sums.reads, 100),
+        queue: share_of(sums.queue, sums.reads, 100),
+        data,
+        back: after.saturating_sub(data),
+    }
+}
+
+// The means of so many channels.
+fn all_parts(
+    alloc: Global,
+    channels: usize,
+    data: Option<u64>,
+    requests: &[RequestTimes],
+) -> Result<Vec<Parts>, AllocError> {
+    let mut all = Vec::new(alloc);
+    for channel in 0..channels {
+        all.push(parts_of(sums_of(channel, requests), data))?;
+    }
+    Ok(all)
+}
+
+// A part of a bar, after those before it.
+fn put_part(
+    class: &'static str,
+    before: u64,
+    hundredths: u64,
+    out: &mut String,
+) -> Result<(), AllocError> {
+    if hundredths == 0 {
+        return Ok(());
+    }
+    let pieces = [
+        Piece::Text("<rect class=\""),
+        Piece::Text(class),
+        Piece::Text("\" x=\""),
+        Piece::Number(before),
+        Piece::Text("\" width=\""),
+        Piece::Number(hundredths),
+        Piece::Text("\" height=\"1\"><title>"),
+        Piece::Hundredths(hundredths),
+        Piece::Text(" cycles</title></rect>"),
+    ];
+    put(&pieces, out)
+}
+
+// The bar of a channel, in a picture of so many hundredths of a cycle.
+fn put_bar(channel: u64, parts: Parts, width: u64, out: &mut String) -> Result<(), AllocError> {
+    let begin = [
+        Piece::Text("<div class=\"bar\"><b>channel "),
+        Piece::Number(channel),
+        Piece::Text(
+            "</b><svg preserveAspectRatio=\"none\" role=\"img\" aria-label=\"where the time of a read of channel ",
+        ),
+        Piece::Number(channel),
+        Piece::Text(" went: "),
+        Piece::Hundredths(parts.total()),
+        Piece::Text(" cycles\" viewBox=\"0 0 "),
+        Piece::Number(width),
+        Piece::Text(" 1\">"),
+    ];
+    put(&begin, out)?;
+    let mut before = 0u64;
+    for (class, hundredths) in [
+        ("end", parts.there),
+        ("window", parts.queue),
+        ("width", parts.data),
+        ("credit", parts.back),
+    ] {
+        put_part(class, before, hundredths, out)?;
+        before = before.saturating_add(hundredths);
+    }
+    out.push_str("</svg></div>\n")
+}
+
+// The scale below the bars: five labels, so many cycles apart.
+fn put_scale(apart: u64, out: &mut String) -> Result<(), AllocError> {
+    out.push_str("<div class=\"bar scale\"><b>cycles</b><p>")?;
+    for place in 0..5u64 {
+        let pieces = [
+            Piece::Text("<i>"),
+            Piece::Grouped(apart.saturating_mul(place)),
+            Piece::Text("</i>"),
+        ];
+        put(&pieces, out)?;
+    }
+    out.push_str("</p></div></div>\n")
+}
+
+// The bars, all on one scale, whose end is a multiple of four cycles.
+fn put_bars(all: &[Parts], out: &mut String) -> Result<(), AllocError> {
+    let greatest = all.iter().map(|parts| parts.total()).max().unwrap_or(0);
+    let apart = greatest.div_ceil(400).max(1);
+    let width = apart.saturating_mul(400);
+    out.push_str("<div class=\"bars\">\n")?;
+    for (channel, parts) in all.iter().enumerate() {
+        put_bar(channel as u64, *parts, width, out)?;
+    }
+    put_scale(apart, out)
+}
+
+/// Appends a bar for each of so many channels, with a legend. `data` is how many cycles the data of a read take from the RD on, where that is known.
+pub(crate) fn put_breakdown(
+    alloc: Global,
+    channels: usize,
+    data: Option<u64>,
+    requests: &[RequestTimes],
+    out: &mut String,
+) -> Result<(), AllocError> {
+    out.push_str(
+        "<h3>Where the time of a read goes</h3><p>The mean over the reads of a channel whose reply came, in cycles.</p>",
+    )?;
+    match data {
+        Some(_) => put_legend(&LEGEND, out)?,
+        None => put_legend(&SHORT_LEGEND, out)?,
+    }
+    let all = all_parts(alloc, channels, data, requests)?;
+    put_bars(&all, out)
+}

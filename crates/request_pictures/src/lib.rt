@@ -1,0 +1,7 @@
+//! Pictures of the requests of a run: how long reads took, and where the time went.
+#![tactic(auto)]
+
+mod breakdown;
+mod histograms;
+pub mod section;
+mod trend;

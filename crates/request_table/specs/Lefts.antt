@@ -1,0 +1,30 @@
+-- Which list a table of several lists goes on with.
+--     first_cycle rows      the cycle in which the first of the requests was served
+--     IsNextOf lists count place cycle      of the first `count` lists, the one at this place begins in this cycle, and none sooner
+--     IsNextAmong lists count next      the same, where none of them may have a request
+--     IsNext lists place      the one at this place goes on soonest of all lists
+use Rattle.std.specs.Prelude.{◌≡◌, ℕ, ◌<◌, ◌≤◌, List, [], ◌∷◌, length, slice_index_or, Option, Some, None, IfSome}
+use Rattle.served_requests.specs.declared.ServedRequest.{ServedRequest}
+use Rattle.request_table.specs.declared.table.Next.{Next}
+
+-- the cycle in which the first of the requests was served, if there is one
+abbrev pub first_cycle : List ServedRequest → Option ℕ
+first_cycle [] = None
+first_cycle (row ∷ rest) = Some row.served
+
+-- Of the first `count` lists, the one at this place begins in this cycle. Those before it begin later, and those after it no sooner.
+pub record IsNextOf (lists : List (List ServedRequest)) (count place cycle : ℕ) : Type 0 where
+  pub within : place < count
+  pub starts : first_cycle (slice_index_or lists place []) ≡ Some cycle
+  pub before : (k : ℕ) → k < place → IfSome (first_cycle (slice_index_or lists k [])) (λ first. cycle < first)
+  pub behind : (k : ℕ) → place < k → k < count → IfSome (first_cycle (slice_index_or lists k [])) (λ first. cycle ≤ first)
+
+-- the same, where none of them may have a request
+abbrev pub IsNextAmong : List (List ServedRequest) → ℕ → Option Next → Type 0
+IsNextAmong lists count None = (k : ℕ) → k < count → slice_index_or lists k [] ≡ []
+IsNextAmong lists count (Some next) = IsNextOf lists count next.place next.cycle
+
+-- the one at this place goes on soonest of all lists
+pub record IsNext (lists : List (List ServedRequest)) (place : ℕ) : Type 0 where
+  pub cycle : ℕ
+  pub next : IsNextOf lists (length lists) place cycle

@@ -1,0 +1,47 @@
+-- What the records of a table of requests mean.
+--     IsReplyTo access served replied      when the reply to a request may come
+--     RequestFits row      the numbers of a row are in their ranges, and its cycles follow each other
+--     turn row      where a row stands among the others
+--     IsInOrder rows      each row stands behind those before it
+--     IsRequestTable records rows      the records are those that are written of these rows
+--     HoldsRequests records      they are a table of some rows
+use Rattle.std.specs.Prelude.{◌≡◌, ℕ, ◌+◌, ◌*◌, ◌^◌, ◌<◌, ◌≤◌, ⊤, List, ◌∷◌, map, Option, Some, None, All}
+use Rattle.std.specs.List.{AllPairs}
+use Rattle.request_table.specs.declared.times.Access.{Access}
+use Rattle.request_table.specs.declared.times.Access.TheVariants.{Read, Write}
+use Rattle.request_table.specs.declared.times.RequestTimes.{RequestTimes}
+use Rattle.reports.specs.Requests.{request_header, request_fields}
+
+-- the reply to a read comes after its RD, in a cycle of the run, or not in the run; a write has none
+abbrev pub IsReplyTo : Access → ℕ → Option ℕ → Type 0
+IsReplyTo access served None = ⊤
+IsReplyTo Read served (Some replied) = (served < replied) × (replied < 2 ^ 62)
+IsReplyTo Write served (Some replied) = ⊥
+
+-- a row that a run can have: a core below 256, a channel below 16, an entry and cycles below 2^62, and no step of the request before the last one
+pub record RequestFits (row : RequestTimes) : Type 0 where
+  pub core_in_range : row.core < 256
+  pub entry_in_range : row.entry < 2 ^ 62
+  pub channel_in_range : row.channel < 16
+  pub served_in_range : row.served < 2 ^ 62
+  pub issued_first : row.issued ≤ row.arrived
+  pub arrived_before : row.arrived ≤ row.served
+  pub reply : IsReplyTo row.access row.served row.replied
+
+-- where a row stands among the others: by the cycle of its RD or WR, and among those of a cycle by its channel, which is below 16
+abbrev pub turn : RequestTimes → ℕ
+turn row = 16 * row.served + row.channel
+
+-- each row stands behind those before it
+abbrev pub IsInOrder : List RequestTimes → Type 0
+IsInOrder rows = AllPairs (λ a b. turn a < turn b) rows
+
+-- the records of a table of requests: the header, and then a record for each row
+pub record IsRequestTable (records : List (List (List ℕ))) (rows : List RequestTimes) : Type 0 where
+  pub parts : records ≡ request_header ∷ map request_fields rows
+  pub fits : All RequestFits rows
+  pub in_order : IsInOrder rows
+
+-- the records are those of a table of some rows
+abbrev pub HoldsRequests : List (List (List ℕ)) → Type 0
+HoldsRequests records = (rows : List RequestTimes) × IsRequestTable records rows

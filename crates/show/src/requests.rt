@@ -1,0 +1,228 @@
+//! How long reads took and how long requests waited, below the screen of a run.
+
+ghost use Rattle.std.specs.Prelude.{◌≡◌, ◌≤◌, length, IfOk, OnOk, string_bytes};
+ghost use Rattle.request_measures.specs.Latency.{read_latencies, AreLatenciesOf};
+ghost use Rattle.show.specs.Requests.{latencies_head, waits_head, replies_of, AreRequests};
+ghost use Rattle.show.specs.Screen.{Extends};
+
+use crate::number::Number;
+use crate::options::Options;
+use crate::rows::{COLUMNS, Row, nanoseconds};
+use crate::table::Table;
+use request_measures::latency::{Latencies, core_latency_percentiles, latency_percentiles};
+use request_measures::waiting::{Class, Waits, channel_waits};
+use request_table::times::RequestTimes;
+use sim_base::message::{ChannelId, CoreId};
+use std::alloc::{AllocError, Global};
+
+/// The headings of a core's read latency; the last four are shown with a clock only.
+static LATENCY_HEADINGS: [&str; 9] = [
+    "replies", "p50", "p95", "p99", "max", "p50 ns", "p95 ns", "p99 ns", "max ns",
+];
+
+/// The headings of a channel's waits; the last three are shown with a clock only.
+static WAIT_HEADINGS: [&str; 9] = [
+    "reads",
+    "mean wait",
+    "writes",
+    "mean wait",
+    "hits",
+    "mean wait",
+    "reads ns",
+    "writes ns",
+    "hits ns",
+];
+
+// The first so many headings without a clock, and all of them with one.
+fn shown(
+    headings: &'static [&'static str; 9],
+    khz: Option<u64>,
+    without: usize,
+) -> &'static [&'static str]
+    requires { without ≤ 9 }
+{
+    match khz {
+        Some(_) => &headings[..],
+        None => &headings[..without],
+    }
+}
+
+// Cycles in ns, where the clock is given.
+fn time(cycles: u128, divisor: u64, khz: Option<u64>) -> Number {
+    match khz {
+        Some(khz) => nanoseconds(cycles, divisor, khz),
+        None => Number::absent(),
+    }
+}
+
+// How many replies there are.
+fn replies_of(found: Option<Latencies>) -> u64
+    ensures { result ≡ replies_of found }
+{
+    match found {
+        Some(found) => found.replies,
+        None => 0,
+    }
+}
+
+// The numbers of read latencies, of which there may be none.
+fn latency_row(found: Option<Latencies>, khz: Option<u64>) -> Row {
+    let mut row = [Number::absent(); COLUMNS];
+    row[0] = Number::count(replies_of(found));
+    if let Some(found) = found {
+        row[1] = Number::count(found.median);
+        row[2] = Number::count(found.p95);
+        row[3] = Number::count(found.p99);
+        row[4] = Number::count(found.greatest);
+        row[5] = time(u128::from(found.median), 1, khz);
+        row[6] = time(u128::from(found.p95), 1, khz);
+        row[7] = time(u128::from(found.p99), 1, khz);
+        row[8] = time(u128::from(found.greatest), 1, khz);
+    }
+    row
+}
+
+// The numbers of each core.
+fn latency_rows(
+    alloc: Global,
+    cores: CoreId,
+    requests: &[RequestTimes],
+    khz: Option<u64>,
+) -> Result<Vec<Row>, AllocError>
+    ensures { IfOk result (λ rows. length rows.items ≡ cores) }
+{
+    let mut rows = Vec::new(alloc);
+    for core in 0..cores {
+        let found = core_latency_percentiles(alloc, core, requests)?;
+        rows.push(latency_row(found, khz))?;
+    }
+    Ok(rows)
+}
+
+// The numbers of a channel.
+fn wait_row(channel: ChannelId, requests: &[RequestTimes], khz: Option<u64>) -> Row {
+    let Waits {
+        requests: reads,
+        cycles: read_cycles,
+    } = channel_waits(Class::Reads, channel, requests);
+    let Waits {
+        requests: writes,
+        cycles: write_cycles,
+    } = channel_waits(Class::Writes, channel, requests);
+    let Waits {
+        requests: hits,
+        cycles: hit_cycles,
+    } = channel_waits(Class::Hits, channel, requests);
+    let mut row = [Number::absent(); COLUMNS];
+    row[0] = Number::count(reads);
+    row[1] = Number::mean(read_cycles, reads);
+    row[2] = Number::count(writes);
+    row[3] = Number::mean(write_cycles, writes);
+    row[4] = Number::count(hits);
+    row[5] = Number::mean(hit_cycles, hits);
+    row[6] = time(read_cycles, reads, khz);
+    row[7] = time(write_cycles, writes, khz);
+    row[8] = time(hit_cycles, hits, khz);
+    row
+}
+
+// The numbers of each channel.
+fn wait_rows(
+    alloc: Global,
+    channels: ChannelId,
+    requests: &[RequestTimes],
+    khz: Option<u64>,
+) -> Result<Vec<Row>, AllocError>
+    ensures { IfOk result (λ rows. length rows.items ≡ channels) }
+{
+    let mut rows = Vec::new(alloc);
+    for channel in 0..channels {
+        rows.push(wait_row(channel, requests, khz))?;
+    }
+    Ok(rows)
+}
+
+// The read latencies of each core, and last those of all.
+fn put_latencies(
+    alloc: Global,
+    rows: &[Row],
+    all: Option<Latencies>,
+    options: Options,
+    out: &mut String,
+) -> Result<(), AllocError>
+    ensures { OnOk result (Extends (string_bytes out.old) (string_bytes out.new)) }
+{
+    let table = Table {
+        label: "core",
+        headings: shown(&LATENCY_HEADINGS, options.khz, 5),
+        all: options.all,
+    };
+    table.put(alloc, rows, out)?;
+    table.put_row(alloc, "all", &latency_row(all, options.khz), out)
+}
+
+// How long reads took.
+fn text_of_latencies(
+    alloc: Global,
+    cores: CoreId,
+    requests: &[RequestTimes],
+    options: Options,
+) -> Result<String, AllocError>
+    ensures { IfOk result (λ text. Extends (latencies_head (length (read_latencies requests.now))) (string_bytes text)) }
+{
+    let rows = latency_rows(alloc, cores, requests, options.khz)?;
+    let all = latency_percentiles(alloc, requests)?;
+    let replies = replies_of(all);
+    let mut text = format!(in alloc;
+        "\nRead latency ({replies} replies): cycles from issue to reply, by the nearest rank\n"
+    )?;
+    put_latencies(alloc, &rows, all, options, &mut text)?;
+    Ok(text)
+}
+
+// How long requests waited.
+fn text_of_waits(
+    alloc: Global,
+    channels: ChannelId,
+    requests: &[RequestTimes],
+    options: Options,
+) -> Result<String, AllocError>
+    ensures { IfOk result (λ text. Extends (waits_head (length requests.now)) (string_bytes text)) }
+{
+    let rows = wait_rows(alloc, channels, requests, options.khz)?;
+    let count = requests.len();
+    let mut text = format!(in alloc;
+        "\nQueues ({count} requests): mean cycles from arrival to RD or WR\n"
+    )?;
+    let table = Table {
+        label: "channel",
+        headings: shown(&WAIT_HEADINGS, options.khz, 6),
+        all: options.all,
+    };
+    table.put(alloc, &rows, &mut text)?;
+    Ok(text)
+}
+
+/// What stands below the screen of a run of so many cores and channels whose requests are known.
+///
+/// - Of a core, and last of all cores: the reads whose reply came in the run, and how long these took from their issue to their reply, as the
+///   median, the 95th and the 99th percentile by the nearest rank, and the greatest.
+/// - Of a channel: its reads, its writes and its row hits among both, and for each how long they were in the queue, from their arrival to
+///   their RD or WR, as a mean.
+/// - Where the clock is given, the same times in ns.
+///
+/// All times are in cycles. Numbers, and tables of more than 16 units, are as on the screen. Only memory can be refused.
+pub fn show_requests(
+    alloc: Global,
+    cores: CoreId,
+    channels: ChannelId,
+    requests: &[RequestTimes],
+    options: Options,
+) -> Result<String, AllocError>
+    ensures { IfOk result (λ text. AreRequests requests.now (string_bytes text)) }
+{
+    let mut text = text_of_latencies(alloc, cores, requests, options)?;
+    let waits = text_of_waits(alloc, channels, requests, options)?;
+    text.push_str(waits.as_str())?;
+    Ok(text)
+}

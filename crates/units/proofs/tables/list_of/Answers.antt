@@ -1,0 +1,16 @@
+use Rattle.std.proofs.Common.{◌≡◌, Option, IfSome, subst, ◌∙◌}
+use Rattle.std.specs.Prelude.{Vec}
+use Rattle.std.specs.declared.alloc.Global.{Global}
+use Rattle.sim_base.specs.declared.message.Unit.TheVariants as unit
+use Rattle.laws.specs.Commands.{channel_steps_of}
+use Rattle.served_requests.specs.declared.ServedRequest.{ServedRequest}
+use Rattle.span_laws.specs.Mail.{mail_before}
+use Rattle.units.specs.Kept.{served_of}
+use Rattle.units.proofs.Requested.{kept-is}
+use Rattle.units.proofs.tables.list_of.Goals as goal
+
+pub returns : goal.returns
+returns c s traces number now l h =
+    c.of.ensures
+    ∙ subst (λ (kept : Option (Vec ServedRequest Global)). IfSome kept (λ rows. rows.items ≡ served_of s traces now number)) c.in_ok-into_served.was
+    (kept-is s traces now number c.into_served.result l (c.into_served.ensures s number (channel_steps_of s traces now number) (mail_before s traces now (unit.Channel number) now) h))
