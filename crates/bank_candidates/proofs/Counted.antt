@@ -1,17 +1,16 @@
 -- Counters of the requests of each bank and access.
-use Rattle.std.proofs.Common.{◌≡◌, ℕ, zero, suc, ◌+◌, ◌-◌, ◌*◌, ◌^◌, ◌<◌, ◌≤◌, min, Bool, true, false, not, cond, eqb, ◌&&◌, ◌||◌, List, [], ◌∷◌, ◌++◌, length, get_or, set, Option, None, refl, sym, ap, ◌∙◌, inl, inr, arith, get_or-set_same, get_or-set_other}
+use Rattle.std.proofs.Common.{◌≡◌, ℕ, zero, suc, ◌+◌, ◌-◌, ◌*◌, ◌^◌, ◌<◌, ◌≤◌, min, Bool, true, false, cond, eqb, List, [], ◌∷◌, ◌++◌, length, get_or, set, take, None, refl, sym, ap, subst, ◌∙◌, inl, inr, arith, get_or-set_same, get_or-set_other}
 use Rattle.std.proofs.lemmas.Bool.{cases_Bool, eq-eqb, eqb-true, eqb-false, true≢false, false_from_ne_true}
 use Rattle.std.proofs.lemmas.List.{length-set}
 use Rattle.std.proofs.lemmas.List.Sums.{sum_by-cons, sum_by_push, sum_by-remove, count_by-le-length}
-use Rattle.std.specs.List.{list_any, remove, zip}
+use Rattle.std.specs.List.{remove}
 use Rattle.sim_base.specs.declared.message.Request.{Request}
-use Rattle.queue_columns.specs.Marks.{is_marked}
-use Rattle.queue_columns.specs.Columns.{eligible_column}
-use Rattle.bank_candidates.specs.declared.entry.AccessCandidates.{AccessCandidates}
-use Rattle.bank_candidates.specs.Candidates.{asks, hits, access_number, access_of, access_count, blocked, first_place, NoneBlocked, AreFirst}
-use Rattle.bank_candidates.proofs.Blocked.{wants_access}
-use Rattle.bank_candidates.proofs.OneBank.{hits_narrower}
-use Rattle.bank_candidates.proofs.Searches.{here_is, found_none, none_narrower_all}
+use Rattle.request_log.specs.declared.Arrived.{Arrived}
+use Rattle.request_log.specs.Log.{absent, waiting_requests, served_at, waits_at}
+use Rattle.request_log.proofs.Places.{waiting_at, waiting_within, waiting_served}
+use Rattle.bank_candidates.specs.Candidates.{asks, access_number, access_of, access_count, first_place}
+use Rattle.bank_candidates.proofs.OneBank.{wants_access}
+use Rattle.bank_candidates.proofs.Searches.{none_waits}
 
 -- each counter says how many requests ask for its bank and access
 abbrev pub AreCounted : List ℕ → List Request → Type 0
@@ -83,42 +82,23 @@ none_asks access [] none k d exists = absurd (omega arith)
 none_asks access (r ∷ rs) none zero d exists = (apart_first access r rs none).0
 none_asks access (r ∷ rs) none (suc k) d exists = none_asks access rs (apart_first access r rs none).1 k d (omega arith)
 
--- and so none is blocked
-none_waits_in : (access : ℕ) (rs : List Request) (ms : List ℕ) → access_count access rs ≡ 0 → list_any (blocked access) (zip rs ms) ≡ false
-none_waits_in access [] ms none = refl
-none_waits_in access (r ∷ rs) [] none = refl
-none_waits_in access (r ∷ rs) (m ∷ ms) none =
-    let parts = apart_first access r rs none in
-    ap (λ b. (not (is_marked m) && b) || list_any (blocked access) (zip rs ms)) parts.0
-    ∙ ap (λ b. b || list_any (blocked access) (zip rs ms)) (never (not (is_marked m)))
-    ∙ none_waits_in access rs ms parts.1
-  where
-    never : (t : Bool) → (t && false) ≡ false
-    never true = refl
-    never false = refl
+-- and it has no candidate
+pub no_first : (log : List Arrived) (bank : ℕ) (write : Bool) → access_count (access_number bank write) (waiting_requests log) ≡ 0 → None ≡ first_place (asks bank write) log
+no_first log bank write none =
+    none_waits (asks bank write) log
+    (λ k d exists.
+    let r = get_or (waiting_requests log) k d in
+    false_from_ne_true (asks bank write r) (λ is. true≢false (sym (wants_access bank write None r is) ∙ none_asks (access_number bank write) (waiting_requests log) none k d exists)))
 
-pub none_waits : (access : ℕ) (rs : List Request) → access_count access rs ≡ 0 → NoneBlocked access rs
-none_waits access rs none = none_waits_in access rs (eligible_column rs) none
-
--- and there are no candidates
-pub no_first : (rs : List Request) (bank : ℕ) (write : Bool) (row : Option ℕ) (h : AccessCandidates) → access_count (access_number bank write) rs ≡ 0 → h.oldest ≡ None → h.hit ≡ None
-    → AreFirst rs bank write row h
-no_first rs bank write row h none oldest hit =
-    let any = asks bank write in
-    let no_oldest : None ≡ first_place any rs =
-    found_none any rs (length rs) (omega arith)
-    (λ k d sooner exists.
-    let x = get_or rs k d.0 in
-    let m = is_marked (get_or (eligible_column rs) k 0) in
-    let other = none_asks (access_number bank write) rs none k d.0 exists in
-    here_is any rs (eligible_column rs) k x d exists refl refl
-    ∙ ap (λ b. m && b) (false_from_ne_true (any x) (λ is. true≢false (sym (wants_access bank write None x is) ∙ other)))
-    ∙ never m) in
-    record { oldest_is = oldest ∙ no_oldest; hit_is = hit ∙ none_narrower_all (hits bank write row) any rs (hits_narrower bank write row) no_oldest }
-  where
-    never : (t : Bool) → (t && false) ≡ false
-    never true = refl
-    never false = refl
+-- the requests that wait, without the one that was served
+pub counted_served : (counts : List ℕ) (log : List Arrived) (slot : ℕ) (value : ℕ) → AreCounted counts (waiting_requests log) → slot < length log → waits_at log slot ≡ true
+    → access_of (get_or log slot absent).request < length counts → value ≡ get_or counts (access_of (get_or log slot absent).request) 0 - 1
+    → AreCounted (set counts (access_of (get_or log slot absent).request) value) (waiting_requests (served_at log slot))
+counted_served counts log slot value counted within waits below value_is =
+    let r = (get_or log slot absent).request in
+    let place = length (waiting_requests (take slot log)) in
+    subst (AreCounted (set counts (access_of r) value)) (sym (waiting_served log slot within waits))
+    (counted_removed counts (waiting_requests log) place r value counted below (waiting_within log slot within waits) (sym (waiting_at log slot r within waits)) value_is)
 
 pub access_below : (bank banks : ℕ) (write : Bool) → bank < banks → access_number bank write < 2 * banks
 access_below bank banks true exists = omega arith

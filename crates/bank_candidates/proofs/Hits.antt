@@ -1,19 +1,18 @@
 -- The oldest request of a bank and an access asks for a row, or the first that does stands behind it.
 use Rattle.std.proofs.Common.{◌≡◌, ℕ, ◌+◌, ◌<◌, Bool, true, false, ◌&&◌, eqb, List, length, get_or, Some, refl, sym, ap, ◌∙◌}
-use Rattle.std.proofs.lemmas.Bool.{true≢false}
 use Rattle.std.proofs.lemmas.List.{get_or_default}
 use Rattle.std.proofs.lemmas.List.Quantifiers.{position-Some}
-use Rattle.sim_base.specs.declared.message.Request.{Request}
-use Rattle.queue_columns.specs.Marks.{is_marked}
-use Rattle.queue_columns.specs.Columns.{eligible_column}
+use Rattle.request_log.specs.declared.Arrived.{Arrived}
+use Rattle.request_log.specs.Marks.{is_marked}
+use Rattle.request_log.specs.Log.{absent, eligible_column}
 use Rattle.bank_candidates.specs.Candidates.{asks, wants, passes, entries, first_place}
 use Rattle.bank_candidates.specs.Moves.{NoneBefore}
 use Rattle.bank_candidates.proofs.Searches.{here_is, none_more, none_narrower, none_before_first, found_here}
 use Rattle.bank_candidates.proofs.OneBank.{wants_narrower}
 
 -- the row of a request that was read
-pub row_at : (rs xs : List Request) (slot : ℕ) (e f : Request) (row : ℕ) → slot < length rs → xs ≡ rs → eqb (get_or rs slot f).place.row row ≡ eqb (get_or xs slot e).place.row row
-row_at rs xs slot e f row within same = ap (λ (r : Request). eqb r.place.row row) (get_or_default rs slot f e within ∙ ap (λ ys. get_or ys slot e) (sym same))
+pub row_at : (log xs : List Arrived) (slot : ℕ) (e f : Arrived) (row : ℕ) → slot < length log → xs ≡ log → eqb (get_or log slot f).request.place.row row ≡ eqb (get_or xs slot e).request.place.row row
+row_at log xs slot e f row within same = ap (λ (a : Arrived). eqb a.request.place.row row) (get_or_default log slot f e within ∙ ap (λ ys. get_or ys slot e) (sym same))
 
 both : (m a b : Bool) → (m && a) ≡ true → b ≡ true → (m && (a && b)) ≡ true
 both true true b is other = other
@@ -25,38 +24,26 @@ none true true b is = is
 none true false b is = refl
 none false a b is = refl
 
-never : (b : Bool) → (b && false) ≡ false
-never true = refl
-never false = refl
-
-pub hit_here : (rs xs : List Request) (slot bank row : ℕ) (write : Bool) (e : Request) → slot < length rs → xs ≡ rs → Some slot ≡ first_place (asks bank write) rs
-    → eqb (get_or xs slot e).place.row row ≡ true → Some slot ≡ first_place (wants bank write (Some row)) rs
-hit_here rs xs slot bank row write e within same is asked =
+pub hit_here : (log xs : List Arrived) (slot bank row : ℕ) (write : Bool) (e : Arrived) → slot < length log → xs ≡ log → Some slot ≡ first_place (asks bank write) log
+    → eqb (get_or xs slot e).request.place.row row ≡ true → Some slot ≡ first_place (wants bank write (Some row)) log
+hit_here log xs slot bank row write e within same is asked =
     let any = asks bank write in
     let test = wants bank write (Some row) in
-    found_here test rs slot within (none_narrower test any rs slot (wants_narrower bank write row) (none_before_first any rs slot is))
+    found_here test log slot within (none_narrower test any log slot (wants_narrower bank write row) (none_before_first any log slot is))
     (λ d.
-    let x = get_or rs slot d.0 in
-    let m = is_marked (get_or (eligible_column rs) slot 0) in
-    let passed : passes any (get_or (entries rs) slot d) ≡ true = (position-Some (passes any) (entries rs) slot d (sym is)).1 in
-    here_is test rs (eligible_column rs) slot x d within refl refl
-    ∙ both m (any x) (eqb x.place.row row) (sym (here_is any rs (eligible_column rs) slot x d within refl refl) ∙ passed) (row_at rs xs slot e d.0 row within same ∙ asked))
+    let r = (get_or log slot absent).request in
+    let m = is_marked (get_or (eligible_column log) slot 0) in
+    let passed : passes any (get_or (entries log) slot d) ≡ true = (position-Some (passes any) (entries log) slot d (sym is)).1 in
+    here_is test log slot absent d within
+    ∙ both m (any r) (eqb r.place.row row) (sym (here_is any log slot absent d within) ∙ passed) (row_at log xs slot e absent row within same ∙ asked))
 
-pub hit_behind : (rs : List Request) (slot bank row : ℕ) (write : Bool) → Some slot ≡ first_place (asks bank write) rs
-    → ((d : Request) → slot < length rs → eqb (get_or rs slot d).place.row row ≡ false) → NoneBefore (wants bank write (Some row)) rs (slot + 1)
-hit_behind rs slot bank row write is other =
+pub hit_behind : (log : List Arrived) (slot bank row : ℕ) (write : Bool) → Some slot ≡ first_place (asks bank write) log
+    → (slot < length log → eqb (get_or log slot absent).request.place.row row ≡ false) → NoneBefore (wants bank write (Some row)) log (slot + 1)
+hit_behind log slot bank row write is other =
     let any = asks bank write in
     let test = wants bank write (Some row) in
-    none_more test rs slot (none_narrower test any rs slot (wants_narrower bank write row) (none_before_first any rs slot is))
+    none_more test log slot (none_narrower test any log slot (wants_narrower bank write row) (none_before_first any log slot is))
     (λ d within.
-    let x = get_or rs slot d.0 in
-    let m = is_marked (get_or (eligible_column rs) slot 0) in
-    here_is test rs (eligible_column rs) slot x d within refl refl ∙ none m (any x) (eqb x.place.row row) (other d.0 within))
-
--- a request that passes no test is not the first that passes it
-pub not_there : (test : Request → Bool) (rs : List Request) (slot : ℕ) (r : Request) → slot < length rs → r ≡ get_or rs slot r → test r ≡ false → first_place test rs ≡ Some slot → ⊥
-not_there test rs slot r within here fails is =
-    let d : Request × ℕ = (r, 0) in
-    let m = is_marked (get_or (eligible_column rs) slot 0) in
-    let passed : passes test (get_or (entries rs) slot d) ≡ true = (position-Some (passes test) (entries rs) slot d is).1 in
-    true≢false (sym passed ∙ here_is test rs (eligible_column rs) slot r d within refl (sym here) ∙ ap (λ t. m && t) fails ∙ never m)
+    let r = (get_or log slot absent).request in
+    let m = is_marked (get_or (eligible_column log) slot 0) in
+    here_is test log slot absent d within ∙ none m (any r) (eqb r.place.row row) (other within))

@@ -1,10 +1,10 @@
 -- The first place at which a test passes.
-use Rattle.std.proofs.Common.{◌≡◌, ℕ, zero, suc, ◌+◌, ◌-◌, ◌<◌, ◌≤◌, Bool, true, false, not, cond, ◌||◌, ltb, min, List, [], ◌∷◌, ◌++◌, length, get_or, Option, Some, None, refl, sym, ap, ◌∙◌, inl, inr, zero-add, arith}
+use Rattle.std.proofs.Common.{◌≡◌, ℕ, zero, suc, ◌+◌, ◌<◌, ◌≤◌, Bool, true, false, not, cond, ◌||◌, ltb, min, List, [], ◌∷◌, ◌++◌, length, get_or, Option, Some, None, refl, sym, ap, ◌∙◌, inl, inr, zero-add, arith}
 use Rattle.std.proofs.lemmas.Bool.{cases_lt, cond-true, cond-false, lt-ltb, le-ltb}
 use Rattle.std.specs.List.{position, position_or_len}
 use Rattle.std.specs.Option.{option_map}
 use Rattle.sim_base.specs.Scheduling.{or_else}
-use Rattle.bank_candidates.specs.Moves.{past, before, earlier}
+use Rattle.bank_candidates.specs.Moves.{before, earlier}
 
 place_next : (b : Bool) (place len : ℕ)
     → cond (ltb (cond (not b) (1 + place) 0) (suc len)) (Some (cond (not b) (1 + place) 0)) None ≡ cond b (Some 0) (option_map suc (cond (ltb place len) (Some place) None))
@@ -76,31 +76,6 @@ before_next false n (Some k) = elim (cases_lt k n) [
       ∙ ap (option_map suc) (sym (cond-false (ltb k n) (Some k) None (le-ltb k n over)))
 ]
 
-none_before_zero : (o : Option ℕ) → before 0 o ≡ None
-none_before_zero None = refl
-none_before_zero (Some k) = cond-false (ltb k 0) (Some k) None (le-ltb k 0 (omega arith))
-
--- the first place within the front of a list
-pub position-front : {X : Type 0} (p : X → Bool) (xs ys : List X) → before (length xs) (position p (xs ++ ys)) ≡ position p xs
-position-front p [] ys = none_before_zero (position p ys)
-position-front p (x ∷ xs) ys =
-    ap (before (suc (length xs))) (position-cons p x (xs ++ ys))
-    ∙ before_next (p x) (length xs) (position p (xs ++ ys))
-    ∙ ap (λ o. cond (p x) (Some 0) (option_map suc o)) (position-front p xs ys)
-    ∙ sym (position-cons p x xs)
-
-pub before_some : (n k : ℕ) (o : Option ℕ) → before n o ≡ Some k → (o ≡ Some k) × (k < n)
-before_some n k None is = cc
-before_some n k (Some j) is = elim (cases_lt j n) [
-  | inl within ↦
-      let whole : Some j ≡ Some k = sym (cond-true (ltb j n) (Some j) None (lt-ltb j n within)) ∙ is in
-      let same : j ≡ k = cc in (whole, omega arith)
-  | inr over ↦ let none : None ≡ Some k = sym (cond-false (ltb j n) (Some j) None (le-ltb j n over)) ∙ is in cc
-]
-
-pub before_here : (n k : ℕ) → k < n → before n (Some k) ≡ Some k
-before_here n k within = cond-true (ltb k n) (Some k) None (lt-ltb k n within)
-
 pub before_past : (n k : ℕ) → n ≤ k → before n (Some k) ≡ None
 before_past n k over = cond-false (ltb k n) (Some k) None (le-ltb k n over)
 
@@ -135,36 +110,3 @@ position_none p (x ∷ xs) fails =
     position-cons p x xs
     ∙ cond-false (p x) (Some 0) (option_map suc (position p xs)) (fails 0 x (omega arith))
     ∙ ap (option_map suc) (position_none p xs (λ k d within. fails (suc k) d (omega arith)))
-
--- places past one that has gone
-pub past_else : (n : ℕ) (a b : Option ℕ) → before n a ≡ a → past n (or_else a (option_map (λ k. n + k) (option_map suc b))) ≡ or_else a (option_map (λ k. n + k) b)
-past_else n (Some k) b is = elim (cases_lt k n) [
-  | inl within ↦ ap Some (cond-false (ltb n k) (k - 1) k (le-ltb n k (omega arith)))
-  | inr over ↦ let none : None ≡ Some k = sym (before_past n k over) ∙ is in cc
-]
-past_else n None None is = refl
-past_else n None (Some k) is =
-    let there : n + suc k - 1 ≡ n + k = omega arith in ap Some (cond-true (ltb n (n + suc k)) (n + suc k - 1) (n + suc k) (lt-ltb n (n + suc k) (omega arith)) ∙ there)
-
--- a place that has moved past one that has gone stood before it, or did not
-pub past_front : (slot place : ℕ) (was : Option ℕ) → past slot was ≡ Some place → place < slot → was ≡ Some place
-past_front slot place None is sooner = cc
-past_front slot place (Some k) is sooner = elim (cases_lt slot k) [
-  | inl behind ↦
-      let back : Some (k - 1) ≡ Some place = sym (ap Some (cond-true (ltb slot k) (k - 1) k (lt-ltb slot k behind))) ∙ is in
-      let same : k - 1 ≡ place = cc in absurd (omega arith)
-  | inr front ↦ sym (ap Some (cond-false (ltb slot k) (k - 1) k (le-ltb slot k front))) ∙ is
-]
-
-pub past_late : (slot place : ℕ) (was : Option ℕ) → past slot was ≡ Some place → slot ≤ place → before slot was ≡ None
-past_late slot place None is late = refl
-past_late slot place (Some k) is late = elim (cases_lt slot k) [
-  | inl behind ↦ before_past slot k (omega arith)
-  | inr front ↦
-      let stays : Some k ≡ Some place = sym (ap Some (cond-false (ltb slot k) (k - 1) k (le-ltb slot k front))) ∙ is in
-      let same : k ≡ place = cc in before_past slot k (omega arith)
-]
-
-pub past_none : (slot : ℕ) (was : Option ℕ) → past slot was ≡ None → was ≡ None
-past_none slot None is = refl
-past_none slot (Some k) is = cc

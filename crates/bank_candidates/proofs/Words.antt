@@ -1,11 +1,11 @@
--- Words of places, one of which is written, or which all move.
-use Rattle.std.proofs.Common.{◌≡◌, ℕ, zero, suc, ◌+◌, ◌-◌, ◌*◌, ◌%◌, ◌^◌, ◌<◌, ◌≤◌, ◌≢◌, min, Bool, true, false, not, cond, ltb, List, length, get_or, set, Option, Some, None, refl, sym, ap, ◌∙◌, inl, inr, arith, add-one, get_or-set_same, get_or-set_other}
-use Rattle.std.proofs.lemmas.Bool.{cases_lt, cases_eq, cond-true, cond-false, lt-ltb, le-ltb, false≢true}
+-- Words of places, one of which is written.
+use Rattle.std.proofs.Common.{◌≡◌, ℕ, zero, suc, ◌+◌, ◌*◌, ◌%◌, ◌^◌, ◌<◌, ◌≢◌, min, Bool, true, false, not, cond, List, length, get_or, set, Option, Some, None, refl, sym, ap, ◌∙◌, inl, inr, arith, add-one, get_or-set_same, get_or-set_other}
+use Rattle.std.proofs.lemmas.Bool.{cases_eq, false≢true}
 use Rattle.std.specs.Option.{is_some}
 use Rattle.bank_candidates.specs.declared.sets.BankSet.{BankSet}
 use Rattle.bank_candidates.specs.Candidates.{access_number}
-use Rattle.bank_candidates.specs.Moves.{past, access_past, earlier}
-use Rattle.bank_candidates.specs.Places.{candidate_of, word_of, column, candidate_in, access_in, moved}
+use Rattle.bank_candidates.specs.Moves.{earlier}
+use Rattle.bank_candidates.specs.Places.{candidate_of, word_of, column, candidate_in, access_in}
 use Rattle.bank_candidates.specs.Sets.{is_in}
 
 -- the word of a bank is that of its access
@@ -82,67 +82,6 @@ read_other words bank write hit word access other =
     apart : (h : Bool) (n : ℕ) → n < 2 → 4 * bank + column write hit ≡ 2 * access_number bank write + cond h 1 0 → 2 * access + n ≡ 4 * bank + column write hit → ⊥
     apart true n few is e = other (omega arith)
     apart false n few is e = other (omega arith)
-
--- a word moves as its place does
-pub moved_candidate : (slot word : ℕ) → candidate_of (moved (slot + 1) word) ≡ past slot (candidate_of word)
-moved_candidate slot zero = ap candidate_of none
-  where
-    none : zero - min (zero - (slot + 1)) 1 ≡ 0
-    none = omega arith
-moved_candidate slot (suc k) = elim (cases_lt slot k) [
-  | inl behind ↦ ap candidate_of (back behind) ∙ ap Some (sym (cond-true (ltb slot k) (k - 1) k (lt-ltb slot k behind)))
-  | inr front ↦ ap candidate_of (stays front) ∙ ap Some (sym (cond-false (ltb slot k) (k - 1) k (le-ltb slot k front)))
-]
-  where
-    back : slot < k → suc k - min (suc k - (slot + 1)) 1 ≡ suc (k - 1)
-    back behind = omega arith
-
-    stays : k ≤ slot → suc k - min (suc k - (slot + 1)) 1 ≡ suc k
-    stays front = omega arith
-
--- no place stands behind the last that has a word
-far_word : (slot word : ℕ) → word < 2 ^ 16 → moved (min slot 65534 + 1) word ≡ moved (slot + 1) word
-far_word slot word short = elim (cases_lt slot 65534) [
-  | inl near ↦ ap (λ n. moved (n + 1) word) (less near)
-  | inr far ↦ none far ∙ sym (also far)
-]
-  where
-    less : slot < 65534 → min slot 65534 ≡ slot
-    less near = omega arith
-
-    none : 65534 ≤ slot → moved (min slot 65534 + 1) word ≡ word
-    none far = omega arith
-
-    also : 65534 ≤ slot → moved (slot + 1) word ≡ word
-    also far = omega arith
-
-pub access_moves : (slot least : ℕ) (old new : List ℕ) → least ≡ min slot 65534 + 1 → ((k : ℕ) → get_or old k 0 < 2 ^ 16) → ((k : ℕ) → get_or new k 0 ≡ moved least (get_or old k 0))
-    → (access : ℕ) → access_in new access ≡ access_past slot (access_in old access)
-access_moves slot least old new is short each access =
-    let candidate : (n : ℕ) → candidate_of (get_or new n 0) ≡ past slot (candidate_of (get_or old n 0)) =
-    λ n. ap candidate_of (each n ∙ ap (λ m. moved m (get_or old n 0)) is ∙ far_word slot (get_or old n 0) (short n)) ∙ moved_candidate slot (get_or old n 0) in
-    (λ i. record { oldest = candidate (2 * access + 0) i; hit = candidate (2 * access + 1) i })
-
--- a set stays as it was, since no word becomes 0
-pub moved_agrees : (least : ℕ) (old new : List ℕ) (sets : List BankSet) → 1 ≤ least → ((k : ℕ) → get_or new k 0 ≡ moved least (get_or old k 0)) → Agree old sets → Agree new sets
-moved_agrees least old new sets more each agree bank number d few =
-    let n = 4 * bank + number in
-    agree bank number d few ∙ sym (ap (λ w. is_some (candidate_of w)) (each n) ∙ stays (get_or old n 0))
-  where
-    stays : (w : ℕ) → is_some (candidate_of (moved least w)) ≡ is_some (candidate_of w)
-    stays zero = ap (λ n. is_some (candidate_of n)) (none)
-      where
-        none : zero - min (zero - least) 1 ≡ 0
-        none = omega arith
-    stays (suc k) = ap (λ n. is_some (candidate_of n)) (known k)
-      where
-        known : (k : ℕ) → suc k - min (suc k - least) 1 ≡ suc (k - min (suc k - least) 1)
-        known k = omega arith
-
--- the word of a place is the one that is looked for
-pub word_there : (slot word : ℕ) → word < 2 ^ 16 → candidate_of word ≡ Some slot → word ≡ min slot 65534 + 1
-word_there slot zero short is = cc
-word_there slot (suc k) short is = let same : k ≡ slot = cc in omega arith
 
 -- the first of two places, by their words: each less one, where none is the greatest
 abbrev pub first_word : ℕ → ℕ → ℕ

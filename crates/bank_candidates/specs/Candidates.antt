@@ -1,21 +1,22 @@
--- What the candidates of a queue stand for.
+-- What the candidates of a log stand for.
 --     bank_at number, number_of bank      the bank with a number, and the number of a bank
 --     asks bank write r      a request asks to write to a bank, or to read from it
 --     hits bank write row r      it does, and for the row that is open there
 --     wants bank write row r      it does, and for this row if one is given
 --     RowsFit requests      each asks for a row whose number has 32 bits
---     first_place test requests      the place of the first request that may be served and passes a test
+--     first_place test log      the place of the first request that may be served and passes a test
 --     access_number bank write, access_of r      the number of a bank and an access, and of those that a request asks for
 --     access_count access requests      how many ask for a bank and an access
---     NoneBlocked access requests      no request that asks for a bank and an access is blocked by an older one of its line
---     AreCandidates requests bank candidates      each candidate of a bank is the place of the first such request
+--     AreCandidates log bank candidates      each candidate of a bank is the place of the first such request
 use Rattle.std.specs.Prelude.{◌≡◌, ℕ, ◌+◌, ◌*◌, ◌/◌, ◌%◌, ◌^◌, ◌<◌, ◌==◌, Bool, true, false, not, ◌&&◌, List, All, count_by, position, Option, Some, None, if◌then◌else◌}
-use Rattle.std.specs.List.{list_any, zip}
+use Rattle.std.specs.List.{zip}
 use Rattle.sim_base.specs.declared.message.Request.{Request}
 use Rattle.sim_base.specs.declared.place.BankId.{BankId}
 use Rattle.sim_base.specs.Rules.{is_row}
-use Rattle.queue_columns.specs.Marks.{is_marked}
-use Rattle.queue_columns.specs.Columns.{bank_number, eligible_column}
+use Rattle.request_log.specs.declared.Arrived.{Arrived}
+use Rattle.request_log.specs.Marks.{is_marked}
+use Rattle.request_log.specs.Log.{all_requests, eligible_column}
+use Rattle.request_log.specs.Columns.{bank_number}
 use Rattle.bank_candidates.specs.declared.entry.AccessCandidates.{AccessCandidates}
 use Rattle.bank_candidates.specs.declared.entry.CandidatesOfBank.{CandidatesOfBank}
 
@@ -44,17 +45,17 @@ wants bank write (Some row) r = asks bank write r && (r.place.row == row)
 abbrev pub RowsFit : List Request → Type 0
 RowsFit requests = All (λ r. r.place.row < 2 ^ 32) requests
 
--- a request at a place of the queue may be served, and passes a test
+-- a request at a place of the log may be served, and passes a test
 abbrev pub passes : (Request → Bool) → Request × ℕ → Bool
 passes test e = is_marked e.1 && test e.0
 
--- the requests, each with its mark
-abbrev pub entries : List Request → List (Request × ℕ)
-entries requests = zip requests (eligible_column requests)
+-- the requests of all that have arrived, each with its mark
+abbrev pub entries : List Arrived → List (Request × ℕ)
+entries log = zip (all_requests log) (eligible_column log)
 
 -- the place of the first request that may be served and passes a test
-abbrev pub first_place : (Request → Bool) → List Request → Option ℕ
-first_place test requests = position (passes test) (entries requests)
+abbrev pub first_place : (Request → Bool) → List Arrived → Option ℕ
+first_place test log = position (passes test) (entries log)
 
 -- the number of a bank and an access: twice that of the bank, plus one for a write
 abbrev pub access_number : ℕ → Bool → ℕ
@@ -68,20 +69,12 @@ access_of r = access_number (bank_number r.place) r.write
 abbrev pub access_count : ℕ → List Request → ℕ
 access_count access requests = count_by (λ r. access_of r == access) requests
 
--- a request at a place asks for a bank and an access, and is blocked by an older one of its line
-abbrev pub blocked : ℕ → Request × ℕ → Bool
-blocked access e = not (is_marked e.1) && (access_of e.0 == access)
-
--- no request that asks for a bank and an access is blocked by an older one of its line
-abbrev pub NoneBlocked : ℕ → List Request → Type 0
-NoneBlocked access requests = list_any (blocked access) (entries requests) ≡ false
-
 -- the candidates of a bank to read or to write, where this row is open
-pub record AreFirst (requests : List Request) (bank : ℕ) (write : Bool) (row : Option ℕ) (candidates : AccessCandidates) : Type 0 where
-  pub oldest_is : candidates.oldest ≡ first_place (asks bank write) requests
-  pub hit_is : candidates.hit ≡ first_place (hits bank write row) requests
+pub record AreFirst (log : List Arrived) (bank : ℕ) (write : Bool) (row : Option ℕ) (candidates : AccessCandidates) : Type 0 where
+  pub oldest_is : candidates.oldest ≡ first_place (asks bank write) log
+  pub hit_is : candidates.hit ≡ first_place (hits bank write row) log
 
 -- the candidates of a bank
-pub record AreCandidates (requests : List Request) (bank : ℕ) (candidates : CandidatesOfBank) : Type 0 where
-  pub reads_are : AreFirst requests bank false candidates.row candidates.reads
-  pub writes_are : AreFirst requests bank true candidates.row candidates.writes
+pub record AreCandidates (log : List Arrived) (bank : ℕ) (candidates : CandidatesOfBank) : Type 0 where
+  pub reads_are : AreFirst log bank false candidates.row candidates.reads
+  pub writes_are : AreFirst log bank true candidates.row candidates.writes

@@ -1,5 +1,6 @@
 pub mod Candidates
 pub mod Moves
 pub mod Places
+pub mod Served
 pub mod Sets
 pub mod Stands

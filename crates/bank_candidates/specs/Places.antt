@@ -4,8 +4,7 @@
 --     column write hit      the set of the banks with a candidate: the oldest or the first hit, to write or to read
 --     candidate_in words access hit      a candidate of a bank and an access
 --     access_in words access      both of them
---     moved least word      a word, once a request has left the place before the one of the word `least`
-use Rattle.std.specs.Prelude.{ℕ, zero, suc, ◌+◌, ◌-◌, ◌*◌, ◌^◌, ◌<◌, min, Bool, false, true, List, slice_index_or, Option, Some, None, IfSome, if◌then◌else◌}
+use Rattle.std.specs.Prelude.{ℕ, zero, suc, ◌+◌, ◌-◌, ◌*◌, ◌^◌, ◌<◌, Bool, false, true, List, slice_index_or, Option, Some, None, IfSome, if◌then◌else◌}
 use Rattle.bank_candidates.specs.declared.entry.AccessCandidates.{AccessCandidates}
 
 -- the place that a word tells: the word is one more, and 0 where there is none
@@ -33,7 +32,3 @@ candidate_in words access hit = candidate_of (slice_index_or words (2 * access +
 -- both of them
 abbrev pub access_in : List ℕ → ℕ → AccessCandidates
 access_in words access = record { oldest = candidate_in words access false; hit = candidate_in words access true }
-
--- a word, once a request has left its place: `least` is the word of the place behind it
-abbrev pub moved : ℕ → ℕ → ℕ
-moved least word = word - min (word - least) 1

@@ -1,14 +1,17 @@
 -- What the candidates of a channel stand for.
 --     bank_count candidates      how many banks they were made for
---     StandsFor candidates requests open_rows      they are those of a queue of requests, where these rows are open
+--     StandsFor candidates log open_rows      they are those of a log, where these rows are open
+--     StandsUpTo candidates log unblocked open_rows      the same, but for a request that may be served since another one was, if there is one
 --     with_row number row open_rows, closed_in rank open_rows      the rows that are open once one bank has this row, and once a rank is closed
-use Rattle.std.specs.Prelude.{◌≡◌, ℕ, ◌/◌, ◌<◌, nat_lt, ◌==◌, true, false, List, length, slice_index_or, All, Option, None, if◌then◌else◌}
-use Rattle.sim_base.specs.declared.message.Request.{Request}
+use Rattle.std.specs.Prelude.{◌≡◌, ℕ, ◌/◌, ◌<◌, nat_lt, ◌==◌, Bool, false, true, List, length, slice_index_or, All, Option, None, if◌then◌else◌}
 use Rattle.sim_base.specs.declared.place.BankId.{BankId}
-use Rattle.queue_columns.specs.Columns.{bank_number}
+use Rattle.request_log.specs.declared.Arrived.{Arrived}
+use Rattle.request_log.specs.Log.{all_requests, waiting_requests}
+use Rattle.request_log.specs.Columns.{bank_number}
 use Rattle.bank_candidates.specs.declared.entry.CandidatesOfBank.{CandidatesOfBank}
 use Rattle.bank_candidates.specs.declared.all_banks.BankCandidates.{BankCandidates}
-use Rattle.bank_candidates.specs.Candidates.{number_of, access_number, RowsFit, NoneBlocked, access_count, AreCandidates}
+use Rattle.bank_candidates.specs.Candidates.{number_of, access_number, RowsFit, access_count, AreCandidates}
+use Rattle.bank_candidates.specs.Served.{AreFirstWith}
 use Rattle.bank_candidates.specs.Places.{access_in}
 
 -- how many banks they were made for
@@ -23,15 +26,22 @@ candidates_of_bank candidates bank d =
     if nat_lt bank (bank_count candidates) then own else d
 
 -- Every request asks for one of the banks, and for a row of 32 bits; the row of each bank is the one that is open, each candidate is
--- the place of the first such request, some request may be blocked by an older one of its line only where that was noted, and each
--- counter says how many requests ask for its bank and access.
-pub record StandsFor (candidates : BankCandidates) (requests : List Request) (open_rows : ℕ → Option ℕ) : Type 0 where
-  pub within : All (λ r. bank_number r.place < bank_count candidates) requests
-  pub rows_fit : RowsFit requests
+-- the place of the first such request, and each counter says how many requests that wait ask for its bank and access.
+pub record StandsFor (candidates : BankCandidates) (log : List Arrived) (open_rows : ℕ → Option ℕ) : Type 0 where
+  pub within : All (λ r. bank_number r.place < bank_count candidates) (all_requests log)
+  pub rows_fit : RowsFit (all_requests log)
   pub rows_are : (bank : ℕ) (d : CandidatesOfBank) → bank < bank_count candidates → (candidates_of_bank candidates bank d).row ≡ open_rows bank
-  pub candidates_are : (bank : ℕ) (d : CandidatesOfBank) → bank < bank_count candidates → AreCandidates requests bank (candidates_of_bank candidates bank d)
-  pub blocked_are : (access : ℕ) → slice_index_or candidates.blocked.items access true ≡ false → NoneBlocked access requests
-  pub counts_are : (access : ℕ) → access < length candidates.counts.items → slice_index_or candidates.counts.items access 0 ≡ access_count access requests
+  pub candidates_are : (bank : ℕ) (d : CandidatesOfBank) → bank < bank_count candidates → AreCandidates log bank (candidates_of_bank candidates bank d)
+  pub counts_are : (access : ℕ) → access < length candidates.counts.items → slice_index_or candidates.counts.items access 0 ≡ access_count access (waiting_requests log)
+
+-- They will stand for a log once a request is taken in that may be served since another one was, if there is one.
+pub record StandsUpTo (candidates : BankCandidates) (log : List Arrived) (unblocked : Option ℕ) (open_rows : ℕ → Option ℕ) : Type 0 where
+  pub within : All (λ r. bank_number r.place < bank_count candidates) (all_requests log)
+  pub rows_fit : RowsFit (all_requests log)
+  pub rows_are : (bank : ℕ) → bank < bank_count candidates → slice_index_or candidates.rows.items bank None ≡ open_rows bank
+  pub candidates_are : (bank : ℕ) (write : Bool) → bank < bank_count candidates
+      → AreFirstWith log bank write (open_rows bank) unblocked (access_in candidates.places.words.items (access_number bank write))
+  pub counts_are : (access : ℕ) → access < length candidates.counts.items → slice_index_or candidates.counts.items access 0 ≡ access_count access (waiting_requests log)
 
 -- the rows that are open once the bank with a number has this row
 abbrev pub with_row : ℕ → Option ℕ → (ℕ → Option ℕ) → ℕ → Option ℕ

@@ -3,15 +3,11 @@
 ghost use Rattle.std.specs.Prelude.{◌≡◌, ℕ, ◌*◌, ◌≤◌, length, slice_index_or, None, is_some};
 ghost use Rattle.bank_candidates.specs.Sets.{is_in};
 
-use crate::entry::{
-    AccessCandidates, CandidatesOfBank, access_number, is_open, number_of, only_moves,
-};
-use crate::places::Places;
-use crate::search::Departure;
+use crate::entry::{AccessCandidates, CandidatesOfBank, access_number, is_open, number_of};
+use crate::places::{Departure, Places};
 use crate::sets::BankSet;
-use queue_columns::Columns;
-use queue_columns::words::bank_number;
-use sim_base::command::Command;
+use request_log::RequestLog;
+use request_log::words::bank_number;
 use sim_base::message::Request;
 use sim_base::place::BankId;
 use std::alloc::{AllocError, Global};
@@ -24,32 +20,30 @@ pub struct BankCandidates {
     /// The banks in which a row is open.
     open_banks: BankSet,
     places: Places,
-    /// Of each bank and access, by number, whether some such request may be blocked by an older one of its line.
-    blocked: Vec<bool>,
-    /// Of each bank and access, by number, how many requests of the queue ask for it.
+    /// Of each bank and access, by number, how many requests that wait ask for it.
     counts: Vec<u16>,
     ghost few: { length rows.items ≤ 64 },
     ghost open_are: { (bank : ℕ) → is_in open_banks bank ≡ is_some (slice_index_or rows.items bank None) },
     ghost all_places: { length places.words.items ≡ 4 * length rows.items },
-    ghost all_blocked: { length blocked.items ≡ 2 * length rows.items },
     ghost all_counts: { length counts.items ≡ 2 * length rows.items },
 }
 
 impl BankCandidates {
-    ghost use Rattle.std.specs.Prelude.{ℕ, ◌≡◌, ◌<◌, ◌≤◌, ◌-◌, ◌^◌, ◌++◌, ◌∷◌, not, true, [], List, length, take, remove, slice_index_or, slice_set, All, Option, None, Some, is_some, IfOk, if◌then◌else◌};
-    ghost use Rattle.std.specs.Option.{ForSome};
-    ghost use Rattle.sim_base.specs.Rules.{bank_of, row_after, open_row};
+    ghost use Rattle.std.specs.Prelude.{ℕ, ◌≡◌, ◌<◌, ◌≤◌, ◌-◌, ◌^◌, ◌++◌, ◌∷◌, not, true, [], List, length, take, drop, slice_index_or, slice_set, All, Option, None, Some, is_some, IfOk, IfSome, if◌then◌else◌};
+    ghost use Rattle.sim_base.specs.Rules.{open_row};
     ghost use Rattle.sim_base.specs.Scheduling.{asks_for_line, is_favoured};
     ghost use Rattle.sim_base.specs.declared.command.IssuedCommand.{IssuedCommand};
-    ghost use Rattle.sim_base.specs.declared.message.Request.{Request};
-    ghost use Rattle.queue_columns.specs.Columns.{bank_number};
+    ghost use Rattle.request_log.specs.declared.Arrived.{Arrived};
+    ghost use Rattle.request_log.specs.Log.{absent, waiting, waiting_requests, served_at, waits_at, eligible_column, unblocked_by};
+    ghost use Rattle.request_log.specs.Columns.{bank_number};
     ghost use Rattle.bank_candidates.specs.declared.entry.CandidatesOfBank.{CandidatesOfBank};
-    ghost use Rattle.bank_candidates.specs.Candidates.{bank_at, number_of, access_number, access_count, first_place};
+    ghost use Rattle.bank_candidates.specs.Candidates.{bank_at, number_of, first_place};
     ghost use Rattle.bank_candidates.specs.Moves.{earlier};
+    ghost use Rattle.bank_candidates.specs.Served.{IsServed};
     ghost use Rattle.bank_candidates.specs.Sets.{is_in};
-    ghost use Rattle.bank_candidates.specs.Stands.{bank_count, candidates_of_bank, StandsFor, with_row, closed_in, IsAmong};
+    ghost use Rattle.bank_candidates.specs.Stands.{bank_count, candidates_of_bank, StandsFor, StandsUpTo, with_row, closed_in, IsAmong};
 
-    /// The candidates of an empty queue, for `banks` banks, which are all closed. Only this call allocates memory.
+    /// The candidates of an empty log, for `banks` banks, which are all closed. Only this call allocates memory.
     pub fn with_room(alloc: Global, banks: usize) -> Result<Self, AllocError>
         requires { banks ≤ 64 }
         ensures banks { IfOk result (λ candidates. bank_count candidates ≡ banks) }
@@ -59,7 +53,6 @@ impl BankCandidates {
             rows: vec![in alloc; None; banks]?,
             open_banks: BankSet::none(),
             places: Places::with_room(alloc, banks)?,
-            blocked: vec![in alloc; false; 2 * banks]?,
             counts: vec![in alloc; 0; 2 * banks]?,
         })
     }
@@ -124,7 +117,7 @@ impl BankCandidates {
     #[inline(always)]
     pub fn open_row(&self, bank: BankId) -> Option<u32>
         requires { IsAmong self.now bank }
-        ensures { (requests : List Request) (history : List IssuedCommand) → StandsFor self.now requests (λ number. open_row (bank_at number) history) → result ≡ open_row bank history }
+        ensures { (log : List Arrived) (history : List IssuedCommand) → StandsFor self.now log (λ number. open_row (bank_at number) history) → result ≡ open_row bank history }
     {
         self.row_of(number_of(bank))
     }
@@ -150,163 +143,171 @@ impl BankCandidates {
     /// Whether some request to write, or to read, may be served.
     #[inline(always)]
     pub fn has_access(&self, write: bool) -> bool
-        ensures { (requests : List Request) (open_rows : ℕ → Option ℕ) → StandsFor self.now requests open_rows → result ≡ is_some (first_place (is_favoured write) requests) }
+        ensures { (log : List Arrived) (open_rows : ℕ → Option ℕ) → StandsFor self.now log open_rows → result ≡ is_some (first_place (is_favoured write) log) }
     {
         !self.banks_with_candidate(write).is_empty()
     }
 
-    /// Whether it is known that no request for a bank and of an access is blocked by an older one of its line.
-    #[inline(always)]
-    fn is_none_blocked(&self, bank: usize, write: bool) -> bool
-        requires { bank < bank_count self.now }
-        ensures { result ≡ not (slice_index_or self.now.blocked.items (access_number bank write) true) }
-    {
-        !self.blocked[access_number(bank, write)]
-    }
-
-    /// Notes that no request of a bank and an access is blocked, if it is known (`none`) that there is no such request.
-    #[inline(always)]
-    fn note_none(&mut self, bank: usize, write: bool, none: bool)
-        requires { bank < bank_count self.old }
-        ensures banks { bank_count self.new ≡ bank_count self.old }
-        ensures stands { (requests : List Request) (open_rows : ℕ → Option ℕ) → (none ≡ true → access_count (access_number bank write) requests ≡ 0)
-            → StandsFor self.old requests open_rows → StandsFor self.new requests open_rows }
-    {
-        if none {
-            self.blocked[access_number(bank, write)] = false;
-        }
-    }
-
     /// Takes note of a request at a place after all others, which may be served or not.
     #[inline(always)]
-    fn join(&mut self, request: Request, slot: usize, first_of_line: bool)
-        requires bank { bank_number request.place < bank_count self.old }
+    fn join(&mut self, request: &Request, slot: usize, eligible: bool)
+        requires bank { bank_number request.now.place < bank_count self.old }
         requires short { slot < 2 ^ 16 - 1 }
         ensures banks { bank_count self.new ≡ bank_count self.old }
-        ensures stands { (older : List Request) (open_rows : ℕ → Option ℕ) → slot ≡ length older → first_of_line ≡ not (asks_for_line request.place older)
-            → StandsFor self.old older open_rows → StandsFor self.new (older ++ request ∷ []) open_rows }
+        ensures stands { (older : List Arrived) (a : Arrived) (open_rows : ℕ → Option ℕ)
+            → slot ≡ length older → request.now ≡ a.request → a.waits ≡ true
+            → eligible ≡ not (asks_for_line a.request.place (waiting_requests older))
+            → StandsFor self.old older open_rows → StandsFor self.new (older ++ a ∷ []) open_rows }
     {
         let bank = bank_number(request.place);
         let access = access_number(bank, request.write);
         self.counts[access] = self.counts[access].saturating_add(1);
-        if first_of_line {
+        if eligible {
             let hit = is_open(self.rows[bank], request.place.row);
             self.places.join(bank, request.write, slot, hit);
-        } else {
-            self.blocked[access] = true;
         }
     }
 
-    /// Takes note of the requests of a queue from a place on, which have just arrived.
+    /// Takes note of the requests of a log from a place on, which have just arrived.
     #[inline(always)]
-    pub fn on_arrival(&mut self, from: usize, queue: &Columns<'_>)
-        requires { All (λ r. bank_number r.place < bank_count self.old) queue.now.requests.now }
+    pub fn on_arrival(&mut self, from: usize, log: &RequestLog)
+        requires banks { All (λ a. bank_number a.request.place < bank_count self.old) log.now.log }
+        requires waits { All (λ a. a.waits ≡ true) (drop from log.now.log) }
         ensures banks { bank_count self.new ≡ bank_count self.old }
-        ensures stands { (open_rows : ℕ → Option ℕ) → StandsFor self.old (take from queue.now.requests.now) open_rows → StandsFor self.new queue.now.requests.now open_rows }
+        ensures stands { (open_rows : ℕ → Option ℕ) → StandsFor self.old (take from log.now.log) open_rows
+            → StandsFor self.new log.now.log open_rows }
     {
-        let requests = queue.requests();
-        let marks = queue.eligible();
-        for slot in from..queue.len() {
-            self.join(requests[slot], slot, marks[slot] == 1);
+        let arrived = log.log();
+        for slot in from..arrived.len() {
+            self.join(&arrived[slot].request, slot, log.is_eligible(slot));
         }
     }
 
-    /// Takes note of a request that has left its place in the queue.
-    pub fn on_service(&mut self, request: Request, slot: usize, queue: &Columns<'_>)
-        requires { bank_number request.place < bank_count self.old }
+    /// Takes note of a request that has been served.
+    #[inline(always)]
+    fn leave(&mut self, slot: usize, log: &RequestLog)
+        requires slot { slot < length log.now.log }
+        requires bank { bank_number (slice_index_or log.now.log slot absent).request.place < bank_count self.old }
         ensures banks { bank_count self.new ≡ bank_count self.old }
-        ensures stands { (earlier : List Request) (open_rows : ℕ → Option ℕ) → slot < length earlier → ((d : Request) → request ≡ slice_index_or earlier slot d)
-            → queue.now.requests.now ≡ remove earlier slot → StandsFor self.old earlier open_rows → StandsFor self.new queue.now.requests.now open_rows }
+        ensures stands { (earlier : List Arrived) (unblocked : Option ℕ) (open_rows : ℕ → Option ℕ)
+            → IsServed earlier slot unblocked log.now.log
+            → StandsFor self.old earlier open_rows → StandsUpTo self.new log.now.log unblocked open_rows }
     {
-        // tells the proof that the queue has fewer than 2^16 - 1 requests
-        let _short = queue.len();
+        let request = &log.log()[slot].request;
         let bank = bank_number(request.place);
         let write = request.write;
-        let row = self.rows[bank];
-        let oldest_left = self.places.is_at(bank, write, false, slot);
-        let hit_left = self.places.is_at(bank, write, true, slot);
-        self.places.move_past(slot);
         let access = access_number(bank, write);
         let left = self.counts[access].saturating_sub(1);
         self.counts[access] = left;
-        let empty = left == 0;
-        let none_blocked = self.is_none_blocked(bank, write);
-        let oldest = only_moves(none_blocked, oldest_left);
-        let hit = only_moves(none_blocked, hit_left);
         let departure = Departure {
             slot,
             bank,
-            oldest,
-            hit,
-            empty,
+            write,
+            empty: left == 0,
         };
-        self.places.leave(queue, departure, write, row);
-        let none_blocked = self.is_none_blocked(bank, !write);
-        let departure = Departure {
-            slot,
-            bank,
-            oldest: none_blocked,
-            hit: none_blocked,
-            empty: false,
-        };
-        self.places.leave(queue, departure, !write, row);
-        self.note_none(bank, write, empty);
+        self.places.leave(log, departure, self.rows[bank]);
+    }
+
+    /// Takes note of a request that may be served now that another one has been.
+    #[inline(always)]
+    fn unblock(&mut self, next: usize, log: &RequestLog)
+        requires next { next < length log.now.log }
+        requires bank { bank_number (slice_index_or log.now.log next absent).request.place < bank_count self.old }
+        ensures banks { bank_count self.new ≡ bank_count self.old }
+        ensures stands { (open_rows : ℕ → Option ℕ) → StandsUpTo self.old log.now.log (Some next) open_rows
+            → StandsFor self.new log.now.log open_rows }
+    {
+        let request = &log.log()[next].request;
+        let bank = bank_number(request.place);
+        let hit = is_open(self.rows[bank], request.place.row);
+        self.places.unblock(bank, request.write, next, hit);
+    }
+
+    /// Takes note of a request that was served, and of the one that may be served since then, if there is one.
+    #[inline(always)]
+    pub fn on_service(&mut self, slot: usize, unblocked: Option<usize>, log: &RequestLog)
+        requires slot { slot < length log.now.log }
+        requires unblocked { IfSome unblocked (λ next. next < length log.now.log) }
+        requires banks { All (λ a. bank_number a.request.place < bank_count self.old) log.now.log }
+        ensures banks { bank_count self.new ≡ bank_count self.old }
+        ensures stands { (earlier : List Arrived) (open_rows : ℕ → Option ℕ)
+            → slot < length earlier → waits_at earlier slot ≡ true → log.now.log ≡ served_at earlier slot
+            → eligible_column log.now.log ≡ unblocked_by unblocked (slice_set (eligible_column earlier) slot 0)
+            → StandsFor self.old earlier open_rows → StandsFor self.new log.now.log open_rows }
+    {
+        self.leave(slot, log);
+        if let Some(next) = unblocked {
+            self.unblock(next, log);
+        }
+    }
+
+    /// Looks for all candidates anew, once those that wait have moved to the front of the log.
+    pub fn renew(&mut self, log: &RequestLog)
+        ensures banks { bank_count self.new ≡ bank_count self.old }
+        ensures stands { (earlier : List Arrived) (open_rows : ℕ → Option ℕ) → log.now.log ≡ waiting earlier
+            → StandsFor self.old earlier open_rows → StandsFor self.new log.now.log open_rows }
+    {
+        // tells the proof that the log has fewer than 2^16 - 1 requests
+        let _short = log.len();
+        for bank in 0..self.rows.len() {
+            let row = self.rows[bank];
+            self.places.renew(log, bank, false, row);
+            self.places.renew(log, bank, true, row);
+        }
     }
 
     /// Takes note of a row that has been opened in a bank.
-    fn opened(&mut self, bank: BankId, row: u32, queue: &Columns<'_>)
+    #[inline(always)]
+    pub fn opened(&mut self, bank: BankId, row: u32, log: &RequestLog)
         requires { number_of bank < bank_count self.old }
         ensures banks { bank_count self.new ≡ bank_count self.old }
-        ensures stands { (open_rows : ℕ → Option ℕ) → StandsFor self.old queue.now.requests.now open_rows
-            → StandsFor self.new queue.now.requests.now (with_row (number_of bank) (Some row) open_rows) }
+        ensures stands { (open_rows : ℕ → Option ℕ) → StandsFor self.old log.now.log open_rows
+            → StandsFor self.new log.now.log (with_row (number_of bank) (Some row) open_rows) }
     {
-        // tells the proof that the queue has fewer than 2^16 - 1 requests
-        let _short = queue.len();
+        // tells the proof that the log has fewer than 2^16 - 1 requests
+        let _short = log.len();
         let number = number_of(bank);
         self.rows[number] = Some(row);
         self.open_banks = self.open_banks.with(number);
-        self.places.open(number, false, row, queue);
-        self.places.open(number, true, row, queue);
+        self.places.open(number, false, row, log);
+        self.places.open(number, true, row, log);
     }
 
     /// Takes note of a bank, by its number, that has been closed.
     #[inline(always)]
-    fn closed(&mut self, number: usize)
+    fn close(&mut self, number: usize)
         requires { number < bank_count self.old }
         ensures banks { bank_count self.new ≡ bank_count self.old }
-        ensures stands { (requests : List Request) (open_rows : ℕ → Option ℕ) → StandsFor self.old requests open_rows
-            → StandsFor self.new requests (with_row number None open_rows) }
+        ensures stands { (log : List Arrived) (open_rows : ℕ → Option ℕ) → StandsFor self.old log open_rows
+            → StandsFor self.new log (with_row number None open_rows) }
     {
         self.rows[number] = None;
         self.open_banks = self.open_banks.without(number);
         self.places.close(number);
     }
 
-    /// Takes note of a rank whose banks have all been closed.
-    fn closed_rank(&mut self, rank: u32)
+    /// Takes note of a bank that has been closed.
+    #[inline(always)]
+    pub fn closed(&mut self, bank: BankId)
+        requires { number_of bank < bank_count self.old }
         ensures banks { bank_count self.new ≡ bank_count self.old }
-        ensures stands { (requests : List Request) (open_rows : ℕ → Option ℕ) → StandsFor self.old requests open_rows
-            → StandsFor self.new requests (closed_in rank open_rows) }
+        ensures stands { (log : List Arrived) (open_rows : ℕ → Option ℕ) → StandsFor self.old log open_rows
+            → StandsFor self.new log (with_row (number_of bank) None open_rows) }
+    {
+        self.close(number_of(bank));
+    }
+
+    /// Takes note of a rank whose banks have all been closed.
+    #[inline(never)]
+    pub fn closed_rank(&mut self, rank: u32)
+        ensures banks { bank_count self.new ≡ bank_count self.old }
+        ensures stands { (log : List Arrived) (open_rows : ℕ → Option ℕ) → StandsFor self.old log open_rows
+            → StandsFor self.new log (closed_in rank open_rows) }
     {
         for number in 0..self.rows.len() {
             if number / 16 == rank as usize {
-                self.closed(number);
+                self.close(number);
             }
-        }
-    }
-
-    /// Takes note of a command, once the request that it serves has left the queue.
-    pub fn on_command(&mut self, command: Command, queue: &Columns<'_>)
-        requires { ForSome (bank_of command) (IsAmong self.old) }
-        ensures banks { bank_count self.new ≡ bank_count self.old }
-        ensures stands { (open_rows : ℕ → Option ℕ) → StandsFor self.old queue.now.requests.now open_rows
-            → StandsFor self.new queue.now.requests.now (λ bank. row_after (bank_at bank) (open_rows bank) command) }
-    {
-        match command {
-            Command::Act { bank, row, .. } => self.opened(bank, row, queue),
-            Command::Pre { bank, .. } => self.closed(number_of(bank)),
-            Command::Prea { rank } => self.closed_rank(rank),
-            Command::Rd { .. } | Command::Wr { .. } | Command::Ref { .. } => {}
         }
     }
 }

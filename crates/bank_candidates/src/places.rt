@@ -1,15 +1,15 @@
 //! The places of the candidates of all banks.
 
-ghost use Rattle.std.specs.Prelude.{◌≡◌, ◌≢◌, ℕ, ◌+◌, ◌*◌, ◌^◌, ◌<◌, ◌≤◌, min, true, false, length, slice_index_or, Some, is_some};
+ghost use Rattle.std.specs.Prelude.{◌≡◌, ◌≢◌, ℕ, ◌+◌, ◌*◌, ◌^◌, ◌-◌, ◌<◌, ◌≤◌, true, false, length, slice_index_or, Some, is_some};
 ghost use Rattle.bank_candidates.specs.declared.sets.BankSet.{BankSet};
 ghost use Rattle.bank_candidates.specs.Sets.{is_in};
 ghost use Rattle.bank_candidates.specs.Moves.{earlier};
-ghost use Rattle.bank_candidates.specs.Places.{candidate_of, word_of, IsShort, column, candidate_in, moved};
+ghost use Rattle.bank_candidates.specs.Places.{candidate_of, word_of, IsShort, column, candidate_in};
 
 use crate::entry::AccessCandidates;
-use crate::search::{Departure, first_hit};
+use crate::search::{first_from, first_hit, first_open_hit};
 use crate::sets::BankSet;
-use queue_columns::Columns;
+use request_log::RequestLog;
 use std::alloc::{AllocError, Global};
 
 /// The places of the candidates of all banks: of each bank and access the first request that may be served, and the first of these that
@@ -60,20 +60,28 @@ fn word_of(candidate: Option<usize>) -> u16
     }
 }
 
-/// The word of a place, or of the last place that has a word, if that comes first: those of all places behind it are greater.
-#[inline(always)]
-fn word_behind(slot: usize) -> u16
-    ensures { result ≡ min slot 65534 + 1 }
-{
-    slot.min(65534) as u16 + 1
-}
-
-/// Whether a word may tell a place.
+/// Whether a word tells a place.
 #[inline(always)]
 fn tells(word: u16, slot: usize) -> bool
-    ensures { result ≡ false → candidate_of word ≢ Some slot }
+    requires { slot < 2 ^ 16 - 1 }
+    ensures there { result ≡ true → candidate_of word ≡ Some slot }
+    ensures elsewhere { result ≡ false → candidate_of word ≢ Some slot }
 {
-    word == word_behind(slot)
+    word as usize == slot + 1
+}
+
+/// The first of two places, of which one may not be there.
+#[inline(always)]
+fn earlier_of(candidate: Option<usize>, slot: usize) -> Option<usize>
+    requires candidate { IsShort candidate }
+    requires slot { slot < 2 ^ 16 - 1 }
+    ensures first { result ≡ earlier candidate (Some slot) }
+    ensures short { IsShort result }
+{
+    match candidate {
+        Some(place) => Some(place.min(slot)),
+        None => Some(slot),
+    }
 }
 
 /// Which word of a bank, and which set.
@@ -85,25 +93,27 @@ fn column(write: bool, hit: bool) -> usize
     2 * usize::from(write) + usize::from(hit)
 }
 
-/// Moves the words that are not below `least` by one place.
-fn move_words(words: &mut [u16], least: u16)
-    ensures moved { (k : ℕ) → slice_index_or words.new k 0 ≡ moved least (slice_index_or words.old k 0) }
-    ensures fits { (k : ℕ) → slice_index_or words.old k 0 < 2 ^ 16 }
-{
-    for word in words.iter_mut() {
-        *word = (*word).min(word.saturating_sub(1).max(least));
-    }
+/// A request of a bank and an access that has been served.
+#[derive(Clone, Copy)]
+pub(crate) struct Departure {
+    pub(crate) slot: usize,
+    pub(crate) bank: usize,
+    pub(crate) write: bool,
+    /// Whether it is known that no other one waits.
+    pub(crate) empty: bool,
 }
 
 impl Places {
-    ghost use Rattle.std.specs.Prelude.{ℕ, ◌≡◌, ◌≢◌, ◌+◌, ◌*◌, ◌<◌, ◌≤◌, ◌^◌, ◌-◌, Bool, true, false, not, length, Option, Some, None, is_some, IfOk, List, remove, if◌then◌else◌};
+    ghost use Rattle.std.specs.Prelude.{ℕ, ◌≡◌, ◌≢◌, ◌+◌, ◌*◌, ◌<◌, ◌≤◌, ◌^◌, ◌-◌, Bool, true, false, not, length, Option, Some, None, is_some, IfOk, List, if◌then◌else◌};
     ghost use Rattle.sim_base.specs.Scheduling.{or_else};
-    ghost use Rattle.sim_base.specs.declared.message.Request.{Request};
-    ghost use Rattle.bank_candidates.specs.Candidates.{access_number, access_count, AreFirst};
-    ghost use Rattle.bank_candidates.specs.Moves.{access_past, earlier, OnlyMoves};
+    ghost use Rattle.request_log.specs.declared.Arrived.{Arrived};
+    ghost use Rattle.request_log.specs.Log.{waiting_requests};
+    ghost use Rattle.bank_candidates.specs.Candidates.{wants, first_place, access_number, access_count, AreFirst};
+    ghost use Rattle.bank_candidates.specs.Moves.{earlier, NoneBefore};
+    ghost use Rattle.bank_candidates.specs.Served.{IsServed, AreFirstWith, candidate_for, access_for};
     ghost use Rattle.bank_candidates.specs.Places.{access_in};
 
-    /// The places of the candidates of an empty queue.
+    /// The places of the candidates of an empty log.
     pub(crate) fn with_room(alloc: Global, banks: usize) -> Result<Self, AllocError>
         requires { banks ≤ 64 }
         ensures room { IfOk result (λ places. length places.words.items ≡ 4 * banks) }
@@ -199,20 +209,6 @@ impl Places {
         }
     }
 
-    /// Writes the candidates of a bank to write, or to read.
-    #[inline(always)]
-    pub(crate) fn set_access(&mut self, bank: usize, write: bool, candidates: AccessCandidates)
-        requires bank { 4 * bank + 3 < length self.old.words.items }
-        requires oldest { IsShort candidates.oldest }
-        requires hit { IsShort candidates.hit }
-        ensures room { length self.new.words.items ≡ length self.old.words.items }
-        ensures same { access_in self.new.words.items (access_number bank write) ≡ candidates }
-        ensures others { (access : ℕ) → access ≢ access_number bank write → access_in self.new.words.items access ≡ access_in self.old.words.items access }
-    {
-        self.set(bank, write, false, candidates.oldest);
-        self.set(bank, write, true, candidates.hit);
-    }
-
     /// Takes note that no row is open in a bank.
     #[inline(always)]
     pub(crate) fn close(&mut self, bank: usize)
@@ -225,70 +221,115 @@ impl Places {
         self.set(bank, true, true, None);
     }
 
-    /// Whether a candidate of a bank may be the request at a place.
+    /// Whether a candidate of a bank is the request at a place.
     #[inline(always)]
     pub(crate) fn is_at(&self, bank: usize, write: bool, hit: bool, slot: usize) -> bool
-        requires { 4 * bank + 3 < length self.now.words.items }
-        ensures { result ≡ false → candidate_in self.now.words.items (access_number bank write) hit ≢ Some slot }
+        requires bank { 4 * bank + 3 < length self.now.words.items }
+        requires short { slot < 2 ^ 16 - 1 }
+        ensures there { result ≡ true → candidate_in self.now.words.items (access_number bank write) hit ≡ Some slot }
+        ensures elsewhere { result ≡ false → candidate_in self.now.words.items (access_number bank write) hit ≢ Some slot }
     {
         tells(self.words[4 * bank + column(write, hit)], slot)
     }
 
-    /// Moves all candidates past a place that a request has left.
-    pub(crate) fn move_past(&mut self, slot: usize)
-        ensures room { length self.new.words.items ≡ length self.old.words.items }
-        ensures moved { (access : ℕ) → access_in self.new.words.items access ≡ access_past slot (access_in self.old.words.items access) }
-    {
-        move_words(&mut self.words, word_behind(slot));
-    }
-
     /// Takes note of a row that is open in a bank, for its requests to write, or to read.
     #[inline(always)]
-    pub(crate) fn open(&mut self, bank: usize, write: bool, row: u32, queue: &Columns<'_>)
+    pub(crate) fn open(&mut self, bank: usize, write: bool, row: u32, log: &RequestLog)
         requires bank { 4 * bank + 3 < length self.old.words.items }
-        requires queue { length queue.now.requests.now < 2 ^ 16 - 1 }
+        requires log { length log.now.log < 2 ^ 16 - 1 }
         ensures room { length self.new.words.items ≡ length self.old.words.items }
-        ensures own { (old : Option ℕ) → AreFirst queue.now.requests.now bank write old (access_in self.old.words.items (access_number bank write))
-            → AreFirst queue.now.requests.now bank write (Some row) (access_in self.new.words.items (access_number bank write)) }
+        ensures own { (old : Option ℕ) → AreFirst log.now.log bank write old (access_in self.old.words.items (access_number bank write))
+            → AreFirst log.now.log bank write (Some row) (access_in self.new.words.items (access_number bank write)) }
         ensures others { (access : ℕ) → access ≢ access_number bank write → access_in self.new.words.items access ≡ access_in self.old.words.items access }
     {
         if let Some(oldest) = self.candidate(bank, write, false) {
-            let hit = first_hit(queue, oldest, bank, write, row);
+            let hit = first_hit(log, oldest, bank, write, row);
             self.set(bank, write, true, hit);
         }
     }
 
-    /// Takes note that a request of a bank has left the queue, once all candidates have moved past its place, for the requests to write,
-    /// or to read.
+    /// Looks for the next candidate, behind the request that was served, if that was the candidate: the next one of its bank and
+    /// access, and for a row if one is given.
     #[inline(always)]
-    pub(crate) fn leave(
-        &mut self,
-        queue: &Columns<'_>,
-        departure: Departure,
-        write: bool,
-        row: Option<u32>,
-    )
+    fn replace(&mut self, log: &RequestLog, departure: Departure, hit: bool, row: Option<u32>)
         requires bank { 4 * departure.bank + 3 < length self.old.words.items }
-        requires queue { length queue.now.requests.now < 2 ^ 16 - 1 }
+        requires slot { departure.slot < length log.now.log }
+        requires log { length log.now.log < 2 ^ 16 - 1 }
         ensures room { length self.new.words.items ≡ length self.old.words.items }
-        ensures own { (earlier : List Request) (was : AccessCandidates) → departure.slot < length earlier → queue.now.requests.now ≡ remove earlier departure.slot
-            → access_in self.old.words.items (access_number departure.bank write) ≡ access_past departure.slot was
-            → (departure.oldest ≡ true → OnlyMoves (access_number departure.bank write) departure.slot earlier was.oldest) → (departure.hit ≡ true → OnlyMoves (access_number departure.bank write) departure.slot earlier was.hit)
-            → (departure.empty ≡ true → access_count (access_number departure.bank write) queue.now.requests.now ≡ 0) → AreFirst earlier departure.bank write row was
-            → AreFirst queue.now.requests.now departure.bank write row (access_in self.new.words.items (access_number departure.bank write)) }
-        ensures others { (access : ℕ) → access ≢ access_number departure.bank write → access_in self.new.words.items access ≡ access_in self.old.words.items access }
+        ensures kept { candidate_for self.old.words.items departure hit ≢ Some departure.slot
+            → candidate_for self.new.words.items departure hit ≡ candidate_for self.old.words.items departure hit }
+        ensures found { candidate_for self.old.words.items departure hit ≡ Some departure.slot
+            → NoneBefore (wants departure.bank departure.write row) log.now.log (departure.slot + 1)
+            → candidate_for self.new.words.items departure hit ≡ first_place (wants departure.bank departure.write row) log.now.log }
+        ensures beside { candidate_for self.new.words.items departure (not hit) ≡ candidate_for self.old.words.items departure (not hit) }
+        ensures others { (access : ℕ) → access ≢ access_number departure.bank departure.write
+            → access_in self.new.words.items access ≡ access_in self.old.words.items access }
     {
-        if departure.stay() {
-            return;
+        let Departure {
+            slot,
+            bank,
+            write,
+            ..
+        } = departure;
+        if self.is_at(bank, write, hit, slot) {
+            let next = first_from(log, slot + 1, bank, write, row);
+            self.set(bank, write, hit, next);
         }
+    }
+
+    /// Takes note of a request that has been served.
+    #[inline(always)]
+    pub(crate) fn leave(&mut self, log: &RequestLog, departure: Departure, row: Option<u32>)
+        requires bank { 4 * departure.bank + 3 < length self.old.words.items }
+        requires slot { departure.slot < length log.now.log }
+        requires log { length log.now.log < 2 ^ 16 - 1 }
+        ensures room { length self.new.words.items ≡ length self.old.words.items }
+        ensures own { (earlier : List Arrived) (unblocked : Option ℕ) → IsServed earlier departure.slot unblocked log.now.log
+            → (departure.empty ≡ true → access_count (access_number departure.bank departure.write) (waiting_requests log.now.log) ≡ 0)
+            → AreFirst earlier departure.bank departure.write row (access_for self.old.words.items departure)
+            → AreFirstWith log.now.log departure.bank departure.write row unblocked (access_for self.new.words.items departure) }
+        ensures others { (access : ℕ) → access ≢ access_number departure.bank departure.write
+            → access_in self.new.words.items access ≡ access_in self.old.words.items access }
+    {
         if departure.empty {
-            self.set(departure.bank, write, false, None);
-            self.set(departure.bank, write, true, None);
+            self.set(departure.bank, departure.write, false, None);
+            self.set(departure.bank, departure.write, true, None);
             return;
         }
-        let candidates = self
-            .of_access(departure.bank, write)
-            .after(queue, departure, write, row);
-        self.set_access(departure.bank, write, candidates);
+        self.replace(log, departure, false, None);
+        self.replace(log, departure, true, row);
+    }
+
+    /// Takes note of a request that may be served now, and asks for the open row or not.
+    pub(crate) fn unblock(&mut self, bank: usize, write: bool, slot: usize, hit: bool)
+        requires bank { 4 * bank + 3 < length self.old.words.items }
+        requires short { slot < 2 ^ 16 - 1 }
+        ensures room { length self.new.words.items ≡ length self.old.words.items }
+        ensures oldest { let access = access_number bank write in candidate_in self.new.words.items access false
+            ≡ earlier (candidate_in self.old.words.items access false) (Some slot) }
+        ensures hit { let access = access_number bank write in candidate_in self.new.words.items access true
+            ≡ earlier (candidate_in self.old.words.items access true) (if hit then Some slot else None) }
+        ensures others { (access : ℕ) → access ≢ access_number bank write → access_in self.new.words.items access ≡ access_in self.old.words.items access }
+    {
+        let oldest = earlier_of(self.candidate(bank, write, false), slot);
+        self.set(bank, write, false, oldest);
+        if hit {
+            let first = earlier_of(self.candidate(bank, write, true), slot);
+            self.set(bank, write, true, first);
+        }
+    }
+
+    /// Looks for the candidates of a bank to write, or to read, in the whole log.
+    pub(crate) fn renew(&mut self, log: &RequestLog, bank: usize, write: bool, row: Option<u32>)
+        requires bank { 4 * bank + 3 < length self.old.words.items }
+        requires log { length log.now.log < 2 ^ 16 - 1 }
+        ensures room { length self.new.words.items ≡ length self.old.words.items }
+        ensures own { AreFirst log.now.log bank write row (access_in self.new.words.items (access_number bank write)) }
+        ensures others { (access : ℕ) → access ≢ access_number bank write → access_in self.new.words.items access ≡ access_in self.old.words.items access }
+    {
+        let oldest = first_from(log, 0, bank, write, None);
+        let hit = first_open_hit(log, oldest, bank, write, row);
+        self.set(bank, write, false, oldest);
+        self.set(bank, write, true, hit);
     }
 }

@@ -139,7 +139,7 @@ impl Banks {
     }
 
     /// Notes an ACT, in its bank, in the words of ACTs of the groups of its rank and in those of the whole rank.
-    #[inline(always)]
+    #[inline]
     #[tactic(auto, unfolding(sim_base::specs::Rules::is_bound))]
     fn note_act(&mut self, bank: BankId, cycle: Cycle)
         requires rank { bank.rank < rank_count self.old }
@@ -183,8 +183,28 @@ impl Banks {
         raise_rank_words(delays, &mut self.ranks, bank.rank, cycle, kind);
     }
 
+    /// Notes a RD.
+    #[inline]
+    fn note_read(&mut self, bank: BankId, cycle: Cycle)
+        requires rank { bank.rank < rank_count self.old }
+        requires cycle { cycle < 2 ^ 62 }
+        ensures { (row column : ℕ) (source : Source) → IsNoted self.old self.new self.old.delays.value cycle (Command.Rd bank row column source) }
+    {
+        self.note_data(Kind::Rd, bank, cycle);
+    }
+
+    /// Notes a WR.
+    #[inline]
+    fn note_write(&mut self, bank: BankId, cycle: Cycle)
+        requires rank { bank.rank < rank_count self.old }
+        requires cycle { cycle < 2 ^ 62 }
+        ensures { (row column : ℕ) (source : Source) → IsNoted self.old self.new self.old.delays.value cycle (Command.Wr bank row column source) }
+    {
+        self.note_data(Kind::Wr, bank, cycle);
+    }
+
     /// Notes a PRE, in its bank and in the words of its rank.
-    #[inline(always)]
+    #[inline]
     #[tactic(auto, unfolding(sim_base::specs::Rules::is_bound))]
     fn note_pre(&mut self, bank: BankId, cycle: Cycle)
         requires rank { bank.rank < rank_count self.old }
@@ -228,7 +248,8 @@ impl Banks {
         raise_rank_words(delays, &mut self.ranks, rank, cycle, Kind::Ref);
     }
 
-    /// Notes a command that is issued in a cycle later than those of all commands noted before.
+    /// Notes a command that is issued in a cycle later than those of all commands noted before. It is small, so that a caller that knows the
+    /// kind of its command calls the function of that kind.
     #[inline(always)]
     pub fn note(&mut self, command: Command, cycle: Cycle)
         requires rank { rank_of command < rank_count self.old }
@@ -240,8 +261,8 @@ impl Banks {
     {
         match command {
             Command::Act { bank, .. } => self.note_act(bank, cycle),
-            Command::Rd { bank, .. } => self.note_data(Kind::Rd, bank, cycle),
-            Command::Wr { bank, .. } => self.note_data(Kind::Wr, bank, cycle),
+            Command::Rd { bank, .. } => self.note_read(bank, cycle),
+            Command::Wr { bank, .. } => self.note_write(bank, cycle),
             Command::Pre { bank, .. } => self.note_pre(bank, cycle),
             Command::Prea { rank } => self.note_prea(rank, cycle),
             Command::Ref { rank } => self.note_refresh(rank, cycle),

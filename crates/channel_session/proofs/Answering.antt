@@ -45,12 +45,12 @@ stats-all session p h =
     (subst (λ t. NotBefore t session.coming.items) (sym (keeps-at p.s p.channel session.cycle p.sent)) k.late))
 
 -- how many requests wait
-pub waits-are : (session : Session) (p : Past) → (h : IsSession session p) → (rs : List Request)
-    → rs ≡ queued_requests (issued_commands p.channel (steps_of p.s p.channel p.sent session.cycle)) h.keeps.mail (length (steps_of p.s p.channel p.sent session.cycle))
-    → length rs ≡ waiting p.s p.channel p.sent session.cycle
-waits-are session p h rs e =
+pub waits-are : (session : Session) (p : Past) → (h : IsSession session p) → (waits : ℕ)
+    → waits ≡ length (queued_requests (issued_commands p.channel (steps_of p.s p.channel p.sent session.cycle)) h.keeps.mail (length (steps_of p.s p.channel p.sent session.cycle)))
+    → waits ≡ waiting p.s p.channel p.sent session.cycle
+waits-are session p h waits e =
     let steps = steps_of p.s p.channel p.sent session.cycle in
-    ap length e
+    e
     ∙ ap (λ t. length (queued_requests (issued_commands p.channel steps) h.keeps.mail t)) (keeps-at p.s p.channel session.cycle p.sent)
     ∙ sym (waits-arrived session.channel p.s p.channel session.cycle session.firsts.items p.sent session.coming.items h.keeps)
 

@@ -195,7 +195,7 @@ impl Session {
         ensures open { IsOpen self.old → IsOpen self.new }
     {
         let message = message_of(&self.config, self.number, request, place);
-        let waits = self.channel.requests().len();
+        let waits = self.channel.waiting();
         match self.refusal(request, place, &message, waits) {
             Some(fault) => Err(fault),
             None => self.take(request, message),

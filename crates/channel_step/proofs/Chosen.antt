@@ -11,7 +11,7 @@ use Rattle.sim_base.specs.declared.config.Config.{Config}
 use Rattle.sim_base.specs.Counts.{source_in}
 use Rattle.sim_base.specs.History.{below}
 use Rattle.sim_base.specs.Places.{bank_in}
-use Rattle.sim_base.specs.Rules.{is_legal, has_open_bank, open_row, rank_of, bank_of}
+use Rattle.sim_base.specs.Rules.{is_legal, has_open_bank, open_row, rank_of}
 use Rattle.sim_base.specs.Scheduling.{source_of, column_command, needed_at, needed, ready_hit, ready_row, first_ready, refresh_command, if_legal, candidates, choice_between, due, lowest_due}
 use Rattle.sim_base.specs.declared.command.Command.{Command}
 use Rattle.sim_base.specs.declared.command.Command.TheVariants.{Act, Rd, Wr, Pre, Prea, Ref}
@@ -52,7 +52,7 @@ needed-cases P r a b c d (Some row) =
     (λ f. c r.place.row r.place.column) (λ f. b r.place.row r.place.column))
     (λ e. d)
 
-refresh-cases : (P : Command → Type 0) (s : Config) (history : List IssuedCommand) (rank : ℕ) → P (Prea rank) → P (Ref rank) → P (refresh_command s history rank)
+pub refresh-cases : (P : Command → Type 0) (s : Config) (history : List IssuedCommand) (rank : ℕ) → P (Prea rank) → P (Ref rank) → P (refresh_command s history rank)
 unfolding refresh_command
 refresh-cases P s history rank a b = cond_both (has_open_bank s history rank) (Prea rank) (Ref rank) P (λ e. a) (λ e. b)
 
@@ -104,20 +104,6 @@ chosen-rank s history now draining queue h =
     ranked : (o : Option ℕ) → IfSome o (λ rank. (rank < s.ranks) × (0 < due s rank history now)) → IfSome o (λ rank. rank_of (refresh_command s history rank) < s.ranks)
     ranked None k = tt
     ranked (Some rank) k = refresh-cases (λ c. rank_of c < s.ranks) s history rank k.0 k.0
-
--- a command that names a bank names one that there is
-abbrev pub NamesBank : Config → Command → Type 0
-NamesBank s c = IfSome (bank_of c) (λ b. (b.rank < s.ranks) × (b.group < 4) × (b.bank < 4))
-
-pub chosen-bank : (s : Config) (history : List IssuedCommand) (now : ℕ) (draining : Bool) (queue : List Request)
-    → Each (λ (r : Request). (r.place.rank < s.ranks) × (r.place.group < 4) × (r.place.bank < 4)) queue
-    → IfSome (choice_between s history now (candidates s draining queue) (lowest_due s history now)) (NamesBank s)
-unfolding needed
-chosen-bank s history now draining queue h =
-    chosen-each (NamesBank s) s history now draining queue
-    (Each-weaker (λ (r : Request). (r.place.rank < s.ranks) × (r.place.group < 4) × (r.place.bank < 4)) _
-    (λ r k. needed-cases (NamesBank s) r (λ row. k) (λ row column. k) (λ row column. k) k (open_row (bank_in r.place) history)) queue h)
-    (ifsome-all _ (lowest_due s history now) (λ rank. refresh-cases (NamesBank s) s history rank tt tt))
 
 -- a REF is chosen only for a rank with a refresh that is due
 abbrev pub RefIsDue : Config → List IssuedCommand → ℕ → Command → Type 0

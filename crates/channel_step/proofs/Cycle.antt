@@ -1,9 +1,9 @@
 -- One cycle of a channel: first the requests that arrive join the queue, and then a command is issued or none.
-use Rattle.std.proofs.Common.{◌≡◌, ℕ, suc, ◌+◌, ◌<◌, ◌≤◌, Bool, true, false, cond, List, [], ◌∷◌, ◌++◌, length, map, Option, Some, None, sym, ap, ap₂, subst, ◌∙◌, add-one, arith}
+use Rattle.std.proofs.Common.{◌≡◌, ℕ, ◌+◌, ◌<◌, ◌≤◌, Bool, true, false, cond, List, [], ◌∷◌, ◌++◌, length, map, Option, sym, ap, ap₂, subst, ◌∙◌, arith}
 use Rattle.std.specs.Prelude.{count_by, is_some, filter}
 use Rattle.std.specs.List.{AllByRecursion as Each}
 use Rattle.std.proofs.Math.Seq.{take-length}
-use Rattle.std.proofs.lemmas.List.{append-nil, map-append}
+use Rattle.std.proofs.lemmas.List.{map-append}
 use Rattle.sim_base.proofs.Arrived.{NotBefore}
 use Rattle.sim_base.proofs.Each.{Each-append, Each-filter}
 use Rattle.sim_base.proofs.Ordered.{Each-weaker}
@@ -13,20 +13,16 @@ use Rattle.sim_base.specs.Counts.{has_refresh_due, queue_length}
 use Rattle.sim_base.specs.History.{issued_commands}
 use Rattle.sim_base.specs.Scheduling.{queued_requests, is_queued, drains_with, drains, lowest_due, candidates, choice_between, choice}
 use Rattle.sim_base.specs.declared.command.Command.{Command}
-use Rattle.sim_base.specs.declared.command.IssuedCommand.{IssuedCommand}
 use Rattle.sim_base.specs.declared.message.Message.{Message}
 use Rattle.sim_base.specs.declared.message.Request.{Request}
-use Rattle.statistics.specs.Channels.{channel_cycle_with, channel_cycle, channel_joined}
+use Rattle.statistics.specs.Channels.{channel_cycle_with, channel_cycle}
 use Rattle.statistics.specs.declared.channels.ChannelStats.{ChannelStats}
-use Rattle.statistics.proofs.Lists.{length-push_suc}
 use Rattle.statistics.proofs.ChannelMail.{AgreeUpTo-later, channel_stats-later}
-use Rattle.statistics.proofs.ChannelChoices.{choice-not_late}
-use Rattle.statistics.proofs.ChannelSteps.{issued_now, issued_commands-push, channel_stats-push}
 use Rattle.channel_step.specs.Past.{requests_of, CarriesRequest, IsOther, Differ, is_named}
 use Rattle.channel_step.specs.Fit.{IsUnnamed}
-use Rattle.channel_step.specs.Stands.{marks_of, Recalls, HasJoined}
-use Rattle.channel_step.proofs.Requests.{ArrivedBefore, requests-arrived, carries-stamped, queued_requests-arrivals, queued_requests-command, unserved_by}
-use Rattle.channel_step.proofs.Spans.{queue-next, drains-next, drains_before-row, choice-next}
+use Rattle.channel_step.specs.Stands.{Recalls, HasJoined}
+use Rattle.channel_step.proofs.Requests.{ArrivedBefore, requests-arrived, carries-stamped, queued_requests-arrivals}
+use Rattle.channel_step.proofs.Spans.{queue-next, drains-next, choice-next}
 use Rattle.channel_step.proofs.Marks.{unnamed-marks}
 
 -- the requests that arrive in the cycle after these steps, and that no command has named
@@ -76,20 +72,6 @@ pub joined-choice : (queue : List Request) (drained : Bool) (marks : List Bool) 
     ≡ choice_between s (issued_commands channel steps) (length steps) (candidates s drained queue) (lowest_due s (issued_commands channel steps) (length steps))
 joined-choice queue drained marks stats s channel steps mail h = choice-next s channel steps mail queue drained (sym h.queue_is) (sym h.drained_is)
 
--- the queue after a command or none
-abbrev pub queue_after : Option Command → List Request → List Request
-queue_after None queue = queue
-queue_after (Some command) queue = unserved_by command queue
-
--- the marks after it, of the requests that are left
-abbrev pub marks_after : List IssuedCommand → ℕ → ℕ → Option Command → List Request → List Bool
-marks_after history channel now o queue = marks_of (history ++ issued_now channel now o) (queue_after o queue)
-
-queued_requests-after : (history : List IssuedCommand) (channel now : ℕ) (o : Option Command) (mail : List Message) (until : ℕ)
-    → queued_requests (history ++ issued_now channel now o) mail until ≡ queue_after o (queued_requests history mail until)
-queued_requests-after history channel now None mail until = ap (λ x. queued_requests x mail until) (append-nil history)
-queued_requests-after history channel now (Some command) mail until = queued_requests-command history (record { cycle = now; channel = channel; command = command }) mail until
-
 -- whether a refresh is due in the cycle after these steps
 pub has_due-next : (s : Config) (channel : ℕ) (steps : List (Option Command)) → has_refresh_due s channel steps (length steps) ≡ is_some (lowest_due s (issued_commands channel steps) (length steps))
 unfolding has_refresh_due
@@ -105,39 +87,7 @@ cycle-with s channel steps mail o =
     ap₂ (λ q d. channel_cycle_with s (issued_commands channel steps) q d (drains s channel steps mail (length steps)) o)
     (ap length (queue-next channel steps mail)) (has_due-next s channel steps)
 
--- what the channel keeps after it
-pub recalled : (queue : List Request) (drained : Bool) (marks : List Bool) (stats : ChannelStats) (s : Config) (channel : ℕ) (steps : List (Option Command)) (mail : List Message)
-    → HasJoined queue drained marks stats s channel steps mail
-    → let o = choice s channel steps mail in
-    let history = issued_commands channel steps in
-    Recalls (queue_after o queue) drained (marks_after history channel (length steps) o queue)
-    (channel_joined stats (channel_cycle_with s history (length queue) (is_some (lowest_due s history (length steps))) drained o)) s channel (steps ++ o ∷ []) mail
-recalled queue drained marks stats s channel steps mail h =
-    let o = choice s channel steps mail in
-    let history = issued_commands channel steps in
-    let now = length steps in
-    let len : length (steps ++ o ∷ []) ≡ suc now = length-push_suc steps o in
-    let one : now + 1 ≡ suc now = add-one now in
-    let issued = issued_commands-push channel steps o in
-    record {
-      past = record {
-        requests = h.requests;
-        arrived = Each-weaker (λ (m : Message). m.arrival < now + 1) (λ (m : Message). m.arrival < length (steps ++ o ∷ [])) (λ m l. omega arith) mail h.arrived;
-        differ = h.differ;
-      };
-      queue_is =
-          ap (queue_after o) h.queue_is
-          ∙ sym (queued_requests-after history channel now o mail (now + 1))
-          ∙ ap₂ (λ x u. queued_requests x mail u) (sym issued) (one ∙ sym len);
-      drained_is = h.drained_is ∙ sym (drains_before-row s channel steps o mail);
-      marks_are = ap (λ x. marks_of x (queue_after o queue)) (sym issued);
-      stats_are =
-          ap₂ (λ q d. channel_joined stats (channel_cycle_with s history (length q) (is_some (lowest_due s history now)) d o)) h.queue_is h.drained_is
-          ∙ ap₂ channel_joined h.stats_are (sym (cycle-with s channel steps mail o))
-          ∙ sym (channel_stats-push s channel steps o mail (choice-not_late s channel steps mail));
-    }
-
-Differ-filter : (p : Request → Bool) (rs : List Request) → Differ rs → Differ (filter p rs)
+pub Differ-filter : (p : Request → Bool) (rs : List Request) → Differ rs → Differ (filter p rs)
 Differ-filter p [] d = tt
 Differ-filter p (r ∷ rs) d = by (p r) (Differ-filter p rs d.1)
   where

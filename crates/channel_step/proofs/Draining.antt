@@ -13,10 +13,14 @@ some-drains : (s : Config) (n : ℕ) (b : Bool) → nat_lt 0 s.write_high ≡ b 
 some-drains s n true e = grind arith
 some-drains s n false e = grind arith
 
--- a channel in a cycle counts cycles of draining where it ever drains
-pub counts-drains : (c : Channel) (s : Config) (channel : ℕ) (steps : List (Option Command)) (mail : List Message) → IsInCycle c s channel steps mail → CountsDrains c
+-- a channel with the statistics of its steps counts cycles of draining where it ever drains
+pub drains-counted : (c : Channel) (s : Config) (channel : ℕ) (steps : List (Option Command)) (mail : List Message) → c.config ≡ s → c.stats ≡ channel_stats s channel steps mail → CountsDrains c
 unfolding channel_stats
-counts-drains c s channel steps mail h =
-    ap (λ (x : ChannelStats). is_some x.draining) h.joined.stats_are
+drains-counted c s channel steps mail is stats =
+    ap (λ (x : ChannelStats). is_some x.draining) stats
     ∙ some-drains s _ (nat_lt 0 s.write_high) refl
-    ∙ ap (λ (x : Config). nat_lt 0 x.write_high) (sym h.made_for.config_is)
+    ∙ ap (λ (x : Config). nat_lt 0 x.write_high) (sym is)
+
+-- so does one in a cycle
+pub counts-drains : (c : Channel) (s : Config) (channel : ℕ) (steps : List (Option Command)) (mail : List Message) → IsInCycle c s channel steps mail → CountsDrains c
+counts-drains c s channel steps mail h = drains-counted c s channel steps mail h.made_for.config_is h.joined.stats_are

@@ -1,109 +1,73 @@
 -- What a channel knows of its next command, as cycles pass.
-use Rattle.std.proofs.Common.{◌≡◌, ℕ, zero, suc, ◌≤◌, false, List, [], ◌∷◌, take, Option, Some, None, refl, sym, ap, subst, ◌∙◌, arith}
-use Rattle.std.specs.Prelude.{IfSome, MatchOption, option_map, slice_get}
+use Rattle.std.proofs.Common.{◌≡◌, ℕ, zero, suc, ◌<◌, ◌≤◌, true, List, [], ◌∷◌, length, take, Option, Some, None, refl, sym, ap, subst, ◌∙◌, arith}
+use Rattle.std.specs.Prelude.{IfSome, option_map, slice_get}
 use Rattle.sim_base.specs.declared.config.Config.{Config}
-use Rattle.sim_base.specs.Scheduling.{candidates, choice_between, lowest_due, column_command, is_column_command}
+use Rattle.sim_base.specs.Scheduling.{candidates, choice_between, lowest_due, needed, refresh_command}
 use Rattle.sim_base.specs.declared.command.Command.{Command}
 use Rattle.sim_base.specs.declared.command.IssuedCommand.{IssuedCommand}
-use Rattle.sim_base.specs.declared.message.Request.{Request}
+use Rattle.request_log.specs.declared.Arrived.{Arrived}
+use Rattle.request_log.specs.Log.{waiting_requests, all_requests, waits_at}
 use Rattle.queue.specs.View.{QueueView, is_draining}
 use Rattle.fr_fcfs.specs.Arrivals.{KeepsNext}
-use Rattle.fr_fcfs.specs.Choices.{choice_in, IsFor, Serves}
-use Rattle.channel_step.specs.Queued.{drain_decided}
+use Rattle.fr_fcfs.specs.Choices.{choice_in, command_of, IsFor}
+use Rattle.channel_step.specs.Queued.{request_at, drain_decided}
 use Rattle.sim_base.specs.History.{issued_commands}
 use Rattle.sim_base.specs.declared.message.Message.{Message}
 use Rattle.fr_fcfs.specs.Cycles.{IsNext}
 use Rattle.fr_fcfs.specs.declared.choice.Choice.{Choice}
-use Rattle.channel_step.specs.Channels.{IsAhead, IsAheadAt, IsForeseen, IsFound, IsInCycle}
+use Rattle.fr_fcfs.specs.declared.choice.Choice.TheVariants as chosen
+use Rattle.channel_step.specs.Channels.{IsAhead, IsAheadAt, IsForeseen, IsFound, IsInCycle, StandsFor}
 use Rattle.channel_step.specs.declared.channel.Channel.{Channel}
 use Rattle.channel_step.specs.declared.ahead.Ahead.{Ahead}
 use Rattle.channel_step.specs.declared.ahead.Ahead.TheVariants.{Unknown, Known}
 use Rattle.channel_step.proofs.Stretches.{settled_twice}
 
--- the place of a choice
-place-from : (requests : List Request) (command : Command) (o : Option ℕ) → (o ≡ None → is_column_command command ≡ false)
-    → ((slot : ℕ) → o ≡ Some slot → option_map column_command (slice_get requests slot) ≡ Some command) → MatchOption o (is_column_command command ≡ false) (Serves requests command)
-place-from requests command None none some = none refl
-place-from requests command (Some slot) none some = by (slice_get requests slot) refl (some slot refl)
-  where
-    by : (found : Option Request) → slice_get requests slot ≡ found → option_map column_command found ≡ Some command → Serves requests command slot
-    by None is e = cc
-    by (Some r) is e = let same : command ≡ column_command r = cc in (r, is, same)
-
-place-none : (requests : List Request) (command : Command) (o : Option ℕ) → MatchOption o (is_column_command command ≡ false) (Serves requests command) → o ≡ None → is_column_command command ≡ false
-place-none requests command None h e = h
-place-none requests command (Some slot) h e = cc
-
-place-some : (requests : List Request) (command : Command) (o : Option ℕ) → MatchOption o (is_column_command command ≡ false) (Serves requests command)
-    → (slot : ℕ) → o ≡ Some slot → option_map column_command (slice_get requests slot) ≡ Some command
-place-some requests command None h slot e = cc
-place-some requests command (Some k) h slot e =
-    let same : k ≡ slot = cc in
-    ap (λ j. option_map column_command (slice_get requests j)) (sym same) ∙ ap (option_map column_command) h.1 ∙ ap Some (sym h.2)
-
 -- what is foreseen, by cases
-pub ahead-from : (commands : ℕ → Option Command) (requests : List Request) (from : ℕ) (ahead : Ahead) → IsForeseen commands requests from ahead → IsAhead commands requests from ahead
-ahead-from commands requests from Unknown h = tt
-ahead-from commands requests from (Known None) h = h.never refl
-ahead-from commands requests from (Known (Some next)) h = record {
-  then_is = h.then_is next.0 next.1 refl;
-  none_before = h.none_before next.0 next.1 refl;
-  place = place-from requests next.1.command next.1.slot (h.moves_none next.0 next.1 refl) (h.serves next.0 next.1 refl);
-}
+pub ahead-from : (s : Config) (history : List IssuedCommand) (queue : QueueView) (from : ℕ) (ahead : Ahead) → IsForeseen s history queue from ahead → IsAhead s history queue from ahead
+ahead-from s history queue from Unknown h = tt
+ahead-from s history queue from (Known None) h = h.never refl
+ahead-from s history queue from (Known (Some next)) h = h.at next.0 next.1 refl
 
-pub foreseen-from : (commands : ℕ → Option Command) (requests : List Request) (from : ℕ) (ahead : Ahead) → IsAhead commands requests from ahead → IsForeseen commands requests from ahead
-foreseen-from commands requests from Unknown h = record {
-  never = λ e. cc;
-  then_is = λ cycle choice e. cc;
-  none_before = λ cycle choice e. cc;
-  serves = λ cycle choice e. cc;
-  moves_none = λ cycle choice e. cc;
-}
-foreseen-from commands requests from (Known None) h = record {
-  never = λ e. h;
-  then_is = λ cycle choice e. cc;
-  none_before = λ cycle choice e. cc;
-  serves = λ cycle choice e. cc;
-  moves_none = λ cycle choice e. cc;
-}
-foreseen-from commands requests from (Known (Some next)) h = record {
-  never = λ e. cc;
-  then_is = λ cycle choice e. (at cycle choice e).then_is;
-  none_before = λ cycle choice e. (at cycle choice e).none_before;
-  serves = λ cycle choice e. place-some requests choice.command choice.slot (at cycle choice e).place;
-  moves_none = λ cycle choice e. place-none requests choice.command choice.slot (at cycle choice e).place;
-}
-  where
-    at : (cycle : ℕ) (choice : Choice) → Known (Some next) ≡ Known (Some (cycle, choice)) → IsAheadAt commands requests from cycle choice
-    at cycle choice e = subst (IsAhead commands requests from) e h
+pub foreseen-from : (s : Config) (history : List IssuedCommand) (queue : QueueView) (from : ℕ) (ahead : Ahead) → IsAhead s history queue from ahead → IsForeseen s history queue from ahead
+foreseen-from s history queue from Unknown h = record { never = λ e. cc; at = λ cycle choice e. cc }
+foreseen-from s history queue from (Known None) h = record { never = λ e. h; at = λ cycle choice e. cc }
+foreseen-from s history queue from (Known (Some next)) h = record { never = λ e. cc; at = λ cycle choice e. subst (IsAhead s history queue from) e h }
 
 -- it is so from each later cycle on
-ahead-later : (commands : ℕ → Option Command) (requests : List Request) (from later : ℕ) (ahead : Ahead) → from ≤ later → IsAhead commands requests from ahead → IsAhead commands requests later ahead
-ahead-later commands requests from later Unknown l h = tt
-ahead-later commands requests from later (Known None) l h = λ t m. h t (omega arith)
-ahead-later commands requests from later (Known (Some next)) l h =
+ahead-later : (s : Config) (history : List IssuedCommand) (queue : QueueView) (from later : ℕ) (ahead : Ahead) → from ≤ later → IsAhead s history queue from ahead → IsAhead s history queue later ahead
+ahead-later s history queue from later Unknown l h = tt
+ahead-later s history queue from later (Known None) l h = λ t m. h t (omega arith)
+ahead-later s history queue from later (Known (Some next)) l h =
     record { then_is = h.then_is; none_before = λ t m k. h.none_before t (omega arith) k; place = h.place }
 
 -- a queue that is decided drains as before
 pub drain_decided-same : (queue : QueueView) → is_draining queue ≡ is_draining (drain_decided queue)
 drain_decided-same queue = sym (settled_twice _ _ queue.drain_decided)
 
+choice-drain_decided : (s : Config) (history : List IssuedCommand) (queue : QueueView) (t : ℕ) → choice_in s history (drain_decided queue) t ≡ choice_in s history queue t
+choice-drain_decided s history queue t =
+    ap (λ d. choice_between s history t (candidates s d (waiting_requests queue.log)) (lowest_due s history t)) (sym (drain_decided-same queue))
+
 -- and it is so for the queue when that is decided
-ahead-drain_decided : (s : Config) (history : List IssuedCommand) (queue : QueueView) (from : ℕ) (ahead : Ahead) → IsAhead (choice_in s history queue) queue.requests from ahead
-    → IsAhead (choice_in s history (drain_decided queue)) queue.requests from ahead
-ahead-drain_decided s history queue from ahead h =
-    subst (λ d. IsAhead (λ t. choice_between s history t (candidates s d queue.requests) (lowest_due s history t)) queue.requests from ahead) (drain_decided-same queue) h
+ahead-drain_decided : (s : Config) (history : List IssuedCommand) (queue : QueueView) (from : ℕ) (ahead : Ahead) → IsAhead s history queue from ahead → IsAhead s history (drain_decided queue) from ahead
+ahead-drain_decided s history queue from Unknown h = tt
+ahead-drain_decided s history queue from (Known None) h = λ t m. choice-drain_decided s history queue t ∙ h t m
+ahead-drain_decided s history queue from (Known (Some next)) h = record {
+  then_is = choice-drain_decided s history queue next.0 ∙ h.then_is;
+  none_before = λ t m k. choice-drain_decided s history queue t ∙ h.none_before t m k;
+  place = h.place;
+}
 
 -- what was found is known from the cycle on in which it was looked for
-found-ahead : (commands : ℕ → Option Command) (requests : List Request) (now : ℕ) (next : Option (ℕ × Choice)) → IsNext commands now next → IfSome next (λ n. IsFor requests n.1)
-    → IsAhead commands requests now (Known next)
-found-ahead commands requests now None h place = h
-found-ahead commands requests now (Some next) h place = record { then_is = h.then_is; none_before = h.none_before; place = place }
+found-ahead : (s : Config) (history : List IssuedCommand) (queue : QueueView) (now : ℕ) (next : Option (ℕ × Choice)) → IsNext (choice_in s history queue) (command_of s history queue.log) now next
+    → IfSome next (λ n. IsFor s.ranks queue.log n.1) → IsAhead s history queue now (Known next)
+found-ahead s history queue now None h place = h
+found-ahead s history queue now (Some next) h place = record { then_is = h.then_is; none_before = h.none_before; place = place }
 
 pub kept-in_cycle : (c : Channel) (s : Config) (channel : ℕ) (steps : List (Option Command)) (mail : List Message) (now : ℕ) (next : Option (ℕ × Choice)) → IsInCycle c s channel steps mail → now ≡ c.cycle
     → IsFound c s (issued_commands channel steps) now next → IsInCycle (record c { ahead = Known next }) s channel steps mail
 kept-in_cycle c s channel steps mail now next h at f =
-    let commands = choice_in s (issued_commands channel steps) c.marked_queue.queue in
+    let history = issued_commands channel steps in
     record {
       made_for = record {
         config_is = h.made_for.config_is;
@@ -112,6 +76,7 @@ kept-in_cycle c s channel steps mail now next h at f =
         low_is = h.made_for.low_is;
         room_is = h.made_for.room_is;
         banks_are = h.made_for.banks_are;
+        in_banks = h.made_for.in_banks;
         within = h.made_for.within;
         longest = h.made_for.longest;
       };
@@ -121,45 +86,97 @@ kept-in_cycle c s channel steps mail now next h at f =
       banks_stand = h.banks_stand;
       refreshes_stand = h.refreshes_stand;
       foresees =
-          foreseen-from commands c.marked_queue.queue.requests c.cycle (Known next)
-          (subst (λ t. IsAhead commands c.marked_queue.queue.requests t (Known next)) at (found-ahead commands c.marked_queue.queue.requests now next f.0 f.1));
+          foreseen-from s history c.queue c.cycle (Known next)
+          (subst (λ t. IsAhead s history c.queue t (Known next)) at (found-ahead s history c.queue now next f.0 f.1));
+      keeps_served = h.keeps_served;
+    }
+
+-- the same of a channel between two cycles
+pub kept-stands : (c : Channel) (s : Config) (channel : ℕ) (steps : List (Option Command)) (mail : List Message) (now : ℕ) (next : Option (ℕ × Choice)) → StandsFor c s channel steps mail → now ≡ c.cycle
+    → IsFound c s (issued_commands channel steps) now next → StandsFor (record c { ahead = Known next }) s channel steps mail
+kept-stands c s channel steps mail now next h at f =
+    let history = issued_commands channel steps in
+    record {
+      made_for = record {
+        config_is = h.made_for.config_is;
+        number_is = h.made_for.number_is;
+        high_is = h.made_for.high_is;
+        low_is = h.made_for.low_is;
+        room_is = h.made_for.room_is;
+        banks_are = h.made_for.banks_are;
+        in_banks = h.made_for.in_banks;
+        within = h.made_for.within;
+        longest = h.made_for.longest;
+      };
+      cycle_is = h.cycle_is;
+      recalls = h.recalls;
+      candidates_stand = h.candidates_stand;
+      banks_stand = h.banks_stand;
+      refreshes_stand = h.refreshes_stand;
+      foresees =
+          foreseen-from s history c.queue c.cycle (Known next)
+          (subst (λ t. IsAhead s history c.queue t (Known next)) at (found-ahead s history c.queue now next f.0 f.1));
       keeps_served = h.keeps_served;
     }
 
 -- the same of what is foreseen
-pub foreseen-unknown : (commands : ℕ → Option Command) (requests : List Request) (from : ℕ) → IsForeseen commands requests from Unknown
-foreseen-unknown commands requests from = foreseen-from commands requests from Unknown tt
+pub foreseen-unknown : (s : Config) (history : List IssuedCommand) (queue : QueueView) (from : ℕ) → IsForeseen s history queue from Unknown
+foreseen-unknown s history queue from = foreseen-from s history queue from Unknown tt
 
-pub foreseen-later : (commands : ℕ → Option Command) (requests : List Request) (from later : ℕ) (ahead : Ahead) → from ≤ later → IsForeseen commands requests from ahead → IsForeseen commands requests later ahead
-foreseen-later commands requests from later ahead l h =
-    foreseen-from commands requests later ahead (ahead-later commands requests from later ahead l (ahead-from commands requests from ahead h))
+pub foreseen-later : (s : Config) (history : List IssuedCommand) (queue : QueueView) (from later : ℕ) (ahead : Ahead) → from ≤ later → IsForeseen s history queue from ahead → IsForeseen s history queue later ahead
+foreseen-later s history queue from later ahead l h =
+    foreseen-from s history queue later ahead (ahead-later s history queue from later ahead l (ahead-from s history queue from ahead h))
 
-pub foreseen-drain_decided : (s : Config) (history : List IssuedCommand) (queue : QueueView) (from : ℕ) (ahead : Ahead) → IsForeseen (choice_in s history queue) queue.requests from ahead
-    → IsForeseen (choice_in s history (drain_decided queue)) queue.requests from ahead
+pub foreseen-drain_decided : (s : Config) (history : List IssuedCommand) (queue : QueueView) (from : ℕ) (ahead : Ahead) → IsForeseen s history queue from ahead → IsForeseen s history (drain_decided queue) from ahead
 foreseen-drain_decided s history queue from ahead h =
-    foreseen-from (choice_in s history (drain_decided queue)) queue.requests from ahead
-    (ahead-drain_decided s history queue from ahead (ahead-from (choice_in s history queue) queue.requests from ahead h))
+    foreseen-from s history (drain_decided queue) from ahead (ahead-drain_decided s history queue from ahead (ahead-from s history queue from ahead h))
 
 -- a place among the first requests is one among all
-get_taken : {X : Type 0} (n k : ℕ) (xs : List X) (x : X) → slice_get (take n xs) k ≡ Some x → slice_get xs k ≡ Some x
-get_taken zero k xs x e = cc
-get_taken (suc n) k [] x e = e
-get_taken (suc n) zero (y ∷ ys) x e = e
-get_taken (suc n) (suc k) (y ∷ ys) x e = get_taken n k ys x e
+taken-place : (n slot : ℕ) (log : List Arrived) → slot < length (take n log) → waits_at (take n log) slot ≡ true
+    → (slot < length log) × (waits_at log slot ≡ true) × (slice_get (all_requests (take n log)) slot ≡ slice_get (all_requests log) slot)
+taken-place zero slot log l w = absurd (omega arith)
+taken-place (suc n) slot [] l w = absurd (omega arith)
+taken-place (suc n) zero (a ∷ log) l w = (omega arith, w, refl)
+taken-place (suc n) (suc slot) (a ∷ log) l w = let rest = taken-place n slot log (omega arith) w in (omega (arith, rest.0), rest.1, rest.2)
 
-taken-for : (n : ℕ) (requests earlier : List Request) (choice : Choice) → earlier ≡ take n requests → IsFor earlier choice → IsFor requests choice
-taken-for n requests earlier choice is h = by choice.slot h
-  where
-    by : (o : Option ℕ) → MatchOption o (is_column_command choice.command ≡ false) (Serves earlier choice.command)
-        → MatchOption o (is_column_command choice.command ≡ false) (Serves requests choice.command)
-    by None none = none
-    by (Some slot) some = (some.0, get_taken n slot requests some.0 (ap (λ xs. slice_get xs slot) (sym is) ∙ some.1), some.2)
+-- so what was chosen for the first is chosen for all, and needs the same
+pub taken-for : (n ranks : ℕ) (log earlier : List Arrived) (choice : Choice) → earlier ≡ take n log → IsFor ranks earlier choice → IsFor ranks log choice
+taken-for n ranks log earlier (chosen.Request slot) is h =
+    let k = subst (λ x. (slot < length x) × (waits_at x slot ≡ true)) is h in
+    let there = taken-place n slot log k.0 k.1 in
+    (there.0, there.1)
+taken-for n ranks log earlier (chosen.Refresh rank) is h = h
+
+taken-command : (s : Config) (history : List IssuedCommand) (n : ℕ) (log earlier : List Arrived) (choice : Choice) → earlier ≡ take n log → IsFor s.ranks earlier choice
+    → command_of s history earlier choice ≡ command_of s history log choice
+taken-command s history n log earlier (chosen.Request slot) is h =
+    let k = subst (λ x. (slot < length x) × (waits_at x slot ≡ true)) is h in
+    ap (λ x. option_map (needed history) (slice_get (all_requests x) slot)) is ∙ ap (option_map (needed history)) (taken-place n slot log k.0 k.1).2
+taken-command s history n log earlier (chosen.Refresh rank) is h = refl
+
+request-some : (slot : ℕ) (log : List Arrived) → slot < length log → slice_get (all_requests log) slot ≡ Some (request_at log slot)
+request-some slot [] l = absurd (omega arith)
+request-some zero (a ∷ log) l = refl
+request-some (suc slot) (a ∷ log) l = request-some slot log (omega arith)
+
+-- what a choice needs
+pub needs : (s : Config) (history : List IssuedCommand) (log : List Arrived) (choice : Choice) → IsFor s.ranks log choice → (command : Command) × (command_of s history log choice ≡ Some command)
+needs s history log (chosen.Request slot) h = (needed history (request_at log slot), ap (option_map (needed history)) (request-some slot log h.0))
+needs s history log (chosen.Refresh rank) h = (refresh_command s history rank, refl)
+
+pub request-needs : (s : Config) (history : List IssuedCommand) (log : List Arrived) (slot : ℕ) → slot < length log → command_of s history log (chosen.Request slot) ≡ Some (needed history (request_at log slot))
+request-needs s history log slot l = ap (option_map (needed history)) (request-some slot log l)
 
 -- What was found is so still where what is next stays so with the requests that follow.
-pub ahead-kept : (before after : ℕ → Option Command) (earlier requests : List Request) (n from cycle : ℕ) (choice : Choice) → earlier ≡ take n requests → KeepsNext before after cycle choice.command
-    → IsAheadAt before earlier from cycle choice → IsAheadAt after requests from cycle choice
-ahead-kept before after earlier requests n from cycle choice is keeps h = record {
-  then_is = keeps.then_is h.then_is;
-  none_before = λ t late early. keeps.none_before t early (h.none_before t late early);
-  place = taken-for n requests earlier choice is h.place;
-}
+pub ahead-kept : (s : Config) (history : List IssuedCommand) (earlier queue : QueueView) (n from cycle : ℕ) (choice : Choice) → earlier.log ≡ take n queue.log
+    → ((command : Command) → command_of s history queue.log choice ≡ Some command → KeepsNext (choice_in s history earlier) (choice_in s history queue) cycle command)
+    → IsAheadAt s history earlier from cycle choice → IsAheadAt s history queue from cycle choice
+ahead-kept s history earlier queue n from cycle choice is keeps h =
+    let place = taken-for n s.ranks queue.log earlier.log choice is h.place in
+    let need = needs s history queue.log choice place in
+    let k = keeps need.0 need.1 in
+    record {
+      then_is = k.then_is (h.then_is ∙ taken-command s history n queue.log earlier.log choice is h.place ∙ need.1) ∙ sym need.1;
+      none_before = λ t late early. k.none_before t early (h.none_before t late early);
+      place = place;
+    }

@@ -17,6 +17,8 @@ use Rattle.statistics.proofs.ChannelMail.{AgreeUpTo-later}
 use Rattle.statistics.proofs.ChannelSteps.{issued_commands-push}
 use Rattle.channel_step.specs.Past.{requests_of, CarriesRequest}
 use Rattle.channel_step.specs.Fit.{IsUnnamed, ComeByAge, IsFit, IsIdle}
+use Rattle.request_log.specs.Log.{waiting_requests}
+use Rattle.channel_step.specs.Queued.{marks_in}
 use Rattle.channel_step.specs.Stands.{HasJoined}
 use Rattle.channel_step.specs.Channels.{StandsFor, IsInCycle, IsNextIn}
 use Rattle.channel_step.specs.Runs.{issued_in, first_arrival, HasRun}
@@ -150,10 +152,10 @@ act-fit c s channel steps mail inbox now until command h at f late is =
     let n = due_count inbox now in
     let none : n ≡ 0 = none-due now inbox late in
     let same : mail ++ take n inbox ≡ mail = ap (λ k. mail ++ take k inbox) none ∙ append-nil mail in
-    let q = c.marked_queue in
+    let q = c.queue in
     let left =
-    fit-rest q.queue.requests q.queue.drain_decided q.marks c.stats s channel steps mail inbox now until at f
-    (subst (λ m. HasJoined q.queue.requests q.queue.drain_decided q.marks c.stats s channel steps m) (sym same) h.joined) in
+    fit-rest (waiting_requests q.log) q.drain_decided (marks_in q.log) c.stats s channel steps mail inbox now until at f
+    (subst (λ m. HasJoined (waiting_requests q.log) q.drain_decided (marks_in q.log) c.stats s channel steps m) (sym same) h.joined) in
     let chosen : choice s channel steps (mail ++ take n inbox) ≡ Some command = ap (choice s channel steps) same ∙ sym is in (
       left.1 ∙ chosen,
       subst (λ o. IsFit s channel (steps ++ o ∷ []) mail inbox (now + 1) until) chosen

@@ -2,7 +2,9 @@ pub mod Requests
 pub mod Spans
 pub mod Stretches
 pub mod Foreseen
+pub mod Logs
 pub mod Marks
+pub mod Leaving
 pub mod Cycle
 pub mod Serving
 pub mod Chosen
@@ -11,11 +13,12 @@ pub mod Waits
 pub mod Places
 pub mod Deciding
 pub mod Issuing
+pub mod Readying
+pub mod Renewing
 pub mod Stepping
 pub mod Running
 pub mod Starting
 pub mod Dues
-pub mod Entries
 pub mod Skipping
 pub mod Going
 pub mod Draining

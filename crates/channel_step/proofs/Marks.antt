@@ -1,9 +1,8 @@
 -- Marks of the queued requests in whose name an ACT was issued.
-use Rattle.std.proofs.Common.{◌≡◌, ℕ, zero, suc, ◌+◌, Bool, true, false, cond, ◌||◌, List, [], ◌∷◌, ◌++◌, map, Some, refl, sym, ap, ap₂, ◌∙◌, arith}
-use Rattle.std.specs.Prelude.{not, remove, slice_get, slice_set}
-use Rattle.std.specs.List.{AllByRecursion as Each, position_or_len}
+use Rattle.std.proofs.Common.{◌≡◌, ℕ, Bool, true, false, ◌||◌, List, [], ◌∷◌, ◌++◌, map, Some, refl, ap, ap₂, ◌∙◌}
+use Rattle.std.specs.Prelude.{not, remove, slice_get}
+use Rattle.std.specs.List.{AllByRecursion as Each}
 use Rattle.std.proofs.lemmas.Bool.{cond_both}
-use Rattle.std.proofs.lemmas.Bool.Decides.{nat_tests}
 use Rattle.std.proofs.lemmas.List.Folds.{list_any-append}
 use Rattle.sim_base.proofs.Ordered.{Each-weaker}
 use Rattle.sim_base.specs.Counts.{is_act_for, is_hit}
@@ -15,9 +14,8 @@ use Rattle.sim_base.specs.declared.command.IssuedCommand.{IssuedCommand}
 use Rattle.sim_base.specs.declared.command.Source.{Source}
 use Rattle.sim_base.specs.declared.message.Request.{Request}
 use Rattle.sim_base.specs.declared.place.BankId.{BankId}
-use Rattle.channel_step.specs.Past.{IsOther, Differ, is_named}
+use Rattle.channel_step.specs.Past.{Differ, is_named}
 use Rattle.channel_step.specs.Fit.{is_named_by, IsUnnamed}
-use Rattle.channel_step.specs.Queued.{marked_at}
 use Rattle.channel_step.proofs.Requests.{unserved_by, filter-each, filter-agree, unserved-remove}
 
 -- the marks of some requests
@@ -27,12 +25,6 @@ marks history requests = map (is_named history) requests
 pub map-agree : {X Y : Type 0} (f g : X → Y) (xs : List X) → Each (λ x. f x ≡ g x) xs → map f xs ≡ map g xs
 map-agree f g [] h = refl
 map-agree f g (x ∷ xs) h = ap₂ (λ y ys. y ∷ ys) h.0 (map-agree f g xs h.1)
-
-pub map-remove : {X Y : Type 0} (f : X → Y) (xs : List X) (i : ℕ) → map f (remove xs i) ≡ remove (map f xs) i
-map-remove f [] zero = refl
-map-remove f [] (suc i) = refl
-map-remove f (x ∷ xs) zero = refl
-map-remove f (x ∷ xs) (suc i) = ap (λ ys. f x ∷ ys) (map-remove f xs i)
 
 act-named : (r : Request) (command : Command) → is_named_by command r ≡ false → is_act_for (source_of r) command ≡ false
 act-named r (Act bank row source) h = h
@@ -50,11 +42,11 @@ unnamed-no_mark (i ∷ history) r h = ap₂ (λ a b. a || b) (act-named r i.comm
 pub unnamed-marks : (history : List IssuedCommand) (rs : List Request) → Each (IsUnnamed history) rs → marks history rs ≡ map (λ r. false) rs
 unnamed-marks history rs h = map-agree (is_named history) (λ r. false) rs (Each-weaker (IsUnnamed history) _ (unnamed-no_mark history) rs h)
 
-or-false : (x : Bool) → (x || false) ≡ x
+pub or-false : (x : Bool) → (x || false) ≡ x
 or-false true = refl
 or-false false = refl
 
-or-true : (x : Bool) → (x || true) ≡ true
+pub or-true : (x : Bool) → (x || true) ≡ true
 or-true true = refl
 or-true false = refl
 
@@ -91,37 +83,12 @@ marks-no_act history i rs h =
     map-agree (is_named (history ++ i ∷ [])) (is_named history) rs
     (each-all _ (λ r. named-command history i r ∙ ap (λ b. is_named history r || b) (no_act (source_of r) i.command h) ∙ or-false (is_named history r)) rs)
 
-same_entry : (x q : Request) (source : Source) → is_source x source ≡ true → is_source q (source_of x) ≡ false → is_source q source ≡ false
-same_entry x q source h k = grind (arith, nat_tests)
-
-mark-first : (f : Request → Bool) (rs : List Request) (source : Source) → Differ rs → map (λ r. f r || is_source r source) rs ≡ marked_at (map f rs) rs source
-mark-first f [] source d = refl
-mark-first f (x ∷ xs) source d = by (is_source x source) refl (mark-first f xs source d.1)
-  where
-    next : (k : ℕ) → 1 + k ≡ suc k
-    next k = omega arith
-
-    by : (b : Bool) → is_source x source ≡ b → map (λ r. f r || is_source r source) xs ≡ marked_at (map f xs) xs source
-        → (f x || is_source x source) ∷ map (λ r. f r || is_source r source) xs
-        ≡ slice_set (f x ∷ map f xs) (cond (not (is_source x source)) (1 + position_or_len (λ r. is_source r source) xs) 0) true
-    by true e later =
-        let rest : map (λ r. f r || is_source r source) xs ≡ map f xs =
-        map-agree (λ r. f r || is_source r source) f xs
-        (Each-weaker (IsOther x) _ (λ q h. ap (λ b. f q || b) (same_entry x q source e h) ∙ or-false (f q)) xs d.0) in
-        ap₂ (λ b ys. b ∷ ys) (ap (λ b. f x || b) e ∙ or-true (f x)) rest
-        ∙ sym (ap (λ b. slice_set (f x ∷ map f xs) (cond (not b) (1 + position_or_len (λ r. is_source r source) xs) 0) true) e)
-    by false e later =
-        ap₂ (λ b ys. b ∷ ys) (ap (λ b. f x || b) e ∙ or-false (f x)) later
-        ∙ sym (ap (λ b. slice_set (f x ∷ map f xs) (cond (not b) (1 + position_or_len (λ r. is_source r source) xs) 0) true) e
-        ∙ ap (λ k. slice_set (f x ∷ map f xs) k true) (next (position_or_len (λ r. is_source r source) xs)))
-
 -- an ACT adds the mark of the request of its entry
-pub marks-act : (history : List IssuedCommand) (i : IssuedCommand) (rs : List Request) (bank : BankId) (row : ℕ) (source : Source) → Differ rs → i.command ≡ Act bank row source
-    → marks (history ++ i ∷ []) rs ≡ marked_at (marks history rs) rs source
-marks-act history i rs bank row source d e =
+pub marks-act : (history : List IssuedCommand) (i : IssuedCommand) (rs : List Request) (bank : BankId) (row : ℕ) (source : Source) → i.command ≡ Act bank row source
+    → marks (history ++ i ∷ []) rs ≡ map (λ r. is_named history r || is_source r source) rs
+marks-act history i rs bank row source e =
     map-agree (is_named (history ++ i ∷ [])) (λ r. is_named history r || is_source r source) rs
     (each-all _ (λ r. named-command history i r ∙ ap (λ c. is_named history r || is_act_for (source_of r) c) e) rs)
-    ∙ mark-first (is_named history) rs source d
 
 -- a command that moves the data of a request serves the requests of its entry
 pub serves-column : (q r : Request) → serves q (column_command r) ≡ is_source q (source_of r)

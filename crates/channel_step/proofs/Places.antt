@@ -2,7 +2,7 @@
 use Rattle.std.proofs.Common.{◌≡◌, ℕ, ◌*◌, ◌<◌, ◌≤◌, ◌%◌, ◌/◌, List, [], ◌∷◌, sym, subst, arith, mod-lt}
 use Rattle.std.specs.List.{All, AllByRecursion as Each}
 use Rattle.std.proofs.lemmas.Bool.{cond_both}
-use Rattle.std.proofs.lemmas.List.Elements.{All-from_recursion, All-weaker}
+use Rattle.std.proofs.lemmas.List.Elements.{All-weaker}
 use Rattle.sim_base.proofs.Each.{Each-all, Each-filter}
 use Rattle.sim_base.proofs.Ordered.{Each-weaker}
 use Rattle.sim_base.specs.declared.config.Config.{Config}
@@ -15,7 +15,10 @@ use Rattle.sim_base.specs.declared.message.Request.{Request}
 use Rattle.sim_base.specs.declared.place.Place.{Place}
 use Rattle.sim_base.specs.declared.place.Field.{Field}
 use Rattle.sim_base.specs.declared.place.Field.TheVariants.{Rank, Group, Bank}
-use Rattle.queue_columns.specs.Columns.{bank_number}
+use Rattle.request_log.specs.declared.Arrived.{Arrived}
+use Rattle.request_log.specs.Log.{all_requests}
+use Rattle.request_log.specs.Columns.{bank_number}
+use Rattle.std.proofs.lemmas.List.{get_or-map, length-map}
 use Rattle.fr_fcfs.specs.Requests.{IsInBanks}
 use Rattle.channel_step.specs.Past.{requests_of, IsRequestOf, CarriesRequest}
 use Rattle.channel_step.proofs.Requests.{carried}
@@ -42,7 +45,7 @@ place-in_banks s address =
     let d : digit_of s Bank s.fields (address / 64) < 4 = digit-below s Bank s.fields (address / 64) (omega arith) in
     (a, omega arith, d)
 
-request-in_banks : (s : Config) (channel : ℕ) (m : Message) (r : Request) → IsRequestOf s channel m r → InBanks s r
+pub request-in_banks : (s : Config) (channel : ℕ) (m : Message) (r : Request) → IsRequestOf s channel m r → InBanks s r
 request-in_banks s channel m r h =
     subst (λ (p : Place). (p.rank < s.ranks) × (p.group < 4) × (p.bank < 4)) (sym h.place) (place-in_banks s r.address)
 
@@ -53,13 +56,6 @@ unfolding queued_requests
 queued_requests-in_banks s channel history mail until h =
     Each-filter (InBanks s) (is_queued history until) (requests_of mail)
     (carried s channel (InBanks s) mail h (Each-all _ (λ m r i. request-in_banks s channel m r i) mail))
-
-pub queue-in_banks : (s : Config) (channel ranks : ℕ) (history : List IssuedCommand) (mail : List Message) (until : ℕ) (queue : List Request) → ranks ≡ s.ranks
-    → Each (CarriesRequest s channel) mail → queue ≡ queued_requests history mail until → All (IsInBanks ranks) queue
-queue-in_banks s channel ranks history mail until queue e h is =
-    All-from_recursion (IsInBanks ranks) queue
-    (subst (Each (IsInBanks ranks)) (sym is)
-    (Each-weaker (InBanks s) (IsInBanks ranks) (λ r b. record { rank = omega arith; group = b.1; bank = b.2 }) (queued_requests history mail until) (queued_requests-in_banks s channel history mail until h)))
 
 pub queue-ranks : (s : Config) (channel : ℕ) (history : List IssuedCommand) (mail : List Message) (until : ℕ) (queue : List Request)
     → Each (CarriesRequest s channel) mail → queue ≡ queued_requests history mail until → Each (λ (r : Request). r.place.rank < s.ranks) queue
@@ -73,6 +69,9 @@ below-count ranks count queue is places =
     All-weaker (IsInBanks ranks) (λ (r : Request). bank_number r.place < count)
     (λ r placed. let rank = placed.rank in let group = placed.group in let bank = placed.bank in omega arith) queue places
 
-pub in-banks : (s : Config) (channel : ℕ) (history : List IssuedCommand) (mail : List Message) (until : ℕ) (queue : List Request)
-    → Each (CarriesRequest s channel) mail → queue ≡ queued_requests history mail until → Each (InBanks s) queue
-in-banks s channel history mail until queue h is = subst (Each (InBanks s)) (sym is) (queued_requests-in_banks s channel history mail until h)
+-- the same of all that have arrived
+pub banks-below : (ranks count : ℕ) (log : List Arrived) → count ≡ 16 * ranks → All (IsInBanks ranks) (all_requests log) → All (λ a. bank_number a.request.place < count) log
+banks-below ranks count log is places k d within =
+    let all = below-count ranks count (all_requests log) is places in
+    subst (λ (r : Request). bank_number r.place < count) (get_or-map (λ (a : Arrived). a.request) log k d d.request within)
+    (all k d.request (omega (arith, length-map log (λ (a : Arrived). a.request))))

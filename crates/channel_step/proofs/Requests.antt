@@ -136,10 +136,10 @@ queued_requests-command history i mail until =
     (λ r. ap (λ b. ltb r.arrival until && not b) (list_any-append (λ (j : IssuedCommand). serves r j.command) history (i ∷ [])) ∙ one_more (ltb r.arrival until) (is_served history r) (serves r i.command))
     (requests_of mail)
 
-same_source : (a b : Request) → is_source a (source_of b) ≡ false → is_source b (source_of a) ≡ false
+pub same_source : (a b : Request) → is_source a (source_of b) ≡ false → is_source b (source_of a) ≡ false
 same_source a b h = grind (arith, nat_tests)
 
-own_source : (r : Request) → is_source r (source_of r) ≡ true
+pub own_source : (r : Request) → is_source r (source_of r) ≡ true
 own_source r = grind (arith, nat_tests)
 
 other_at : (x r : Request) (xs : List Request) (i : ℕ) → Each (IsOther x) xs → slice_get xs i ≡ Some r → is_source x (source_of r) ≡ false

@@ -1,10 +1,11 @@
 -- The requests that a channel keeps when it has served them.
-use Rattle.std.proofs.Common.{◌≡◌, ℕ, zero, suc, Bool, true, false, cond, ◌||◌, List, [], ◌∷◌, ◌++◌, Option, Some, None, refl, sym, ap, ap₂, subst, ◌∙◌, arith}
-use Rattle.std.specs.Prelude.{filter_map, slice_get, not, option_map, option_and_then, Vec, MatchOption}
+use Rattle.std.proofs.Common.{◌≡◌, ℕ, Bool, true, false, cond, ◌||◌, List, [], ◌∷◌, ◌++◌, Option, Some, None, refl, sym, ap, ap₂, subst, ◌∙◌, arith}
+use Rattle.std.specs.Prelude.{filter_map, not, option_map, Vec}
 use Rattle.std.specs.List.{AllByRecursion as Each, cons_option, list_any}
 use Rattle.std.specs.declared.alloc.Global.{Global}
 use Rattle.std.proofs.lemmas.Bool.{or_parts, true≢false}
 use Rattle.std.proofs.lemmas.Bool.Decides.{nat_tests}
+use Rattle.std.proofs.lemmas.List.{append-nil}
 use Rattle.std.proofs.lemmas.List.Elements.{filter_map-append}
 use Rattle.std.proofs.lemmas.List.Folds.{list_any-append}
 use Rattle.sim_base.proofs.Each.{Each-all, Each-filter}
@@ -18,14 +19,12 @@ use Rattle.sim_base.specs.declared.message.Message.{Message}
 use Rattle.sim_base.specs.declared.message.Request.{Request}
 use Rattle.sim_base.specs.declared.place.BankId.{BankId}
 use Rattle.statistics.specs.Channels.{is_entry, moves_data_of, is_late_act}
-use Rattle.served_requests.specs.Served.{served_of, served_by, served_in, served_requests}
+use Rattle.served_requests.specs.Served.{served_by, served_in, served_requests}
 use Rattle.served_requests.specs.declared.ServedRequest.{ServedRequest}
-use Rattle.fr_fcfs.specs.Choices.{Serves, IsFor}
-use Rattle.fr_fcfs.specs.declared.choice.Choice.{Choice}
 use Rattle.channel_step.specs.Past.{requests_of}
 use Rattle.channel_step.specs.Queued.{served_now}
 use Rattle.channel_step.specs.Runs.{with_more}
-use Rattle.channel_step.specs.Channels.{AreServed, KeepsServed}
+use Rattle.channel_step.specs.Channels.{KeepsServed}
 
 -- a command is an ACT for the entry whose data another moves
 abbrev opens_for : Command → Command → Bool
@@ -119,11 +118,6 @@ Each-before : {X : Type 0} (P : X → Type 0) (xs ys : List X) → Each P (xs ++
 Each-before P [] ys h = tt
 Each-before P (x ∷ xs) ys h = (h.0, Each-before P xs ys h.1)
 
-Each-at : {X : Type 0} (P : X → Type 0) (xs : List X) (k : ℕ) (x : X) → slice_get xs k ≡ Some x → Each P xs → P x
-Each-at P [] k x e h = absurd (cc)
-Each-at P (y ∷ ys) zero x e h = let same : y ≡ x = cc in subst P same h.0
-Each-at P (y ∷ ys) (suc k) x e h = Each-at P ys k x e h.1
-
 -- it is told when a request came
 abbrev TellsOf : (Source → ℕ) → Request → Type 0
 TellsOf arrivals r = r.arrival ≡ arrivals (source_of r)
@@ -154,19 +148,6 @@ served-one arrivals hit channel cycle r h = by r.write refl
     by true e = ap (λ t. Some (kept_as channel cycle hit true t r)) (sym h)
     by false e = ap (λ t. Some (kept_as channel cycle hit false t r)) (sym h)
 
--- what a channel keeps of a command is the request that it serves
-kept-one : (arrivals : Source → ℕ) (hit : Bool) (channel cycle : ℕ) (queue : List Request) (choice : Choice) → IsFor queue choice → Each (TellsOf arrivals) queue
-    → cons_option (served_by arrivals hit channel cycle choice.command) [] ≡ served_now channel cycle (option_and_then (slice_get queue) choice.slot) hit
-kept-one arrivals hit channel cycle queue choice h each = by choice.slot h
-  where
-    by : (o : Option ℕ) → MatchOption o (is_column_command choice.command ≡ false) (Serves queue choice.command)
-        → cons_option (served_by arrivals hit channel cycle choice.command) [] ≡ served_now channel cycle (option_and_then (slice_get queue) o) hit
-    by None k = ap (λ o. cons_option o []) (served-none arrivals hit channel cycle choice.command k)
-    by (Some slot) (r, there, is) =
-        ap (λ command. cons_option (served_by arrivals hit channel cycle command) []) is
-        ∙ ap (λ o. cons_option o []) (served-one arrivals hit channel cycle r (Each-at (TellsOf arrivals) queue slot r there each))
-        ∙ sym (ap (λ o. served_now channel cycle o hit) there)
-
 -- no request is served yet
 pub kept-none : (kept : Option (Vec ServedRequest Global)) (mail : List Message) → ((rows : Vec ServedRequest Global) → kept ≡ Some rows → rows.items ≡ []) → KeepsServed kept [] mail
 unfolding served_requests
@@ -194,19 +175,27 @@ kept-more (Some was) (Some rows) history i new mail e more h = λ arrivals each.
     let same : rows.items ≡ was.items ++ new = cc in
     same ∙ ap (λ x. x ++ new) (h arrivals each) ∙ sym (more arrivals each)
 
--- the request that a command serves is added
-pub kept-served : (kept then : Option (Vec ServedRequest Global)) (history : List IssuedCommand) (i : IssuedCommand) (queue : List Request) (choice : Choice) (hit : Bool) (mail : List Message) (until : ℕ)
-    → choice.command ≡ i.command → is_late_act history (Some i.command) ≡ false → IsFor queue choice → queue ≡ queued_requests history mail until → is_hit history i.command ≡ hit
-    → rows_in then ≡ with_more (rows_in kept) (served_now i.channel i.cycle (option_and_then (slice_get queue) choice.slot) hit)
+-- a command that moves no data adds none
+pub kept-quiet : (kept : Option (Vec ServedRequest Global)) (history : List IssuedCommand) (i : IssuedCommand) (mail : List Message) → is_late_act history (Some i.command) ≡ false
+    → is_column_command i.command ≡ false → KeepsServed kept history mail → KeepsServed kept (history ++ i ∷ []) mail
+kept-quiet None history i mail late quiet h = tt
+kept-quiet (Some rows) history i mail late quiet h = λ arrivals each.
+    h arrivals each
+    ∙ sym (served_requests-push arrivals history i late
+    ∙ ap (λ o. served_requests arrivals history ++ cons_option o []) (served-none arrivals (is_hit history i.command) i.channel i.cycle i.command quiet)
+    ∙ append-nil (served_requests arrivals history))
+
+-- one that moves the data of a request that waits adds that
+pub kept-served : (kept then : Option (Vec ServedRequest Global)) (history : List IssuedCommand) (i : IssuedCommand) (r : Request) (hit : Bool) (mail : List Message) (until : ℕ)
+    → i.command ≡ column_command r → is_late_act history (Some i.command) ≡ false → ((P : Request → Type 0) → Each P (queued_requests history mail until) → P r) → is_hit history i.command ≡ hit
+    → rows_in then ≡ with_more (rows_in kept) (served_now i.channel i.cycle r hit ∷ [])
     → KeepsServed kept history mail → KeepsServed then (history ++ i ∷ []) mail
 unfolding queued_requests
-kept-served kept then history i queue choice hit mail until same late f is e more h =
-    kept-more kept then history i (served_now i.channel i.cycle (option_and_then (slice_get queue) choice.slot) hit) mail more
+kept-served kept then history i r hit mail until is late waits e more h =
+    kept-more kept then history i (served_now i.channel i.cycle r hit ∷ []) mail more
     (λ arrivals each.
     served_requests-push arrivals history i late
-    ∙ ap (λ b. served_requests arrivals history ++ cons_option (served_by arrivals b i.channel i.cycle i.command) []) e
-    ∙ ap (λ command. served_requests arrivals history ++ cons_option (served_by arrivals hit i.channel i.cycle command) []) (sym same)
-    ∙ ap (λ rows. served_requests arrivals history ++ rows)
-    (kept-one arrivals hit i.channel i.cycle queue choice f
-    (subst (Each (TellsOf arrivals)) (sym is) (Each-filter (TellsOf arrivals) (is_queued history until) (requests_of mail) each))))
+    ∙ ap₂ (λ b command. served_requests arrivals history ++ cons_option (served_by arrivals b i.channel i.cycle command) []) e is
+    ∙ ap (λ o. served_requests arrivals history ++ cons_option o [])
+    (served-one arrivals hit i.channel i.cycle r (waits (TellsOf arrivals) (Each-filter (TellsOf arrivals) (is_queued history until) (requests_of mail) each))))
     h

@@ -25,7 +25,7 @@ use Rattle.channel_step.specs.Stands.{marks_of}
 use Rattle.channel_step.specs.Counted.{cycle_with_hit}
 use Rattle.channel_step.specs.Fit.{queue_room}
 use Rattle.channel_step.specs.Queued.{drain_decided}
-use Rattle.fr_fcfs.specs.Choices.{choice_in}
+use Rattle.request_log.specs.Log.{waiting_requests}
 use Rattle.channel_step.specs.Channels.{CandidatesStand, IsForeseen, KeepsServed, StandsFor, IsInCycle, passed}
 use Rattle.channel_step.specs.declared.channel.Channel.{Channel}
 use Rattle.channel_step.proofs.Requests.{ArrivedBefore, requests-arrived, queued_requests-until}
@@ -38,7 +38,7 @@ use Rattle.channel_step.proofs.Starting.{at-drains}
 
 -- the next cycle, when it is decided whether the channel drains its writes in it
 pub drain_decided-in_cycle : (c : Channel) (s : Config) (channel : ℕ) (steps : List (Option Command)) (mail : List Message) → StandsFor c s channel steps mail
-    → IsInCycle (record c { marked_queue = record c.marked_queue { queue = drain_decided c.marked_queue.queue } }) s channel steps mail
+    → IsInCycle (record c { queue = drain_decided c.queue }) s channel steps mail
 drain_decided-in_cycle c s channel steps mail h =
     let r = h.recalls in
     let before : Each (ArrivedBefore (length steps)) (requests_of mail) = requests-arrived s channel (length steps) mail r.past.requests r.past.arrived in
@@ -50,6 +50,7 @@ drain_decided-in_cycle c s channel steps mail h =
         low_is = h.made_for.low_is;
         room_is = h.made_for.room_is;
         banks_are = h.made_for.banks_are;
+        in_banks = h.made_for.in_banks;
         within = h.made_for.within;
         longest = h.made_for.longest;
       };
@@ -66,13 +67,13 @@ drain_decided-in_cycle c s channel steps mail h =
       candidates_stand = h.candidates_stand;
       banks_stand = h.banks_stand;
       refreshes_stand = h.refreshes_stand;
-      foresees = foreseen-drain_decided s (issued_commands channel steps) c.marked_queue.queue c.cycle c.ahead h.foresees;
+      foresees = foreseen-drain_decided s (issued_commands channel steps) c.queue c.cycle c.ahead h.foresees;
       keeps_served = h.keeps_served;
     }
 
 -- the same, as it is told what is decided
 pub settled_stands : (c d : Channel) (s : Config) (channel : ℕ) (steps : List (Option Command)) (mail : List Message)
-    → d ≡ record c { marked_queue = record { queue = drain_decided c.marked_queue.queue; marks = c.marked_queue.marks } } → StandsFor c s channel steps mail → IsInCycle d s channel steps mail
+    → d ≡ record c { queue = drain_decided c.queue } → StandsFor c s channel steps mail → IsInCycle d s channel steps mail
 settled_stands c d s channel steps mail e h = subst (λ x. IsInCycle x s channel steps mail) (sym e) (drain_decided-in_cycle c s channel steps mail h)
 
 -- the statistics of steps and of idle cycles after them
@@ -116,7 +117,7 @@ idle-stats s channel steps mail n due h alike =
 
 -- what a channel counts in them
 abbrev pub passed_by : Channel → Config → ℕ → Bool → ChannelStats
-passed_by c s n due = channel_joined c.stats (channel_times n (cycle_with_hit s (length c.marked_queue.queue.requests) due c.marked_queue.queue.drain_decided None false))
+passed_by c s n due = channel_joined c.stats (channel_times n (cycle_with_hit s (length (waiting_requests c.queue.log)) due c.queue.drain_decided None false))
 
 passed-stats : (c : Channel) (s : Config) (channel : ℕ) (steps : List (Option Command)) (mail : List Message) (n : ℕ) (due : Bool) → IsInCycle c s channel steps mail
     → Each (ArrivedBefore (length steps + 1)) (requests_of mail) → IsDueThroughout s channel steps n due → passed_by c s n due ≡ channel_stats s channel (steps ++ replicate n None) mail
@@ -132,7 +133,7 @@ times-longest a b m n false h k = omega arith
 
 passed-longest : (c : Channel) (s : Config) (channel : ℕ) (steps : List (Option Command)) (mail : List Message) (n : ℕ) (due : Bool) → IsInCycle c s channel steps mail
     → (passed_by c s n due).queued_max ≤ queue_room s
-passed-longest c s channel steps mail n due h = times-longest c.stats.queued_max (length c.marked_queue.queue.requests) (queue_room s) n (eqb n 0) h.made_for.longest h.made_for.within
+passed-longest c s channel steps mail n due h = times-longest c.stats.queued_max (length (waiting_requests c.queue.log)) (queue_room s) n (eqb n 0) h.made_for.longest h.made_for.within
 
 -- the statistics after them fit
 pub passed-fits : (c : Channel) (s : Config) (channel : ℕ) (steps : List (Option Command)) (mail : List Message) (n : ℕ) (due : Bool) → IsInCycle c s channel steps mail
@@ -163,6 +164,7 @@ passed-in_cycle c s channel steps mail n due until h before alike e =
         low_is = h.made_for.low_is;
         room_is = h.made_for.room_is;
         banks_are = h.made_for.banks_are;
+        in_banks = h.made_for.in_banks;
         within = h.made_for.within;
         longest = passed-longest c s channel steps mail n due h;
       };
@@ -175,15 +177,15 @@ passed-in_cycle c s channel steps mail n due until h before alike e =
             j.queue_is
             ∙ sym (idle-queued_requests channel steps mail before n (length more + 1) (omega arith));
         drained_is = j.drained_is ∙ sym (idle-drains s channel steps mail before n);
-        marks_are = j.marks_are ∙ ap (λ x. marks_of x c.marked_queue.queue.requests) (sym history);
+        marks_are = j.marks_are ∙ ap (λ x. marks_of x (waiting_requests c.queue.log)) (sym history);
         stats_are = passed-stats c s channel steps mail n due h before alike;
       };
-      candidates_stand = subst (CandidatesStand c.bank_candidates c.marked_queue.queue.requests) (sym history) h.candidates_stand;
+      candidates_stand = subst (CandidatesStand c.bank_candidates c.queue.log) (sym history) h.candidates_stand;
       banks_stand = subst (BanksStandFor c.banks s) (sym history) h.banks_stand;
       refreshes_stand = subst (RefreshesStandFor c.refresh s) (sym history) h.refreshes_stand;
       foresees =
-          subst (λ x. IsForeseen (choice_in s x c.marked_queue.queue) c.marked_queue.queue.requests until c.ahead) (sym history)
-          (foreseen-later (choice_in s (issued_commands channel steps) c.marked_queue.queue) c.marked_queue.queue.requests c.cycle until c.ahead (omega (arith, h.cycle_is)) h.foresees);
+          subst (λ x. IsForeseen s x c.queue until c.ahead) (sym history)
+          (foreseen-later s (issued_commands channel steps) c.queue c.cycle until c.ahead (omega (arith, h.cycle_is)) h.foresees);
       keeps_served = subst (λ x. KeepsServed c.served x mail) (sym history) h.keeps_served;
     }
 
@@ -242,7 +244,7 @@ alike c s channel steps mail until due n h dues l same k m =
 passed-is : (c : Channel) (s : Config) (channel : ℕ) (steps : List (Option Command)) (mail : List Message) (until : ℕ) → IsInCycle c s channel steps mail
     → passed c until ≡ passed_by c s (until - c.cycle) (is_some (lowest_owed c.refresh c.cycle))
 passed-is c s channel steps mail until h =
-    ap₂ (λ x d. channel_joined c.stats (channel_times (until - c.cycle) (cycle_with_hit x (length c.marked_queue.queue.requests) (is_some (lowest_owed c.refresh c.cycle)) d None false)))
+    ap₂ (λ x d. channel_joined c.stats (channel_times (until - c.cycle) (cycle_with_hit x (length (waiting_requests c.queue.log)) (is_some (lowest_owed c.refresh c.cycle)) d None false)))
     h.made_for.config_is (drain_decided-drains c s channel steps mail h)
 
 pass-fits : (c : Channel) (s : Config) (channel : ℕ) (steps : List (Option Command)) (mail : List Message) (until : ℕ) → IsInCycle c s channel steps mail

@@ -1,9 +1,12 @@
 -- What arrives in a cycle of a channel.
-use Rattle.std.proofs.Common.{◌≡◌, ℕ, suc, ◌+◌, ◌<◌, ◌≤◌, List, [], ◌∷◌, ◌++◌, length, take, drop, Option, Some, None, refl, sym, ap, ap₂, subst, ◌∙◌, add-zero, arith, eqb}
+use Rattle.std.proofs.Common.{◌≡◌, ℕ, suc, ◌+◌, ◌<◌, ◌≤◌, true, List, [], ◌∷◌, ◌++◌, length, take, drop, map, Option, Some, None, refl, sym, ap, ap₂, subst, ◌∙◌, add-zero, arith, eqb}
 use Rattle.std.specs.Prelude.{count_by, take_while}
 use Rattle.std.specs.List.{All, AllByRecursion as Each, cons_option}
 use Rattle.std.proofs.lemmas.List.{append_assoc, take-append-drop, length-append, take_at}
+use Rattle.std.proofs.lemmas.List.Elements.{All-from_recursion, All-append}
 use Rattle.std.proofs.lemmas.List.Folds.{length-prefix_len}
+use Rattle.sim_base.proofs.Each.{Each-all}
+use Rattle.sim_base.proofs.Ordered.{Each-weaker}
 use Rattle.sim_base.proofs.Same.{queue-same}
 use Rattle.sim_base.specs.declared.config.Config.{Config}
 use Rattle.sim_base.specs.Counts.{queue_length}
@@ -11,28 +14,33 @@ use Rattle.sim_base.specs.History.{issued_commands}
 use Rattle.sim_base.specs.Machine.{channel_run}
 use Rattle.sim_base.specs.Scheduling.{request_in, drains_with}
 use Rattle.sim_base.specs.declared.command.Command.{Command}
+use Rattle.sim_base.specs.declared.command.IssuedCommand.{IssuedCommand}
 use Rattle.sim_base.specs.declared.message.Message.{Message}
 use Rattle.sim_base.specs.declared.message.Request.{Request}
 use Rattle.statistics.proofs.ChannelMail.{AgreeUpTo-later}
-use Rattle.queue.specs.View.{drains_by}
-use Rattle.queue_columns.specs.Columns.{bank_number, write_count}
+use Rattle.request_log.specs.declared.Arrived.{Arrived}
+use Rattle.request_log.specs.Log.{waiting_requests, all_requests, arrived_now}
+use Rattle.request_log.specs.Columns.{bank_number, write_count}
+use Rattle.queue.specs.View.{QueueView, drains_by}
 use Rattle.bank_candidates.specs.declared.all_banks.BankCandidates.{BankCandidates}
 use Rattle.bank_candidates.specs.Stands.{bank_count}
 use Rattle.channel_step.specs.Past.{requests_of, IsRequestIn, CarriesRequest}
 use Rattle.channel_step.specs.Fit.{queue_room, IsFit}
 use Rattle.channel_step.specs.Stands.{marks_of}
-use Rattle.channel_step.specs.Queued.{Queued, with_arrivals}
-use Rattle.channel_step.specs.Channels.{CandidatesStand, StandsFor, IsAhead, IsInCycle}
+use Rattle.channel_step.specs.Queued.{marks_in, with_arrivals}
+use Rattle.channel_step.specs.Channels.{CandidatesStand, StandsFor, IsAhead, IsAheadFor, IsInCycle}
 use Rattle.channel_step.specs.declared.ahead.Ahead.{Ahead}
+use Rattle.channel_step.specs.declared.ahead.Ahead.TheVariants.{Unknown, Known}
 use Rattle.channel_step.specs.declared.channel.Channel.{Channel}
-use Rattle.fr_fcfs.specs.Choices.{choice_in}
+use Rattle.fr_fcfs.specs.Choices.{IsFor}
 use Rattle.fr_fcfs.specs.Requests.{IsInBanks}
 use Rattle.channel_step.proofs.Serving.{kept-later}
-use Rattle.channel_step.proofs.Foreseen.{foreseen-from}
-use Rattle.channel_step.proofs.Requests.{carries-stamped}
+use Rattle.channel_step.proofs.Foreseen.{foreseen-from, taken-for}
+use Rattle.channel_step.proofs.Logs.{waiting-with, all-with, marks-with, arrived-wait}
+use Rattle.channel_step.proofs.Requests.{carries-stamped, carried}
 use Rattle.channel_step.proofs.Spans.{queue-next}
 use Rattle.channel_step.proofs.Cycle.{joined}
-use Rattle.channel_step.proofs.Places.{queue-in_banks, below-count}
+use Rattle.channel_step.proofs.Places.{InBanks, request-in_banks, banks-below}
 use Rattle.channel_step.proofs.Fits.{due_count, fit-arrives, fit-later}
 
 pub due_count-is : (inbox : List Message) (now : ℕ) → length (take_while (λ (m : Message). eqb m.arrival now) inbox) ≡ due_count inbox now
@@ -49,7 +57,7 @@ length-requests s channel (m ∷ ms) h = by (request_in m.load) h.0 (length-requ
 
 -- the queue of a cycle has room for what arrives in it
 pub arrivals-room : (c : Channel) (s : Config) (channel : ℕ) (steps : List (Option Command)) (mail inbox : List Message) (now until : ℕ) → StandsFor c s channel steps mail → length steps ≡ now → now < until
-    → IsFit s channel steps mail inbox now until → length (c.marked_queue.queue.requests ++ requests_of (take (due_count inbox now) inbox)) ≤ queue_room s
+    → IsFit s channel steps mail inbox now until → length (waiting_requests c.queue.log ++ requests_of (take (due_count inbox now) inbox)) ≤ queue_room s
 unfolding queue_length channel_run
 arrivals-room c s channel steps mail inbox now until h at l f =
     let new = take (due_count inbox now) inbox in
@@ -58,36 +66,65 @@ arrivals-room c s channel steps mail inbox now until h at l f =
     let later = fit-later s channel steps mail inbox now until at f in
     let whole : mail ++ inbox ≡ (mail ++ new) ++ rest = ap (λ x. mail ++ x) (sym (take-append-drop (due_count inbox now) inbox)) ∙ sym (append_assoc mail new rest) in
     let fits = f.room 0 (omega arith) in
-    let is : queue_length channel steps (mail ++ inbox) (now + 0) ≡ length (c.marked_queue.queue.requests ++ requests_of new) =
+    let is : queue_length channel steps (mail ++ inbox) (now + 0) ≡ length (waiting_requests c.queue.log ++ requests_of new) =
     ap₂ (λ m k. queue_length channel steps m k) whole (add-zero now ∙ sym at)
     ∙ ap length (queue-same channel steps ((mail ++ new) ++ rest) (mail ++ new) (length steps)
     (AgreeUpTo-later (length steps + 1) (mail ++ new) rest (carries-stamped s channel (mail ++ new) j.requests) (carries-stamped s channel rest later.0) later.1)
     ∙ queue-next channel steps (mail ++ new) ∙ sym j.queue_is) in
     omega arith
 
+-- the requests that arrive in a cycle
+abbrev pub arriving : List Message → ℕ → List Request
+arriving inbox now = requests_of (take (due_count inbox now) inbox)
+
+arriving-in_banks : (s : Config) (channel : ℕ) (new : List Message) → Each (CarriesRequest s channel) new → All (IsInBanks s.ranks) (requests_of new)
+arriving-in_banks s channel new h =
+    All-from_recursion (IsInBanks s.ranks) (requests_of new)
+    (Each-weaker (InBanks s) (IsInBanks s.ranks) (λ r b. record { rank = b.0; group = b.1; bank = b.2 }) (requests_of new)
+    (carried s channel (InBanks s) new h (Each-all _ (λ m r i. request-in_banks s channel m r i) new)))
+
+-- all that have arrived then ask for banks that there are
+pub arrived-places : (c : Channel) (s : Config) (channel : ℕ) (steps : List (Option Command)) (mail inbox : List Message) (now until : ℕ) (q : QueueView) → StandsFor c s channel steps mail → length steps ≡ now
+    → IsFit s channel steps mail inbox now until → q ≡ with_arrivals c.queue (arriving inbox now) → All (IsInBanks s.ranks) (all_requests q.log)
+arrived-places c s channel steps mail inbox now until q h at f e =
+    subst (All (IsInBanks s.ranks)) (sym (ap (λ (x : QueueView). all_requests x.log) e ∙ all-with c.queue.log (arriving inbox now)))
+    (All-append (IsInBanks s.ranks) (all_requests c.queue.log) (arriving inbox now) h.made_for.in_banks
+    (arriving-in_banks s channel (take (due_count inbox now) inbox) (fit-arrives s channel steps mail inbox now until at f).requests))
+
+-- the banks that they ask for have candidates
+pub arrived-in_banks : (c : Channel) (s : Config) (channel : ℕ) (steps : List (Option Command)) (mail inbox : List Message) (now until : ℕ) (q : QueueView) → StandsFor c s channel steps mail → length steps ≡ now
+    → IsFit s channel steps mail inbox now until → q ≡ with_arrivals c.queue (arriving inbox now) → All (λ a. bank_number a.request.place < bank_count c.bank_candidates) q.log
+arrived-in_banks c s channel steps mail inbox now until q h at f e =
+    banks-below s.ranks (bank_count c.bank_candidates) q.log h.made_for.banks_are (arrived-places c s channel steps mail inbox now until q h at f e)
+
 -- when they have joined
-pub arrived-stands : (c : Channel) (s : Config) (channel : ℕ) (steps : List (Option Command)) (mail inbox : List Message) (now until : ℕ) (w : Queued) (bank_candidates : BankCandidates) (ahead : Ahead) → StandsFor c s channel steps mail → length steps ≡ now → now < until
-    → IsFit s channel steps mail inbox now until → w ≡ with_arrivals c.marked_queue (requests_of (take (due_count inbox now) inbox))
-    → bank_count bank_candidates ≡ bank_count c.bank_candidates → CandidatesStand bank_candidates w.queue.requests (issued_commands channel steps)
-    → IsAhead (choice_in s (issued_commands channel steps) w.queue) w.queue.requests c.cycle ahead
-    → IsInCycle (record c { marked_queue = w; bank_candidates = bank_candidates; ahead = ahead }) s channel steps (mail ++ take (due_count inbox now) inbox)
-arrived-stands c s channel steps mail inbox now until w bank_candidates ahead h at l f e count candidates_stand known =
+pub arrived-stands : (c : Channel) (s : Config) (channel : ℕ) (steps : List (Option Command)) (mail inbox : List Message) (now until : ℕ) (q : QueueView) (bank_candidates : BankCandidates) (ahead : Ahead) → StandsFor c s channel steps mail → length steps ≡ now → now < until
+    → IsFit s channel steps mail inbox now until → q ≡ with_arrivals c.queue (arriving inbox now)
+    → bank_count bank_candidates ≡ bank_count c.bank_candidates → CandidatesStand bank_candidates q.log (issued_commands channel steps)
+    → IsAhead s (issued_commands channel steps) q c.cycle ahead
+    → IsInCycle (record c { queue = q; bank_candidates = bank_candidates; ahead = ahead }) s channel steps (mail ++ take (due_count inbox now) inbox)
+arrived-stands c s channel steps mail inbox now until q bank_candidates ahead h at l f e count candidates_stand known =
+    let history = issued_commands channel steps in
     let new = take (due_count inbox now) inbox in
-    let requests = requests_of new in
+    let requests = arriving inbox now in
+    let older = waiting_requests c.queue.log in
     let j = joined _ _ _ _ s channel steps mail new h.recalls (fit-arrives s channel steps mail inbox now until at f) in
-    let drains : w.queue.drain_decided ≡ drains_with s c.marked_queue.queue.drain_decided (count_by (λ r. r.write) (c.marked_queue.queue.requests ++ requests)) =
-    ap (λ (x : Queued). x.queue.drain_decided) e
-    ∙ ap₂ (λ high low. drains_by high low c.marked_queue.queue.drain_decided (write_count (c.marked_queue.queue.requests ++ requests))) h.made_for.high_is h.made_for.low_is in
+    let wait : waiting_requests q.log ≡ older ++ requests = ap (λ (x : QueueView). waiting_requests x.log) e ∙ waiting-with c.queue.log requests in
+    let drains : q.drain_decided ≡ drains_with s c.queue.drain_decided (count_by (λ r. r.write) (older ++ requests)) =
+    ap (λ (x : QueueView). x.drain_decided) e
+    ∙ ap (λ rs. drains_by c.queue.high c.queue.low c.queue.drain_decided (write_count rs)) (waiting-with c.queue.log requests)
+    ∙ ap₂ (λ high low. drains_by high low c.queue.drain_decided (write_count (older ++ requests))) h.made_for.high_is h.made_for.low_is in
     let room = arrivals-room c s channel steps mail inbox now until h at l f in
-    let same : length w.queue.requests ≡ length (c.marked_queue.queue.requests ++ requests) = ap (λ (x : Queued). length x.queue.requests) e in
+    let same : length (waiting_requests q.log) ≡ length (older ++ requests) = ap length wait in
     record {
       made_for = record {
         config_is = h.made_for.config_is;
         number_is = h.made_for.number_is;
-        high_is = ap (λ (x : Queued). x.queue.high) e ∙ h.made_for.high_is;
-        low_is = ap (λ (x : Queued). x.queue.low) e ∙ h.made_for.low_is;
-        room_is = ap (λ (x : Queued). x.queue.room) e ∙ h.made_for.room_is;
+        high_is = ap (λ (x : QueueView). x.high) e ∙ h.made_for.high_is;
+        low_is = ap (λ (x : QueueView). x.low) e ∙ h.made_for.low_is;
+        room_is = ap (λ (x : QueueView). x.room) e ∙ h.made_for.room_is;
         banks_are = count ∙ h.made_for.banks_are;
+        in_banks = arrived-places c s channel steps mail inbox now until q h at f e;
         within = omega arith;
         longest = h.made_for.longest;
       };
@@ -96,61 +133,40 @@ arrived-stands c s channel steps mail inbox now until w bank_candidates ahead h 
         requests = j.requests;
         arrived = j.arrived;
         differ = j.differ;
-        queue_is = ap (λ (x : Queued). x.queue.requests) e ∙ j.queue_is;
+        queue_is = wait ∙ j.queue_is;
         drained_is = drains ∙ j.drained_is;
-        marks_are = ap (λ (x : Queued). x.marks) e ∙ j.marks_are ∙ ap (marks_of (issued_commands channel steps)) (sym (ap (λ (x : Queued). x.queue.requests) e));
+        marks_are = ap (λ (x : QueueView). marks_in x.log) e ∙ marks-with c.queue.log requests ∙ j.marks_are ∙ ap (marks_of history) (sym wait);
         stats_are = j.stats_are;
       };
       candidates_stand = candidates_stand;
       banks_stand = h.banks_stand;
       refreshes_stand = h.refreshes_stand;
-      foresees = foreseen-from (choice_in s (issued_commands channel steps) w.queue) w.queue.requests c.cycle ahead known;
-      keeps_served = kept-later c.served (issued_commands channel steps) mail new h.keeps_served;
+      foresees = foreseen-from s history q c.cycle ahead known;
+      keeps_served = kept-later c.served history mail new h.keeps_served;
     }
 
 -- there is room for them
 pub admit-room : (c : Channel) (s : Config) (channel : ℕ) (steps : List (Option Command)) (mail inbox : List Message) (now until n : ℕ) → StandsFor c s channel steps mail → length steps ≡ now → now < until
-    → IsFit s channel steps mail inbox now until → n ≡ due_count inbox now → length c.marked_queue.queue.requests + length (take n inbox) ≤ c.marked_queue.queue.room
+    → IsFit s channel steps mail inbox now until → n ≡ due_count inbox now → length (waiting_requests c.queue.log) + n ≤ c.queue.room
 admit-room c s channel steps mail inbox now until n h at l f e =
     let new = take (due_count inbox now) inbox in
-    let same : length (take n inbox) ≡ length new = ap (λ k. length (take k inbox)) e in
     let each : length (requests_of new) ≡ length new = length-requests s channel new (fit-arrives s channel steps mail inbox now until at f).requests in
-    let room : c.marked_queue.queue.room ≡ queue_room s = h.made_for.room_is in
-    omega (arith, arrivals-room c s channel steps mail inbox now until h at l f, length-append c.marked_queue.queue.requests (requests_of new))
-
--- the same, for as many messages as arrive
-pub arrived-in_cycle : (c : Channel) (s : Config) (channel : ℕ) (steps : List (Option Command)) (mail inbox : List Message) (now until n : ℕ) (w : Queued) (bank_candidates : BankCandidates) (ahead : Ahead) → StandsFor c s channel steps mail → length steps ≡ now → now < until
-    → IsFit s channel steps mail inbox now until → n ≡ due_count inbox now → w ≡ with_arrivals c.marked_queue (requests_of (take n inbox))
-    → bank_count bank_candidates ≡ bank_count c.bank_candidates → CandidatesStand bank_candidates w.queue.requests (issued_commands channel steps)
-    → IsAhead (choice_in s (issued_commands channel steps) w.queue) w.queue.requests c.cycle ahead
-    → IsInCycle (record c { marked_queue = w; bank_candidates = bank_candidates; ahead = ahead }) s channel steps (mail ++ take n inbox)
-arrived-in_cycle c s channel steps mail inbox now until n w bank_candidates ahead h at l f e x count candidates_stand known =
-    subst (λ k. IsInCycle (record c { marked_queue = w; bank_candidates = bank_candidates; ahead = ahead }) s channel steps (mail ++ take k inbox)) (sym e)
-    (arrived-stands c s channel steps mail inbox now until w bank_candidates ahead h at l f (x ∙ ap (λ k. with_arrivals c.marked_queue (requests_of (take k inbox))) e) count candidates_stand known)
-
--- the requests that are there then ask for banks that there are
-pub arrived-places : (c : Channel) (s : Config) (channel : ℕ) (steps : List (Option Command)) (mail inbox : List Message) (now until n ranks : ℕ) (w : Queued) → StandsFor c s channel steps mail → length steps ≡ now → now < until
-    → IsFit s channel steps mail inbox now until → n ≡ due_count inbox now → w ≡ with_arrivals c.marked_queue (requests_of (take n inbox)) → ranks ≡ s.ranks → All (IsInBanks ranks) w.queue.requests
-arrived-places c s channel steps mail inbox now until n ranks w h at l f e x ranks_are =
-    let new = take (due_count inbox now) inbox in
-    let j = joined _ _ _ _ s channel steps mail new h.recalls (fit-arrives s channel steps mail inbox now until at f) in
-    let is = x ∙ ap (λ k. with_arrivals c.marked_queue (requests_of (take k inbox))) e in
-    queue-in_banks s channel ranks (issued_commands channel steps) (mail ++ new) (length steps + 1) w.queue.requests ranks_are j.requests (ap (λ (z : Queued). z.queue.requests) is ∙ j.queue_is)
-
--- the banks that they ask for have candidates
-pub arrived-in_banks : (c : Channel) (s : Config) (channel : ℕ) (steps : List (Option Command)) (mail inbox : List Message) (now until n : ℕ) (w : Queued) → StandsFor c s channel steps mail → length steps ≡ now → now < until
-    → IsFit s channel steps mail inbox now until → n ≡ due_count inbox now → w ≡ with_arrivals c.marked_queue (requests_of (take n inbox))
-    → All (λ r. bank_number r.place < bank_count c.bank_candidates) w.queue.requests
-arrived-in_banks c s channel steps mail inbox now until n w h at l f e x =
-    below-count s.ranks (bank_count c.bank_candidates) w.queue.requests h.made_for.banks_are (arrived-places c s channel steps mail inbox now until n s.ranks w h at l f e x refl)
+    let room : c.queue.room ≡ queue_room s = h.made_for.room_is in
+    let many : length new ≡ due_count inbox now = length-prefix_len (λ (m : Message). eqb m.arrival now) inbox in
+    omega (arith, arrivals-room c s channel steps mail inbox now until h at l f, length-append (waiting_requests c.queue.log) (requests_of new))
 
 -- the requests that were there before
-pub requests-before : (c : Channel) (new : List Message) (n : ℕ) (w : Queued) → n ≡ length c.marked_queue.queue.requests → w ≡ with_arrivals c.marked_queue (requests_of new)
-    → c.marked_queue.queue.requests ≡ take n w.queue.requests
-requests-before c new n w e x = sym (ap (λ (z : Queued). take n z.queue.requests) x ∙ take_at c.marked_queue.queue.requests (requests_of new) n (sym e))
+pub log-before : (c : Channel) (new : List Request) (n : ℕ) (q : QueueView) → n ≡ length c.queue.log → q ≡ with_arrivals c.queue new → c.queue.log ≡ take n q.log
+log-before c new n q e x = sym (ap (λ (z : QueueView). take n z.log) x ∙ take_at c.queue.log (map arrived_now new) n (sym e))
 
--- candidates of the requests that were there before
-pub bank_candidates-before : (c : Channel) (s : Config) (channel : ℕ) (steps : List (Option Command)) (mail new : List Message) (n : ℕ) (w : Queued) → StandsFor c s channel steps mail
-    → n ≡ length c.marked_queue.queue.requests → w ≡ with_arrivals c.marked_queue (requests_of new) → CandidatesStand c.bank_candidates (take n w.queue.requests) (issued_commands channel steps)
-bank_candidates-before c s channel steps mail new n w h e x =
-    subst (λ rs. CandidatesStand c.bank_candidates rs (issued_commands channel steps)) (requests-before c new n w e x) h.candidates_stand
+-- each of the others waits
+pub log-after : (c : Channel) (new : List Request) (n : ℕ) (q : QueueView) → n ≡ length c.queue.log → q ≡ with_arrivals c.queue new → All (λ (a : Arrived). a.waits ≡ true) (drop n q.log)
+log-after c new n q e x = subst (λ (z : QueueView). All (λ (a : Arrived). a.waits ≡ true) (drop n z.log)) (sym x) (subst (λ k. All (λ (a : Arrived). a.waits ≡ true) (drop k (c.queue.log ++ map arrived_now new))) (sym e) (arrived-wait c.queue.log new))
+
+-- what is known of the next command was for one of those that were there before
+pub ahead-for : (s : Config) (history : List IssuedCommand) (n ranks : ℕ) (earlier queue : QueueView) (from : ℕ) (ahead : Ahead) → ranks ≡ s.ranks → earlier.log ≡ take n queue.log
+    → IsAhead s history earlier from ahead → IsAheadFor ranks queue.log ahead
+ahead-for s history n ranks earlier queue from Unknown e is h = tt
+ahead-for s history n ranks earlier queue from (Known None) e is h = tt
+ahead-for s history n ranks earlier queue from (Known (Some next)) e is h =
+    taken-for n ranks queue.log earlier.log next.1 is (subst (λ k. IsFor k earlier.log next.1) (sym e) h.place)

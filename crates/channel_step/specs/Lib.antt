@@ -5,4 +5,5 @@ pub mod Queued
 pub mod Owed
 pub mod Counted
 pub mod Channels
+pub mod Readied
 pub mod Runs

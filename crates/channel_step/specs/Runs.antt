@@ -2,6 +2,7 @@
 --     issued_in channel now o      the command of a cycle as a list of steps
 --     first_arrival inbox until      when the first of these messages arrives
 --     with_more kept more      what a list holds with more behind it, if one is kept
+--     HasIssued c s channel steps mail command commands commands_then messages messages_then      what a command leaves that is issued
 --     HasRun c s channel steps mail inbox from now until arrived commands messages      what the cycles so far leave
 --     HasAdvanced c s channel steps mail inbox now then until arrived commands commands_then messages messages_then      what one step of the loop leaves
 --     IsDone c s channel steps mail inbox from until commands commands_then messages messages_then      what all cycles of a span leave
@@ -11,7 +12,7 @@
 use Rattle.std.specs.Prelude.{◌≡◌, ℕ, ◌-◌, ◌<◌, ◌≤◌, List, [], ◌∷◌, ◌++◌, length, take, drop, Option, Some, None}
 use Rattle.std.specs.List.{cons_option}
 use Rattle.sim_base.specs.declared.config.Config.{Config}
-use Rattle.sim_base.specs.History.{issued_at, issued_commands, channel_messages}
+use Rattle.sim_base.specs.History.{issued_at, issued_commands, messages_at, channel_messages}
 use Rattle.sim_base.specs.Machine.{channel_run}
 use Rattle.sim_base.specs.declared.command.Command.{Command}
 use Rattle.sim_base.specs.declared.command.IssuedCommand.{IssuedCommand}
@@ -33,6 +34,13 @@ with_more (Some rows) more = Some (rows ++ more)
 abbrev pub first_arrival : List Message → ℕ → ℕ
 first_arrival [] until = until
 first_arrival (m ∷ ms) until = m.arrival
+
+-- A channel has issued a command in the cycle after these steps: the command, where commands are kept, and what is sent for it were put
+-- behind what two lists held.
+pub record HasIssued (c : Channel) (s : Config) (channel : ℕ) (steps : List (Option Command)) (mail : List Message) (command : Command) (commands commands_then : Option (List IssuedCommand)) (messages messages_then : List Message) : Type 0 where
+  pub stands : StandsFor c s channel (steps ++ Some command ∷ []) mail
+  pub commands_are : commands_then ≡ with_more commands (issued_in channel (length steps) (Some command))
+  pub messages_are : messages_then ≡ messages ++ messages_at s channel (length steps) (Some command)
 
 -- After the cycles from one on and before another a channel stands for the steps of its run and for the messages that arrived in
 -- them; the others are fit for the rest of the span; and these commands and messages are those that were added.

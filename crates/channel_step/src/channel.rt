@@ -1,38 +1,45 @@
 //! A channel that is run alone over a span of cycles.
 
-ghost use Rattle.std.specs.Prelude.{◌≡◌, true, ℕ, ◌+◌, ◌-◌, ◌*◌, ◌<◌, ◌≤◌, ◌^◌, ◌==◌, take, take_while, ◌++◌, List, All, [], ◌∷◌, length, Option, Some, None, replicate, is_some, nat_le, IfSome, IfOk, OnOk};
+ghost use Rattle.std.specs.Prelude.{◌≡◌, true, false, ℕ, ◌+◌, ◌-◌, ◌*◌, ◌<◌, ◌≤◌, ◌^◌, ◌==◌, take, take_while, ◌++◌, List, All, [], ◌∷◌, length, Option, Some, None, replicate, is_some, nat_le, IfSome, IfOk, OnOk};
 ghost use Rattle.sim_base.specs.History.{issued_commands};
+ghost use Rattle.sim_base.specs.Places.{bank_in};
 ghost use Rattle.sim_base.specs.Rules.{open_row};
-ghost use Rattle.sim_base.specs.Scheduling.{choice, due, queued_requests};
+ghost use Rattle.sim_base.specs.Scheduling.{choice, due, queued_requests, source_of, column_command, needed_at, needed, refresh_command};
 ghost use Rattle.sim_base.specs.declared.config.Config.{Config};
 ghost use Rattle.sim_base.specs.declared.command.Command.{Command};
+ghost use Rattle.sim_base.specs.declared.command.Command.TheVariants.{Pre};
 ghost use Rattle.sim_base.specs.declared.command.IssuedCommand.{IssuedCommand};
 ghost use Rattle.sim_base.specs.declared.message.Message.{Message};
-ghost use Rattle.sim_base.specs.declared.message.Request.{Request};
 ghost use Rattle.refresh.specs.Refreshes.{lowest_owed};
 ghost use Rattle.bank_ready.specs.Stands.{rank_count, StandsFor as BanksStandFor};
 ghost use Rattle.bank_candidates.specs.Stands.{bank_count};
+ghost use Rattle.request_log.specs.Log.{waiting, waiting_requests, all_requests};
 ghost use Rattle.queue.specs.View.{QueueView, is_draining};
-ghost use Rattle.fr_fcfs.specs.Choices.{IsFor, StandFor, choice_in};
+ghost use Rattle.fr_fcfs.specs.Choices.{IsFor, StandFor, choice_in, command_of};
+ghost use Rattle.fr_fcfs.specs.declared.choice.Choice.TheVariants as chosen;
 ghost use Rattle.fr_fcfs.specs.Requests.{IsInBanks};
 ghost use Rattle.fr_fcfs.specs.Cycles.{IsFirstCycle};
 ghost use Rattle.statistics.specs.Channels.{channel_stats, channel_joined, ChannelFits};
 ghost use Rattle.channel_step.specs.Counted.{cycle_with_hit};
+ghost use Rattle.channel_step.specs.Queued.{request_at};
 ghost use Rattle.channel_step.specs.declared.ahead.Ahead.TheVariants.{Unknown, Known};
-ghost use Rattle.channel_step.specs.Channels.{CandidatesStand, KeepsServed, StandsFor, IsAhead, IsFound, HasRank, HasBank, IsInCycle, IsInSomeCycle, IsChosen, IsNextBefore, CountsDrains, seen_of, passed};
+ghost use Rattle.channel_step.specs.Channels.{CandidatesStand, KeepsServed, StandsFor, IsAhead, IsAheadFor, IsFound, HasRank, HasBank, IsInCycle, IsInSomeCycle, IsNextBefore, CountsDrains, seen_of, passed};
+ghost use Rattle.channel_step.specs.Readied.{IsChosen, IsDoing, IsReadied, IsReady, seen_after};
 ghost use Rattle.channel_step.specs.Fit.{queue_room, IsFit};
-ghost use Rattle.channel_step.specs.Runs.{CanStep, CanRun, HasAdvanced, IsDone, StandsAt, first_arrival};
+ghost use Rattle.channel_step.specs.Runs.{CanStep, CanRun, HasIssued, HasAdvanced, IsDone, StandsAt, first_arrival, issued_in, with_more};
 
 use crate::ahead::Ahead;
+use crate::arriving::admit;
 use crate::counting::{Seen, drained};
-use crate::marked_queue::MarkedQueue;
-use crate::noting::{keep_served, likely_places, note_candidates, note_refresh};
-use crate::sending::issue;
+use crate::noting::{keep_served, note_refresh};
+use crate::sending::{keep, send};
 use bank_candidates::BankCandidates;
 use bank_ready::banks::Banks;
 use command_table::list::CommandList;
 use fr_fcfs::arrivals::stays;
 use fr_fcfs::choice::{Choice, next};
+use fr_fcfs::needs::refresh_command;
+use queue::Queue;
 use refresh::Refresh;
 use served_requests::ServedRequest;
 use sim_base::command::Command;
@@ -49,7 +56,7 @@ pub struct Channel {
     number: ChannelId,
     /// The cycle that it stands at: this many are over.
     cycle: Cycle,
-    marked_queue: MarkedQueue,
+    queue: Queue,
     banks: Banks,
     refresh: Refresh,
     stats: ChannelStats,
@@ -79,7 +86,7 @@ impl Channel {
             config: config.copy(alloc)?,
             number,
             cycle: 0,
-            marked_queue: MarkedQueue::with_room(alloc, room, config.write_high, config.write_low)?,
+            queue: Queue::with_room(alloc, room, config.write_high, config.write_low)?,
             banks: Banks::new(alloc, config)?,
             refresh: Refresh::new(config.timing.n_refi, config.ranks),
             stats,
@@ -114,11 +121,19 @@ impl Channel {
     }
 
     /// The requests that wait, by age.
-    pub fn requests(&self) -> &[Request]
+    pub fn requests(&self, alloc: Global) -> Result<Vec<Request>, AllocError>
         ensures { (s : Config) (channel : ℕ) (steps : List (Option Command)) (mail : List Message)
-            → StandsFor self.now s channel steps mail → result.now ≡ queued_requests (issued_commands channel steps) mail (length steps) }
+            → StandsFor self.now s channel steps mail → IfOk result (λ requests. requests.items ≡ queued_requests (issued_commands channel steps) mail (length steps)) }
     {
-        self.marked_queue.queue().requests()
+        self.queue.waiting(alloc)
+    }
+
+    /// How many requests wait.
+    pub fn waiting(&self) -> usize
+        ensures { (s : Config) (channel : ℕ) (steps : List (Option Command)) (mail : List Message)
+            → StandsFor self.now s channel steps mail → result ≡ length (queued_requests (issued_commands channel steps) mail (length steps)) }
+    {
+        self.queue.len()
     }
 
     /// The cycle where the channel stands: how many cycles are over.
@@ -166,18 +181,18 @@ impl Channel {
     /// only if it is not known yet.
     #[inline(always)]
     fn find(&self, now: Cycle) -> Option<(Cycle, Choice)>
-        requires places { All (IsInBanks (rank_count self.now.banks)) self.now.marked_queue.queue.requests }
+        requires places { All (IsInBanks (rank_count self.now.banks)) (all_requests self.now.queue.log) }
         requires banks { bank_count self.now.bank_candidates ≡ 16 * rank_count self.now.banks }
         requires ranks { self.now.refresh.ranks ≤ rank_count self.now.banks }
         requires groups { self.now.config.groups ≤ 4 }
-        ensures { (s : Config) (history : List IssuedCommand) → StandFor self.now.bank_candidates self.now.banks self.now.refresh self.now.marked_queue.queue self.now.config.groups s history
-            → IsAhead (choice_in s history self.now.marked_queue.queue) self.now.marked_queue.queue.requests self.now.cycle self.now.ahead → self.now.cycle ≤ now → IsFound self.now s history now result }
+        ensures { (s : Config) (history : List IssuedCommand) → StandFor self.now.bank_candidates self.now.banks self.now.refresh self.now.queue self.now.config.groups s history
+            → IsAhead s history self.now.queue self.now.cycle self.now.ahead → self.now.cycle ≤ now → IsFound self.now s history now result }
     {
         match self.ahead {
             Ahead::Known(None) => None,
             Ahead::Known(Some((cycle, choice))) if now <= cycle => Some((cycle, choice)),
             _ => next(
-                self.marked_queue.queue(),
+                &self.queue,
                 &self.bank_candidates,
                 &self.banks,
                 &self.refresh,
@@ -190,8 +205,8 @@ impl Channel {
     /// Whether it is known that the channel issues nothing before a cycle, if nothing arrives.
     #[inline(always)]
     fn waits_until(&self, end: Cycle) -> bool
-        ensures { (commands : ℕ → Option Command) (requests : List Request) (from : ℕ) → result ≡ true → IsAhead commands requests from self.now.ahead
-            → (t : ℕ) → from ≤ t → t < end → commands t ≡ None }
+        ensures { (s : Config) (history : List IssuedCommand) (queue : QueueView) (from : ℕ) → result ≡ true → IsAhead s history queue from self.now.ahead
+            → (t : ℕ) → from ≤ t → t < end → choice_in s history queue t ≡ None }
     {
         match self.ahead {
             Ahead::Known(found) => is_none_before(found, end),
@@ -203,12 +218,11 @@ impl Channel {
     /// what was found is kept.
     fn look(&mut self, now: Cycle, end: Cycle) -> Option<(Cycle, Choice)>
         requires { IsInSomeCycle self.old now }
-        ensures same_queue { self.new.marked_queue ≡ self.old.marked_queue }
+        ensures same_queue { self.new.queue ≡ self.old.queue }
         ensures in_cycle { (s : Config) (channel : ℕ) (steps : List (Option Command)) (mail : List Message)
             → IsInCycle self.old s channel steps mail → IsInCycle self.new s channel steps mail }
         ensures next { (s : Config) (channel : ℕ) (steps : List (Option Command)) (mail : List Message)
-            → IsInCycle self.old s channel steps mail → length steps ≡ now → IsNextBefore s channel steps mail end result }
-        ensures place { IfSome result (λ next. IsFor self.old.marked_queue.queue.requests next.1) }
+            → IsInCycle self.old s channel steps mail → length steps ≡ now → IsNextBefore s channel steps mail self.old.queue.log end result }
     {
         if self.waits_until(end) {
             return None;
@@ -225,22 +239,23 @@ impl Channel {
 
     /// What is seen of the channel before it issues a command, where it is known whether a refresh is due.
     fn seen(&self, refreshing: bool) -> Seen
-        ensures { result ≡ record { queued = length self.now.marked_queue.queue.requests; refreshing = refreshing; draining = is_draining self.now.marked_queue.queue } }
+        ensures { result ≡ record { queued = length (waiting_requests self.now.queue.log); refreshing = refreshing; draining = is_draining self.now.queue } }
     {
         Seen {
-            queued: self.marked_queue.queue().len(),
+            queued: self.queue.len(),
             refreshing,
-            draining: self.marked_queue.queue().draining(),
+            draining: self.queue.draining(),
         }
     }
 
     /// Counts a cycle in which a command is issued, which may move data of a row hit. The cycle is then over, and what comes next
     /// is not known.
-    fn count(&mut self, seen: Seen, command: &Command, hit: bool)
+    #[inline(always)]
+    fn count(&mut self, seen: Seen, command: Command, hit: bool)
         requires cycle { self.old.cycle < 2 ^ 62 }
         requires drains { CountsDrains self.old }
-        requires fits { ChannelFits (channel_joined self.old.stats (cycle_with_hit self.old.config seen.queued seen.refreshing seen.draining (Some command.now) hit)) }
-        ensures { self.new ≡ record self.old { cycle = self.old.cycle + 1; ahead = Unknown; stats = channel_joined self.old.stats (cycle_with_hit self.old.config seen.queued seen.refreshing seen.draining (Some command.now) hit) } }
+        requires fits { ChannelFits (channel_joined self.old.stats (cycle_with_hit self.old.config seen.queued seen.refreshing seen.draining (Some command) hit)) }
+        ensures { self.new ≡ record self.old { cycle = self.old.cycle + 1; ahead = Unknown; stats = channel_joined self.old.stats (cycle_with_hit self.old.config seen.queued seen.refreshing seen.draining (Some command) hit) } }
     {
         self.ahead = Ahead::Unknown;
         let stats = &mut self.stats;
@@ -297,7 +312,7 @@ impl Channel {
         ensures { (s : Config) (channel : ℕ) (steps : List (Option Command)) (mail : List Message)
             → StandsFor self.old s channel steps mail → IsInCycle self.new s channel steps mail }
     {
-        self.marked_queue.decide_drain();
+        self.queue.decide_drain();
     }
 
     /// Counts the cycles from this one on and before `until`, at most 2^62, in which nothing is issued, and nothing arrives except in
@@ -307,7 +322,7 @@ impl Channel {
         requires in_cycle { IsInSomeCycle self.old self.old.cycle }
         requires span { self.old.cycle ≤ until }
         requires until { until ≤ 2 ^ 62 }
-        ensures same_queue { self.new.marked_queue ≡ self.old.marked_queue }
+        ensures same_queue { self.new.queue ≡ self.old.queue }
         ensures in_cycle { (s : Config) (channel : ℕ) (steps : List (Option Command)) (mail : List Message)
             → IsInCycle self.old s channel steps mail → IsInCycle self.new s channel (steps ++ replicate (until - length steps) None) mail }
     {
@@ -323,49 +338,214 @@ impl Channel {
         }
     }
 
-    /// Does what was chosen for a cycle, and counts the cycle. On an error some of it may not be done.
-    fn perform(&mut self, chosen: &Choice, seen: Seen, now: Cycle) -> Result<(), AllocError>
-        requires chosen { IsChosen self.old now chosen.now.command }
-        requires now { now < 2 ^ 62 }
-        requires slot { IsFor self.old.marked_queue.queue.requests chosen.now }
-        requires seen { seen ≡ seen_of self.old now }
-        ensures { (s : Config) (channel : ℕ) (steps : List (Option Command)) (mail : List Message)
-            → IsInCycle self.old s channel steps mail → length steps ≡ now → Some chosen.now.command ≡ choice s channel steps mail
-            → OnOk result (StandsFor self.new s channel (steps ++ Some chosen.now.command ∷ []) mail) }
+    /// Takes note of a command for which the channel is readied, and counts the cycle. It is added to the commands, where they are kept.
+    #[inline(always)]
+    fn issue(
+        &mut self,
+        command: Command,
+        hit: bool,
+        seen: Seen,
+        commands: &mut Option<CommandList>,
+    ) -> Result<(), AllocError>
+        requires ready { IsReady self.old command hit seen }
+        requires early { self.old.cycle < 2 ^ 62 }
+        ensures stands { (s : Config) (channel : ℕ) (steps : List (Option Command)) (mail : List Message)
+            → IsReadied self.old s channel steps mail command hit → seen ≡ seen_after s channel steps mail → StandsFor self.new s channel (steps ++ Some command ∷ []) mail }
+        ensures commands { IfOk result (λ u. commands.new ≡ with_more commands.old (issued_in self.old.number self.old.cycle (Some command))) }
     {
-        let likely = likely_places(&self.bank_candidates, chosen.command);
-        let taken = self.marked_queue.take(chosen, likely);
-        keep_served(&mut self.served, self.number, taken, now)?;
-        note_candidates(
-            &mut self.bank_candidates,
-            self.marked_queue.queue(),
-            chosen,
-            taken.served,
-        );
-        self.banks.note(chosen.command, now);
-        note_refresh(&mut self.refresh, chosen.command, now);
-        self.count(seen, &chosen.command, taken.hit);
-        Ok(())
+        let now = self.cycle;
+        self.banks.note(command, now);
+        note_refresh(&mut self.refresh, command, now);
+        self.count(seen, command, hit);
+        keep(self.number, now, command, commands)
+    }
+
+    /// Readies the channel for what a rank needs that is to be refreshed: a PREA, where a row is open in it, and else its REF.
+    #[inline(always)]
+    fn ready_rank(&mut self, rank: u32) -> Command
+        requires { IsChosen self.old (chosen.Refresh rank) }
+        ensures command { (s : Config) (channel : ℕ) (steps : List (Option Command)) (mail : List Message)
+            → IsInCycle self.old s channel steps mail → result ≡ refresh_command s (issued_commands channel steps) rank }
+        ensures readied { (s : Config) (channel : ℕ) (steps : List (Option Command)) (mail : List Message)
+            → IsInCycle self.old s channel steps mail → Some result ≡ choice s channel steps mail → IsReadied self.new s channel steps mail result false }
+    {
+        let command = refresh_command(&self.bank_candidates, rank, self.config.groups);
+        if let Command::Prea { rank } = command {
+            self.bank_candidates.closed_rank(rank);
+        }
+        command
+    }
+
+    /// Issues what a rank needs that is to be refreshed.
+    #[inline(never)]
+    fn refresh_rank(
+        &mut self,
+        rank: u32,
+        commands: &mut Option<CommandList>,
+    ) -> Result<(), AllocError>
+        requires chosen { IsChosen self.old (chosen.Refresh rank) }
+        requires early { self.old.cycle < 2 ^ 62 }
+        ensures { (s : Config) (channel : ℕ) (steps : List (Option Command)) (mail : List Message) (messages : List Message)
+            → IsInCycle self.old s channel steps mail → Some (refresh_command s (issued_commands channel steps) rank) ≡ choice s channel steps mail
+            → OnOk result (HasIssued self.new s channel steps mail (refresh_command s (issued_commands channel steps) rank) commands.old commands.new messages messages) }
+    {
+        let seen = self.seen(self.refreshing());
+        let command = self.ready_rank(rank);
+        self.issue(command, false, seen, commands)
+    }
+
+    /// Readies the channel for the ACT that the request at a place needs, in whose bank no row is open.
+    #[inline(always)]
+    fn open_bank(&mut self, slot: usize) -> Command
+        requires { IsDoing self.old slot (needed_at None (request_at self.old.queue.log slot)) }
+        ensures command { result ≡ needed_at None (request_at self.old.queue.log slot) }
+        ensures readied { (s : Config) (channel : ℕ) (steps : List (Option Command)) (mail : List Message)
+            → IsInCycle self.old s channel steps mail → Some result ≡ choice s channel steps mail → IsReadied self.new s channel steps mail result false }
+    {
+        let request = self.queue.log().log()[slot].request;
+        let bank = request.place.bank_id();
+        let row = request.place.row;
+        self.queue.activate(slot);
+        self.bank_candidates.opened(bank, row, self.queue.log());
+        Command::Act {
+            bank,
+            row,
+            source: request.source(),
+        }
+    }
+
+    /// Readies the channel for the PRE that the request at a place needs, in whose bank another row is open.
+    #[inline(always)]
+    fn close_bank(&mut self, slot: usize) -> Command
+        requires { IsDoing self.old slot (Pre (bank_in (request_at self.old.queue.log slot).place) (source_of (request_at self.old.queue.log slot))) }
+        ensures command { result ≡ Pre (bank_in (request_at self.old.queue.log slot).place) (source_of (request_at self.old.queue.log slot)) }
+        ensures readied { (s : Config) (channel : ℕ) (steps : List (Option Command)) (mail : List Message)
+            → IsInCycle self.old s channel steps mail → Some result ≡ choice s channel steps mail → IsReadied self.new s channel steps mail result false }
+    {
+        let request = self.queue.log().log()[slot].request;
+        let bank = request.place.bank_id();
+        self.bank_candidates.closed(bank);
+        Command::Pre {
+            bank,
+            source: request.source(),
+        }
+    }
+
+    /// Readies the channel for the RD or WR of the request at a place, which no longer waits then, and tells whether it is a row hit. On
+    /// an error the request is not added to those that are kept.
+    #[inline(always)]
+    fn serve(&mut self, slot: usize) -> Result<bool, AllocError>
+        requires { IsDoing self.old slot (column_command (request_at self.old.queue.log slot)) }
+        ensures { (s : Config) (channel : ℕ) (steps : List (Option Command)) (mail : List Message)
+            → IsInCycle self.old s channel steps mail → Some (column_command (request_at self.old.queue.log slot)) ≡ choice s channel steps mail
+            → IfOk result (λ hit. IsReadied self.new s channel steps mail (column_command (request_at self.old.queue.log slot)) hit) }
+    {
+        let unblocked = self.queue.serve(slot);
+        self.bank_candidates
+            .on_service(slot, unblocked, self.queue.log());
+        let served = &self.queue.log().log()[slot];
+        let hit = !served.activated;
+        keep_served(
+            &mut self.served,
+            self.number,
+            &served.request,
+            hit,
+            self.cycle,
+        )?;
+        Ok(hit)
+    }
+
+    /// Moves the data of the request at a place, and sends what follows from it.
+    #[inline(always)]
+    fn move_data(
+        &mut self,
+        slot: usize,
+        seen: Seen,
+        commands: &mut Option<CommandList>,
+        messages: &mut Vec<Message>,
+    ) -> Result<(), AllocError>
+        requires doing { IsDoing self.old slot (column_command (request_at self.old.queue.log slot)) }
+        requires seen { seen ≡ seen_of self.old self.old.cycle }
+        requires early { self.old.cycle < 2 ^ 62 }
+        ensures { (s : Config) (channel : ℕ) (steps : List (Option Command)) (mail : List Message)
+            → IsInCycle self.old s channel steps mail → Some (column_command (request_at self.old.queue.log slot)) ≡ choice s channel steps mail
+            → OnOk result (HasIssued self.new s channel steps mail (column_command (request_at self.old.queue.log slot)) commands.old commands.new messages.old.items messages.new.items) }
+    {
+        let now = self.cycle;
+        let request = self.queue.log().log()[slot].request;
+        let hit = self.serve(slot)?;
+        self.issue(request.column_command(), hit, seen, commands)?;
+        send(&self.config, self.number, now, &request, messages)
+    }
+
+    /// Issues what the request at a place needs: an ACT where no row of its bank is open, a PRE where another one is, and else its RD or
+    /// WR. On an error some of it may not be done.
+    #[inline(always)]
+    fn issue_for(
+        &mut self,
+        slot: usize,
+        commands: &mut Option<CommandList>,
+        messages: &mut Vec<Message>,
+    ) -> Result<(), AllocError>
+        requires chosen { IsChosen self.old (chosen.Request slot) }
+        requires early { self.old.cycle < 2 ^ 62 }
+        ensures { (s : Config) (channel : ℕ) (steps : List (Option Command)) (mail : List Message)
+            → IsInCycle self.old s channel steps mail → Some (needed (issued_commands channel steps) (request_at self.old.queue.log slot)) ≡ choice s channel steps mail
+            → OnOk result (HasIssued self.new s channel steps mail (needed (issued_commands channel steps) (request_at self.old.queue.log slot)) commands.old commands.new messages.old.items messages.new.items) }
+    {
+        let seen = self.seen(self.refreshing());
+        let place = self.queue.log().log()[slot].request.place;
+        match self.bank_candidates.open_row(place.bank_id()) {
+            None => {
+                let command = self.open_bank(slot);
+                self.issue(command, false, seen, commands)
+            }
+            Some(row) if row != place.row => {
+                let command = self.close_bank(slot);
+                self.issue(command, false, seen, commands)
+            }
+            Some(_) => self.move_data(slot, seen, commands, messages),
+        }
+    }
+
+    /// Does what was chosen for this cycle, and counts the cycle. On an error some of it may not be done.
+    #[inline(always)]
+    fn perform(
+        &mut self,
+        found: Choice,
+        commands: &mut Option<CommandList>,
+        messages: &mut Vec<Message>,
+    ) -> Result<(), AllocError>
+        requires chosen { IsChosen self.old found }
+        requires early { self.old.cycle < 2 ^ 62 }
+        ensures { (s : Config) (channel : ℕ) (steps : List (Option Command)) (mail : List Message) (command : Command)
+            → IsInCycle self.old s channel steps mail → command_of s (issued_commands channel steps) self.old.queue.log found ≡ Some command → Some command ≡ choice s channel steps mail
+            → OnOk result (HasIssued self.new s channel steps mail command commands.old commands.new messages.old.items messages.new.items) }
+    {
+        match found {
+            Choice::Refresh(rank) => self.refresh_rank(rank, commands),
+            Choice::Request(slot) => self.issue_for(slot as usize, commands, messages),
+        }
     }
 
     /// Whether what was found is known to be still the next command, now that the requests from a place on have arrived.
     #[inline(always)]
     fn keeps_found(&self, found: Option<(Cycle, Choice)>, older: usize) -> bool
-        requires places { All (IsInBanks (rank_count self.now.banks)) self.now.marked_queue.queue.requests }
+        requires places { All (IsInBanks (rank_count self.now.banks)) (all_requests self.now.queue.log) }
         requires banks { bank_count self.now.bank_candidates ≡ 16 * rank_count self.now.banks }
+        requires found { IfSome found (λ n. IsFor (rank_count self.now.banks) self.now.queue.log n.1) }
         ensures { (s : Config) (history : List IssuedCommand) (earlier : QueueView) → result ≡ true → BanksStandFor self.now.banks s history
-            → CandidatesStand self.now.bank_candidates self.now.marked_queue.queue.requests history → s.write_high ≡ self.now.marked_queue.queue.high → earlier.requests ≡ take older self.now.marked_queue.queue.requests
-            → IsAhead (choice_in s history earlier) earlier.requests self.now.cycle (Known found)
-            → IsAhead (choice_in s history self.now.marked_queue.queue) self.now.marked_queue.queue.requests self.now.cycle (Known found) }
+            → CandidatesStand self.now.bank_candidates self.now.queue.log history → s.write_high ≡ self.now.queue.high → earlier.log ≡ take older self.now.queue.log
+            → IsAhead s history earlier self.now.cycle (Known found) → IsAhead s history self.now.queue self.now.cycle (Known found) }
     {
         match found {
             Some((cycle, choice)) => stays(
-                self.marked_queue.queue(),
+                &self.queue,
                 &self.bank_candidates,
                 &self.banks,
                 older,
                 cycle,
-                &choice,
+                choice,
             ),
             None => false,
         }
@@ -374,12 +554,12 @@ impl Channel {
     /// The same of what is known of the next command.
     #[inline(always)]
     fn keeps(&self, older: usize) -> bool
-        requires places { All (IsInBanks (rank_count self.now.banks)) self.now.marked_queue.queue.requests }
+        requires places { All (IsInBanks (rank_count self.now.banks)) (all_requests self.now.queue.log) }
         requires banks { bank_count self.now.bank_candidates ≡ 16 * rank_count self.now.banks }
+        requires ahead { IsAheadFor (rank_count self.now.banks) self.now.queue.log self.now.ahead }
         ensures { (s : Config) (history : List IssuedCommand) (earlier : QueueView) → result ≡ true → BanksStandFor self.now.banks s history
-            → CandidatesStand self.now.bank_candidates self.now.marked_queue.queue.requests history → s.write_high ≡ self.now.marked_queue.queue.high → earlier.requests ≡ take older self.now.marked_queue.queue.requests
-            → IsAhead (choice_in s history earlier) earlier.requests self.now.cycle self.now.ahead
-            → IsAhead (choice_in s history self.now.marked_queue.queue) self.now.marked_queue.queue.requests self.now.cycle self.now.ahead }
+            → CandidatesStand self.now.bank_candidates self.now.queue.log history → s.write_high ≡ self.now.queue.high → earlier.log ≡ take older self.now.queue.log
+            → IsAhead s history earlier self.now.cycle self.now.ahead → IsAhead s history self.now.queue self.now.cycle self.now.ahead }
     {
         match self.ahead {
             Ahead::Known(found) => self.keeps_found(found, older),
@@ -390,39 +570,65 @@ impl Channel {
     /// Forgets the command that was found, where one of the requests from a place on, which have arrived, may go before it.
     #[inline(always)]
     fn reconsider(&mut self, older: usize)
-        requires places { All (IsInBanks (rank_count self.old.banks)) self.old.marked_queue.queue.requests }
+        requires places { All (IsInBanks (rank_count self.old.banks)) (all_requests self.old.queue.log) }
         requires banks { bank_count self.old.bank_candidates ≡ 16 * rank_count self.old.banks }
+        requires ahead { IsAheadFor (rank_count self.old.banks) self.old.queue.log self.old.ahead }
         ensures rest { self.new ≡ record self.old { ahead = self.new.ahead } }
         ensures ahead { (s : Config) (history : List IssuedCommand) (earlier : QueueView) → BanksStandFor self.old.banks s history
-            → CandidatesStand self.old.bank_candidates self.old.marked_queue.queue.requests history → s.write_high ≡ self.old.marked_queue.queue.high → earlier.requests ≡ take older self.old.marked_queue.queue.requests
-            → IsAhead (choice_in s history earlier) earlier.requests self.old.cycle self.old.ahead
-            → IsAhead (choice_in s history self.old.marked_queue.queue) self.old.marked_queue.queue.requests self.old.cycle self.new.ahead }
+            → CandidatesStand self.old.bank_candidates self.old.queue.log history → s.write_high ≡ self.old.queue.high → earlier.log ≡ take older self.old.queue.log
+            → IsAhead s history earlier self.old.cycle self.old.ahead → IsAhead s history self.old.queue self.old.cycle self.new.ahead }
     {
         if !self.keeps(older) {
             self.ahead = Ahead::Unknown;
         }
     }
 
+    /// Looks for all candidates anew, since those that wait have moved to the front of the log, where none has its old place.
+    #[inline(never)]
+    fn renew(&mut self)
+        ensures stands { (c : Channel) → self.old ≡ record c { queue = record c.queue { log = waiting c.queue.log } }
+            → (s : Config) (channel : ℕ) (steps : List (Option Command)) (mail : List Message)
+            → StandsFor c s channel steps mail → StandsFor self.new s channel steps mail }
+        ensures queue { self.new.queue ≡ self.old.queue }
+    {
+        self.bank_candidates.renew(self.queue.log());
+        self.ahead = Ahead::Unknown;
+    }
+
+    /// Makes places for so many requests that arrive.
+    #[inline(always)]
+    fn make_room(&mut self, count: usize)
+        requires { length (waiting_requests self.old.queue.log) + count ≤ self.old.queue.room }
+        ensures places { length self.new.queue.log + count ≤ self.new.queue.places }
+        ensures room { length (waiting_requests self.new.queue.log) + count ≤ self.new.queue.room }
+        ensures stands { (s : Config) (channel : ℕ) (steps : List (Option Command)) (mail : List Message)
+            → StandsFor self.old s channel steps mail → StandsFor self.new s channel steps mail }
+    {
+        if self.queue.make_room(count) {
+            self.renew();
+        }
+    }
+
     /// Takes in those of these messages that arrive in a cycle, and decides whether the channel drains its writes in it. Returns
     /// how many they are.
-    fn arrive(&mut self, inbox: &[Message], now: Cycle) -> Result<usize, AllocError>
+    fn arrive(&mut self, inbox: &[Message], now: Cycle) -> usize
         requires { CanStep self.old inbox.now now }
-        ensures some { IfOk result (λ due. due ≡ length (take_while (λ m. m.arrival == now) inbox.now)) }
+        ensures some { result ≡ length (take_while (λ m. m.arrival == now) inbox.now) }
         ensures in_cycle { (s : Config) (channel : ℕ) (steps : List (Option Command)) (mail : List Message) (until : ℕ)
             → StandsFor self.old s channel steps mail → length steps ≡ now → now < until → IsFit s channel steps mail inbox.now now until
-            → IfOk result (λ due. IsInCycle self.new s channel steps (mail ++ take due inbox.now)) }
+            → IsInCycle self.new s channel steps (mail ++ take result inbox.now) }
     {
         let due = due_count(inbox, now);
         if due == 0 {
             self.decide_drain();
-            return Ok(0);
+            return 0;
         }
-        let older = self.marked_queue.queue().len();
-        self.marked_queue.admit(&inbox[..due])?;
-        self.bank_candidates
-            .on_arrival(older, &self.marked_queue.queue().columns());
+        self.make_room(due);
+        let older = self.queue.log().len();
+        admit(&mut self.queue, &inbox[..due]);
+        self.bank_candidates.on_arrival(older, self.queue.log());
         self.reconsider(older);
-        Ok(due)
+        due
     }
 
     /// Goes on from a cycle, where the channel stands, over the next one in which it issues a command, or over all before the next
@@ -448,21 +654,12 @@ impl Channel {
             → IfOk result (λ advance. HasAdvanced self.new s channel steps mail inbox.now now (advance.last + 1) until advance.arrived
             commands.old commands.new messages.old.items messages.new.items) }
     {
-        let arrived = self.arrive(inbox, now)?;
+        let arrived = self.arrive(inbox, now);
         let end = next_arrival(&inbox[arrived..], until);
         match self.look(now, end) {
-            Some((cycle, chosen)) => {
+            Some((cycle, choice)) => {
                 self.wait(cycle);
-                let seen = self.seen(self.refreshing());
-                self.perform(&chosen, seen, cycle)?;
-                issue(
-                    &self.config,
-                    self.number,
-                    cycle,
-                    &chosen.command,
-                    commands,
-                    messages,
-                )?;
+                self.perform(choice, commands, messages)?;
                 Ok(Advance {
                     arrived,
                     last: cycle,
@@ -475,6 +672,28 @@ impl Channel {
                     last: end - 1,
                 })
             }
+        }
+    }
+
+    /// Looks for the next command from a cycle on, where the channel stands, if nothing arrives.
+    #[inline(never)]
+    fn look_ahead(&mut self, from: Cycle)
+        requires { StandsAt self.old from }
+        ensures { (s : Config) (channel : ℕ) (steps : List (Option Command)) (mail : List Message)
+            → StandsFor self.old s channel steps mail → length steps ≡ from → StandsFor self.new s channel steps mail }
+    {
+        self.ahead = Ahead::Known(self.find(from));
+    }
+
+    /// Looks for the next command, where it is not known, so that whoever asks when the channel acts, or runs it on, need not look again.
+    #[inline(always)]
+    fn foresee(&mut self, from: Cycle)
+        requires { StandsAt self.old from }
+        ensures { (s : Config) (channel : ℕ) (steps : List (Option Command)) (mail : List Message)
+            → StandsFor self.old s channel steps mail → length steps ≡ from → StandsFor self.new s channel steps mail }
+    {
+        if let Ahead::Unknown = self.ahead {
+            self.look_ahead(from);
         }
     }
 
@@ -505,6 +724,7 @@ impl Channel {
             arrived += advance.arrived;
             now = advance.last + 1;
         }
+        self.foresee(until);
         Ok(())
     }
 }
@@ -529,8 +749,8 @@ fn banks_of(config: &Config) -> usize
 /// Whether what was found is issued in no cycle before a given one.
 #[inline(always)]
 fn is_none_before(found: Option<(Cycle, Choice)>, end: Cycle) -> bool
-    ensures { (commands : ℕ → Option Command) (requests : List Request) (from : ℕ) → result ≡ true → IsAhead commands requests from (Known found)
-        → (t : ℕ) → from ≤ t → t < end → commands t ≡ None }
+    ensures { (s : Config) (history : List IssuedCommand) (queue : QueueView) (from : ℕ) → result ≡ true → IsAhead s history queue from (Known found)
+        → (t : ℕ) → from ≤ t → t < end → choice_in s history queue t ≡ None }
 {
     match found {
         Some((cycle, _)) => end <= cycle,

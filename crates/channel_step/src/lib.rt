@@ -2,8 +2,8 @@
 #![tactic(auto)]
 
 mod ahead;
+mod arriving;
 pub mod channel;
 mod counting;
-mod marked_queue;
 mod noting;
 mod sending;

@@ -2,13 +2,14 @@
 
 ghost use Rattle.std.specs.Prelude.{◌≡◌, ◌<◌, ◌≤◌, ◌^◌, ◌++◌, IfOk, Some};
 ghost use Rattle.sim_base.specs.Config.{usual_latency, latency};
-ghost use Rattle.sim_base.specs.History.{reply, credit, messages_of, messages_at};
+ghost use Rattle.sim_base.specs.History.{reply, credit, messages_of};
+ghost use Rattle.sim_base.specs.Scheduling.{column_command};
 ghost use Rattle.channel_step.specs.Runs.{issued_in, with_more};
 
 use command_table::list::CommandList;
 use sim_base::command::{Command, IssuedCommand, Source};
 use sim_base::config::Config;
-use sim_base::message::{ChannelId, Cycle, LinkId, Load, Message};
+use sim_base::message::{ChannelId, Cycle, LinkId, Load, Message, Request};
 use std::alloc::AllocError;
 
 /// How long a message travels on a link, which is the usual time of its kind where no link has a latency of its own.
@@ -26,6 +27,7 @@ fn latency_of(config: &Config, link: LinkId, usual: u32) -> u32
     }
 }
 
+#[inline(always)]
 #[tactic(auto, unfolding(sim_base::specs::History::reply), using(crate::proofs::Links::usual_reply))]
 fn reply_to(config: &Config, channel: ChannelId, now: Cycle, source: Source) -> Message
     requires { now < 2 ^ 62 }
@@ -40,6 +42,7 @@ fn reply_to(config: &Config, channel: ChannelId, now: Cycle, source: Source) -> 
     }
 }
 
+#[inline(always)]
 #[tactic(auto, unfolding(sim_base::specs::History::credit), using(crate::proofs::Links::usual_credit))]
 fn credit_for(
     config: &Config,
@@ -62,51 +65,45 @@ fn credit_for(
     }
 }
 
-/// Sends what follows from a command that a channel issues in a cycle. On an error some of it may be missing.
+/// Sends what follows from the data of a request that a channel moves in a cycle. On an error some of it may be missing.
+#[inline(always)]
 #[tactic(auto, unfolding(sim_base::specs::History::messages_of))]
 pub(crate) fn send(
     config: &Config,
     channel: ChannelId,
     now: Cycle,
-    command: &Command,
+    request: &Request,
     messages: &mut Vec<Message>,
 ) -> Result<(), AllocError>
     requires { now < 2 ^ 62 }
-    ensures { IfOk result (λ u. messages.new.items ≡ messages.old.items ++ messages_of config.now channel now command.now) }
+    ensures { IfOk result (λ u. messages.new.items ≡ messages.old.items ++ messages_of config.now channel now (column_command request.now)) }
 {
-    match *command {
-        Command::Rd { source, .. } => {
-            messages.push(reply_to(config, channel, now, source))?;
-            messages.push(credit_for(config, channel, now, false, source))?;
-        }
-        Command::Wr { source, .. } => {
-            messages.push(credit_for(config, channel, now, true, source))?;
-        }
-        Command::Act { .. } | Command::Pre { .. } | Command::Prea { .. } | Command::Ref { .. } => {}
+    let source = request.source();
+    if request.write {
+        messages.push(credit_for(config, channel, now, true, source))?;
+    } else {
+        messages.push(reply_to(config, channel, now, source))?;
+        messages.push(credit_for(config, channel, now, false, source))?;
     }
     Ok(())
 }
 
-/// Adds a command that a channel issues in a cycle to its commands, where they are kept, and what it then sends to its messages. On an
-/// error some of it may be missing.
-pub(crate) fn issue(
-    config: &Config,
+/// Adds a command that a channel issues in a cycle to its commands, where they are kept. On an error it is not added.
+#[inline(always)]
+pub(crate) fn keep(
     channel: ChannelId,
     now: Cycle,
-    command: &Command,
+    command: Command,
     commands: &mut Option<CommandList>,
-    messages: &mut Vec<Message>,
 ) -> Result<(), AllocError>
-    requires { now < 2 ^ 62 }
-    ensures commands { IfOk result (λ u. commands.new ≡ with_more commands.old (issued_in channel now (Some command.now))) }
-    ensures messages { IfOk result (λ u. messages.new.items ≡ messages.old.items ++ messages_at config.now channel now (Some command.now)) }
+    ensures { IfOk result (λ u. commands.new ≡ with_more commands.old (issued_in channel now (Some command))) }
 {
     if let Some(list) = commands {
         list.push(IssuedCommand {
             cycle: now,
             channel,
-            command: *command,
+            command,
         })?;
     }
-    send(config, channel, now, command, messages)
+    Ok(())
 }

@@ -32,5 +32,5 @@ operands_in (REF rank) = record { bank = record { rank = rank; group = 0; bank =
 abbrev pub IsUsual : IssuedCommand → Type 0
 IsUsual row =
     let operands = operands_in row.command in
-    (row.channel < 2 ^ 8) × (operands.bank.rank < 2 ^ 8) × (operands.bank.group < 2 ^ 8) × (operands.bank.bank < 2 ^ 8)
-    × (operands.source.core < 2 ^ 8) × (operands.source.entry < 2 ^ 32) × (operands.column < 2 ^ 16)
+    (row.cycle < 2 ^ 32) × (row.channel < 2 ^ 8) × (operands.bank.rank < 4) × (operands.bank.group < 4) × (operands.bank.bank < 4)
+    × (operands.source.core < 2 ^ 8) × (operands.source.entry < 2 ^ 32) × (operands.row < 2 ^ 24) × (operands.column < 2 ^ 10)

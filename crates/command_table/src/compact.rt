@@ -1,4 +1,4 @@
-//! A command in 24 bytes.
+//! A command in 16 bytes.
 
 ghost use Rattle.std.specs.Prelude.{◌≡◌, ◌↔◌, IsSome, IfSome};
 ghost use Rattle.sim_base.specs.Rules.{kind_of};
@@ -10,32 +10,31 @@ use sim_base::place::BankId;
 use std::marker::Model;
 use std::mem::size_of;
 
-/// A command whose numbers are those of a usual machine and trace: entries below 2^32, rows below 2^32, columns below 2^16, and all else
-/// below 2^8. Operands that it does not have are 0.
+/// A command whose numbers are those of a usual machine and trace: cycles and entries below 2^32, rows below 2^24, columns below 2^10, channels and
+/// cores below 2^8, and ranks, groups and banks below 4. Operands that it does not have are 0.
 #[derive(Drop)]
 pub(crate) struct Compact {
-    cycle: Cycle,
+    cycle: u32,
     entry: u32,
-    row: u32,
-    column: u16,
-    kind: Kind,
-    channel: u8,
-    rank: u8,
-    group: u8,
-    bank: u8,
+    /// The row, and below it 8 bits of the channel.
+    row_and_channel: u32,
+    /// The column, and below it 2 bits each of the rank, the group and the bank.
+    column_and_bank: u16,
     core: u8,
+    kind: Kind,
 }
 
 impl Model for Compact {
+    ghost use Rattle.std.specs.Prelude.{◌/◌, ◌%◌};
     ghost use Rattle.sim_base.specs.declared.command.IssuedCommand.{IssuedCommand as Row};
     ghost use Rattle.command_table.specs.Rows.{command_of};
 
     ghost Value = { Row };
 
-    ghost view = { λ c. record { cycle = c.cycle; channel = c.channel; command = command_of c.kind c.rank c.group c.bank c.row c.column c.core c.entry } };
+    ghost view = { λ c. record { cycle = c.cycle; channel = c.row_and_channel % 256; command = command_of c.kind (c.column_and_bank / 16 % 4) (c.column_and_bank / 4 % 4) (c.column_and_bank % 4) (c.row_and_channel / 256) (c.column_and_bank / 64) c.core c.entry } };
 }
 
-const _: () = prove!(size_of::<Compact>() == 24);
+const _: () = prove!(size_of::<Compact>() == 16);
 
 /// The operands of a command, and 0 for those that it does not have.
 #[derive(Clone, Copy)]
@@ -135,34 +134,33 @@ impl Compact {
         let operands = operands_of(row.command);
         let BankId { rank, group, bank } = operands.bank;
         let Source { core, entry } = operands.source;
-        let column = operands.column;
-        if row.channel > 0xff || rank > 0xff || group > 0xff || bank > 0xff || core > 0xff {
+        if row.cycle > 0xffff_ffff || entry > 0xffff_ffff || operands.row > 0xff_ffff {
             return None;
         }
-        if column > 0xffff || entry > 0xffff_ffff {
+        if operands.column > 0x3ff || rank > 3 || group > 3 || bank > 3 {
+            return None;
+        }
+        if row.channel > 0xff || core > 0xff {
             return None;
         }
         Some(Compact {
-            cycle: row.cycle,
+            cycle: row.cycle as u32,
             entry: entry as u32,
-            row: operands.row,
-            column: column as u16,
-            kind: row.command.kind(),
-            channel: row.channel as u8,
-            rank: rank as u8,
-            group: group as u8,
-            bank: bank as u8,
+            row_and_channel: operands.row * 256 + row.channel,
+            column_and_bank: (operands.column * 64 + rank * 16 + group * 4 + bank) as u16,
             core: core as u8,
+            kind: row.command.kind(),
         })
     }
 
     fn command(&self) -> Command
         ensures { result ≡ self.now.command }
     {
+        let place = u32::from(self.column_and_bank);
         let bank = BankId {
-            rank: u32::from(self.rank),
-            group: u32::from(self.group),
-            bank: u32::from(self.bank),
+            rank: place / 16 % 4,
+            group: place / 4 % 4,
+            bank: place % 4,
         };
         let source = Source {
             core: u16::from(self.core),
@@ -172,8 +170,8 @@ impl Compact {
             self.kind,
             Operands {
                 bank,
-                row: self.row,
-                column: u32::from(self.column),
+                row: self.row_and_channel / 256,
+                column: place / 64,
                 source,
             },
         )
@@ -185,8 +183,8 @@ impl Compact {
         ensures { result ≡ self.now }
     {
         IssuedCommand {
-            cycle: self.cycle,
-            channel: u32::from(self.channel),
+            cycle: u64::from(self.cycle),
+            channel: self.row_and_channel % 256,
             command: self.command(),
         }
     }

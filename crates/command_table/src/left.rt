@@ -60,6 +60,7 @@ impl<'a> Left<'a> {
     }
 
     /// A copy of what is left.
+    #[inline(always)]
     pub(crate) fn copied(&self) -> Left<'a>
         ensures { result ≡ self.now }
     {

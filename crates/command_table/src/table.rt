@@ -111,9 +111,9 @@ impl<'a> Rows<'a> {
         ensures over { self.old ≡ [] → self.new ≡ [] }
     {
         let place = soonest(&self.lefts)?;
-        let row = self.lefts[place].first();
+        let left = self.lefts[place].copied();
         drop_first(&mut self.lefts, place);
-        row
+        left.first()
     }
 }
 

@@ -15,7 +15,9 @@ use Rattle.sim_base.specs.Scheduling.{needed, ready_hit}
 use Rattle.bank_ready.specs.Ready.{ready_from}
 use Rattle.bank_ready.specs.Stands.{IsAllowedFrom}
 use Rattle.bank_ready.proofs.Allowed.{allowed-other}
-use Rattle.queue_columns.specs.Columns.{bank_number}
+use Rattle.request_log.specs.declared.Arrived.{Arrived}
+use Rattle.request_log.specs.Log.{all_requests}
+use Rattle.request_log.specs.Columns.{bank_number}
 use Rattle.bank_candidates.specs.declared.entry.CandidatesOfBank.{CandidatesOfBank}
 use Rattle.bank_candidates.specs.declared.entry.AccessCandidates.{AccessCandidates}
 use Rattle.bank_candidates.specs.Candidates.{bank_at, hits, first_place, AreFirst, AreCandidates}
@@ -42,9 +44,9 @@ nowhere = record { row = None; reads = record { oldest = None; hit = None }; wri
 abbrev pub access_candidates : Bool → CandidatesOfBank → AccessCandidates
 access_candidates write h = cond write h.writes h.reads
 
-pub access_first : (write : Bool) (requests : List Request) (bank : ℕ) (h : CandidatesOfBank) → AreCandidates requests bank h → AreFirst requests bank write h.row (access_candidates write h)
-access_first true requests bank h first = first.writes_are
-access_first false requests bank h first = first.reads_are
+pub access_first : (write : Bool) (log : List Arrived) (bank : ℕ) (h : CandidatesOfBank) → AreCandidates log bank h → AreFirst log bank write h.row (access_candidates write h)
+access_first true log bank h first = first.writes_are
+access_first false log bank h first = first.reads_are
 
 hit_only : (write : Bool) (h : CandidatesOfBank) → hit_candidate (only write) h ≡ (access_candidates write h).hit
 hit_only true h = refl
@@ -67,28 +69,28 @@ hit_test true false false ready hit row_hit legal same when = one hit row_hit le
     one false rh l ready is then = sym (ap (λ t. ready && t) (sym is) ∙ and_false ready)
 
 -- the first row hit of a bank that is ready
-hits_of_access : (s : Config) (history : List IssuedCommand) (ranks : ℕ) (requests : List Request) (write : Bool) (bank : ℕ) (h : CandidatesOfBank) (ready : ℕ) → All (IsInBanks ranks) requests
-    → AreCandidates requests bank h → h.row ≡ open_row (bank_at bank) history → IsReadyFrom s history (bank_at bank) (column_kind write) ready → (cycle : ℕ)
-    → hits_in s history requests (only write) bank cycle ≡ cond (leb ready cycle) (access_candidates write h).hit None
+hits_of_access : (s : Config) (history : List IssuedCommand) (ranks : ℕ) (log : List Arrived) (write : Bool) (bank : ℕ) (h : CandidatesOfBank) (ready : ℕ) → All (IsInBanks ranks) (all_requests log)
+    → AreCandidates log bank h → h.row ≡ open_row (bank_at bank) history → IsReadyFrom s history (bank_at bank) (column_kind write) ready → (cycle : ℕ)
+    → hits_in s history log (only write) bank cycle ≡ cond (leb ready cycle) (access_candidates write h).hit None
 unfolding ready_hit
-hits_of_access s history ranks requests write bank h ready places first row_is from cycle =
-    same_among (λ r. eqb (bank_number r.place) bank && hits_now s history (only write) cycle r) (λ r. leb ready cycle && hits bank write h.row r) (IsInBanks ranks) requests places
+hits_of_access s history ranks log write bank h ready places first row_is from cycle =
+    same_among (λ r. eqb (bank_number r.place) bank && hits_now s history (only write) cycle r) (λ r. leb ready cycle && hits bank write h.row r) (IsInBanks ranks) log places
     (λ r in_banks.
     hit_test (eqb (bank_number r.place) bank) r.write write (leb ready cycle) (is_hit history r) (is_row r.place.row h.row) (is_legal s history cycle (needed history r))
     (row_hit_is history ranks r bank h.row in_banks row_is)
     (λ here same hit. legal_then s history ranks r bank (column_kind write) ready in_banks from here (hit_kind history r hit ∙ ap column_kind same) cycle))
-    ∙ place_if (leb ready cycle) (hits bank write h.row) requests
-    ∙ ap (λ o. cond (leb ready cycle) o None) (sym (access_first write requests bank h first).hit_is)
+    ∙ place_if (leb ready cycle) (hits bank write h.row) log
+    ∙ ap (λ o. cond (leb ready cycle) o None) (sym (access_first write log bank h first).hit_is)
 
 -- what a bank offers to those that ask for its open row
-pub access_hit : (s : Config) (history : List IssuedCommand) (ranks : ℕ) (requests : List Request) (write : Bool) (bank : ℕ) (h : CandidatesOfBank) (ready now slot : ℕ) → All (IsInBanks ranks) requests
-    → AreCandidates requests bank h → h.row ≡ open_row (bank_at bank) history → IsReadyFrom s history (bank_at bank) (column_kind write) ready → (access_candidates write h).hit ≡ Some slot
-    → IsBestOffer now (hits_in s history requests (only write) bank) (rows_in s history requests (only write) bank) (offer_from now ready true slot)
-access_hit s history ranks requests write bank h ready now slot places first row_is from hit =
-    best_same now (λ c. cond (leb ready c) (Some slot) None) (λ c. None) (hits_in s history requests (only write) bank) (rows_in s history requests (only write) bank)
+pub access_hit : (s : Config) (history : List IssuedCommand) (ranks : ℕ) (log : List Arrived) (write : Bool) (bank : ℕ) (h : CandidatesOfBank) (ready now slot : ℕ) → All (IsInBanks ranks) (all_requests log)
+    → AreCandidates log bank h → h.row ≡ open_row (bank_at bank) history → IsReadyFrom s history (bank_at bank) (column_kind write) ready → (access_candidates write h).hit ≡ Some slot
+    → IsBestOffer now (hits_in s history log (only write) bank) (rows_in s history log (only write) bank) (offer_from now ready true slot)
+access_hit s history ranks log write bank h ready now slot places first row_is from hit =
+    best_same now (λ c. cond (leb ready c) (Some slot) None) (λ c. None) (hits_in s history log (only write) bank) (rows_in s history log (only write) bank)
     (Some (offer_from now ready true slot))
-    (λ c late. sym (hits_of_access s history ranks requests write bank h ready places first row_is from c ∙ ap (λ o. cond (leb ready c) o None) hit))
-    (λ c late. sym (rows_withheld s history ranks requests (only write) bank h places first row_is (ap is_some (hit_only write h ∙ hit)) c)) (hit_offer_is now ready (Some slot))
+    (λ c late. sym (hits_of_access s history ranks log write bank h ready places first row_is from c ∙ ap (λ o. cond (leb ready c) o None) hit))
+    (λ c late. sym (rows_withheld s history ranks log (only write) bank h places first row_is (ap is_some (hit_only write h ∙ hit)) c)) (hit_offer_is now ready (Some slot))
 
 either_within : (n : ℕ) (a b : Option ℕ) (ka kb : Bool) → IfSome a (λ k. k < n) → IfSome b (λ k. k < n) → IfSome (earlier (if_allowed a ka) (if_allowed b kb)) (λ k. k < n)
 either_within n a b false false in_a in_b = tt
@@ -99,73 +101,73 @@ either_within n (Some k) None true true in_a in_b = in_a
 either_within n (Some k) (Some j) true true in_a in_b = omega arith
 
 -- the first request of a bank stands within the queue
-within_accesses : (requests : List Request) (accesses : Accesses) (bank : ℕ) (h : CandidatesOfBank) → AreCandidates requests bank h → IfSome (oldest_candidate accesses h) (λ k. k < length requests)
-within_accesses requests accesses bank h first =
-    either_within (length requests) h.reads.oldest h.writes.oldest accesses.reads accesses.writes (within _ requests h.reads.oldest first.reads_are.oldest_is)
-    (within _ requests h.writes.oldest first.writes_are.oldest_is)
+within_accesses : (log : List Arrived) (accesses : Accesses) (bank : ℕ) (h : CandidatesOfBank) → AreCandidates log bank h → IfSome (oldest_candidate accesses h) (λ k. k < length log)
+within_accesses log accesses bank h first =
+    either_within (length log) h.reads.oldest h.writes.oldest accesses.reads accesses.writes (within _ log h.reads.oldest first.reads_are.oldest_is)
+    (within _ log h.writes.oldest first.writes_are.oldest_is)
 
 -- what a bank offers where none asks for its open row
-accesses_row : (s : Config) (history : List IssuedCommand) (ranks : ℕ) (requests : List Request) (accesses : Accesses) (bank : ℕ) (h : CandidatesOfBank) (ready now slot : ℕ) → All (IsInBanks ranks) requests
-    → AreCandidates requests bank h → h.row ≡ open_row (bank_at bank) history → IsReadyFrom s history (bank_at bank) (row_kind h.row) ready → hit_candidate accesses h ≡ None
+accesses_row : (s : Config) (history : List IssuedCommand) (ranks : ℕ) (log : List Arrived) (accesses : Accesses) (bank : ℕ) (h : CandidatesOfBank) (ready now slot : ℕ) → All (IsInBanks ranks) (all_requests log)
+    → AreCandidates log bank h → h.row ≡ open_row (bank_at bank) history → IsReadyFrom s history (bank_at bank) (row_kind h.row) ready → hit_candidate accesses h ≡ None
     → oldest_candidate accesses h ≡ Some slot
-    → IsBestOffer now (hits_in s history requests accesses bank) (rows_in s history requests accesses bank) (offer_from now ready false slot)
-accesses_row s history ranks requests accesses bank h ready now slot places first row_is from none oldest =
-    best_same now (λ c. None) (λ c. cond (leb ready c) (Some slot) None) (hits_in s history requests accesses bank) (rows_in s history requests accesses bank)
-    (Some (offer_from now ready false slot)) (λ c late. sym (no_hits s history ranks requests accesses bank h places first row_is none c))
-    (λ c late. sym (rows_are s history ranks requests accesses bank h ready places first row_is from (ap is_some none) c ∙ ap (λ o. cond (leb ready c) o None) oldest))
+    → IsBestOffer now (hits_in s history log accesses bank) (rows_in s history log accesses bank) (offer_from now ready false slot)
+accesses_row s history ranks log accesses bank h ready now slot places first row_is from none oldest =
+    best_same now (λ c. None) (λ c. cond (leb ready c) (Some slot) None) (hits_in s history log accesses bank) (rows_in s history log accesses bank)
+    (Some (offer_from now ready false slot)) (λ c late. sym (no_hits s history ranks log accesses bank h places first row_is none c))
+    (λ c late. sym (rows_are s history ranks log accesses bank h ready places first row_is from (ap is_some none) c ∙ ap (λ o. cond (leb ready c) o None) oldest))
     (row_offer_is now ready (Some slot))
 
 -- the best offer so far with the candidate of a bank, where none asks for its open row
-pub row_more : (s : Config) (history : List IssuedCommand) (ranks : ℕ) (requests : List Request) (accesses : Accesses) (bank : ℕ) (h : CandidatesOfBank) (ready now : ℕ) (hits rows : ℕ → Option ℕ)
-    (best after : Offer) → ready ≤ 18446744073709551615 → now ≤ 18446744073709551615 → All (IsInBanks ranks) requests → AreCandidates requests bank h
+pub row_more : (s : Config) (history : List IssuedCommand) (ranks : ℕ) (log : List Arrived) (accesses : Accesses) (bank : ℕ) (h : CandidatesOfBank) (ready now : ℕ) (hits rows : ℕ → Option ℕ)
+    (best after : Offer) → ready ≤ 18446744073709551615 → now ≤ 18446744073709551615 → All (IsInBanks ranks) (all_requests log) → AreCandidates log bank h
     → h.row ≡ open_row (bank_at bank) history → IsReadyFrom s history (bank_at bank) (row_kind h.row) ready → is_some (hit_candidate accesses h) ≡ false
-    → (candidate : Option ℕ) → oldest_candidate accesses h ≡ candidate → IsTaken candidate now ready false best after → IsBestSoFar (length requests) now hits rows best
-    → IsBestSoFar (length requests) now hits (λ c. earlier (rows c) (rows_in s history requests accesses bank c)) after
-row_more s history ranks requests accesses bank h ready now hits rows best after ready_fits now_fits places first row_is from no_hit None oldest step so_far =
-    so_far_same (length requests) now hits rows hits (λ c. earlier (rows c) (rows_in s history requests accesses bank c)) after (λ c late. refl)
-    (λ c late. sym (ap (earlier (rows c)) (none_offered requests accesses bank h _ first oldest) ∙ first_alone (rows c)))
-    (subst (IsBestSoFar (length requests) now hits rows) (sym (step.none refl)) so_far)
-row_more s history ranks requests accesses bank h ready now hits rows best after ready_fits now_fits places first row_is from no_hit (Some slot) oldest step so_far =
+    → (candidate : Option ℕ) → oldest_candidate accesses h ≡ candidate → IsTaken candidate now ready false best after → IsBestSoFar (length log) now hits rows best
+    → IsBestSoFar (length log) now hits (λ c. earlier (rows c) (rows_in s history log accesses bank c)) after
+row_more s history ranks log accesses bank h ready now hits rows best after ready_fits now_fits places first row_is from no_hit None oldest step so_far =
+    so_far_same (length log) now hits rows hits (λ c. earlier (rows c) (rows_in s history log accesses bank c)) after (λ c late. refl)
+    (λ c late. sym (ap (earlier (rows c)) (none_offered log accesses bank h _ first oldest) ∙ first_alone (rows c)))
+    (subst (IsBestSoFar (length log) now hits rows) (sym (step.none refl)) so_far)
+row_more s history ranks log accesses bank h ready now hits rows best after ready_fits now_fits places first row_is from no_hit (Some slot) oldest step so_far =
     let none = none_is (hit_candidate accesses h) no_hit in
-    let inside : slot < length requests = subst (λ o. IfSome o (λ k. k < length requests)) oldest (within_accesses requests accesses bank h first) in
-    so_far_same (length requests) now (λ c. earlier (hits c) (hits_in s history requests accesses bank c)) (λ c. earlier (rows c) (rows_in s history requests accesses bank c)) hits
-    (λ c. earlier (rows c) (rows_in s history requests accesses bank c)) after
-    (λ c late. ap (earlier (hits c)) (no_hits s history ranks requests accesses bank h places first row_is none c) ∙ first_alone (hits c)) (λ c late. refl)
-    (subst (IsBestSoFar (length requests) now (λ c. earlier (hits c) (hits_in s history requests accesses bank c)) (λ c. earlier (rows c) (rows_in s history requests accesses bank c)))
+    let inside : slot < length log = subst (λ o. IfSome o (λ k. k < length log)) oldest (within_accesses log accesses bank h first) in
+    so_far_same (length log) now (λ c. earlier (hits c) (hits_in s history log accesses bank c)) (λ c. earlier (rows c) (rows_in s history log accesses bank c)) hits
+    (λ c. earlier (rows c) (rows_in s history log accesses bank c)) after
+    (λ c late. ap (earlier (hits c)) (no_hits s history ranks log accesses bank h places first row_is none c) ∙ first_alone (hits c)) (λ c late. refl)
+    (subst (IsBestSoFar (length log) now (λ c. earlier (hits c) (hits_in s history log accesses bank c)) (λ c. earlier (rows c) (rows_in s history log accesses bank c)))
     (sym (step.some slot refl))
-    (one_more (length requests) now hits rows (hits_in s history requests accesses bank) (rows_in s history requests accesses bank) best (offer_from now ready false slot) inside (omega arith) so_far
-    (accesses_row s history ranks requests accesses bank h ready now slot places first row_is from none oldest)))
+    (one_more (length log) now hits rows (hits_in s history log accesses bank) (rows_in s history log accesses bank) best (offer_from now ready false slot) inside (omega arith) so_far
+    (accesses_row s history ranks log accesses bank h ready now slot places first row_is from none oldest)))
 
 -- the same with its row hit
-pub hit_more : (s : Config) (history : List IssuedCommand) (ranks : ℕ) (requests : List Request) (write : Bool) (bank : ℕ) (h : CandidatesOfBank) (ready now : ℕ) (hits rows : ℕ → Option ℕ)
-    (best after : Offer) → ready ≤ 18446744073709551615 → now ≤ 18446744073709551615 → All (IsInBanks ranks) requests → AreCandidates requests bank h
+pub hit_more : (s : Config) (history : List IssuedCommand) (ranks : ℕ) (log : List Arrived) (write : Bool) (bank : ℕ) (h : CandidatesOfBank) (ready now : ℕ) (hits rows : ℕ → Option ℕ)
+    (best after : Offer) → ready ≤ 18446744073709551615 → now ≤ 18446744073709551615 → All (IsInBanks ranks) (all_requests log) → AreCandidates log bank h
     → h.row ≡ open_row (bank_at bank) history → IsReadyFrom s history (bank_at bank) (column_kind write) ready
-    → (candidate : Option ℕ) → (access_candidates write h).hit ≡ candidate → IsTaken candidate now ready true best after → IsBestSoFar (length requests) now hits rows best
-    → IsBestSoFar (length requests) now (λ c. earlier (hits c) (hits_in s history requests (only write) bank c)) rows after
-hit_more s history ranks requests write bank h ready now hits rows best after ready_fits now_fits places first row_is from None hit step so_far =
-    so_far_same (length requests) now hits rows (λ c. earlier (hits c) (hits_in s history requests (only write) bank c)) rows after
-    (λ c late. sym (ap (earlier (hits c)) (no_hits s history ranks requests (only write) bank h places first row_is (hit_only write h ∙ hit) c) ∙ first_alone (hits c))) (λ c late. refl)
-    (subst (IsBestSoFar (length requests) now hits rows) (sym (step.none refl)) so_far)
-hit_more s history ranks requests write bank h ready now hits rows best after ready_fits now_fits places first row_is from (Some slot) hit step so_far =
-    let inside : slot < length requests = subst (λ o. IfSome o (λ k. k < length requests)) hit (within _ requests (access_candidates write h).hit (access_first write requests bank h first).hit_is) in
-    so_far_same (length requests) now (λ c. earlier (hits c) (hits_in s history requests (only write) bank c)) (λ c. earlier (rows c) (rows_in s history requests (only write) bank c))
-    (λ c. earlier (hits c) (hits_in s history requests (only write) bank c)) rows after (λ c late. refl)
-    (λ c late. ap (earlier (rows c)) (rows_withheld s history ranks requests (only write) bank h places first row_is (ap is_some (hit_only write h ∙ hit)) c) ∙ first_alone (rows c))
-    (subst (IsBestSoFar (length requests) now (λ c. earlier (hits c) (hits_in s history requests (only write) bank c)) (λ c. earlier (rows c) (rows_in s history requests (only write) bank c)))
+    → (candidate : Option ℕ) → (access_candidates write h).hit ≡ candidate → IsTaken candidate now ready true best after → IsBestSoFar (length log) now hits rows best
+    → IsBestSoFar (length log) now (λ c. earlier (hits c) (hits_in s history log (only write) bank c)) rows after
+hit_more s history ranks log write bank h ready now hits rows best after ready_fits now_fits places first row_is from None hit step so_far =
+    so_far_same (length log) now hits rows (λ c. earlier (hits c) (hits_in s history log (only write) bank c)) rows after
+    (λ c late. sym (ap (earlier (hits c)) (no_hits s history ranks log (only write) bank h places first row_is (hit_only write h ∙ hit) c) ∙ first_alone (hits c))) (λ c late. refl)
+    (subst (IsBestSoFar (length log) now hits rows) (sym (step.none refl)) so_far)
+hit_more s history ranks log write bank h ready now hits rows best after ready_fits now_fits places first row_is from (Some slot) hit step so_far =
+    let inside : slot < length log = subst (λ o. IfSome o (λ k. k < length log)) hit (within _ log (access_candidates write h).hit (access_first write log bank h first).hit_is) in
+    so_far_same (length log) now (λ c. earlier (hits c) (hits_in s history log (only write) bank c)) (λ c. earlier (rows c) (rows_in s history log (only write) bank c))
+    (λ c. earlier (hits c) (hits_in s history log (only write) bank c)) rows after (λ c late. refl)
+    (λ c late. ap (earlier (rows c)) (rows_withheld s history ranks log (only write) bank h places first row_is (ap is_some (hit_only write h ∙ hit)) c) ∙ first_alone (rows c))
+    (subst (IsBestSoFar (length log) now (λ c. earlier (hits c) (hits_in s history log (only write) bank c)) (λ c. earlier (rows c) (rows_in s history log (only write) bank c)))
     (sym (step.some slot refl))
-    (one_more (length requests) now hits rows (hits_in s history requests (only write) bank) (rows_in s history requests (only write) bank) best (offer_from now ready true slot) inside (omega arith) so_far
-    (access_hit s history ranks requests write bank h ready now slot places first row_is from hit)))
+    (one_more (length log) now hits rows (hits_in s history log (only write) bank) (rows_in s history log (only write) bank) best (offer_from now ready true slot) inside (omega arith) so_far
+    (access_hit s history ranks log write bank h ready now slot places first row_is from hit)))
 
 -- a bank that is not asked for, or has a row hit, offers nothing else
-pub row_none : (s : Config) (history : List IssuedCommand) (ranks : ℕ) (requests : List Request) (accesses : Accesses) (bank : ℕ) (h : CandidatesOfBank) → All (IsInBanks ranks) requests
-    → AreCandidates requests bank h → h.row ≡ open_row (bank_at bank) history → (is_some (oldest_candidate accesses h) && not (is_some (hit_candidate accesses h))) ≡ false → (cycle : ℕ)
-    → rows_in s history requests accesses bank cycle ≡ None
-row_none s history ranks requests accesses bank h places first row_is left cycle = elim (cases_Bool (is_some (hit_candidate accesses h))) [
-  | inl hit ↦ rows_withheld s history ranks requests accesses bank h places first row_is hit cycle
+pub row_none : (s : Config) (history : List IssuedCommand) (ranks : ℕ) (log : List Arrived) (accesses : Accesses) (bank : ℕ) (h : CandidatesOfBank) → All (IsInBanks ranks) (all_requests log)
+    → AreCandidates log bank h → h.row ≡ open_row (bank_at bank) history → (is_some (oldest_candidate accesses h) && not (is_some (hit_candidate accesses h))) ≡ false → (cycle : ℕ)
+    → rows_in s history log accesses bank cycle ≡ None
+row_none s history ranks log accesses bank h places first row_is left cycle = elim (cases_Bool (is_some (hit_candidate accesses h))) [
+  | inl hit ↦ rows_withheld s history ranks log accesses bank h places first row_is hit cycle
   | inr no_hit ↦
       let none : is_some (oldest_candidate accesses h) ≡ false =
       sym (and_true (is_some (oldest_candidate accesses h))) ∙ ap (λ b. is_some (oldest_candidate accesses h) && not b) (sym no_hit) ∙ left in
-      none_offered requests accesses bank h _ first (none_is (oldest_candidate accesses h) none)
+      none_offered log accesses bank h _ first (none_is (oldest_candidate accesses h) none)
 ]
 
 -- some bank is asked for by a kind that goes
@@ -194,31 +196,31 @@ access_hits false true kw h = sym (ap (λ t. h || t) (and_false kw) ∙ or_false
 access_hits false false true h = refl
 access_hits false false false h = refl
 
-pub both_hits : (s : Config) (history : List IssuedCommand) (requests : List Request) (accesses : Accesses) (cycle : ℕ)
-    → earlier (first_place (λ r. accesses.reads && hits_now s history (only false) cycle r) requests) (first_place (λ r. accesses.writes && hits_now s history (only true) cycle r) requests)
-    ≡ first_place (hits_now s history accesses cycle) requests
-both_hits s history requests accesses cycle =
+pub both_hits : (s : Config) (history : List IssuedCommand) (log : List Arrived) (accesses : Accesses) (cycle : ℕ)
+    → earlier (first_place (λ r. accesses.reads && hits_now s history (only false) cycle r) log) (first_place (λ r. accesses.writes && hits_now s history (only true) cycle r) log)
+    ≡ first_place (hits_now s history accesses cycle) log
+both_hits s history log accesses cycle =
     sym
     (either_among (hits_now s history accesses cycle) (λ r. accesses.reads && hits_now s history (only false) cycle r) (λ r. accesses.writes && hits_now s history (only true) cycle r) (λ r. Unit {0})
-    requests (λ k d exists. tt) (λ r in_all. access_hits r.write accesses.reads accesses.writes (ready_hit s history cycle r)))
+    log (λ k d exists. tt) (λ r in_all. access_hits r.write accesses.reads accesses.writes (ready_hit s history cycle r)))
 
 -- places of a kind that does not go
-pub none_goes : (rows : ℕ → Option ℕ) (goes : Bool) (test : ℕ → Request → Bool) (requests : List Request) → goes ≡ false → (cycle : ℕ)
-    → rows cycle ≡ earlier (rows cycle) (first_place (λ r. goes && test cycle r) requests)
-none_goes rows goes test requests off cycle =
+pub none_goes : (rows : ℕ → Option ℕ) (goes : Bool) (test : ℕ → Request → Bool) (log : List Arrived) → goes ≡ false → (cycle : ℕ)
+    → rows cycle ≡ earlier (rows cycle) (first_place (λ r. goes && test cycle r) log)
+none_goes rows goes test log off cycle =
     sym (first_alone (rows cycle))
-    ∙ ap (earlier (rows cycle)) (sym (ap (λ b. cond b (first_place (test cycle) requests) None) off) ∙ sym (place_if goes (test cycle) requests))
+    ∙ ap (earlier (rows cycle)) (sym (ap (λ b. cond b (first_place (test cycle) log) None) off) ∙ sym (place_if goes (test cycle) log))
 
 -- and of one that does
-pub all_go : (goes : Bool) (test : Request → Bool) (requests : List Request) → goes ≡ true → first_place (λ r. goes && test r) requests ≡ first_place test requests
-all_go goes test requests on = place_if goes test requests ∙ ap (λ b. cond b (first_place test requests) None) on
+pub all_go : (goes : Bool) (test : Request → Bool) (log : List Arrived) → goes ≡ true → first_place (λ r. goes && test r) log ≡ first_place test log
+all_go goes test log on = place_if goes test log ∙ ap (λ b. cond b (first_place test log) None) on
 
 -- a bank with no row hit
-pub hit_none : (s : Config) (history : List IssuedCommand) (ranks : ℕ) (requests : List Request) (write : Bool) (bank : ℕ) (h : CandidatesOfBank) → All (IsInBanks ranks) requests
-    → AreCandidates requests bank h → h.row ≡ open_row (bank_at bank) history → is_some (access_candidates write h).hit ≡ false → (cycle : ℕ)
-    → hits_in s history requests (only write) bank cycle ≡ None
-hit_none s history ranks requests write bank h places first row_is none cycle =
-    no_hits s history ranks requests (only write) bank h places first row_is (hit_only write h ∙ none_is (access_candidates write h).hit none) cycle
+pub hit_none : (s : Config) (history : List IssuedCommand) (ranks : ℕ) (log : List Arrived) (write : Bool) (bank : ℕ) (h : CandidatesOfBank) → All (IsInBanks ranks) (all_requests log)
+    → AreCandidates log bank h → h.row ≡ open_row (bank_at bank) history → is_some (access_candidates write h).hit ≡ false → (cycle : ℕ)
+    → hits_in s history log (only write) bank cycle ≡ None
+hit_none s history ranks log write bank h places first row_is none cycle =
+    no_hits s history ranks log (only write) bank h places first row_is (hit_only write h ∙ none_is (access_candidates write h).hit none) cycle
 
 -- no command of a kind to some bank of so many ranks is allowed before this cycle
 abbrev pub IsFloor : Config → List IssuedCommand → ℕ → Kind → ℕ → Type 0
@@ -258,11 +260,11 @@ hit_after s history ranks r write floor cycle in_banks least now_is =
     omega (arith, late, floor_is)
 
 -- no row hit is ready before it
-pub hits_before : (s : Config) (history : List IssuedCommand) (ranks : ℕ) (requests : List Request) (write : Bool) (floor : ℕ) → All (IsInBanks ranks) requests
-    → IsFloor s history ranks (column_kind write) floor → (cycle : ℕ) → cycle < floor → first_place (hits_now s history (only write) cycle) requests ≡ None
-hits_before s history ranks requests write floor places least cycle early =
-    same_among (hits_now s history (only write) cycle) (λ r. false) (IsInBanks ranks) requests places
+pub hits_before : (s : Config) (history : List IssuedCommand) (ranks : ℕ) (log : List Arrived) (write : Bool) (floor : ℕ) → All (IsInBanks ranks) (all_requests log)
+    → IsFloor s history ranks (column_kind write) floor → (cycle : ℕ) → cycle < floor → first_place (hits_now s history (only write) cycle) log ≡ None
+hits_before s history ranks log write floor places least cycle early =
+    same_among (hits_now s history (only write) cycle) (λ r. false) (IsInBanks ranks) log places
     (λ r in_banks.
     false_from_ne_true (hits_now s history (only write) cycle r)
     (λ now_is. let late = hit_after s history ranks r write floor cycle in_banks least now_is in absurd (omega arith)))
-    ∙ sym (none_everywhere (λ r. false) requests (λ r. refl))
+    ∙ sym (none_everywhere (λ r. false) log (λ r. refl))

@@ -12,7 +12,9 @@ use Rattle.sim_base.specs.declared.message.Request.{Request}
 use Rattle.sim_base.specs.Places.{bank_in, is_bank}
 use Rattle.sim_base.specs.Rules.{is_legal, open_row, is_row, kind_of}
 use Rattle.sim_base.specs.Scheduling.{needed, needed_at, column_command, source_of, is_column_command, has_hit, is_withheld, is_row_hit, ready_hit, ready_row}
-use Rattle.queue_columns.specs.Columns.{bank_number}
+use Rattle.request_log.specs.declared.Arrived.{Arrived}
+use Rattle.request_log.specs.Log.{all_requests}
+use Rattle.request_log.specs.Columns.{bank_number}
 use Rattle.bank_candidates.specs.declared.entry.CandidatesOfBank.{CandidatesOfBank}
 use Rattle.bank_candidates.specs.Candidates.{bank_at, asks, hits, first_place, AreCandidates}
 use Rattle.bank_candidates.specs.Moves.{earlier}
@@ -86,24 +88,24 @@ row_hit_test true false kr kw row_hit = sym (ap (λ t. (kr && row_hit) || t) (an
 abbrev wants_row : Accesses → ℕ → Option ℕ → Request → Bool
 wants_row accesses bank row r = (accesses.reads && hits bank false row r) || (accesses.writes && hits bank true row r)
 
-hit_candidate_is : (ranks : ℕ) (requests : List Request) (accesses : Accesses) (bank : ℕ) (h : CandidatesOfBank) → All (IsInBanks ranks) requests → AreCandidates requests bank h
-    → first_place (wants_row accesses bank h.row) requests ≡ hit_candidate accesses h
-hit_candidate_is ranks requests accesses bank h places first =
-    either_among (wants_row accesses bank h.row) (λ r. accesses.reads && hits bank false h.row r) (λ r. accesses.writes && hits bank true h.row r) (IsInBanks ranks) requests places (λ r in_banks. refl)
-    ∙ (λ i. earlier (place_if accesses.reads (hits bank false h.row) requests i) (place_if accesses.writes (hits bank true h.row) requests i))
+hit_candidate_is : (ranks : ℕ) (log : List Arrived) (accesses : Accesses) (bank : ℕ) (h : CandidatesOfBank) → All (IsInBanks ranks) (all_requests log) → AreCandidates log bank h
+    → first_place (wants_row accesses bank h.row) log ≡ hit_candidate accesses h
+hit_candidate_is ranks log accesses bank h places first =
+    either_among (wants_row accesses bank h.row) (λ r. accesses.reads && hits bank false h.row r) (λ r. accesses.writes && hits bank true h.row r) (IsInBanks ranks) log places (λ r in_banks. refl)
+    ∙ (λ i. earlier (place_if accesses.reads (hits bank false h.row) log i) (place_if accesses.writes (hits bank true h.row) log i))
     ∙ (λ i. earlier (cond accesses.reads ((sym first.reads_are.hit_is) i) None) (cond accesses.writes ((sym first.writes_are.hit_is) i) None))
 
-has_hit_is : (history : List IssuedCommand) (ranks : ℕ) (requests : List Request) (accesses : Accesses) (bank : ℕ) (h : CandidatesOfBank) → All (IsInBanks ranks) requests
-    → AreCandidates requests bank h → h.row ≡ open_row (bank_at bank) history → has_hit history (going accesses requests) (bank_at bank) ≡ is_some (hit_candidate accesses h)
-has_hit_is history ranks requests accesses bank h places first row_is =
+has_hit_is : (history : List IssuedCommand) (ranks : ℕ) (log : List Arrived) (accesses : Accesses) (bank : ℕ) (h : CandidatesOfBank) → All (IsInBanks ranks) (all_requests log)
+    → AreCandidates log bank h → h.row ≡ open_row (bank_at bank) history → has_hit history (going accesses log) (bank_at bank) ≡ is_some (hit_candidate accesses h)
+has_hit_is history ranks log accesses bank h places first row_is =
     let row = open_row (bank_at bank) history in
-    any_going (λ x. is_row_hit x (bank_at bank) row) accesses requests
+    any_going (λ x. is_row_hit x (bank_at bank) row) accesses log
     ∙ ap is_some
-    (same_among (λ x. is_of accesses x && is_row_hit x (bank_at bank) row) (wants_row accesses bank h.row) (IsInBanks ranks) requests places
+    (same_among (λ x. is_of accesses x && is_row_hit x (bank_at bank) row) (wants_row accesses bank h.row) (IsInBanks ranks) log places
     (λ x in_banks.
     (λ i. is_of accesses x && (number_is ranks x bank in_banks i && is_row x.place.row (row_is' i)))
     ∙ row_hit_test (eqb (bank_number x.place) bank) x.write accesses.reads accesses.writes (is_row x.place.row h.row))
-    ∙ hit_candidate_is ranks requests accesses bank h places first)
+    ∙ hit_candidate_is ranks log accesses bank h places first)
   where
     row_is' : open_row (bank_at bank) history ≡ h.row
     row_is' = sym row_is
@@ -137,16 +139,16 @@ both_allowed true a b ka kb = λ i. earlier (cond (and_true ka i) a None) (cond 
 both_allowed false a b ka kb = λ i. earlier (cond (and_false ka i) a None) (cond (and_false kb i) b None)
 
 -- the first request of a bank whose ACT or PRE is ready, where none asks for its open row
-pub rows_are : (s : Config) (history : List IssuedCommand) (ranks : ℕ) (requests : List Request) (accesses : Accesses) (bank : ℕ) (h : CandidatesOfBank) (ready : ℕ)
-    → All (IsInBanks ranks) requests → AreCandidates requests bank h → h.row ≡ open_row (bank_at bank) history → IsReadyFrom s history (bank_at bank) (row_kind h.row) ready
+pub rows_are : (s : Config) (history : List IssuedCommand) (ranks : ℕ) (log : List Arrived) (accesses : Accesses) (bank : ℕ) (h : CandidatesOfBank) (ready : ℕ)
+    → All (IsInBanks ranks) (all_requests log) → AreCandidates log bank h → h.row ≡ open_row (bank_at bank) history → IsReadyFrom s history (bank_at bank) (row_kind h.row) ready
     → is_some (hit_candidate accesses h) ≡ false → (cycle : ℕ)
-    → rows_in s history requests accesses bank cycle ≡ cond (leb ready cycle) (oldest_candidate accesses h) None
+    → rows_in s history log accesses bank cycle ≡ cond (leb ready cycle) (oldest_candidate accesses h) None
 unfolding ready_row needed
-rows_are s history ranks requests accesses bank h ready places first row_is from none cycle =
-    let cands = going accesses requests in
-    same_unless (λ r. eqb (bank_number r.place) bank && rows_now s history requests accesses cycle r)
-    (λ r. ((accesses.reads && leb ready cycle) && asks bank false r) || ((accesses.writes && leb ready cycle) && asks bank true r)) (wants_row accesses bank h.row) (IsInBanks ranks) requests
-    (hit_candidate_is ranks requests accesses bank h places first ∙ is_none (hit_candidate accesses h) none) places
+rows_are s history ranks log accesses bank h ready places first row_is from none cycle =
+    let cands = going accesses log in
+    same_unless (λ r. eqb (bank_number r.place) bank && rows_now s history log accesses cycle r)
+    (λ r. ((accesses.reads && leb ready cycle) && asks bank false r) || ((accesses.writes && leb ready cycle) && asks bank true r)) (wants_row accesses bank h.row) (IsInBanks ranks) log
+    (hit_candidate_is ranks log accesses bank h places first ∙ is_none (hit_candidate accesses h) none) places
     (λ r in_banks off.
     row_test (eqb (bank_number r.place) bank) r.write accesses.reads accesses.writes (is_hit history r) (is_row r.place.row h.row) (is_legal s history cycle (needed history r)) (leb ready cycle)
     (is_withheld history cands (needed history r)) (row_hit_is history ranks r bank h.row in_banks row_is)
@@ -154,11 +156,11 @@ rows_are s history ranks requests accesses bank h ready places first row_is from
     (λ here.
     withheld_is history cands r
     ∙ ap (λ b. has_hit history cands b && not (is_hit history r)) (bank_is ranks r bank in_banks here)
-    ∙ ap (λ b. b && not (is_hit history r)) (has_hit_is history ranks requests accesses bank h places first row_is ∙ none))
+    ∙ ap (λ b. b && not (is_hit history r)) (has_hit_is history ranks log accesses bank h places first row_is ∙ none))
     off)
     ∙ either_among (λ r. ((accesses.reads && leb ready cycle) && asks bank false r) || ((accesses.writes && leb ready cycle) && asks bank true r)) (λ r. (accesses.reads && leb ready cycle) && asks bank false r)
-    (λ r. (accesses.writes && leb ready cycle) && asks bank true r) (IsInBanks ranks) requests places (λ r in_banks. refl)
-    ∙ (λ i. earlier (place_if (accesses.reads && leb ready cycle) (asks bank false) requests i) (place_if (accesses.writes && leb ready cycle) (asks bank true) requests i))
+    (λ r. (accesses.writes && leb ready cycle) && asks bank true r) (IsInBanks ranks) log places (λ r in_banks. refl)
+    ∙ (λ i. earlier (place_if (accesses.reads && leb ready cycle) (asks bank false) log i) (place_if (accesses.writes && leb ready cycle) (asks bank true) log i))
     ∙ (λ i. earlier (cond (accesses.reads && leb ready cycle) ((sym first.reads_are.oldest_is) i) None) (cond (accesses.writes && leb ready cycle) ((sym first.writes_are.oldest_is) i) None))
     ∙ both_allowed (leb ready cycle) h.reads.oldest h.writes.oldest accesses.reads accesses.writes
   where
@@ -176,19 +178,19 @@ withheld_test true k true legal withheld is = and_false k
 withheld_test true k false legal withheld is = ap (λ w. k && (legal && not w)) (is refl) ∙ ap (λ t. k && t) (and_false legal) ∙ and_false k
 
 -- a row hit that goes withholds all else of its bank
-pub rows_withheld : (s : Config) (history : List IssuedCommand) (ranks : ℕ) (requests : List Request) (accesses : Accesses) (bank : ℕ) (h : CandidatesOfBank) → All (IsInBanks ranks) requests
-    → AreCandidates requests bank h → h.row ≡ open_row (bank_at bank) history → is_some (hit_candidate accesses h) ≡ true → (cycle : ℕ) → rows_in s history requests accesses bank cycle ≡ None
+pub rows_withheld : (s : Config) (history : List IssuedCommand) (ranks : ℕ) (log : List Arrived) (accesses : Accesses) (bank : ℕ) (h : CandidatesOfBank) → All (IsInBanks ranks) (all_requests log)
+    → AreCandidates log bank h → h.row ≡ open_row (bank_at bank) history → is_some (hit_candidate accesses h) ≡ true → (cycle : ℕ) → rows_in s history log accesses bank cycle ≡ None
 unfolding ready_row
-rows_withheld s history ranks requests accesses bank h places first row_is some cycle =
-    let cands = going accesses requests in
-    same_among (λ r. eqb (bank_number r.place) bank && rows_now s history requests accesses cycle r) (λ r. false) (IsInBanks ranks) requests places
+rows_withheld s history ranks log accesses bank h places first row_is some cycle =
+    let cands = going accesses log in
+    same_among (λ r. eqb (bank_number r.place) bank && rows_now s history log accesses cycle r) (λ r. false) (IsInBanks ranks) log places
     (λ r in_banks.
     withheld_test (eqb (bank_number r.place) bank) (is_of accesses r) (is_hit history r) (is_legal s history cycle (needed history r)) (is_withheld history cands (needed history r))
     (λ here.
     withheld_is history cands r
     ∙ ap (λ b. has_hit history cands b && not (is_hit history r)) (bank_is ranks r bank in_banks here)
-    ∙ ap (λ b. b && not (is_hit history r)) (has_hit_is history ranks requests accesses bank h places first row_is ∙ some)))
-    ∙ sym (none_everywhere (λ r. false) requests (λ r. refl))
+    ∙ ap (λ b. b && not (is_hit history r)) (has_hit_is history ranks log accesses bank h places first row_is ∙ some)))
+    ∙ sym (none_everywhere (λ r. false) log (λ r. refl))
 
 none_test : (b w kr kw test : Bool) → ((kr && (b && cond false w (not w))) || (kw && (b && cond true w (not w)))) ≡ false → (b && (cond w kw kr && test)) ≡ false
 none_test false w kr kw test off = refl
@@ -199,16 +201,16 @@ none_test true false true kw test off = cc
 none_test true false false kw test off = refl
 
 -- no request of a bank goes that has no candidate
-pub none_offered : (requests : List Request) (accesses : Accesses) (bank : ℕ) (h : CandidatesOfBank) (test : Request → Bool) → AreCandidates requests bank h → oldest_candidate accesses h ≡ None
-    → first_place (λ r. eqb (bank_number r.place) bank && (is_of accesses r && test r)) requests ≡ None
-none_offered requests accesses bank h test first none =
+pub none_offered : (log : List Arrived) (accesses : Accesses) (bank : ℕ) (h : CandidatesOfBank) (test : Request → Bool) → AreCandidates log bank h → oldest_candidate accesses h ≡ None
+    → first_place (λ r. eqb (bank_number r.place) bank && (is_of accesses r && test r)) log ≡ None
+none_offered log accesses bank h test first none =
     let asked = λ (r : Request). (accesses.reads && asks bank false r) || (accesses.writes && asks bank true r) in
-    let candidate_is : first_place asked requests ≡ oldest_candidate accesses h =
-    either_among asked (λ r. accesses.reads && asks bank false r) (λ r. accesses.writes && asks bank true r) (λ r. Unit {0}) requests (λ k d exists. tt) (λ r in_all. refl)
-    ∙ (λ i. earlier (place_if accesses.reads (asks bank false) requests i) (place_if accesses.writes (asks bank true) requests i))
+    let candidate_is : first_place asked log ≡ oldest_candidate accesses h =
+    either_among asked (λ r. accesses.reads && asks bank false r) (λ r. accesses.writes && asks bank true r) (λ r. Unit {0}) log (λ k d exists. tt) (λ r in_all. refl)
+    ∙ (λ i. earlier (place_if accesses.reads (asks bank false) log i) (place_if accesses.writes (asks bank true) log i))
     ∙ (λ i. earlier (cond accesses.reads ((sym first.reads_are.oldest_is) i) None) (cond accesses.writes ((sym first.writes_are.oldest_is) i) None)) in
     sym
-    (none_narrower_all (λ r. eqb (bank_number r.place) bank && (is_of accesses r && test r)) asked requests
+    (none_narrower_all (λ r. eqb (bank_number r.place) bank && (is_of accesses r && test r)) asked log
     (λ r off. none_test (eqb (bank_number r.place) bank) r.write accesses.reads accesses.writes (test r) off) (sym (candidate_is ∙ none)))
 
 no_hit_test : (b w kr kw hit row_hit legal : Bool) → (b ≡ true → hit ≡ row_hit)
@@ -221,13 +223,13 @@ no_hit_test true w kr kw hit row_hit legal same none = one (cond w kw kr) hit ro
     one true h rh l is none = ap (λ t. t && l) (is ∙ none)
 
 -- no row hit of a bank is ready where there is none
-pub no_hits : (s : Config) (history : List IssuedCommand) (ranks : ℕ) (requests : List Request) (accesses : Accesses) (bank : ℕ) (h : CandidatesOfBank) → All (IsInBanks ranks) requests
-    → AreCandidates requests bank h → h.row ≡ open_row (bank_at bank) history → hit_candidate accesses h ≡ None → (cycle : ℕ) → hits_in s history requests accesses bank cycle ≡ None
+pub no_hits : (s : Config) (history : List IssuedCommand) (ranks : ℕ) (log : List Arrived) (accesses : Accesses) (bank : ℕ) (h : CandidatesOfBank) → All (IsInBanks ranks) (all_requests log)
+    → AreCandidates log bank h → h.row ≡ open_row (bank_at bank) history → hit_candidate accesses h ≡ None → (cycle : ℕ) → hits_in s history log accesses bank cycle ≡ None
 unfolding ready_hit
-no_hits s history ranks requests accesses bank h places first row_is none cycle =
-    same_unless (λ r. eqb (bank_number r.place) bank && hits_now s history accesses cycle r) (λ r. false) (wants_row accesses bank h.row) (IsInBanks ranks) requests
-    (hit_candidate_is ranks requests accesses bank h places first ∙ none) places
+no_hits s history ranks log accesses bank h places first row_is none cycle =
+    same_unless (λ r. eqb (bank_number r.place) bank && hits_now s history accesses cycle r) (λ r. false) (wants_row accesses bank h.row) (IsInBanks ranks) log
+    (hit_candidate_is ranks log accesses bank h places first ∙ none) places
     (λ r in_banks off.
     no_hit_test (eqb (bank_number r.place) bank) r.write accesses.reads accesses.writes (is_hit history r) (is_row r.place.row h.row) (is_legal s history cycle (needed history r))
     (row_hit_is history ranks r bank h.row in_banks row_is) off)
-    ∙ sym (none_everywhere (λ r. false) requests (λ r. refl))
+    ∙ sym (none_everywhere (λ r. false) log (λ r. refl))

@@ -1,13 +1,16 @@
 -- The first request that passes a test, among those of the banks below a number.
 use Rattle.std.proofs.Common.{◌≡◌, ℕ, zero, suc, ◌+◌, ◌<◌, ◌≤◌, Bool, true, false, ◌&&◌, ◌||◌, ltb, eqb, List, [], ◌∷◌, length, Option, Some, None, refl, sym, ap, ◌∙◌, inl, inr, arith}
 use Rattle.std.proofs.lemmas.Bool.{cases_lt, cases_eq, lt-ltb, le-ltb, eq-eqb, ne_eqb}
+use Rattle.std.proofs.lemmas.List.{length-map}
 use Rattle.std.specs.List.{All, slice_get}
 use Rattle.std.specs.Option.{is_some, option_map, option_and_then, IfSome}
 use Rattle.sim_base.specs.declared.config.Config.{Config}
 use Rattle.sim_base.specs.declared.command.IssuedCommand.{IssuedCommand}
 use Rattle.sim_base.specs.declared.message.Request.{Request}
 use Rattle.sim_base.specs.Scheduling.{needed, or_else, first_ready, ready_hit, ready_row}
-use Rattle.queue_columns.specs.Columns.{bank_number}
+use Rattle.request_log.specs.declared.Arrived.{Arrived}
+use Rattle.request_log.specs.Log.{all_requests, waits_at}
+use Rattle.request_log.specs.Columns.{bank_number}
 use Rattle.queue.specs.View.{QueueView}
 use Rattle.bank_candidates.specs.Candidates.{first_place}
 use Rattle.bank_candidates.specs.Moves.{earlier}
@@ -16,15 +19,15 @@ use Rattle.fr_fcfs.specs.declared.offers.Offer.{Offer}
 use Rattle.fr_fcfs.specs.Requests.{candidates_of}
 use Rattle.fr_fcfs.specs.declared.accesses.Accesses.{Accesses}
 use Rattle.fr_fcfs.specs.Offers.{going, hits_now, rows_now, IsAt, IsBest, IsFirstReady}
-use Rattle.fr_fcfs.proofs.Firsts.{same_among, either_among, find_going}
+use Rattle.fr_fcfs.proofs.Firsts.{same_among, either_among, find_going, first_waits}
 
 -- the first request of the banks below a number that passes a test
-abbrev pub place_below : ℕ → (Request → Bool) → List Request → Option ℕ
-place_below n test requests = first_place (λ r. ltb (bank_number r.place) n && test r) requests
+abbrev pub place_below : ℕ → (Request → Bool) → List Arrived → Option ℕ
+place_below n test log = first_place (λ r. ltb (bank_number r.place) n && test r) log
 
-pub none_below : (test : Request → Bool) (requests : List Request) → place_below 0 test requests ≡ None
-none_below test requests =
-    sym (none_everywhere (λ r. ltb (bank_number r.place) 0 && test r) requests (λ r. ap (λ b. b && test r) (le-ltb (bank_number r.place) 0 (omega arith))))
+pub none_below : (test : Request → Bool) (log : List Arrived) → place_below 0 test log ≡ None
+none_below test log =
+    sym (none_everywhere (λ r. ltb (bank_number r.place) 0 && test r) log (λ r. ap (λ b. b && test r) (le-ltb (bank_number r.place) 0 (omega arith))))
 
 more_below : (k n : ℕ) (t : Bool) → (ltb k (n + 1) && t) ≡ ((ltb k n && t) || (eqb k n && t))
 more_below k n t = elim (cases_eq k n) [
@@ -53,35 +56,35 @@ more_below k n t = elim (cases_eq k n) [
     ]
 
 -- one bank more
-pub place_more : (n : ℕ) (test : Request → Bool) (requests : List Request)
-    → place_below (n + 1) test requests ≡ earlier (place_below n test requests) (first_place (λ r. eqb (bank_number r.place) n && test r) requests)
-place_more n test requests =
-    either_among (λ r. ltb (bank_number r.place) (n + 1) && test r) (λ r. ltb (bank_number r.place) n && test r) (λ r. eqb (bank_number r.place) n && test r) (λ r. Unit {0}) requests
+pub place_more : (n : ℕ) (test : Request → Bool) (log : List Arrived)
+    → place_below (n + 1) test log ≡ earlier (place_below n test log) (first_place (λ r. eqb (bank_number r.place) n && test r) log)
+place_more n test log =
+    either_among (λ r. ltb (bank_number r.place) (n + 1) && test r) (λ r. ltb (bank_number r.place) n && test r) (λ r. eqb (bank_number r.place) n && test r) (λ r. Unit {0}) log
     (λ k d exists. tt) (λ r in_all. more_below (bank_number r.place) n (test r))
 
 -- all banks
-pub place_all : (n : ℕ) (test : Request → Bool) (requests : List Request) → All (λ r. bank_number r.place < n) requests → place_below n test requests ≡ first_place test requests
-place_all n test requests within =
-    same_among (λ r. ltb (bank_number r.place) n && test r) test (λ r. bank_number r.place < n) requests within (λ r below. ap (λ b. b && test r) (lt-ltb (bank_number r.place) n below))
+pub place_all : (n : ℕ) (test : Request → Bool) (log : List Arrived) → All (λ r. bank_number r.place < n) (all_requests log) → place_below n test log ≡ first_place test log
+place_all n test log within =
+    same_among (λ r. ltb (bank_number r.place) n && test r) test (λ r. bank_number r.place < n) log within (λ r below. ap (λ b. b && test r) (lt-ltb (bank_number r.place) n below))
 
 pub none_is : (o : Option ℕ) → is_some o ≡ false → o ≡ None
 none_is None off = refl
 none_is (Some k) off = cc
 
 -- the command of the first request that is ready, by the places
-pub ready_by_places : (s : Config) (history : List IssuedCommand) (requests : List Request) (accesses : Accesses) (cycle : ℕ)
-    → first_ready s history cycle (going accesses requests)
+pub ready_by_places : (s : Config) (history : List IssuedCommand) (log : List Arrived) (accesses : Accesses) (cycle : ℕ)
+    → first_ready s history cycle (going accesses log)
     ≡ option_map (needed history)
-    (or_else (option_and_then (slice_get requests) (first_place (hits_now s history accesses cycle) requests))
-    (option_and_then (slice_get requests) (first_place (rows_now s history requests accesses cycle) requests)))
+    (or_else (option_and_then (slice_get (all_requests log)) (first_place (hits_now s history accesses cycle) log))
+    (option_and_then (slice_get (all_requests log)) (first_place (rows_now s history log accesses cycle) log)))
 unfolding first_ready
-ready_by_places s history requests accesses cycle =
+ready_by_places s history log accesses cycle =
     λ i. option_map (needed history)
-    (or_else (find_going (ready_hit s history cycle) accesses requests i) (find_going (ready_row s history cycle (going accesses requests)) accesses requests i))
+    (or_else (find_going (ready_hit s history cycle) accesses log i) (find_going (ready_row s history cycle (going accesses log)) accesses log i))
 
-none_ready : (s : Config) (history : List IssuedCommand) (requests : List Request) (a b : Option ℕ) → a ≡ None → b ≡ None
+none_ready : (history : List IssuedCommand) (requests : List Request) (a b : Option ℕ) → a ≡ None → b ≡ None
     → option_map (needed history) (or_else (option_and_then (slice_get requests) a) (option_and_then (slice_get requests) b)) ≡ None
-none_ready s history requests a b none_a none_b = λ i. option_map (needed history) (or_else (option_and_then (slice_get requests) (none_a i)) (option_and_then (slice_get requests) (none_b i)))
+none_ready history requests a b none_a none_b = λ i. option_map (needed history) (or_else (option_and_then (slice_get requests) (none_a i)) (option_and_then (slice_get requests) (none_b i)))
 
 some_at : {X : Type 0} (xs : List X) (k : ℕ) → k < length xs → is_some (slice_get xs k) ≡ true
 some_at [] k within = absurd (omega arith)
@@ -99,27 +102,44 @@ ready_at history requests true a b slot within is =
     ∙ ap (option_map (needed history)) (first_some (slice_get requests slot) (option_and_then (slice_get requests) b) (some_at requests slot within))
 ready_at history requests false a b slot within is = λ i. option_map (needed history) (or_else (option_and_then (slice_get requests) (is.0 i)) (option_and_then (slice_get requests) (is.1 i)))
 
+-- a request at a place needs some command
+pub command_there : (history : List IssuedCommand) (log : List Arrived) (slot : ℕ) → slot < length log → is_some (option_map (needed history) (slice_get (all_requests log) slot)) ≡ true
+command_there history log slot within =
+    some_mapped (needed history) (slice_get (all_requests log) slot) (some_at (all_requests log) slot (omega (arith, length-map log (λ (a : Arrived). a.request), within)))
+  where
+    some_mapped : {X Y : Type 0} (f : X → Y) (o : Option X) → is_some o ≡ true → is_some (option_map f o) ≡ true
+    some_mapped f None some = some
+    some_mapped f (Some x) some = refl
+
+-- an offer is for a request that waits
+offer_waits : (log : List Arrived) (first second : Request → Bool) (hit : Bool) (slot : ℕ) → IsAt hit (first_place first log) (first_place second log) slot → waits_at log slot ≡ true
+offer_waits log first second true slot is = first_waits first log slot is
+offer_waits log first second false slot is = first_waits second log slot is.1
+
 -- the offer that goes first of all is what the first request needs that is ready
-pub first_ready_is : (s : Config) (history : List IssuedCommand) (queue : QueueView) (accesses : Accesses) (now : ℕ) (o : Option Offer) → candidates_of s queue ≡ going accesses queue.requests
-    → IfSome o (λ x. x.slot < length queue.requests)
-    → IsBest now (λ cycle. first_place (hits_now s history accesses cycle) queue.requests) (λ cycle. first_place (rows_now s history queue.requests accesses cycle) queue.requests) o
+pub first_ready_is : (s : Config) (history : List IssuedCommand) (queue : QueueView) (accesses : Accesses) (now : ℕ) (o : Option Offer) → candidates_of s queue ≡ going accesses queue.log
+    → IfSome o (λ x. x.slot < length queue.log)
+    → IsBest now (λ cycle. first_place (hits_now s history accesses cycle) queue.log) (λ cycle. first_place (rows_now s history queue.log accesses cycle) queue.log) o
     → IsFirstReady s history queue now o
 first_ready_is s history queue accesses now None cands within best = λ cycle late.
     let none = best cycle late in
+    let log = queue.log in
     ap (first_ready s history cycle) cands
-    ∙ ready_by_places s history queue.requests accesses cycle
-    ∙ none_ready s history queue.requests (first_place (hits_now s history accesses cycle) queue.requests) (first_place (rows_now s history queue.requests accesses cycle) queue.requests) none.0 none.1
-first_ready_is s history queue accesses now (Some o) cands within best = record {
-  from_now = best.from_now;
-  none_before = λ cycle late sooner.
-      let none = best.none_before cycle late sooner in
-      ap (first_ready s history cycle) cands
-      ∙ ready_by_places s history queue.requests accesses cycle
-      ∙ none_ready s history queue.requests (first_place (hits_now s history accesses cycle) queue.requests) (first_place (rows_now s history queue.requests accesses cycle) queue.requests) none.0
-      none.1;
-  then_is =
-      ap (first_ready s history o.cycle) cands
-      ∙ ready_by_places s history queue.requests accesses o.cycle
-      ∙ ready_at history queue.requests o.hit (first_place (hits_now s history accesses o.cycle) queue.requests) (first_place (rows_now s history queue.requests accesses o.cycle) queue.requests)
-      o.slot within best.then_is;
-}
+    ∙ ready_by_places s history log accesses cycle
+    ∙ none_ready history (all_requests log) (first_place (hits_now s history accesses cycle) log) (first_place (rows_now s history log accesses cycle) log) none.0 none.1
+first_ready_is s history queue accesses now (Some o) cands within best =
+    let log = queue.log in
+    record {
+      from_now = best.from_now;
+      none_before = λ cycle late sooner.
+          let none = best.none_before cycle late sooner in
+          ap (first_ready s history cycle) cands
+          ∙ ready_by_places s history log accesses cycle
+          ∙ none_ready history (all_requests log) (first_place (hits_now s history accesses cycle) log) (first_place (rows_now s history log accesses cycle) log) none.0 none.1;
+      then_is =
+          ap (first_ready s history o.cycle) cands
+          ∙ ready_by_places s history log accesses o.cycle
+          ∙ ready_at history (all_requests log) o.hit (first_place (hits_now s history accesses o.cycle) log) (first_place (rows_now s history log accesses o.cycle) log) o.slot
+          (omega (arith, length-map log (λ (a : Arrived). a.request), within)) best.then_is;
+      waits = offer_waits log (hits_now s history accesses o.cycle) (rows_now s history log accesses o.cycle) o.hit o.slot best.then_is;
+    }

@@ -3,7 +3,9 @@ use Rattle.std.proofs.Common.{◌≡◌, ℕ, zero, suc, ◌+◌, ◌<◌, Bool,
 use Rattle.std.proofs.lemmas.Bool.{cases_Bool, cases_eq, false≢true}
 use Rattle.std.specs.List.{All}
 use Rattle.sim_base.specs.declared.message.Request.{Request}
-use Rattle.queue_columns.specs.Columns.{bank_number}
+use Rattle.request_log.specs.declared.Arrived.{Arrived}
+use Rattle.request_log.specs.Log.{all_requests}
+use Rattle.request_log.specs.Columns.{bank_number}
 use Rattle.bank_candidates.specs.Candidates.{first_place}
 use Rattle.bank_candidates.specs.Moves.{earlier}
 use Rattle.bank_candidates.proofs.Searches.{none_everywhere}
@@ -12,18 +14,18 @@ use Rattle.fr_fcfs.proofs.Firsts.{same_among, either_among}
 use Rattle.fr_fcfs.proofs.Below.{place_below, none_below, place_more, place_all}
 
 -- the first request that passes a test, of the banks that are not left
-abbrev pub place_beside : (ℕ → Bool) → (Request → Bool) → List Request → Option ℕ
-place_beside left test requests = first_place (λ r. not (left (bank_number r.place)) && test r) requests
+abbrev pub place_beside : (ℕ → Bool) → (Request → Bool) → List Arrived → Option ℕ
+place_beside left test log = first_place (λ r. not (left (bank_number r.place)) && test r) log
 
 -- no bank is left
-pub beside_all : (left : ℕ → Bool) (test : Request → Bool) (requests : List Request) → ((k : ℕ) → left k ≡ false) → place_beside left test requests ≡ first_place test requests
-beside_all left test requests none =
-    same_among (λ r. not (left (bank_number r.place)) && test r) test (λ r. Unit {0}) requests (λ k d exists. tt) (λ r in_all. ap (λ b. not b && test r) (none (bank_number r.place)))
+pub beside_all : (left : ℕ → Bool) (test : Request → Bool) (log : List Arrived) → ((k : ℕ) → left k ≡ false) → place_beside left test log ≡ first_place test log
+beside_all left test log none =
+    same_among (λ r. not (left (bank_number r.place)) && test r) test (λ r. Unit {0}) log (λ k d exists. tt) (λ r in_all. ap (λ b. not b && test r) (none (bank_number r.place)))
 
 -- the same banks are left
-pub beside_same : (left after : ℕ → Bool) (test : Request → Bool) (requests : List Request) → ((k : ℕ) → left k ≡ after k) → place_beside left test requests ≡ place_beside after test requests
-beside_same left after test requests same =
-    same_among (λ r. not (left (bank_number r.place)) && test r) (λ r. not (after (bank_number r.place)) && test r) (λ r. Unit {0}) requests (λ k d exists. tt)
+pub beside_same : (left after : ℕ → Bool) (test : Request → Bool) (log : List Arrived) → ((k : ℕ) → left k ≡ after k) → place_beside left test log ≡ place_beside after test log
+beside_same left after test log same =
+    same_among (λ r. not (left (bank_number r.place)) && test r) (λ r. not (after (bank_number r.place)) && test r) (λ r. Unit {0}) log (λ k d exists. tt)
     (λ r in_all. ap (λ b. not b && test r) (same (bank_number r.place)))
 
 beside_test : (left after : ℕ → Bool) (bank k : ℕ) (t : Bool) → left bank ≡ true → after bank ≡ false → ((j : ℕ) → (j ≡ bank → ⊥) → after j ≡ left j)
@@ -39,11 +41,11 @@ beside_test left after bank k t was is others = elim (cases_eq k bank) [
 ]
 
 -- one bank less is left
-pub beside_more : (left after : ℕ → Bool) (bank : ℕ) (test : Request → Bool) (requests : List Request) → left bank ≡ true → after bank ≡ false
+pub beside_more : (left after : ℕ → Bool) (bank : ℕ) (test : Request → Bool) (log : List Arrived) → left bank ≡ true → after bank ≡ false
     → ((j : ℕ) → (j ≡ bank → ⊥) → after j ≡ left j)
-    → place_beside after test requests ≡ earlier (place_beside left test requests) (first_place (λ r. eqb (bank_number r.place) bank && test r) requests)
-beside_more left after bank test requests was is others =
-    either_among (λ r. not (after (bank_number r.place)) && test r) (λ r. not (left (bank_number r.place)) && test r) (λ r. eqb (bank_number r.place) bank && test r) (λ r. Unit {0}) requests
+    → place_beside after test log ≡ earlier (place_beside left test log) (first_place (λ r. eqb (bank_number r.place) bank && test r) log)
+beside_more left after bank test log was is others =
+    either_among (λ r. not (after (bank_number r.place)) && test r) (λ r. not (left (bank_number r.place)) && test r) (λ r. eqb (bank_number r.place) bank && test r) (λ r. Unit {0}) log
     (λ k d exists. tt) (λ r in_all. beside_test left after bank (bank_number r.place) (test r) was is others)
 
 at_bank : (left : ℕ → Bool) (n k : ℕ) (t b : Bool) → left n ≡ b → (eqb k n && (not (left k) && t)) ≡ (eqb k n && (not b && t))
@@ -52,34 +54,34 @@ at_bank left n k t b is = elim (cases_eq k n) [
   | inr apart ↦ ap (λ e. e && (not (left k) && t)) (ne_eqb k n apart) ∙ sym (ap (λ e. e && (not b && t)) (ne_eqb k n apart))
 ]
 
-none_at : (left : ℕ → Bool) (n : ℕ) (test : Request → Bool) (requests : List Request) → (left n ≡ false → first_place (λ r. eqb (bank_number r.place) n && test r) requests ≡ None)
-    → first_place (λ r. eqb (bank_number r.place) n && (not (left (bank_number r.place)) && test r)) requests ≡ None
-none_at left n test requests none = elim (cases_Bool (left n)) [
+none_at : (left : ℕ → Bool) (n : ℕ) (test : Request → Bool) (log : List Arrived) → (left n ≡ false → first_place (λ r. eqb (bank_number r.place) n && test r) log ≡ None)
+    → first_place (λ r. eqb (bank_number r.place) n && (not (left (bank_number r.place)) && test r)) log ≡ None
+none_at left n test log none = elim (cases_Bool (left n)) [
   | inl is_left ↦
-      same_among (λ r. eqb (bank_number r.place) n && (not (left (bank_number r.place)) && test r)) (λ r. false) (λ r. Unit {0}) requests (λ k d exists. tt)
+      same_among (λ r. eqb (bank_number r.place) n && (not (left (bank_number r.place)) && test r)) (λ r. false) (λ r. Unit {0}) log (λ k d exists. tt)
       (λ r in_all. at_bank left n (bank_number r.place) (test r) true is_left ∙ and_false (eqb (bank_number r.place) n))
-      ∙ sym (none_everywhere (λ r. false) requests (λ r. refl))
+      ∙ sym (none_everywhere (λ r. false) log (λ r. refl))
   | inr out ↦
-      same_among (λ r. eqb (bank_number r.place) n && (not (left (bank_number r.place)) && test r)) (λ r. eqb (bank_number r.place) n && test r) (λ r. Unit {0}) requests (λ k d exists. tt)
+      same_among (λ r. eqb (bank_number r.place) n && (not (left (bank_number r.place)) && test r)) (λ r. eqb (bank_number r.place) n && test r) (λ r. Unit {0}) log (λ k d exists. tt)
       (λ r in_all. at_bank left n (bank_number r.place) (test r) false out)
       ∙ none out
 ]
 
-none_beside_below : (left : ℕ → Bool) (n : ℕ) (test : Request → Bool) (requests : List Request)
-    → ((k : ℕ) → k < n → left k ≡ false → first_place (λ r. eqb (bank_number r.place) k && test r) requests ≡ None)
-    → place_below n (λ r. not (left (bank_number r.place)) && test r) requests ≡ None
-none_beside_below left zero test requests none = none_below (λ r. not (left (bank_number r.place)) && test r) requests
-none_beside_below left (suc n) test requests none =
+none_beside_below : (left : ℕ → Bool) (n : ℕ) (test : Request → Bool) (log : List Arrived)
+    → ((k : ℕ) → k < n → left k ≡ false → first_place (λ r. eqb (bank_number r.place) k && test r) log ≡ None)
+    → place_below n (λ r. not (left (bank_number r.place)) && test r) log ≡ None
+none_beside_below left zero test log none = none_below (λ r. not (left (bank_number r.place)) && test r) log
+none_beside_below left (suc n) test log none =
     let next : suc n ≡ n + 1 = omega arith in
-    ap (λ m. place_below m (λ r. not (left (bank_number r.place)) && test r) requests) next
-    ∙ place_more n (λ r. not (left (bank_number r.place)) && test r) requests
-    ∙ (λ i. earlier (none_beside_below left n test requests (λ k l. none k (omega arith)) i) (none_at left n test requests (none n (omega arith)) i))
+    ap (λ m. place_below m (λ r. not (left (bank_number r.place)) && test r) log) next
+    ∙ place_more n (λ r. not (left (bank_number r.place)) && test r) log
+    ∙ (λ i. earlier (none_beside_below left n test log (λ k l. none k (omega arith)) i) (none_at left n test log (none n (omega arith)) i))
 
 -- the banks that are not left offer nothing
-pub beside_nothing : (left : ℕ → Bool) (n : ℕ) (test : Request → Bool) (requests : List Request) → All (λ r. bank_number r.place < n) requests
-    → ((k : ℕ) → k < n → left k ≡ false → first_place (λ r. eqb (bank_number r.place) k && test r) requests ≡ None) → place_beside left test requests ≡ None
-beside_nothing left n test requests within none =
-    sym (place_all n (λ r. not (left (bank_number r.place)) && test r) requests within) ∙ none_beside_below left n test requests none
+pub beside_nothing : (left : ℕ → Bool) (n : ℕ) (test : Request → Bool) (log : List Arrived) → All (λ r. bank_number r.place < n) (all_requests log)
+    → ((k : ℕ) → k < n → left k ≡ false → first_place (λ r. eqb (bank_number r.place) k && test r) log ≡ None) → place_beside left test log ≡ None
+beside_nothing left n test log within none =
+    sym (place_all n (λ r. not (left (bank_number r.place)) && test r) log within) ∙ none_beside_below left n test log none
 
 -- how many of the numbers below n are left
 unfoldable pub size : (ℕ → Bool) → ℕ → ℕ

@@ -111,11 +111,6 @@ better_is now h r h2 r2 a b flag is best_a best_b =
       | inr more ↦ absurd (apart (omega arith))
     ]
 
--- one of two alone
-pub first_alone_is : (now : ℕ) (h r h2 r2 : ℕ → Option ℕ) (a : Offer) → IsBestOffer now h r a → ((c : ℕ) → now ≤ c → (h2 c ≡ None) × (r2 c ≡ None))
-    → IsBestOffer now (λ c. earlier (h c) (h2 c)) (λ c. earlier (r c) (r2 c)) a
-first_alone_is now h r h2 r2 a best none = first_stays now h r h2 r2 a (a.cycle + 1) best (λ c from sooner. none c from) (omega arith)
-
 pub second_alone_is : (now : ℕ) (h r h2 r2 : ℕ → Option ℕ) (b : Option Offer) → ((c : ℕ) → now ≤ c → (h c ≡ None) × (r c ≡ None)) → IsBest now h2 r2 b
     → IsBest now (λ c. earlier (h c) (h2 c)) (λ c. earlier (r c) (r2 c)) b
 second_alone_is now h r h2 r2 None none best =

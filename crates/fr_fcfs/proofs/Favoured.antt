@@ -6,6 +6,8 @@ use Rattle.std.specs.Option.{is_some, IfSome}
 use Rattle.sim_base.specs.declared.config.Config.{Config}
 use Rattle.sim_base.specs.declared.message.Request.{Request}
 use Rattle.sim_base.specs.Scheduling.{candidates, favour, is_favoured, first_of_lines}
+use Rattle.request_log.specs.declared.Arrived.{Arrived}
+use Rattle.request_log.specs.Log.{waiting_requests}
 use Rattle.queue.specs.View.{QueueView, is_draining}
 use Rattle.bank_candidates.specs.Candidates.{passes, entries, first_place}
 use Rattle.bank_candidates.proofs.Entries.{length-entries}
@@ -14,31 +16,31 @@ use Rattle.fr_fcfs.specs.Offers.{is_of, only, all_accesses}
 use Rattle.fr_fcfs.proofs.Firsts.{some_filtered}
 
 -- Where the channel ever drains and some request is favoured, the favoured ones go first.
-pub favour_some : (s : Config) (queue : QueueView) (requests : List Request) → 0 < s.write_high → requests ≡ filter (is_favoured (is_draining queue)) (first_of_lines queue.requests)
+pub favour_some : (s : Config) (queue : QueueView) (requests : List Request) → 0 < s.write_high → requests ≡ filter (is_favoured (is_draining queue)) (first_of_lines (waiting_requests queue.log))
     → 0 < length requests → requests ≡ candidates_of s queue
 unfolding candidates favour
 favour_some s queue requests ever is some =
-    let eligible = first_of_lines queue.requests in
+    let eligible = first_of_lines (waiting_requests queue.log) in
     let favoured = filter (is_favoured (is_draining queue)) eligible in
     let long : 0 < length favoured = subst (λ xs. 0 < length xs) is some in
     is ∙ sym (cond-true (ltb 0 s.write_high && ltb 0 (length favoured)) favoured eligible
     (and_from (ltb 0 s.write_high) (ltb 0 (length favoured)) (lt-ltb 0 s.write_high ever) (lt-ltb 0 (length favoured) long)))
 
 -- Where none is favoured, all that are eligible go.
-pub favour_none : (s : Config) (queue : QueueView) (requests : List Request) → requests ≡ filter (is_favoured (is_draining queue)) (first_of_lines queue.requests)
-    → length requests ≡ 0 → first_of_lines queue.requests ≡ candidates_of s queue
+pub favour_none : (s : Config) (queue : QueueView) (requests : List Request) → requests ≡ filter (is_favoured (is_draining queue)) (first_of_lines (waiting_requests queue.log))
+    → length requests ≡ 0 → first_of_lines (waiting_requests queue.log) ≡ candidates_of s queue
 unfolding candidates favour
 favour_none s queue requests is none =
-    let eligible = first_of_lines queue.requests in
+    let eligible = first_of_lines (waiting_requests queue.log) in
     let favoured = filter (is_favoured (is_draining queue)) eligible in
     let long : length favoured ≤ 0 = subst (λ xs. length xs ≤ 0) is (omega arith) in
     sym (cond-false (ltb 0 s.write_high && ltb 0 (length favoured)) favoured eligible (and_right (ltb 0 s.write_high) (ltb 0 (length favoured)) (le-ltb 0 (length favoured) long)))
 
 -- So do they where the channel never drains.
-pub favour_never : (s : Config) (queue : QueueView) → s.write_high ≡ 0 → first_of_lines queue.requests ≡ candidates_of s queue
+pub favour_never : (s : Config) (queue : QueueView) → s.write_high ≡ 0 → first_of_lines (waiting_requests queue.log) ≡ candidates_of s queue
 unfolding candidates favour
 favour_never s queue never =
-    let eligible = first_of_lines queue.requests in
+    let eligible = first_of_lines (waiting_requests queue.log) in
     let favoured = filter (is_favoured (is_draining queue)) eligible in
     sym (cond-false (ltb 0 s.write_high && ltb 0 (length favoured)) favoured eligible (and_left (ltb 0 s.write_high) (ltb 0 (length favoured)) (le-ltb 0 s.write_high (omega arith))))
 
@@ -46,8 +48,8 @@ any_item : {X : Type 0} (xs : List X) → list_any (λ x. true) xs ≡ ltb 0 (le
 any_item [] = refl
 any_item (x ∷ xs) = sym (lt-ltb 0 (suc (length xs)) (omega arith))
 
-pub some_favoured : (write : Bool) (requests : List Request) → is_some (first_place (is_favoured write) requests) ≡ ltb 0 (length (filter (is_favoured write) (first_of_lines requests)))
-some_favoured write requests = some_filtered (is_favoured write) requests ∙ any_item (filter (is_favoured write) (first_of_lines requests))
+pub some_favoured : (write : Bool) (log : List Arrived) → is_some (first_place (is_favoured write) log) ≡ ltb 0 (length (filter (is_favoured write) (first_of_lines (waiting_requests log))))
+some_favoured write log = some_filtered (is_favoured write) log ∙ any_item (filter (is_favoured write) (first_of_lines (waiting_requests log)))
 
 filter_same : {X : Type 0} (p q : X → Bool) (xs : List X) → ((x : X) → p x ≡ q x) → filter p xs ≡ filter q xs
 filter_same p q xs same = λ i. filter (λ x. same x i) xs
@@ -102,7 +104,7 @@ bound p xs k is =
       | inr over ↦ let none : None ≡ Some k = sym (cond-false (ltb place (length xs)) (Some place) None (le-ltb place (length xs) over)) ∙ is in cc
     ]
 
--- the candidate of a bank stands within the queue
-pub within : (test : Request → Bool) (requests : List Request) (o : Option ℕ) → o ≡ first_place test requests → IfSome o (λ k. k < length requests)
-within test requests None is = tt
-within test requests (Some k) is = let inside = bound (passes test) (entries requests) k (sym is) in omega (arith, length-entries requests)
+-- the candidate of a bank stands within the log
+pub within : (test : Request → Bool) (log : List Arrived) (o : Option ℕ) → o ≡ first_place test log → IfSome o (λ k. k < length log)
+within test log None is = tt
+within test log (Some k) is = let inside = bound (passes test) (entries log) k (sym is) in omega (arith, length-entries log)

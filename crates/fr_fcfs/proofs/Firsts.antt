@@ -1,17 +1,25 @@
 -- The first request that may be served and passes a test, and the requests that are found among those that go.
-use Rattle.std.proofs.Common.{◌≡◌, ℕ, suc, Bool, true, false, cond, ◌&&◌, ◌||◌, List, [], ◌∷◌, map, Option, Some, None, refl, sym, ap, ◌∙◌}
+use Rattle.std.proofs.Common.{◌≡◌, ℕ, suc, ◌<◌, Bool, true, false, cond, ◌&&◌, ◌||◌, List, [], ◌∷◌, length, map, get_or, Option, Some, None, refl, sym, ap, ◌∙◌, arith}
+use Rattle.std.proofs.lemmas.Bool.{and_parts}
+use Rattle.std.proofs.lemmas.List.{length-map}
 use Rattle.std.proofs.lemmas.List.Elements.{All-head, All-tail}
+use Rattle.std.proofs.lemmas.List.Quantifiers.{position-Some}
+use Rattle.std.proofs.lemmas.Slice.Zip.{get_or-zip}
 use Rattle.std.specs.List.{filter, find, zip, list_any, position, slice_get, All}
 use Rattle.std.specs.Option.{is_some, option_map, option_and_then}
 use Rattle.sim_base.specs.declared.message.Request.{Request}
 use Rattle.sim_base.specs.Scheduling.{first_of_lines}
-use Rattle.queue_columns.specs.Marks.{is_marked}
-use Rattle.queue_columns.specs.Columns.{eligible_column, marked_items}
-use Rattle.queue_columns.proofs.Eligible.{marked_eligible}
+use Rattle.request_log.specs.declared.Arrived.{Arrived}
+use Rattle.request_log.specs.Marks.{is_marked}
+use Rattle.request_log.specs.Log.{waiting_requests, all_requests, waits_at, eligible_column, absent}
+use Rattle.request_log.specs.Columns.{marked_items}
+use Rattle.request_log.proofs.Eligible.{length-eligible, marked_waits}
 use Rattle.bank_candidates.specs.Candidates.{passes, entries, first_place}
 use Rattle.bank_candidates.specs.Moves.{earlier}
+use Rattle.bank_candidates.proofs.Entries.{length-entries}
 use Rattle.bank_candidates.proofs.Positions.{position-cons, position-either}
 use Rattle.bank_candidates.proofs.Searches.{none_everywhere}
+use Rattle.request_log.proofs.Firsts.{marked_eligible}
 use Rattle.fr_fcfs.specs.declared.accesses.Accesses.{Accesses}
 use Rattle.fr_fcfs.specs.Offers.{going, is_of}
 
@@ -25,24 +33,24 @@ zipped p q P (r ∷ rs) (m ∷ ms) all same =
     ∙ sym (position-cons (passes q) (r, m) (zip rs ms))
 
 -- tests that agree on all requests
-pub same_among : (p q : Request → Bool) (P : Request → Type 0) (rs : List Request) → All P rs → ((r : Request) → P r → p r ≡ q r) → first_place p rs ≡ first_place q rs
-same_among p q P rs all same = zipped p q P rs (eligible_column rs) all same
+pub same_among : (p q : Request → Bool) (P : Request → Type 0) (log : List Arrived) → All P (all_requests log) → ((r : Request) → P r → p r ≡ q r) → first_place p log ≡ first_place q log
+same_among p q P log all same = zipped p q P (all_requests log) (eligible_column log) all same
 
 or_split : (m a b : Bool) → (m && (a || b)) ≡ ((m && a) || (m && b))
 or_split true a b = refl
 or_split false a b = refl
 
 -- a test that is one of two
-pub either_among : (p q t : Request → Bool) (P : Request → Type 0) (rs : List Request) → All P rs → ((r : Request) → P r → p r ≡ (q r || t r))
-    → first_place p rs ≡ earlier (first_place q rs) (first_place t rs)
-either_among p q t P rs all same =
-    same_among p (λ r. q r || t r) P rs all same
-    ∙ position-either (passes (λ r. q r || t r)) (passes q) (passes t) (entries rs) (λ e. or_split (is_marked e.1) (q e.0) (t e.0))
+pub either_among : (p q t : Request → Bool) (P : Request → Type 0) (log : List Arrived) → All P (all_requests log) → ((r : Request) → P r → p r ≡ (q r || t r))
+    → first_place p log ≡ earlier (first_place q log) (first_place t log)
+either_among p q t P log all same =
+    same_among p (λ r. q r || t r) P log all same
+    ∙ position-either (passes (λ r. q r || t r)) (passes q) (passes t) (entries log) (λ e. or_split (is_marked e.1) (q e.0) (t e.0))
 
 -- a test under a condition
-pub place_if : (b : Bool) (test : Request → Bool) (rs : List Request) → first_place (λ r. b && test r) rs ≡ cond b (first_place test rs) None
-place_if true test rs = refl
-place_if false test rs = sym (none_everywhere (λ r. false) rs (λ r. refl))
+pub place_if : (b : Bool) (test : Request → Bool) (log : List Arrived) → first_place (λ r. b && test r) log ≡ cond b (first_place test log) None
+place_if true test log = refl
+place_if false test log = sym (none_everywhere (λ r. false) log (λ r. refl))
 
 none_parts : (t : Bool) (o : Option ℕ) → cond t (Some 0) (option_map suc o) ≡ None → (t ≡ false) × (o ≡ None)
 none_parts true o none = cc
@@ -65,9 +73,9 @@ zipped_unless p q h P (r ∷ rs) (m ∷ ms) none all same =
     ∙ sym (position-cons (passes q) (r, m) (zip rs ms))
 
 -- tests that agree wherever a third one fails, which none passes
-pub same_unless : (p q h : Request → Bool) (P : Request → Type 0) (rs : List Request) → first_place h rs ≡ None → All P rs
-    → ((r : Request) → P r → h r ≡ false → p r ≡ q r) → first_place p rs ≡ first_place q rs
-same_unless p q h P rs none all same = zipped_unless p q h P rs (eligible_column rs) none all same
+pub same_unless : (p q h : Request → Bool) (P : Request → Type 0) (log : List Arrived) → first_place h log ≡ None → All P (all_requests log)
+    → ((r : Request) → P r → h r ≡ false → p r ≡ q r) → first_place p log ≡ first_place q log
+same_unless p q h P log none all same = zipped_unless p q h P (all_requests log) (eligible_column log) none all same
 
 get_next : (b : Bool) (r : Request) (rs : List Request) (o : Option ℕ) → option_and_then (slice_get (r ∷ rs)) (cond b (Some 0) (option_map suc o)) ≡ cond b (Some r) (option_and_then (slice_get rs) o)
 get_next true r rs o = refl
@@ -92,9 +100,10 @@ find_zipped p t (r ∷ rs) (m ∷ ms) =
     ∙ ap (option_and_then (slice_get (r ∷ rs))) (sym (position-cons (passes test) (r, m) (zip rs ms)))
 
 -- the first request among those that go that passes a test
-pub find_going : (p : Request → Bool) (accesses : Accesses) (rs : List Request)
-    → find p (going accesses rs) ≡ option_and_then (slice_get rs) (first_place (λ r. is_of accesses r && p r) rs)
-find_going p accesses rs = ap (λ xs. find p (filter (is_of accesses) xs)) (sym (marked_eligible rs)) ∙ find_zipped p (is_of accesses) rs (eligible_column rs)
+pub find_going : (p : Request → Bool) (accesses : Accesses) (log : List Arrived)
+    → find p (going accesses log) ≡ option_and_then (slice_get (all_requests log)) (first_place (λ r. is_of accesses r && p r) log)
+find_going p accesses log =
+    ap (λ xs. find p (filter (is_of accesses) xs)) (sym (marked_eligible log)) ∙ find_zipped p (is_of accesses) (all_requests log) (eligible_column log)
 
 some_next : (b : Bool) (o : Option ℕ) → is_some (cond b (Some 0) (option_map suc o)) ≡ (b || is_some o)
 some_next true o = refl
@@ -119,19 +128,30 @@ any_zipped p t (r ∷ rs) (m ∷ ms) =
     ∙ ap is_some (sym (position-cons (passes test) (r, m) (zip rs ms)))
 
 -- whether some request among those that go passes a test
-pub any_going : (p : Request → Bool) (accesses : Accesses) (rs : List Request) → list_any p (going accesses rs) ≡ is_some (first_place (λ r. is_of accesses r && p r) rs)
-any_going p accesses rs = ap (λ xs. list_any p (filter (is_of accesses) xs)) (sym (marked_eligible rs)) ∙ any_zipped p (is_of accesses) rs (eligible_column rs)
+pub any_going : (p : Request → Bool) (accesses : Accesses) (log : List Arrived) → list_any p (going accesses log) ≡ is_some (first_place (λ r. is_of accesses r && p r) log)
+any_going p accesses log =
+    ap (λ xs. list_any p (filter (is_of accesses) xs)) (sym (marked_eligible log)) ∙ any_zipped p (is_of accesses) (all_requests log) (eligible_column log)
 
 -- whether some request of a kind may be served
-pub some_filtered : (t : Request → Bool) (rs : List Request) → is_some (first_place t rs) ≡ list_any (λ r. true) (filter t (first_of_lines rs))
-some_filtered t rs =
+pub some_filtered : (t : Request → Bool) (log : List Arrived) → is_some (first_place t log) ≡ list_any (λ r. true) (filter t (first_of_lines (waiting_requests log)))
+some_filtered t log =
     same_test
-    ∙ sym (any_zipped (λ r. true) t rs (eligible_column rs))
-    ∙ ap (λ xs. list_any (λ r. true) (filter t xs)) (marked_eligible rs)
+    ∙ sym (any_zipped (λ r. true) t (all_requests log) (eligible_column log))
+    ∙ ap (λ xs. list_any (λ r. true) (filter t xs)) (marked_eligible log)
   where
     with_true : (b : Bool) → b ≡ (b && true)
     with_true true = refl
     with_true false = refl
 
-    same_test : is_some (first_place t rs) ≡ is_some (position (passes (λ r. t r && true)) (zip rs (eligible_column rs)))
-    same_test = λ i. is_some (position (λ e. is_marked e.1 && with_true (t e.0) i) (zip rs (eligible_column rs)))
+    same_test : is_some (first_place t log) ≡ is_some (position (passes (λ r. t r && true)) (zip (all_requests log) (eligible_column log)))
+    same_test = λ i. is_some (position (λ e. is_marked e.1 && with_true (t e.0) i) (zip (all_requests log) (eligible_column log)))
+
+-- what is found waits
+pub first_waits : (test : Request → Bool) (log : List Arrived) (slot : ℕ) → first_place test log ≡ Some slot → waits_at log slot ≡ true
+first_waits test log slot is =
+    let found = position-Some (passes test) (entries log) slot (absent.request, 0) is in
+    let within : slot < length log = omega (arith, found.0, length-entries log) in
+    let there =
+    get_or-zip (all_requests log) (eligible_column log) slot (absent.request, 0) (omega (arith, within, length-map log (λ (a : Arrived). a.request))) (omega (arith, within, length-eligible log)) in
+    let passed = sym (ap (passes test) there) ∙ found.1 in
+    marked_waits log slot absent within (and_parts (is_marked (get_or (eligible_column log) slot 0)) (test (get_or (all_requests log) slot absent.request)) passed).0

@@ -1,7 +1,7 @@
 -- What requests and ranks need, and when it is legal.
-use Rattle.std.proofs.Common.{◌≡◌, ℕ, ◌+◌, ◌*◌, ◌<◌, ◌≤◌, Bool, true, false, not, cond, ◌&&◌, eqb, leb, eq-eqb, List, Option, Some, None, refl, sym, ap, ◌∙◌, inl, inr, arith}
-use Rattle.std.proofs.lemmas.Bool.{cases_Bool, eqb-true, eqb-false, and_parts, and_from, leb-true, leb-false, false_from_ne_true, false≢true, cond-true}
-use Rattle.std.specs.List.{list_any, All}
+use Rattle.std.proofs.Common.{◌≡◌, ℕ, ◌<◌, ◌≤◌, Bool, true, false, not, cond, ◌&&◌, eqb, leb, List, Option, Some, None, refl, sym, ap, ◌∙◌, inl, inr, arith}
+use Rattle.std.proofs.lemmas.Bool.{cases_Bool, eqb-true, and_parts, leb-true, leb-false, false_from_ne_true, false≢true, cond-true}
+use Rattle.std.specs.List.{list_any}
 use Rattle.std.specs.Option.{is_some}
 use Rattle.sim_base.specs.declared.config.Config.{Config}
 use Rattle.sim_base.specs.declared.command.Command.{Command}
@@ -11,12 +11,9 @@ use Rattle.sim_base.specs.declared.message.Request.{Request}
 use Rattle.sim_base.specs.declared.place.BankId.{BankId}
 use Rattle.sim_base.specs.Places.{bank_in, is_bank}
 use Rattle.sim_base.specs.Rules.{is_legal, is_allowed, finds_its_banks, open_row, is_row, bank_of}
-use Rattle.sim_base.specs.Scheduling.{source_of, column_command, needed_at, needed, is_column_command, is_withheld, has_hit, is_row_hit}
+use Rattle.sim_base.specs.Scheduling.{source_of, column_command, needed_at, needed, is_column_command, is_withheld, has_hit}
 use Rattle.bank_ready.specs.Stands.{IsAllowedFrom}
-use Rattle.queue_columns.specs.Columns.{bank_number}
-use Rattle.bank_candidates.specs.declared.all_banks.BankCandidates.{BankCandidates}
-use Rattle.bank_candidates.specs.Stands.{bank_count, IsAmong}
-use Rattle.fr_fcfs.specs.Requests.{IsInBanks, IsLegalFrom, is_hit}
+use Rattle.fr_fcfs.specs.Requests.{IsLegalFrom, is_hit}
 use Rattle.fr_fcfs.proofs.Booleans.{and_false, and_true, eqb_swap, any_never}
 
 -- the command that moves the data of a request, if it writes or not
@@ -141,49 +138,3 @@ same_bank a b same =
       group = eqb-true a.group b.group group.1 i;
       bank = eqb-true a.bank b.bank bank.1 i;
     }
-
-bank_itself : (a : BankId) → is_bank a a ≡ true
-bank_itself a =
-    and_from (eqb a.rank a.rank && eqb a.group a.group) (eqb a.bank a.bank)
-    (and_from (eqb a.rank a.rank) (eqb a.group a.group) (eq-eqb a.rank a.rank refl) (eq-eqb a.group a.group refl)) (eq-eqb a.bank a.bank refl)
-
--- banks with one number are one bank
-number_same : (ranks : ℕ) (a b : Request) → IsInBanks ranks a → IsInBanks ranks b → bank_number a.place ≡ bank_number b.place → bank_in a.place ≡ bank_in b.place
-number_same ranks a b in_a in_b same =
-    let group_a = in_a.group in
-    let group_b = in_b.group in
-    let bank_a = in_a.bank in
-    let bank_b = in_b.bank in
-    let rank : a.place.rank ≡ b.place.rank = omega arith in
-    let group : a.place.group ≡ b.place.group = omega arith in
-    let bank : a.place.bank ≡ b.place.bank = omega arith in
-    λ i. record { rank = rank i; group = group i; bank = bank i }
-
--- a row hit in the bank of another request, by the bank's number
-pub hit_in : (history : List IssuedCommand) (ranks : ℕ) (x r : Request) → IsInBanks ranks x → IsInBanks ranks r
-    → (is_hit history x && eqb (bank_number x.place) (bank_number r.place)) ≡ is_row_hit x (bank_in r.place) (open_row (bank_in r.place) history)
-hit_in history ranks x r in_x in_r = elim (cases_Bool (eqb (bank_number x.place) (bank_number r.place))) [
-  | inl same ↦
-      let bank = number_same ranks x r in_x in_r (eqb-true (bank_number x.place) (bank_number r.place) same) in
-      let there : is_bank (bank_in x.place) (bank_in r.place) ≡ true = ap (is_bank (bank_in x.place)) (sym bank) ∙ bank_itself (bank_in x.place) in
-      ap (λ b. is_hit history x && b) same
-      ∙ and_true (is_hit history x)
-      ∙ hit_is history x
-      ∙ ap (λ b. is_row x.place.row (open_row b history)) bank
-      ∙ ap (λ b. b && is_row x.place.row (open_row (bank_in r.place) history)) (sym there)
-  | inr apart ↦
-      let other : is_bank (bank_in x.place) (bank_in r.place) ≡ false =
-      false_from_ne_true (is_bank (bank_in x.place) (bank_in r.place))
-      (λ same. eqb-false (bank_number x.place) (bank_number r.place) apart
-      (ap (λ (b : BankId). (b.rank * 4 + b.group) * 4 + b.bank) (same_bank (bank_in x.place) (bank_in r.place) same))) in
-      ap (λ b. is_hit history x && b) apart
-      ∙ and_false (is_hit history x)
-      ∙ ap (λ b. b && is_row x.place.row (open_row (bank_in r.place) history)) (sym other)
-]
-
--- requests for the banks of so many ranks ask for banks that have candidates
-pub all_among : (bank_candidates : BankCandidates) (ranks : ℕ) (requests : List Request) → bank_count bank_candidates ≡ 16 * ranks → All (IsInBanks ranks) requests
-    → All (λ r. IsAmong bank_candidates (bank_in r.place)) requests
-all_among bank_candidates ranks requests count places = λ k d exists.
-    let there = places k d exists in
-    record { number = omega (arith, count, there.rank, there.group, there.bank); group = there.group; bank = there.bank }

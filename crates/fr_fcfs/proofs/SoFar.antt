@@ -75,13 +75,6 @@ so_far_same room now h r h2 r2 o same_h same_r so_far = record {
   best = best_same now h r h2 r2 (if_within room o) same_h same_r so_far.best;
 }
 
--- with a bank more that offers nothing
-pub none_more : (room now : ℕ) (h r h2 r2 : ℕ → Option ℕ) (o : Offer) → ((c : ℕ) → now ≤ c → h2 c ≡ None) → ((c : ℕ) → now ≤ c → r2 c ≡ None) → IsBestSoFar room now h r o
-    → IsBestSoFar room now (λ c. earlier (h c) (h2 c)) (λ c. earlier (r c) (r2 c)) o
-none_more room now h r h2 r2 o none_h none_r so_far =
-    so_far_same room now h r (λ c. earlier (h c) (h2 c)) (λ c. earlier (r c) (r2 c)) o (λ c from. sym (ap (earlier (h c)) (none_h c from) ∙ first_alone (h c)))
-    (λ c from. sym (ap (earlier (r c)) (none_r c from) ∙ first_alone (r c))) so_far
-
 -- what there is when all are looked at
 pub found : (room now : ℕ) (h r : ℕ → Option ℕ) (o : Offer) → o.slot < room → IsBestSoFar room now h r o → IsBest now h r (Some o)
 found room now h r o inside so_far = subst (IsBest now h r) (offer_within room o inside) so_far.best

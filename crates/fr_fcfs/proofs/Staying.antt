@@ -1,31 +1,36 @@
 -- What is chosen, with requests that arrive and do not go before it.
 use Rattle.std.proofs.Common.{◌≡◌, ℕ, ◌+◌, ◌<◌, Bool, true, false, not, cond, ◌&&◌, ◌||◌, ◌≤◌, eq-eqb, List, [], ◌∷◌, ◌++◌, map, length, drop, slice_index_or, Option, Some, None, refl, sym, ap, subst, ◌∙◌, arith}
 use Rattle.std.proofs.lemmas.Bool.{and_parts, lt-leb}
-use Rattle.std.proofs.lemmas.List.{map-append, get_or-drop, length-drop}
+use Rattle.std.proofs.lemmas.List.{map-append, length-map, get_or-map, get_or-drop, length-drop}
+use Rattle.std.proofs.lemmas.Option.{slice_get-get_or}
 use Rattle.std.proofs.lemmas.List.Elements.{All-nil, All-cons, All-head, All-tail, All-map, All-filter, filter-append}
 use Rattle.std.proofs.lemmas.List.Folds.{find-append, list_any-append}
-use Rattle.std.specs.List.{All, AllWithin, filter, find, zip}
+use Rattle.std.specs.List.{All, AllWithin, filter, find, zip, slice_get}
 use Rattle.std.specs.Option.{option_map, option_or}
 use Rattle.sim_base.specs.declared.config.Config.{Config}
 use Rattle.sim_base.specs.declared.command.Command.{Command}
+use Rattle.sim_base.specs.declared.command.Command.TheVariants.{Prea, Ref}
 use Rattle.sim_base.specs.declared.command.IssuedCommand.{IssuedCommand}
 use Rattle.sim_base.specs.declared.command.Kind.{Kind}
 use Rattle.sim_base.specs.declared.message.Request.{Request}
 use Rattle.sim_base.specs.declared.place.BankId.{BankId}
 use Rattle.sim_base.specs.Places.{bank_in, is_bank}
-use Rattle.sim_base.specs.Rules.{is_legal, open_row, is_row, kind_of}
-use Rattle.sim_base.specs.Scheduling.{needed, is_column_command, has_hit, is_withheld, is_row_hit, ready_hit, ready_row, or_else, first_ready, first_of_lines, asks_for_line, choice_between, lowest_due}
-use Rattle.queue_columns.specs.Marks.{is_marked}
-use Rattle.queue_columns.specs.Columns.{bank_number, marked_items}
-use Rattle.queue_columns.proofs.Eligible.{marks_after, eligible_is, marked_eligible}
+use Rattle.sim_base.specs.Rules.{is_legal, open_row, is_row, kind_of, has_open_bank}
+use Rattle.sim_base.specs.Scheduling.{needed, is_column_command, has_hit, is_withheld, is_row_hit, ready_hit, ready_row, or_else, first_ready, first_of_lines, asks_for_line, choice_between, lowest_due, refresh_command}
+use Rattle.request_log.specs.declared.Arrived.{Arrived}
+use Rattle.request_log.specs.Marks.{is_marked}
+use Rattle.request_log.specs.Log.{waiting_requests, all_requests}
+use Rattle.request_log.specs.Columns.{bank_number, marked_items}
+use Rattle.request_log.proofs.Eligible.{marks_after}
 use Rattle.queue.specs.View.{QueueView}
-use Rattle.bank_candidates.specs.Candidates.{bank_at}
-use Rattle.bank_candidates.proofs.Entries.{front, entries_without}
+use Rattle.bank_candidates.specs.Candidates.{bank_at, entries}
+use Rattle.bank_candidates.proofs.Entries.{entries_append}
 use Rattle.fr_fcfs.specs.Arrivals.{ComesAfter, KeepsNext}
 use Rattle.fr_fcfs.specs.Choices.{choice_in}
 use Rattle.fr_fcfs.specs.Requests.{IsInBanks, is_hit, candidates_of}
 use Rattle.fr_fcfs.specs.Offers.{IsReadyFrom}
 use Rattle.fr_fcfs.proofs.Booleans.{and_false, or_false}
+use Rattle.request_log.proofs.Firsts.{marked_eligible}
 use Rattle.fr_fcfs.proofs.Legal.{withheld_is, hit_is, same_bank}
 use Rattle.fr_fcfs.proofs.BankOffers.{legal_then}
 use Rattle.fr_fcfs.proofs.Favoured.{favour_never}
@@ -40,24 +45,24 @@ items_each P rs ms all =
     let kept = λ (e : Request × ℕ). is_marked e.1 in
     All-map P (λ (e : Request × ℕ). e.0) (filter kept (zip rs ms)) (All-filter kept (λ (e : Request × ℕ). P e.0) (zip rs ms) (zip_each P rs ms all))
 
--- those of later requests that have no older one for the same line
-abbrev later_lines : List Request → List Request → List Request
-later_lines older later = marked_items later (marks_after (λ p. asks_for_line p older) later)
+-- those of later requests that wait with no older one for the same line
+abbrev later_lines : List Arrived → List Arrived → List Request
+later_lines older later = marked_items (all_requests later) (marks_after (λ p. asks_for_line p (waiting_requests older)) later)
 
-later_each : (P : Request → Type 0) (older later : List Request) → All P later → All P (later_lines older later)
-later_each P older later all = items_each P later (marks_after (λ p. asks_for_line p older) later) all
+later_each : (P : Request → Type 0) (older later : List Arrived) → All P (all_requests later) → All P (later_lines older later)
+later_each P older later all = items_each P (all_requests later) (marks_after (λ p. asks_for_line p (waiting_requests older)) later) all
 
 -- requests that come later follow those that may be served
-lines_more : (older later : List Request) → first_of_lines (older ++ later) ≡ first_of_lines older ++ later_lines older later
+lines_more : (older later : List Arrived) → first_of_lines (waiting_requests (older ++ later)) ≡ first_of_lines (waiting_requests older) ++ later_lines older later
 lines_more older later =
     let kept = λ (e : Request × ℕ). is_marked e.1 in
     let item = λ (e : Request × ℕ). e.0 in
-    let rest = zip later (marks_after (λ p. asks_for_line p older) later) in
+    let rest = zip (all_requests later) (marks_after (λ p. asks_for_line p (waiting_requests older)) later) in
     sym (marked_eligible (older ++ later))
-    ∙ ap (λ es. map item (filter kept es)) (entries_without older later)
-    ∙ ap (map item) (filter-append kept (front older) rest)
-    ∙ map-append item (filter kept (front older)) (filter kept rest)
-    ∙ ap (λ xs. xs ++ later_lines older later) (ap (marked_items older) (sym (eligible_is older)) ∙ marked_eligible older)
+    ∙ ap (λ es. map item (filter kept es)) (entries_append older later)
+    ∙ ap (map item) (filter-append kept (entries older) rest)
+    ∙ map-append item (filter kept (entries older)) (filter kept rest)
+    ∙ ap (λ xs. xs ++ later_lines older later) (marked_eligible older)
 
 none_found : {X : Type 0} (p : X → Bool) (xs : List X) → All (λ x. p x ≡ false) xs → find p xs ≡ None
 none_found p [] all = refl
@@ -233,17 +238,17 @@ between_quiet s history cycle t hit requests more None early all none = quiet_st
 between_quiet s history cycle t hit requests more (Some rank) early all none = none
 
 -- What is next stays so with requests that come after it, where the channel never drains its writes.
-pub next_stays : (s : Config) (history : List IssuedCommand) (earlier later : QueueView) (new : List Request) (cycle : ℕ) (command : Command) → s.write_high ≡ 0
-    → later.requests ≡ earlier.requests ++ new → All (ComesAfter s history cycle (is_column_command command)) new
+pub next_stays : (s : Config) (history : List IssuedCommand) (earlier later : QueueView) (new : List Arrived) (cycle : ℕ) (command : Command) → s.write_high ≡ 0
+    → later.log ≡ earlier.log ++ new → All (ComesAfter s history cycle (is_column_command command)) (all_requests new)
     → KeepsNext (choice_in s history earlier) (choice_in s history later) cycle command
 next_stays s history earlier later new cycle command never whole all =
     let requests = candidates_of s earlier in
-    let more = later_lines earlier.requests new in
-    let each = later_each (ComesAfter s history cycle (is_column_command command)) earlier.requests new all in
+    let more = later_lines earlier.log new in
+    let each = later_each (ComesAfter s history cycle (is_column_command command)) earlier.log new all in
     let same : candidates_of s later ≡ requests ++ more =
     sym (favour_never s later never)
-    ∙ ap first_of_lines whole
-    ∙ lines_more earlier.requests new
+    ∙ ap (λ log. first_of_lines (waiting_requests log)) whole
+    ∙ lines_more earlier.log new
     ∙ ap (λ xs. xs ++ more) (favour_never s earlier never) in
     record {
       then_is = λ chosen.
@@ -271,3 +276,24 @@ all_dropped P rs from all =
     let there : from + k < length rs = omega (arith, length-drop from rs) in
     let from_on : from ≤ from + k = omega arith in
     subst P (sym (get_or-drop from rs k d)) (all (from + k) d from_on there)
+
+-- what the request at a place needs
+pub needed_there : (history : List IssuedCommand) (log : List Arrived) (slot : ℕ) (d : Arrived) (command : Command) → slot < length log
+    → option_map (needed history) (slice_get (all_requests log) slot) ≡ Some command → needed history (slice_index_or log slot d).request ≡ command
+needed_there history log slot d command within is =
+    let request = λ (a : Arrived). a.request in
+    let there : slice_get (all_requests log) slot ≡ Some (slice_index_or log slot d).request =
+    slice_get-get_or (all_requests log) slot d.request (omega (arith, within, length-map log request)) ∙ ap Some (get_or-map request log slot d d.request within) in
+    let same : Some (needed history (slice_index_or log slot d).request) ≡ Some command = sym (ap (option_map (needed history)) there) ∙ is in
+    cc
+
+-- what a rank needs that is to be refreshed moves no data
+pub refresh_moves_none : (s : Config) (history : List IssuedCommand) (rank : ℕ) (command : Command) → Some (refresh_command s history rank) ≡ Some command → is_column_command command ≡ false
+unfolding refresh_command
+refresh_moves_none s history rank command is =
+    let same : refresh_command s history rank ≡ command = cc in
+    ap is_column_command (sym same) ∙ none (has_open_bank s history rank)
+  where
+    none : (b : Bool) → is_column_command (cond b (Prea rank) (Ref rank)) ≡ false
+    none true = refl
+    none false = refl

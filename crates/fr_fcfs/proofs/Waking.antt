@@ -56,7 +56,7 @@ IsRefreshed s history command due now commands rest = (c : ℕ) → now ≤ c �
 -- where there is nothing else before it is due
 pub next_later : (s : Config) (history : List IssuedCommand) (command : Command) (due ready now : ℕ) (commands rest : ℕ → Option Command)
     → IsRefreshed s history command (Some due) now commands rest → IsLegalFrom s history command ready → now ≤ due → ((c : ℕ) → now ≤ c → c < due → rest c ≡ None)
-    → IsNextAt commands now (max due ready) command
+    → IsNextAt commands now (max due ready) (Some command)
 next_later s history command due ready now commands rest is legal late none = record {
   from_now = omega arith;
   then_is =
@@ -65,6 +65,7 @@ next_later s history command due ready now commands rest is legal late none = re
       ∙ cond-true (leb due then) (if_legal s history then command) (rest then) (le-leb due then (omega arith))
       ∙ legal_then s history command ready then legal
       ∙ cond-true (leb ready then) (Some command) None (le-leb ready then (omega arith));
+  there_is = refl;
   none_before = λ c from before. elim (cases_lt c due) [
     | inl early ↦ is c from ∙ cond-false (leb due c) (if_legal s history c command) (rest c) (lt-leb due c early) ∙ none c from early
     | inr after ↦
@@ -75,33 +76,25 @@ next_later s history command due ready now commands rest is legal late none = re
   ];
 }
 
--- where there is something else before it is due
-pub next_sooner : (s : Config) (history : List IssuedCommand) (command other : Command) (cycle due now : ℕ) (commands rest : ℕ → Option Command)
-    → IsRefreshed s history command (Some due) now commands rest → IsNextAt rest now cycle other → cycle < due → IsNextAt commands now cycle other
-next_sooner s history command other cycle due now commands rest is before sooner = record {
-  from_now = before.from_now;
-  then_is = is cycle before.from_now ∙ cond-false (leb due cycle) (if_legal s history cycle command) (rest cycle) (lt-leb due cycle sooner) ∙ before.then_is;
-  none_before = λ c from early.
-      is c from ∙ cond-false (leb due c) (if_legal s history c command) (rest c) (lt-leb due c (omega arith)) ∙ before.none_before c from early;
-}
-
 -- the same commands from now on
-pub next_same : (commands rest : ℕ → Option Command) (now : ℕ) (next : Option (ℕ × Choice)) → ((c : ℕ) → now ≤ c → commands c ≡ rest c) → IsNext rest now next → IsNext commands now next
-next_same commands rest now None same is = λ c from. same c from ∙ is c from
-next_same commands rest now (Some next) same is = record {
+pub next_same : (commands rest : ℕ → Option Command) (needs : Choice → Option Command) (now : ℕ) (next : Option (ℕ × Choice)) → ((c : ℕ) → now ≤ c → commands c ≡ rest c)
+    → IsNext rest needs now next → IsNext commands needs now next
+next_same commands rest needs now None same is = λ c from. same c from ∙ is c from
+next_same commands rest needs now (Some next) same is = record {
   from_now = is.from_now;
   then_is = same next.0 is.from_now ∙ is.then_is;
+  there_is = is.there_is;
   none_before = λ c from before. same c from ∙ is.none_before c from before;
 }
 
 -- one rank more, below those that were looked at
-pub refreshes_more : (s : Config) (history : List IssuedCommand) (requests : List Request) (rank ranks now : ℕ) (due_cycle : Option ℕ) (first next : Option (ℕ × Choice))
+pub refreshes_more : (s : Config) (history : List IssuedCommand) (requests : List Request) (needs : Choice → Option Command) (rank ranks now : ℕ) (due_cycle : Option ℕ) (first next : Option (ℕ × Choice))
     → IsDueFrom (due s rank history) now due_cycle → rank < ranks
-    → ((n : ℕ) → (rank + 1) + n ≡ ranks → IsNext (chosen_from s history requests (rank + 1) n) now first)
-    → ((commands rest : ℕ → Option Command) → IsRefreshed s history (refresh_command s history rank) due_cycle now commands rest → IsNext rest now first → IsNext commands now next)
-    → (n : ℕ) → rank + n ≡ ranks → IsNext (chosen_from s history requests rank n) now next
-refreshes_more s history requests rank ranks now due_cycle first next is_due exists before sooner zero all = absurd (omega arith)
-refreshes_more s history requests rank ranks now due_cycle first next is_due exists before sooner (suc n) all =
+    → ((n : ℕ) → (rank + 1) + n ≡ ranks → IsNext (chosen_from s history requests (rank + 1) n) needs now first)
+    → ((commands rest : ℕ → Option Command) → IsRefreshed s history (refresh_command s history rank) due_cycle now commands rest → IsNext rest needs now first → IsNext commands needs now next)
+    → (n : ℕ) → rank + n ≡ ranks → IsNext (chosen_from s history requests rank n) needs now next
+refreshes_more s history requests needs rank ranks now due_cycle first next is_due exists before sooner zero all = absurd (omega arith)
+refreshes_more s history requests needs rank ranks now due_cycle first next is_due exists before sooner (suc n) all =
     sooner (chosen_from s history requests rank (suc n)) (chosen_from s history requests (rank + 1) n)
     (λ c from.
     chosen_next s history requests rank n c
@@ -109,27 +102,28 @@ refreshes_more s history requests rank ranks now due_cycle first next is_due exi
     (before n (omega arith))
 
 -- the choice with no rank is that of the requests
-pub chosen_start : (s : Config) (history : List IssuedCommand) (requests : List Request) (ranks now : ℕ) (next : Option (ℕ × Choice))
-    → IsNext (λ cycle. first_ready s history cycle requests) now next → (n : ℕ) → ranks + n ≡ ranks → IsNext (chosen_from s history requests ranks n) now next
-chosen_start s history requests ranks now next is zero all =
-    next_same (chosen_from s history requests ranks 0) (λ cycle. first_ready s history cycle requests) now next (λ c from. chosen_last s history requests ranks c) is
-chosen_start s history requests ranks now next is (suc n) all = absurd (omega arith)
+pub chosen_start : (s : Config) (history : List IssuedCommand) (requests : List Request) (needs : Choice → Option Command) (ranks now : ℕ) (next : Option (ℕ × Choice))
+    → IsNext (λ cycle. first_ready s history cycle requests) needs now next → (n : ℕ) → ranks + n ≡ ranks → IsNext (chosen_from s history requests ranks n) needs now next
+chosen_start s history requests needs ranks now next is zero all =
+    next_same (chosen_from s history requests ranks 0) (λ cycle. first_ready s history cycle requests) needs now next (λ c from. chosen_last s history requests ranks c) is
+chosen_start s history requests needs ranks now next is (suc n) all = absurd (omega arith)
 
 -- the first cycle that has a command
-pub first_cycle : (commands : ℕ → Option Command) (now cycle : ℕ) (command : Command) → IsNextAt commands now cycle command → IsFirst (λ c. is_some (commands c)) now cycle
+pub first_cycle : (commands : ℕ → Option Command) (now cycle : ℕ) (command : Option Command) → IsNextAt commands now cycle command → IsFirst (λ c. is_some (commands c)) now cycle
 first_cycle commands now cycle command next = record {
   from_now = next.from_now;
-  holds_then = ap is_some next.then_is;
+  holds_then = ap is_some next.then_is ∙ next.there_is;
   not_before = λ c from before. ap is_some (next.none_before c from before);
 }
 
 -- where no refresh is due by the cycle of the first command of the requests, that goes first
-pub next_quiet : (s : Config) (history : List IssuedCommand) (requests : List Request) (counts : RefreshCounts) (now cycle : ℕ) (command : Command) → StandsFor counts s history
+pub next_quiet : (s : Config) (history : List IssuedCommand) (requests : List Request) (counts : RefreshCounts) (now cycle : ℕ) (command : Option Command) → StandsFor counts s history
     → is_some (lowest_owed counts cycle) ≡ false → IsNextAt (λ c. first_ready s history c requests) now cycle command
     → IsNextAt (λ c. choice_between s history c requests (lowest_due s history c)) now cycle command
 next_quiet s history requests counts now cycle command stands none first = record {
   from_now = first.from_now;
   then_is = quiet cycle (omega arith) ∙ first.then_is;
+  there_is = first.there_is;
   none_before = λ c from before. quiet c (omega arith) ∙ first.none_before c from before;
 }
   where

@@ -1,13 +1,13 @@
 -- What a channel does next.
 --     StandFor bank_candidates banks refresh queue groups s history      the parts of a channel stand for a configuration and its commands so far
 --     choice_in s history queue now      the command of a cycle
---     IsFor requests choice      the place of the request that a command serves
-use Rattle.std.specs.Prelude.{◌≡◌, ℕ, false, List, Option, Some, slice_get, MatchOption}
+--     command_of s history log choice      the command that is needed by what was chosen
+--     IsFor ranks log choice      what was chosen is a request that waits, or a rank that there is
+use Rattle.std.specs.Prelude.{◌≡◌, ℕ, ◌<◌, true, List, length, Option, Some, option_map, slice_get}
 use Rattle.sim_base.specs.declared.config.Config.{Config}
 use Rattle.sim_base.specs.declared.command.Command.{Command}
 use Rattle.sim_base.specs.declared.command.IssuedCommand.{IssuedCommand}
-use Rattle.sim_base.specs.declared.message.Request.{Request}
-use Rattle.sim_base.specs.Scheduling.{choice_between, lowest_due, is_column_command, column_command}
+use Rattle.sim_base.specs.Scheduling.{choice_between, lowest_due, needed, refresh_command}
 use Rattle.bank_ready.specs.declared.banks.Banks.{Banks}
 use Rattle.bank_ready.specs.Stands.{StandsFor as BanksStandFor}
 use Rattle.refresh.specs.Refreshes.{RefreshCounts, StandsFor as RefreshesStandFor}
@@ -15,15 +15,18 @@ use Rattle.sim_base.specs.Rules.{open_row}
 use Rattle.bank_candidates.specs.declared.all_banks.BankCandidates.{BankCandidates}
 use Rattle.bank_candidates.specs.Candidates.{bank_at}
 use Rattle.bank_candidates.specs.Stands.{StandsFor as CandidatesStandFor}
+use Rattle.request_log.specs.declared.Arrived.{Arrived}
+use Rattle.request_log.specs.Log.{all_requests, waits_at}
 use Rattle.queue.specs.View.{QueueView}
 use Rattle.fr_fcfs.specs.Requests.{candidates_of}
 use Rattle.fr_fcfs.specs.declared.choice.Choice.{Choice}
+use Rattle.fr_fcfs.specs.declared.choice.Choice.TheVariants as chosen
 
 -- The banks and the refreshes stand for the commands so far, under a configuration with this many groups and the queue's `high`,
 -- and the candidates for the queue and the rows that are open.
 pub record StandFor (bank_candidates : BankCandidates) (banks : Banks) (refresh : RefreshCounts) (queue : QueueView) (groups : ℕ) (s : Config) (history : List IssuedCommand) : Type 0 where
   pub banks_stand : BanksStandFor banks s history
-  pub candidates_stand : CandidatesStandFor bank_candidates queue.requests (λ bank. open_row (bank_at bank) history)
+  pub candidates_stand : CandidatesStandFor bank_candidates queue.log (λ bank. open_row (bank_at bank) history)
   pub refreshes_stand : RefreshesStandFor refresh s history
   pub groups_are : s.groups ≡ groups
   pub high_is : s.write_high ≡ queue.high
@@ -32,10 +35,12 @@ pub record StandFor (bank_candidates : BankCandidates) (banks : Banks) (refresh 
 abbrev pub choice_in : Config → List IssuedCommand → QueueView → ℕ → Option Command
 choice_in s history queue now = choice_between s history now (candidates_of s queue) (lowest_due s history now)
 
--- the request at this place has its data moved by a command
-abbrev pub Serves : List Request → Command → ℕ → Type 0
-Serves requests command slot = (r : Request) × (slice_get requests slot ≡ Some r) × (command ≡ column_command r)
+-- the command that is needed by what was chosen: by the request at a place of a log, or by a rank that is to be refreshed
+abbrev pub command_of : Config → List IssuedCommand → List Arrived → Choice → Option Command
+command_of s history log (chosen.Request slot) = option_map (needed history) (slice_get (all_requests log) slot)
+command_of s history log (chosen.Refresh rank) = Some (refresh_command s history rank)
 
--- A command that moves data has the place of the request that it serves, and any other has none.
-abbrev pub IsFor : List Request → Choice → Type 0
-IsFor requests choice = MatchOption choice.slot (is_column_command choice.command ≡ false) (Serves requests choice.command)
+-- What was chosen is a request that waits at a place of a log, or one of so many ranks.
+abbrev pub IsFor : ℕ → List Arrived → Choice → Type 0
+IsFor ranks log (chosen.Request slot) = (slot < length log) × (waits_at log slot ≡ true)
+IsFor ranks log (chosen.Refresh rank) = rank < ranks

@@ -1,7 +1,7 @@
 -- The first cycle in which something holds.
 --     IsFirstCycle holds now first      the first cycle from now on in which it does, if there is one
---     IsNext commands now next      the first cycle from now on with a command, and that command, if there is one
-use Rattle.std.specs.Prelude.{◌≡◌, ℕ, ◌<◌, ◌≤◌, Bool, true, false, Option, Some, None}
+--     IsNext commands command_of now next      the first cycle from now on with a command, and what needs that command, if there is one
+use Rattle.std.specs.Prelude.{◌≡◌, ℕ, ◌<◌, ◌≤◌, Bool, true, false, Option, Some, None, is_some}
 use Rattle.sim_base.specs.declared.command.Command.{Command}
 use Rattle.fr_fcfs.specs.declared.choice.Choice.{Choice}
 
@@ -17,12 +17,13 @@ IsFirstCycle holds now (Some first) = IsFirst holds now first
 IsFirstCycle holds now None = (cycle : ℕ) → now ≤ cycle → holds cycle ≡ false
 
 -- the first cycle from now on that has a command, and that command
-pub record IsNextAt (commands : ℕ → Option Command) (now cycle : ℕ) (command : Command) : Type 0 where
+pub record IsNextAt (commands : ℕ → Option Command) (now cycle : ℕ) (command : Option Command) : Type 0 where
   pub from_now : now ≤ cycle
-  pub then_is : commands cycle ≡ Some command
+  pub then_is : commands cycle ≡ command
+  pub there_is : is_some command ≡ true
   pub none_before : (c : ℕ) → now ≤ c → c < cycle → commands c ≡ None
 
--- the same, where there may be none
-abbrev pub IsNext : (ℕ → Option Command) → ℕ → Option (ℕ × Choice) → Type 0
-IsNext commands now (Some next) = IsNextAt commands now next.0 next.1.command
-IsNext commands now None = (c : ℕ) → now ≤ c → commands c ≡ None
+-- the same, where there may be none, and with what needs the command in place of it
+abbrev pub IsNext : (ℕ → Option Command) → (Choice → Option Command) → ℕ → Option (ℕ × Choice) → Type 0
+IsNext commands command_of now (Some next) = IsNextAt commands now next.0 (command_of next.1)
+IsNext commands command_of now None = (c : ℕ) → now ≤ c → commands c ≡ None

@@ -1,9 +1,9 @@
 -- What banks offer for the candidates of their queues.
 --     is_of accesses r      a request is of the accesses that go
 --     only write      requests to write go alone, or requests to read
---     hits_in s history requests accesses bank cycle      the place of the first ready row hit of a bank in a cycle
---     rows_in s history requests accesses bank cycle      the place of its first request for which an ACT or a PRE may be issued then
---     rows_beside s history requests accesses left cycle      the place of the first such request of all banks but those that are left
+--     hits_in s history log accesses bank cycle      the place of the first ready row hit of a bank in a cycle
+--     rows_in s history log accesses bank cycle      the place of its first request for which an ACT or a PRE may be issued then
+--     rows_beside s history log accesses left cycle      the place of the first such request of all banks but those that are left
 --     IsBest now hits rows offer      an offer is the first from now on
 --     IsBestSoFar room now hits rows offer      the same, where one with a place after all others stands for none
 --     IsFirstReady s history queue now offer      an offer is what the first ready request of the queue needs
@@ -17,7 +17,9 @@ use Rattle.sim_base.specs.declared.message.Request.{Request}
 use Rattle.sim_base.specs.declared.place.BankId.{BankId}
 use Rattle.sim_base.specs.Rules.{kind_of, bank_of, finds_its_banks}
 use Rattle.sim_base.specs.Scheduling.{needed, ready_hit, ready_row, first_of_lines, first_ready}
-use Rattle.queue_columns.specs.Columns.{bank_number}
+use Rattle.request_log.specs.declared.Arrived.{Arrived}
+use Rattle.request_log.specs.Log.{waiting_requests, all_requests, waits_at}
+use Rattle.request_log.specs.Columns.{bank_number}
 use Rattle.queue.specs.View.{QueueView}
 use Rattle.bank_candidates.specs.declared.entry.CandidatesOfBank.{CandidatesOfBank}
 use Rattle.bank_candidates.specs.Candidates.{first_place}
@@ -55,28 +57,28 @@ abbrev pub oldest_candidate : Accesses → CandidatesOfBank → Option ℕ
 oldest_candidate accesses bank_candidates = earlier (if_allowed bank_candidates.reads.oldest accesses.reads) (if_allowed bank_candidates.writes.oldest accesses.writes)
 
 -- the requests that may be served, of the accesses that go
-abbrev pub going : Accesses → List Request → List Request
-going accesses requests = filter (is_of accesses) (first_of_lines requests)
+abbrev pub going : Accesses → List Arrived → List Request
+going accesses log = filter (is_of accesses) (first_of_lines (waiting_requests log))
 
 -- a row hit of a bank that is ready in a cycle
 abbrev pub hits_now : Config → List IssuedCommand → Accesses → ℕ → Request → Bool
 hits_now s history accesses cycle r = is_of accesses r && ready_hit s history cycle r
 
 -- a request for which an ACT or a PRE may be issued in a cycle
-abbrev pub rows_now : Config → List IssuedCommand → List Request → Accesses → ℕ → Request → Bool
-rows_now s history requests accesses cycle r = is_of accesses r && ready_row s history cycle (going accesses requests) r
+abbrev pub rows_now : Config → List IssuedCommand → List Arrived → Accesses → ℕ → Request → Bool
+rows_now s history log accesses cycle r = is_of accesses r && ready_row s history cycle (going accesses log) r
 
 -- the place of the first row hit of a bank that is ready in a cycle
-abbrev pub hits_in : Config → List IssuedCommand → List Request → Accesses → ℕ → ℕ → Option ℕ
-hits_in s history requests accesses bank cycle = first_place (λ r. (bank_number r.place == bank) && hits_now s history accesses cycle r) requests
+abbrev pub hits_in : Config → List IssuedCommand → List Arrived → Accesses → ℕ → ℕ → Option ℕ
+hits_in s history log accesses bank cycle = first_place (λ r. (bank_number r.place == bank) && hits_now s history accesses cycle r) log
 
 -- the place of its first request for which an ACT or a PRE may be issued then
-abbrev pub rows_in : Config → List IssuedCommand → List Request → Accesses → ℕ → ℕ → Option ℕ
-rows_in s history requests accesses bank cycle = first_place (λ r. (bank_number r.place == bank) && rows_now s history requests accesses cycle r) requests
+abbrev pub rows_in : Config → List IssuedCommand → List Arrived → Accesses → ℕ → ℕ → Option ℕ
+rows_in s history log accesses bank cycle = first_place (λ r. (bank_number r.place == bank) && rows_now s history log accesses cycle r) log
 
 -- the place of the first such request of all banks but those that are left
-abbrev pub rows_beside : Config → List IssuedCommand → List Request → Accesses → (ℕ → Bool) → ℕ → Option ℕ
-rows_beside s history requests accesses left cycle = first_place (λ r. not (left (bank_number r.place)) && rows_now s history requests accesses cycle r) requests
+abbrev pub rows_beside : Config → List IssuedCommand → List Arrived → Accesses → (ℕ → Bool) → ℕ → Option ℕ
+rows_beside s history log accesses left cycle = first_place (λ r. not (left (bank_number r.place)) && rows_now s history log accesses cycle r) log
 
 -- a row hit is at this place, or there is none and the other is
 abbrev pub IsAt : Bool → Option ℕ → Option ℕ → ℕ → Type 0
@@ -126,11 +128,12 @@ abbrev pub row_kind : Option ℕ → Kind
 row_kind (Some row) = kind.Pre
 row_kind None = kind.Act
 
--- An offer is what the first ready request, from now on, needs.
+-- An offer is what the first ready request, from now on, needs. That request waits.
 pub record IsReadyAt (s : Config) (history : List IssuedCommand) (queue : QueueView) (now : ℕ) (o : Offer) : Type 0 where
   pub from_now : now ≤ o.cycle
   pub none_before : (cycle : ℕ) → now ≤ cycle → cycle < o.cycle → first_ready s history cycle (candidates_of s queue) ≡ None
-  pub then_is : first_ready s history o.cycle (candidates_of s queue) ≡ option_map (needed history) (slice_get queue.requests o.slot)
+  pub then_is : first_ready s history o.cycle (candidates_of s queue) ≡ option_map (needed history) (slice_get (all_requests queue.log) o.slot)
+  pub waits : waits_at queue.log o.slot ≡ true
 
 -- the same, where there may be none
 abbrev pub IsFirstReady : Config → List IssuedCommand → QueueView → ℕ → Option Offer → Type 0

@@ -11,6 +11,8 @@ use Rattle.sim_base.specs.declared.command.IssuedCommand.{IssuedCommand}
 use Rattle.sim_base.specs.declared.message.Request.{Request}
 use Rattle.sim_base.specs.Rules.{is_legal, open_row}
 use Rattle.sim_base.specs.Scheduling.{needed, is_column_command, candidates}
+use Rattle.request_log.specs.declared.Arrived.{Arrived}
+use Rattle.request_log.specs.Log.{waiting_requests}
 use Rattle.bank_candidates.specs.declared.all_banks.BankCandidates.{BankCandidates}
 use Rattle.bank_candidates.specs.Candidates.{bank_at}
 use Rattle.bank_candidates.specs.Stands.{StandsFor as CandidatesStandFor}
@@ -22,10 +24,10 @@ pub record IsInBanks (ranks : ℕ) (r : Request) : Type 0 where
   pub group : r.place.group < 4
   pub bank : r.place.bank < 4
 
--- candidates that stand for some queue, and for the rows that are open after a history
+-- candidates that stand for some log, and for the rows that are open after a history
 pub record KnowsRows (bank_candidates : BankCandidates) (history : List IssuedCommand) : Type 0 where
-  pub requests : List Request
-  pub stands : CandidatesStandFor bank_candidates requests (λ bank. open_row (bank_at bank) history)
+  pub log : List Arrived
+  pub stands : CandidatesStandFor bank_candidates log (λ bank. open_row (bank_at bank) history)
 
 -- from this cycle on, and not before, a command may be issued after a history
 abbrev pub IsLegalFrom : Config → List IssuedCommand → Command → ℕ → Type 0
@@ -37,4 +39,4 @@ is_hit history r = is_column_command (needed history r)
 
 -- the requests that may be served next
 abbrev pub candidates_of : Config → QueueView → List Request
-candidates_of s queue = candidates s (is_draining queue) queue.requests
+candidates_of s queue = candidates s (is_draining queue) (waiting_requests queue.log)

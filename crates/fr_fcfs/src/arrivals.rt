@@ -1,6 +1,7 @@
 //! Whether the next command stays the same when requests arrive.
 
-ghost use Rattle.std.specs.Prelude.{◌≡◌, ◌*◌, ◌<◌, true, List, Option, All, IsTrue, take};
+ghost use Rattle.std.specs.Prelude.{◌≡◌, ◌*◌, ◌<◌, ℕ, true, List, length, Some, All, IsTrue, take};
+ghost use Rattle.sim_base.specs.Places.{bank_in};
 ghost use Rattle.sim_base.specs.Rules.{kind_of, open_row};
 ghost use Rattle.sim_base.specs.Scheduling.{needed_at, is_column_command};
 ghost use Rattle.sim_base.specs.declared.config.Config.{Config};
@@ -10,19 +11,21 @@ ghost use Rattle.sim_base.specs.declared.message.Request.{Request};
 ghost use Rattle.bank_ready.specs.Words.{names_bank};
 ghost use Rattle.bank_ready.specs.Stands.{rank_count, StandsFor as BanksStandFor};
 ghost use Rattle.queue.specs.View.{QueueView};
-ghost use Rattle.queue_columns.specs.Columns.{bank_number};
+ghost use Rattle.request_log.specs.Log.{all_requests};
 ghost use Rattle.bank_candidates.specs.Candidates.{bank_at};
-ghost use Rattle.bank_candidates.specs.Stands.{bank_count, StandsFor as CandidatesStandFor};
+ghost use Rattle.bank_candidates.specs.Stands.{bank_count, IsAmong, StandsFor as CandidatesStandFor};
+ghost use Rattle.fr_fcfs.specs.declared.choice.Choice.TheVariants as chosen;
 ghost use Rattle.fr_fcfs.specs.Arrivals.{ComesAfter, KeepsNext};
-ghost use Rattle.fr_fcfs.specs.Choices.{choice_in};
-ghost use Rattle.fr_fcfs.specs.Requests.{IsInBanks, KnowsRows};
+ghost use Rattle.fr_fcfs.specs.Choices.{choice_in, command_of, IsFor};
+ghost use Rattle.fr_fcfs.specs.Requests.{IsInBanks, KnowsRows, is_hit};
 
 use crate::choice::Choice;
 use crate::offers::ready;
 use bank_candidates::BankCandidates;
 use bank_ready::banks::Banks;
 use queue::Queue;
-use queue_columns::words::bank_number;
+use request_log::Arrived;
+use request_log::words::bank_number;
 use sim_base::command::Kind;
 use sim_base::message::{Cycle, Request};
 
@@ -68,7 +71,33 @@ fn comes_after(
     after && (hit || !moves_data(kind))
 }
 
-/// Whether the choice for a cycle, which is the next one, is known to stay the same now that the requests of the queue from a place on
+/// Whether a request asks for the row that is open in its bank.
+#[inline(always)]
+fn is_hit(bank_candidates: &BankCandidates, request: &Request) -> bool
+    requires { IsAmong bank_candidates.now (bank_in request.now.place) }
+    ensures { (history : List IssuedCommand) → KnowsRows bank_candidates.now history → result ≡ is_hit history request.now }
+{
+    match bank_candidates.open_row(request.place.bank_id()) {
+        Some(row) => row == request.place.row,
+        None => false,
+    }
+}
+
+/// Whether what was chosen moves data.
+#[inline(always)]
+fn chosen_moves_data(bank_candidates: &BankCandidates, log: &[Arrived], choice: Choice) -> bool
+    requires places { All (λ r. IsAmong bank_candidates.now (bank_in r.place)) (all_requests log.now) }
+    requires within { (slot : ℕ) → choice ≡ chosen.Request slot → slot < length log.now }
+    ensures { (s : Config) (history : List IssuedCommand) (command : Command) → KnowsRows bank_candidates.now history
+        → command_of s history log.now choice ≡ Some command → result ≡ is_column_command command }
+{
+    match choice {
+        Choice::Request(slot) => is_hit(bank_candidates, &log[slot as usize].request),
+        Choice::Refresh(_) => false,
+    }
+}
+
+/// Whether the choice for a cycle, which is the next one, is known to stay the same now that the requests of the log from a place on
 /// have arrived. It stays if none of them goes before it. If the channel ever drains its writes, none is looked at, and it is not known.
 #[inline(always)]
 pub fn stays(
@@ -77,22 +106,23 @@ pub fn stays(
     banks: &Banks,
     from: usize,
     cycle: Cycle,
-    choice: &Choice,
+    choice: Choice,
 ) -> bool
-    requires places { All (IsInBanks (rank_count banks.now)) queue.now.requests }
+    requires places { All (IsInBanks (rank_count banks.now)) (all_requests queue.now.log) }
     requires banks { bank_count bank_candidates.now ≡ 16 * rank_count banks.now }
-    ensures { (s : Config) (history : List IssuedCommand) (earlier : QueueView) → result ≡ true → BanksStandFor banks.now s history
-        → CandidatesStandFor bank_candidates.now queue.now.requests (λ bank. open_row (bank_at bank) history) → s.write_high ≡ queue.now.high
-        → earlier.requests ≡ take from queue.now.requests
-        → KeepsNext (choice_in s history earlier) (choice_in s history queue.now) cycle choice.now.command }
+    requires choice { IsFor (rank_count banks.now) queue.now.log choice }
+    ensures { (s : Config) (history : List IssuedCommand) (earlier : QueueView) (command : Command) → result ≡ true → BanksStandFor banks.now s history
+        → CandidatesStandFor bank_candidates.now queue.now.log (λ bank. open_row (bank_at bank) history) → s.write_high ≡ queue.now.high
+        → earlier.log ≡ take from queue.now.log → command_of s history queue.now.log choice ≡ Some command
+        → KeepsNext (choice_in s history earlier) (choice_in s history queue.now) cycle command }
 {
     if queue.high() != 0 {
         return false;
     }
-    let hit = choice.command.is_column();
-    let requests = queue.requests();
-    for slot in from..requests.len() {
-        if !comes_after(bank_candidates, banks, &requests[slot], cycle, hit) {
+    let log = queue.log().log();
+    let hit = chosen_moves_data(bank_candidates, log, choice);
+    for slot in from..log.len() {
+        if !comes_after(bank_candidates, banks, &log[slot].request, cycle, hit) {
             return false;
         }
     }

@@ -1,55 +1,39 @@
-//! The command of the next cycle, and the first cycle with one.
+//! What needs the command of the next cycle, and the first cycle with one.
 
-ghost use Rattle.std.specs.Prelude.{◌≡◌, ◌<◌, ◌≤◌, ◌*◌, ℕ, List, Option, Some, length, All, if◌then◌else◌, option_map, slice_get, IfSome};
-ghost use Rattle.sim_base.specs.Places.{bank_in};
+ghost use Rattle.std.specs.Prelude.{◌≡◌, ◌<◌, ◌≤◌, ◌*◌, ℕ, List, Option, All, if◌then◌else◌, IfSome};
 ghost use Rattle.sim_base.specs.Rules.{open_row};
-ghost use Rattle.sim_base.specs.Scheduling.{needed, first_ready, if_legal, refresh_command};
+ghost use Rattle.sim_base.specs.Scheduling.{first_ready, if_legal, refresh_command};
 ghost use Rattle.sim_base.specs.declared.config.Config.{Config};
 ghost use Rattle.sim_base.specs.declared.command.Command.{Command};
 ghost use Rattle.sim_base.specs.declared.command.IssuedCommand.{IssuedCommand};
-ghost use Rattle.sim_base.specs.declared.message.Request.{Request};
 ghost use Rattle.bank_ready.specs.Stands.{rank_count, StandsFor as BanksStandFor};
 ghost use Rattle.refresh.specs.Refreshes.{is_due_at};
+ghost use Rattle.request_log.specs.declared.Arrived.{Arrived};
+ghost use Rattle.request_log.specs.Log.{all_requests};
 ghost use Rattle.bank_candidates.specs.Candidates.{bank_at};
-ghost use Rattle.bank_candidates.specs.Stands.{bank_count, IsAmong, StandsFor as CandidatesStandFor};
+ghost use Rattle.bank_candidates.specs.Stands.{bank_count, StandsFor as CandidatesStandFor};
 ghost use Rattle.fr_fcfs.specs.Requests.{IsInBanks, KnowsRows, candidates_of};
 ghost use Rattle.fr_fcfs.specs.Cycles.{IsNext};
-ghost use Rattle.fr_fcfs.specs.Choices.{StandFor, choice_in, IsFor};
+ghost use Rattle.fr_fcfs.specs.Choices.{StandFor, choice_in, command_of, IsFor};
 
-use crate::needs::{needed, refresh_need};
+use crate::needs::refresh_ready;
 use crate::offers::first_offer;
 use bank_candidates::BankCandidates;
 use bank_ready::banks::Banks;
 use queue::Queue;
 use refresh::Refresh;
-use sim_base::command::Command;
-use sim_base::message::{Cycle, Request};
+use sim_base::message::Cycle;
 
-/// A command, and the place in the queue of the request that it serves, if it moves data.
+/// What needs the next command.
 #[derive(Clone, Copy, PartialEq, Eq, Debug)]
-pub struct Choice {
-    pub command: Command,
-    pub slot: Option<usize>,
+pub enum Choice {
+    /// The request at a place of the queue's log.
+    Request(u32),
+    /// A rank that is to be refreshed, by its number.
+    Refresh(u32),
 }
 
-/// What a request at a place of the queue needs, as a choice.
-#[inline(always)]
-fn choice_at(bank_candidates: &BankCandidates, requests: &[Request], slot: usize) -> Choice
-    requires places { All (λ r. IsAmong bank_candidates.now (bank_in r.place)) requests.now }
-    requires within { slot < length requests.now }
-    ensures command { (history : List IssuedCommand) → KnowsRows bank_candidates.now history
-        → option_map (needed history) (slice_get requests.now slot) ≡ Some result.command }
-    ensures place { IsFor requests.now result }
-{
-    let command = needed(bank_candidates, requests[slot]);
-    let place = command.is_column().then_some(slot);
-    Choice {
-        command,
-        slot: place,
-    }
-}
-
-/// The first cycle from now on in which a command that some request needs may be issued, and that command.
+/// The first cycle from now on in which a command that some request needs may be issued, and that request.
 #[inline(always)]
 fn next_of_requests(
     queue: &Queue,
@@ -57,24 +41,23 @@ fn next_of_requests(
     banks: &Banks,
     now: Cycle,
 ) -> Option<(Cycle, Choice)>
-    requires places { All (IsInBanks (rank_count banks.now)) queue.now.requests }
+    requires places { All (IsInBanks (rank_count banks.now)) (all_requests queue.now.log) }
     requires banks { bank_count bank_candidates.now ≡ 16 * rank_count banks.now }
     ensures next { (s : Config) (history : List IssuedCommand) → BanksStandFor banks.now s history
-        → CandidatesStandFor bank_candidates.now queue.now.requests (λ bank. open_row (bank_at bank) history) → s.write_high ≡ queue.now.high
-        → IsNext (λ cycle. first_ready s history cycle (candidates_of s queue.now)) now result }
-    ensures place { IfSome result (λ next. IsFor queue.now.requests next.1) }
+        → CandidatesStandFor bank_candidates.now queue.now.log (λ bank. open_row (bank_at bank) history) → s.write_high ≡ queue.now.high
+        → IsNext (λ cycle. first_ready s history cycle (candidates_of s queue.now)) (command_of s history queue.now.log) now result }
+    ensures place { (s : Config) (history : List IssuedCommand) → BanksStandFor banks.now s history
+        → CandidatesStandFor bank_candidates.now queue.now.log (λ bank. open_row (bank_at bank) history) → s.write_high ≡ queue.now.high
+        → IfSome result (λ next. IsFor (rank_count banks.now) queue.now.log next.1) }
 {
     match first_offer(queue, bank_candidates, banks, now) {
-        Some(offer) => Some((
-            offer.cycle,
-            choice_at(bank_candidates, queue.requests(), offer.slot),
-        )),
+        Some(offer) => Some((offer.cycle, Choice::Request(offer.slot as u32))),
         None => None,
     }
 }
 
 /// Takes the refresh of a rank, which may be due from some cycle on and holds all else back then, into the first cycle with a
-/// command and that command. Nothing is written where they stay.
+/// command and what needs it. Nothing is written where they stay.
 #[inline(always)]
 fn with_refresh(
     next: &mut Option<(Cycle, Choice)>,
@@ -87,12 +70,13 @@ fn with_refresh(
     requires rank { rank < rank_count banks.now }
     requires banks { bank_count bank_candidates.now ≡ 16 * rank_count banks.now }
     requires groups { groups ≤ 4 }
-    ensures next { (s : Config) (history : List IssuedCommand) (commands rest : ℕ → Option Command) (now : ℕ) → BanksStandFor banks.now s history
-        → KnowsRows bank_candidates.now history → s.groups ≡ groups
+    ensures next { (s : Config) (history : List IssuedCommand) (log : List Arrived) (commands rest : ℕ → Option Command) (now : ℕ)
+        → BanksStandFor banks.now s history → KnowsRows bank_candidates.now history → s.groups ≡ groups
         → IfSome due (λ cycle. now ≤ cycle)
         → ((c : ℕ) → now ≤ c → commands c ≡ (if is_due_at due c then if_legal s history c (refresh_command s history rank) else rest c))
-        → IsNext rest now next.old → IsNext commands now next.new }
-    ensures place { (requests : List Request) → IfSome next.old (λ n. IsFor requests n.1) → IfSome next.new (λ n. IsFor requests n.1) }
+        → IsNext rest (command_of s history log) now next.old → IsNext commands (command_of s history log) now next.new }
+    ensures place { (log : List Arrived) → IfSome next.old (λ n. IsFor (rank_count banks.now) log n.1)
+        → IfSome next.new (λ n. IsFor (rank_count banks.now) log n.1) }
 {
     let Some(due) = due else {
         return;
@@ -100,17 +84,13 @@ fn with_refresh(
     match *next {
         Some((cycle, _)) if cycle < due => {}
         _ => {
-            let need = refresh_need(bank_candidates, banks, rank, groups);
-            let choice = Choice {
-                command: need.command,
-                slot: None,
-            };
-            *next = Some((due.max(need.ready), choice));
+            let ready = refresh_ready(bank_candidates, banks, rank, groups);
+            *next = Some((due.max(ready), Choice::Refresh(rank)));
         }
     }
 }
 
-/// The first cycle with a command from `now` on, if the queue stays as it is, and that command; None where there is none. `groups`
+/// The first cycle with a command from `now` on, if the queue stays as it is, and what needs it; None where there is none. `groups`
 /// is the number of groups of each rank. What a rank that is to be refreshed needs goes first, and holds the requests back; of
 /// these, row hits go first, and then the oldest.
 #[inline(always)]
@@ -122,13 +102,14 @@ pub fn next(
     groups: u32,
     now: Cycle,
 ) -> Option<(Cycle, Choice)>
-    requires places { All (IsInBanks (rank_count banks.now)) queue.now.requests }
+    requires places { All (IsInBanks (rank_count banks.now)) (all_requests queue.now.log) }
     requires banks { bank_count bank_candidates.now ≡ 16 * rank_count banks.now }
     requires ranks { refresh.now.ranks ≤ rank_count banks.now }
     requires groups { groups ≤ 4 }
     ensures next { (s : Config) (history : List IssuedCommand) → StandFor bank_candidates.now banks.now refresh.now queue.now groups s history
-        → IsNext (choice_in s history queue.now) now result }
-    ensures place { IfSome result (λ next. IsFor queue.now.requests next.1) }
+        → IsNext (choice_in s history queue.now) (command_of s history queue.now.log) now result }
+    ensures place { (s : Config) (history : List IssuedCommand) → StandFor bank_candidates.now banks.now refresh.now queue.now groups s history
+        → IfSome result (λ next. IsFor (rank_count banks.now) queue.now.log next.1) }
 {
     let mut next = next_of_requests(queue, bank_candidates, banks, now);
     if let Some((cycle, _)) = next {

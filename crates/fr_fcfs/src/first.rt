@@ -1,12 +1,13 @@
 //! The offer that goes first of all banks.
 
-ghost use Rattle.std.specs.Prelude.{◌≡◌, ◌<◌, ◌*◌, ℕ, Bool, true, false, ◌&&◌, ◌||◌, List, Option, Some, None, All, IsTrue, length, is_some, IfSome};
+ghost use Rattle.std.specs.Prelude.{◌≡◌, ◌<◌, ◌*◌, ◌-◌, ◌^◌, ℕ, Bool, true, false, ◌&&◌, ◌||◌, List, Option, Some, None, All, IsTrue, length, is_some, IfSome};
 ghost use Rattle.sim_base.specs.Rules.{open_row};
 ghost use Rattle.sim_base.specs.declared.config.Config.{Config};
 ghost use Rattle.sim_base.specs.declared.command.IssuedCommand.{IssuedCommand};
-ghost use Rattle.sim_base.specs.declared.message.Request.{Request};
 ghost use Rattle.bank_ready.specs.Words.{names_bank, moves_data};
 ghost use Rattle.bank_ready.specs.Stands.{rank_count, StandsFor as BanksStandFor};
+ghost use Rattle.request_log.specs.declared.Arrived.{Arrived};
+ghost use Rattle.request_log.specs.Log.{all_requests};
 ghost use Rattle.bank_candidates.specs.declared.entry.CandidatesOfBank.{CandidatesOfBank};
 ghost use Rattle.bank_candidates.specs.Candidates.{bank_at, first_place};
 ghost use Rattle.bank_candidates.specs.Moves.{earlier};
@@ -130,10 +131,10 @@ fn with_row(
     requires no_hit { (d : CandidatesOfBank) → is_some (hit_candidate commands.accesses (candidates_of_bank bank_candidates.now bank d)) ≡ false }
     requires kind { (d : CandidatesOfBank) → commands.kind ≡ row_kind (candidates_of_bank bank_candidates.now bank d).row }
     requires names_bank { IsTrue (names_bank commands.kind) }
-    ensures { (s : Config) (history : List IssuedCommand) (requests : List Request) (hits rows : ℕ → Option ℕ) → BanksStandFor banks.now s history
-        → CandidatesStandFor bank_candidates.now requests (λ bank. open_row (bank_at bank) history) → All (IsInBanks (rank_count banks.now)) requests
-        → IsBestSoFar (length requests) now hits rows best.old
-        → IsBestSoFar (length requests) now hits (λ cycle. earlier (rows cycle) (rows_in s history requests commands.accesses bank cycle)) best.new }
+    ensures { (s : Config) (history : List IssuedCommand) (log : List Arrived) (hits rows : ℕ → Option ℕ) → BanksStandFor banks.now s history
+        → CandidatesStandFor bank_candidates.now log (λ bank. open_row (bank_at bank) history) → All (IsInBanks (rank_count banks.now)) (all_requests log)
+        → IsBestSoFar (length log) now hits rows best.old
+        → IsBestSoFar (length log) now hits (λ cycle. earlier (rows cycle) (rows_in s history log commands.accesses bank cycle)) best.new }
 {
     let ready = ready(banks, bank, commands.kind);
     if best.cycle < ready {
@@ -155,10 +156,10 @@ fn with_hit(
 )
     requires bank_candidates { bank < bank_count bank_candidates.now }
     requires banks { bank < 16 * rank_count banks.now }
-    ensures { (s : Config) (history : List IssuedCommand) (requests : List Request) (hits rows : ℕ → Option ℕ) → BanksStandFor banks.now s history
-        → CandidatesStandFor bank_candidates.now requests (λ bank. open_row (bank_at bank) history) → All (IsInBanks (rank_count banks.now)) requests
-        → IsBestSoFar (length requests) now hits rows best.old
-        → IsBestSoFar (length requests) now (λ cycle. earlier (hits cycle) (hits_in s history requests (only write) bank cycle)) rows best.new }
+    ensures { (s : Config) (history : List IssuedCommand) (log : List Arrived) (hits rows : ℕ → Option ℕ) → BanksStandFor banks.now s history
+        → CandidatesStandFor bank_candidates.now log (λ bank. open_row (bank_at bank) history) → All (IsInBanks (rank_count banks.now)) (all_requests log)
+        → IsBestSoFar (length log) now hits rows best.old
+        → IsBestSoFar (length log) now (λ cycle. earlier (hits cycle) (hits_in s history log (only write) bank cycle)) rows best.new }
 {
     let ready = ready(banks, bank, column_kind(write));
     if best.cycle < ready {
@@ -186,11 +187,11 @@ fn with_rows_of(
     requires no_hit { (k : ℕ) (d : CandidatesOfBank) → is_in asked k ≡ true → is_some (hit_candidate commands.accesses (candidates_of_bank bank_candidates.now k d)) ≡ false }
     requires kind { (k : ℕ) (d : CandidatesOfBank) → is_in asked k ≡ true → commands.kind ≡ row_kind (candidates_of_bank bank_candidates.now k d).row }
     requires names_bank { IsTrue (names_bank commands.kind) }
-    ensures { (s : Config) (history : List IssuedCommand) (requests : List Request) (hits : ℕ → Option ℕ) (left : ℕ → Bool) → BanksStandFor banks.now s history
-        → CandidatesStandFor bank_candidates.now requests (λ bank. open_row (bank_at bank) history) → All (IsInBanks (rank_count banks.now)) requests
+    ensures { (s : Config) (history : List IssuedCommand) (log : List Arrived) (hits : ℕ → Option ℕ) (left : ℕ → Bool) → BanksStandFor banks.now s history
+        → CandidatesStandFor bank_candidates.now log (λ bank. open_row (bank_at bank) history) → All (IsInBanks (rank_count banks.now)) (all_requests log)
         → ((k : ℕ) → is_in asked k ≡ true → left k ≡ false)
-        → IsBestSoFar (length requests) now hits (rows_beside s history requests commands.accesses (λ k. is_in asked k || left k)) best.old
-        → IsBestSoFar (length requests) now hits (rows_beside s history requests commands.accesses left) best.new }
+        → IsBestSoFar (length log) now hits (rows_beside s history log commands.accesses (λ k. is_in asked k || left k)) best.old
+        → IsBestSoFar (length log) now hits (rows_beside s history log commands.accesses left) best.new }
 {
     let mut rest = asked;
     while let Some(bank) = rest.first() {
@@ -210,10 +211,10 @@ fn with_rows(
     now: Cycle,
 )
     requires { bank_count bank_candidates.now ≡ 16 * rank_count banks.now }
-    ensures { (s : Config) (history : List IssuedCommand) (requests : List Request) (hits : ℕ → Option ℕ) → BanksStandFor banks.now s history
-        → CandidatesStandFor bank_candidates.now requests (λ bank. open_row (bank_at bank) history) → All (IsInBanks (rank_count banks.now)) requests
-        → IsBestSoFar (length requests) now hits (λ cycle. None) best.old
-        → IsBestSoFar (length requests) now hits (λ cycle. first_place (rows_now s history requests accesses cycle) requests) best.new }
+    ensures { (s : Config) (history : List IssuedCommand) (log : List Arrived) (hits : ℕ → Option ℕ) → BanksStandFor banks.now s history
+        → CandidatesStandFor bank_candidates.now log (λ bank. open_row (bank_at bank) history) → All (IsInBanks (rank_count banks.now)) (all_requests log)
+        → IsBestSoFar (length log) now hits (λ cycle. None) best.old
+        → IsBestSoFar (length log) now hits (λ cycle. first_place (rows_now s history log accesses cycle) log) best.new }
 {
     let asked = banks_with_candidate(bank_candidates, accesses).minus(hit(
         bank_candidates,
@@ -243,10 +244,10 @@ fn with_all_hits(
     now: Cycle,
 )
     requires { bank_count bank_candidates.now ≡ 16 * rank_count banks.now }
-    ensures { (s : Config) (history : List IssuedCommand) (requests : List Request) (hits rows : ℕ → Option ℕ) → BanksStandFor banks.now s history
-        → CandidatesStandFor bank_candidates.now requests (λ bank. open_row (bank_at bank) history) → All (IsInBanks (rank_count banks.now)) requests
-        → IsBestSoFar (length requests) now hits rows best.old
-        → IsBestSoFar (length requests) now (λ cycle. earlier (hits cycle) (first_place (hits_now s history (only write) cycle) requests)) rows best.new }
+    ensures { (s : Config) (history : List IssuedCommand) (log : List Arrived) (hits rows : ℕ → Option ℕ) → BanksStandFor banks.now s history
+        → CandidatesStandFor bank_candidates.now log (λ bank. open_row (bank_at bank) history) → All (IsInBanks (rank_count banks.now)) (all_requests log)
+        → IsBestSoFar (length log) now hits rows best.old
+        → IsBestSoFar (length log) now (λ cycle. earlier (hits cycle) (first_place (hits_now s history (only write) cycle) log)) rows best.new }
 {
     let mut rest = bank_candidates.hit(write);
     while let Some(bank) = rest.first() {
@@ -267,10 +268,10 @@ fn with_hits(
     now: Cycle,
 )
     requires { bank_count bank_candidates.now ≡ 16 * rank_count banks.now }
-    ensures { (s : Config) (history : List IssuedCommand) (requests : List Request) (hits rows : ℕ → Option ℕ) → BanksStandFor banks.now s history
-        → CandidatesStandFor bank_candidates.now requests (λ bank. open_row (bank_at bank) history) → All (IsInBanks (rank_count banks.now)) requests
-        → IsBestSoFar (length requests) now hits rows best.old
-        → IsBestSoFar (length requests) now (λ cycle. earlier (hits cycle) (first_place (λ r. goes && hits_now s history (only write) cycle r) requests)) rows best.new }
+    ensures { (s : Config) (history : List IssuedCommand) (log : List Arrived) (hits rows : ℕ → Option ℕ) → BanksStandFor banks.now s history
+        → CandidatesStandFor bank_candidates.now log (λ bank. open_row (bank_at bank) history) → All (IsInBanks (rank_count banks.now)) (all_requests log)
+        → IsBestSoFar (length log) now hits rows best.old
+        → IsBestSoFar (length log) now (λ cycle. earlier (hits cycle) (first_place (λ r. goes && hits_now s history (only write) cycle r) log)) rows best.new }
 {
     if !goes {
         return;
@@ -291,11 +292,11 @@ fn with_banks(
     now: Cycle,
 )
     requires { bank_count bank_candidates.now ≡ 16 * rank_count banks.now }
-    ensures { (s : Config) (history : List IssuedCommand) (requests : List Request) → BanksStandFor banks.now s history
-        → CandidatesStandFor bank_candidates.now requests (λ bank. open_row (bank_at bank) history) → All (IsInBanks (rank_count banks.now)) requests
-        → IsBestSoFar (length requests) now (λ cycle. None) (λ cycle. None) best.old
-        → IsBestSoFar (length requests) now (λ cycle. first_place (hits_now s history accesses cycle) requests)
-        (λ cycle. first_place (rows_now s history requests accesses cycle) requests) best.new }
+    ensures { (s : Config) (history : List IssuedCommand) (log : List Arrived) → BanksStandFor banks.now s history
+        → CandidatesStandFor bank_candidates.now log (λ bank. open_row (bank_at bank) history) → All (IsInBanks (rank_count banks.now)) (all_requests log)
+        → IsBestSoFar (length log) now (λ cycle. None) (λ cycle. None) best.old
+        → IsBestSoFar (length log) now (λ cycle. first_place (hits_now s history accesses cycle) log)
+        (λ cycle. first_place (rows_now s history log accesses cycle) log) best.new }
 {
     with_rows(best, bank_candidates, accesses, banks, now);
     with_hits(best, bank_candidates, false, accesses.reads, banks, now);
@@ -311,14 +312,15 @@ pub(crate) fn first_of(
     banks: &Banks,
     now: Cycle,
 ) -> Option<Offer>
-    requires places { All (IsInBanks (rank_count banks.now)) queue.now.requests }
+    requires places { All (IsInBanks (rank_count banks.now)) (all_requests queue.now.log) }
     requires banks { bank_count bank_candidates.now ≡ 16 * rank_count banks.now }
-    ensures within { IfSome result (λ o. o.slot < length queue.now.requests) }
+    ensures within { IfSome result (λ o. o.slot < length queue.now.log) }
+    ensures short { IfSome result (λ o. o.slot < 2 ^ 16 - 1) }
     ensures first { (s : Config) (history : List IssuedCommand) → BanksStandFor banks.now s history
-        → CandidatesStandFor bank_candidates.now queue.now.requests (λ bank. open_row (bank_at bank) history) → candidates_of s queue.now ≡ going accesses queue.now.requests
+        → CandidatesStandFor bank_candidates.now queue.now.log (λ bank. open_row (bank_at bank) history) → candidates_of s queue.now ≡ going accesses queue.now.log
         → IsFirstReady s history queue.now now result }
 {
-    let room = queue.len();
+    let room = queue.log().len();
     let mut best = Offer {
         cycle: Cycle::MAX,
         hit: false,

@@ -5,5 +5,5 @@ mod accesses;
 pub mod arrivals;
 pub mod choice;
 mod first;
-mod needs;
+pub mod needs;
 mod offers;

@@ -1,38 +1,19 @@
-//! What a request and a rank need next, and from which cycle on that may be issued.
+//! What a rank that is to be refreshed needs next, and from which cycle on that may be issued.
 
-ghost use Rattle.std.specs.Prelude.{◌≡◌, ◌+◌, ◌*◌, ◌<◌, ◌≤◌, List, false, true};
-ghost use Rattle.sim_base.specs.Places.{bank_in};
+ghost use Rattle.std.specs.Prelude.{◌≡◌, ◌+◌, ◌*◌, ◌<◌, ◌≤◌, List};
 ghost use Rattle.sim_base.specs.Rules.{is_open, has_open_bank_in_group, has_open_bank};
-ghost use Rattle.sim_base.specs.Scheduling.{column_command, needed, is_column_command, refresh_command};
+ghost use Rattle.sim_base.specs.Scheduling.{refresh_command};
 ghost use Rattle.sim_base.specs.declared.config.Config.{Config};
 ghost use Rattle.sim_base.specs.declared.command.IssuedCommand.{IssuedCommand};
 ghost use Rattle.bank_ready.specs.Stands.{rank_count, StandsFor};
-ghost use Rattle.bank_candidates.specs.Stands.{bank_count, IsAmong};
+ghost use Rattle.bank_candidates.specs.Stands.{bank_count};
 ghost use Rattle.fr_fcfs.specs.Requests.{KnowsRows, IsLegalFrom};
 
 use bank_candidates::BankCandidates;
 use bank_ready::banks::Banks;
 use sim_base::command::{Command, Kind};
-use sim_base::message::{Cycle, Request};
+use sim_base::message::Cycle;
 use sim_base::place::BankId;
-
-/// What a rank needs next, and from which cycle on that may be issued.
-#[derive(Clone, Copy)]
-pub(crate) struct Need {
-    pub(crate) command: Command,
-    pub(crate) ready: Cycle,
-}
-
-/// What a request needs next.
-#[inline]
-pub(crate) fn needed(bank_candidates: &BankCandidates, request: Request) -> Command
-    requires { IsAmong bank_candidates.now (bank_in request.place) }
-    ensures command { (history : List IssuedCommand) → KnowsRows bank_candidates.now history → result ≡ needed history request }
-    ensures column { is_column_command result ≡ true → result ≡ column_command request }
-{
-    let bank = request.place.bank_id();
-    request.needed_at(bank_candidates.open_row(bank))
-}
 
 fn is_open(bank_candidates: &BankCandidates, rank: u32, group: u32, bank: u32) -> bool
     requires rank { 16 * rank + 16 ≤ bank_count bank_candidates.now }
@@ -73,32 +54,38 @@ fn has_open_bank(bank_candidates: &BankCandidates, rank: u32, groups: u32) -> bo
 }
 
 /// What a rank that is to be refreshed needs.
+#[inline(always)]
+pub fn refresh_command(bank_candidates: &BankCandidates, rank: u32, groups: u32) -> Command
+    requires rank { 16 * rank + 16 ≤ bank_count bank_candidates.now }
+    requires groups { groups ≤ 4 }
+    ensures { (s : Config) (history : List IssuedCommand) → KnowsRows bank_candidates.now history
+        → s.groups ≡ groups → result ≡ refresh_command s history rank }
+{
+    if has_open_bank(bank_candidates, rank, groups) {
+        Command::Prea { rank }
+    } else {
+        Command::Ref { rank }
+    }
+}
+
+/// From which cycle on that may be issued.
 #[inline(never)]
-pub(crate) fn refresh_need(
+pub(crate) fn refresh_ready(
     bank_candidates: &BankCandidates,
     banks: &Banks,
     rank: u32,
     groups: u32,
-) -> Need
+) -> Cycle
     requires rank { rank < rank_count banks.now }
     requires banks { bank_count bank_candidates.now ≡ 16 * rank_count banks.now }
     requires groups { groups ≤ 4 }
-    ensures command { (s : Config) (history : List IssuedCommand) → KnowsRows bank_candidates.now history
-        → s.groups ≡ groups → result.command ≡ refresh_command s history rank }
-    ensures ready { (s : Config) (history : List IssuedCommand) → StandsFor banks.now s history
+    ensures { (s : Config) (history : List IssuedCommand) → StandsFor banks.now s history
         → KnowsRows bank_candidates.now history → s.groups ≡ groups
-        → IsLegalFrom s history (refresh_command s history rank) result.ready }
-    ensures other { is_column_command result.command ≡ false }
+        → IsLegalFrom s history (refresh_command s history rank) result }
 {
     if has_open_bank(bank_candidates, rank, groups) {
-        Need {
-            command: Command::Prea { rank },
-            ready: banks.earliest_all(Kind::Prea, rank),
-        }
+        banks.earliest_all(Kind::Prea, rank)
     } else {
-        Need {
-            command: Command::Ref { rank },
-            ready: banks.earliest_all(Kind::Ref, rank),
-        }
+        banks.earliest_all(Kind::Ref, rank)
     }
 }

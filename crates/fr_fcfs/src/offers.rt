@@ -1,11 +1,12 @@
 //! What requests offer: from which cycle on what they need may be issued.
 
-ghost use Rattle.std.specs.Prelude.{◌≡◌, ◌<◌, ◌*◌, List, Option, All, IsTrue, length, IfSome, if◌then◌else◌};
+ghost use Rattle.std.specs.Prelude.{◌≡◌, ◌<◌, ◌*◌, ◌-◌, ◌^◌, List, All, IsTrue, length, IfSome, if◌then◌else◌};
 ghost use Rattle.sim_base.specs.Rules.{open_row};
 ghost use Rattle.sim_base.specs.declared.config.Config.{Config};
 ghost use Rattle.sim_base.specs.declared.command.IssuedCommand.{IssuedCommand};
 ghost use Rattle.bank_ready.specs.Words.{names_bank};
 ghost use Rattle.bank_ready.specs.Stands.{rank_count, StandsFor as BanksStandFor};
+ghost use Rattle.request_log.specs.Log.{all_requests};
 ghost use Rattle.bank_candidates.specs.Candidates.{bank_at};
 ghost use Rattle.bank_candidates.specs.Stands.{bank_count, StandsFor as CandidatesStandFor};
 ghost use Rattle.fr_fcfs.specs.Requests.{IsInBanks};
@@ -26,7 +27,7 @@ pub(crate) struct Offer {
     pub(crate) cycle: Cycle,
     /// Whether that moves its data.
     pub(crate) hit: bool,
-    /// Its place in the queue.
+    /// Its place in the log.
     pub(crate) slot: usize,
 }
 
@@ -71,6 +72,31 @@ pub(crate) fn ready(banks: &Banks, bank: usize, kind: Kind) -> Cycle
     banks.earliest_in(kind, bank)
 }
 
+/// The offer that goes first of all banks, from now on, where the channel ever drains: requests of one access go. It is out of line, so
+/// that the search of a channel that never drains can be compiled into its caller.
+#[inline(never)]
+fn first_of_one_access(
+    queue: &Queue,
+    bank_candidates: &BankCandidates,
+    banks: &Banks,
+    now: Cycle,
+) -> Option<Offer>
+    requires places { All (IsInBanks (rank_count banks.now)) (all_requests queue.now.log) }
+    requires banks { bank_count bank_candidates.now ≡ 16 * rank_count banks.now }
+    requires drains { 0 < queue.now.high }
+    ensures within { IfSome result (λ o. o.slot < length queue.now.log) }
+    ensures short { IfSome result (λ o. o.slot < 2 ^ 16 - 1) }
+    ensures first { (s : Config) (history : List IssuedCommand) → BanksStandFor banks.now s history
+        → CandidatesStandFor bank_candidates.now queue.now.log (λ bank. open_row (bank_at bank) history) → s.write_high ≡ queue.now.high
+        → IsFirstReady s history queue.now now result }
+{
+    if access_that_goes(queue, bank_candidates) {
+        first_of(queue, bank_candidates, WRITES, banks, now)
+    } else {
+        first_of(queue, bank_candidates, READS, banks, now)
+    }
+}
+
 /// The offer that goes first of all banks, from now on. All requests go where the channel never drains, and
 /// otherwise those of one access; the search is compiled for each of the three.
 #[inline(always)]
@@ -80,19 +106,16 @@ pub(crate) fn first_offer(
     banks: &Banks,
     now: Cycle,
 ) -> Option<Offer>
-    requires places { All (IsInBanks (rank_count banks.now)) queue.now.requests }
+    requires places { All (IsInBanks (rank_count banks.now)) (all_requests queue.now.log) }
     requires banks { bank_count bank_candidates.now ≡ 16 * rank_count banks.now }
-    ensures within { IfSome result (λ o. o.slot < length queue.now.requests) }
+    ensures within { IfSome result (λ o. o.slot < length queue.now.log) }
+    ensures short { IfSome result (λ o. o.slot < 2 ^ 16 - 1) }
     ensures first { (s : Config) (history : List IssuedCommand) → BanksStandFor banks.now s history
-        → CandidatesStandFor bank_candidates.now queue.now.requests (λ bank. open_row (bank_at bank) history) → s.write_high ≡ queue.now.high
+        → CandidatesStandFor bank_candidates.now queue.now.log (λ bank. open_row (bank_at bank) history) → s.write_high ≡ queue.now.high
         → IsFirstReady s history queue.now now result }
 {
     if queue.high() == 0 {
         return first_of(queue, bank_candidates, ALL_ACCESSES, banks, now);
     }
-    if access_that_goes(queue, bank_candidates) {
-        first_of(queue, bank_candidates, WRITES, banks, now)
-    } else {
-        first_of(queue, bank_candidates, READS, banks, now)
-    }
+    first_of_one_access(queue, bank_candidates, banks, now)
 }

@@ -31,6 +31,7 @@ fn write(entry: u64) -> Request
 }
 
 #[test]
+#[tactic(auto, unfolding(request_log::specs::Log::waiting))]
 fn drains_from_three_writes_down_to_one(rt: HostRuntime) -> Result<(), Fail> {
     let mut queue = Queue::with_room(rt.alloc(), 8, 3, 1)?;
     queue.arrive(write(0));
@@ -40,14 +41,14 @@ fn drains_from_three_writes_down_to_one(rt: HostRuntime) -> Result<(), Fail> {
     queue.arrive(write(2));
     queue.decide_drain();
     let of_three = queue.draining();
-    queue.serve(0);
+    let _ = queue.serve(0);
     queue.decide_drain();
     let then_of_two = queue.draining();
-    queue.serve(0);
+    let _ = queue.serve(1);
     queue.arrive(write(3));
     queue.decide_drain();
     let of_two_still = queue.draining();
-    queue.serve(0);
+    let _ = queue.serve(2);
     queue.decide_drain();
     let of_one = queue.draining();
     queue.arrive(write(4));

@@ -1,10 +1,9 @@
 -- The texts that files hold, from those that were read one after the other.
-use Rattle.std.proofs.Common.{◌≡◌, ℕ, ◌+◌, ◌<◌, ◌≤◌, List, [], ◌∷◌, ◌++◌, length, get_or, Some, Result, Ok, Err, ◌⊎◌, inl, inr, sym, ap, subst, ◌∙◌, arith}
+use Rattle.std.proofs.Common.{◌≡◌, ℕ, ◌+◌, ◌<◌, ◌≤◌, List, [], ◌∷◌, ◌++◌, length, get_or, Some, ◌⊎◌, inl, inr, sym, ap, subst, ◌∙◌, arith}
 use Rattle.std.proofs.Math.ListN.{length-append}
 use Rattle.std.proofs.Math.Seq.{get_or-append_seam}
 use Rattle.std.proofs.lemmas.Bool.{cases_lt}
 use Rattle.std.proofs.lemmas.List.{get_or_append_left, get_or_default}
-use Rattle.std.specs.Result.{IfOk}
 use Rattle.whole_files.specs.Files.{Held, AreHeld, SameFiles}
 
 -- texts that files hold are held where no file has changed
@@ -24,8 +23,3 @@ held_more files paths texts text d held within read k path other l = by (cases_l
         let own : files (get_or paths (length texts) path) ≡ Some (get_or (texts ++ text ∷ []) (length texts) other) =
         ap files (get_or_default paths (length texts) path d within) ∙ read ∙ ap Some (sym (get_or-append_seam texts text [] other)) in
         subst (λ n. files (get_or paths n path) ≡ Some (get_or (texts ++ text ∷ []) n other)) last own
-
--- two facts of one result
-pub both_ok : {T E : Type 0} (r : Result T E) (P Q R : T → Type 0) → ((x : T) → P x → Q x → R x) → IfOk r P → IfOk r Q → IfOk r R
-both_ok (Ok x) P Q R f p q = f x p q
-both_ok (Err e) P Q R f p q = tt

@@ -1,3 +1,4 @@
 pub mod AnswerFacts
 pub mod HeldTexts
+pub mod ReadInputs
 pub mod RefusedFacts

@@ -1,18 +1,12 @@
 -- Why a run is refused, from the refusals of its steps.
-use Rattle.std.proofs.Common.{◌≡◌, ◌≢◌, inl, inr, ℕ, List, [], ◌∷◌, length, map, Some, Result, Ok, Err, sym, ap, ap₂, ◌∙◌, arith}
-use Rattle.std.specs.Result.{is_ok}
+use Rattle.std.proofs.Common.{◌≡◌, inl, inr, ℕ, List, [], ◌∷◌, length, map, Some, Result, Ok, Err, sym, ap₂, ◌∙◌, arith}
 use Rattle.std.specs.Prelude.{IsOk, OnOk}
 use Rattle.std.proofs.lemmas.List.{length-map}
 use Rattle.sim_base.specs.declared.fault.Fault.{Fault}
-use Rattle.sim_base.specs.declared.fault.Fault.TheVariants.{Memory}
-use Rattle.simulation.specs.Runs.{input_of, IsRefusal, IsRunOf}
-use Rattle.run_outcome.specs.Values.{RunOutcome}
-use Rattle.run_outcome.specs.declared.tables.Tables.{Tables}
 use Rattle.whole_files.specs.Files.{Held, SameFiles}
 use Rattle.answers.specs.Refused.{LacksOne, AreTexts, IsFilesFault, IsAnswerFault}
 use Rattle.program.specs.Refused.{IsRunRefusal, IsRunFault, IsRightRun}
 use Rattle.answers.proofs.ManyFiles.{texts_held}
-use Rattle.answers.proofs.RefusedFacts.{unless_memory}
 
 -- ---- files that are not read
 
@@ -35,17 +29,6 @@ run_texts tells old mid config document name bytes paths texts is same count rea
   count = omega (arith, length-map texts bytes, length-map paths name);
   texts_are = λ t. ap₂ (λ x xs. x ∷ xs) (is t) (texts_held old mid name bytes paths texts (same t) (read t));
 }
-
-pub right_run : (document : List ℕ) (texts : List (List ℕ)) (cycles workers : ℕ) (tables : Tables) (run : RunOutcome) → IsRunOf document texts cycles workers tables run → IsRightRun cycles workers (document ∷ texts)
-right_run document texts cycles workers tables run ran = ap is_ok ran.read
-
--- what is wrong with the input of a run, or memory
-pub input_refused : (document : List ℕ) (texts : List (List ℕ)) (cycles workers : ℕ) (fault : Fault) → (fault ≢ Memory → input_of document texts cycles workers ≡ Err fault)
-    → IsRefusal document texts cycles workers fault
-input_refused document texts cycles workers fault refused = elim (unless_memory (λ f. input_of document texts cycles workers ≡ Err f) fault refused) [
-  | inl memory ↦ inl memory
-  | inr is ↦ inr (inl is)
-]
 
 -- a run is refused whose files were read: for what they hold, or for its folder
 pub run_refused : (tells : Type 0) (held : Held) (paths : List (List ℕ)) (document : List ℕ) (texts : List (List ℕ)) (cycles workers : ℕ) (fault : Fault)

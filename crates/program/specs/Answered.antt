@@ -1,5 +1,6 @@
 -- What the program does for what the words ask, where the set of files tells what it holds.
 --     Seen      what can be seen of the files and the stream
+--     IsInputOf config cycles workers traces held machine entries      a machine and its traces are what the named files hold
 --     IsOutcome config cycles workers tables traces held run      the outcome of a run over what the named files hold
 --     IsRunDone config cycles workers tables out traces old new before after      its tables are in the folder
 --     IsUnfinished refusal config cycles workers tables out traces has_folder old new before after      what is left of a run that is refused
@@ -13,7 +14,9 @@ use Rattle.std.specs.Prelude.{◌≡◌, ◌⊎◌, ⊤, ℕ, Bool, true, List, 
 use Rattle.std.specs.Io.KnownBytes.{Appends}
 use Rattle.run_outcome.specs.Values.{RunOutcome}
 use Rattle.run_outcome.specs.declared.tables.Tables.{Tables}
-use Rattle.simulation.specs.Runs.{IsRunOf, IsJudgedLegal}
+use Rattle.sim_base.specs.declared.config.Config.{Config}
+use Rattle.sim_base.specs.declared.trace.Entry.{Entry}
+use Rattle.simulation.specs.Runs.{IsInput, IsRunOf, IsJudgedLegal}
 use Rattle.command_line.specs.Ask.{IsAskedBy}
 use Rattle.whole_files.specs.Files.{Held, IsUntouched}
 use Rattle.whole_files.specs.WholeFile.{part_of, IsUnwritten}
@@ -40,6 +43,14 @@ pub record Seen : Type 0 where
 
 abbrev pub seen : Held → (List ℕ → Bool) → List (List ℕ) → Option (List ℕ) → Seen
 seen held has_folder opened printed = record { held = held; has_folder = has_folder; opened = opened; printed = printed }
+
+-- The files that are named hold a configuration and traces, and these are the machine and the entries that they mean.
+pub record IsInputOf (config : List ℕ) (cycles workers : ℕ) (traces : List (List ℕ)) (held : Held) (machine : Config) (entries : List (List Entry)) : Type 0 where
+  pub document : List ℕ
+  pub texts : List (List ℕ)
+  pub config_is : held config ≡ Some document
+  pub traces_are : map held traces ≡ map Some texts
+  pub input : IsInput document texts cycles workers machine entries
 
 -- The files that are named hold a configuration and traces, this is the outcome of the one-clock machine that they describe, with the tables
 -- that are asked for, and `check` says of the table of its commands that it is legal.

@@ -1,19 +1,22 @@
-//! The outcome of a run, with a refusal that is explained by the texts of its files.
+//! The input and the outcome of a run, with a refusal that is explained.
 
-ghost use Rattle.std.specs.Prelude.{◌≡◌, ◌≢◌, map, Err, IsOk, IfOk, IfErr, OnOk};
+ghost use Rattle.std.specs.Prelude.{◌≡◌, ◌≤◌, ◌^◌, map, length, vec_len, IsOk, IfOk, IfErr, OnOk};
 ghost use Rattle.program.specs.Refused.{IsRunRefusal};
-ghost use Rattle.simulation.specs.Runs.{input_of, IsJudgedLegal, IsRefusal, IsRunOf};
+ghost use Rattle.simulation.specs.Runs.{HoldsOfInput, IsInput, IsJudgedLegal, IsRunOf};
+ghost use Rattle.workers.specs.Runs.{IsRefusedTo};
 
 use crate::host::Host;
 use config_reader::read_config;
+use cpu_trace::trace::Trace;
 use explain::{of_config, of_host, of_numbers, of_traces};
 use refusal::reason::Reason;
 use run_outcome::outcome::Outcome;
 use run_outcome::tables::Tables;
+use sim_base::config::Config;
 use sim_base::fault::Fault;
 use sim_base::message::Cycle;
 use simulation::input::read_input;
-use simulation::runs::simulate;
+use simulation::runs::run_input;
 use std::alloc::{AllocError, Global};
 use std::sync::Wait;
 use std::thread::Threads;
@@ -59,46 +62,22 @@ fn explain_run(
     }
 }
 
-// The outcome of a run whose folder is there.
-fn simulated<R: Threads + Wait + Sync, W: Watch>(
-    host: &mut Host<'_, R, W>,
-    alloc: Global,
-    input: &Input<'_>,
-    cycles: Cycle,
-    workers: Workers,
-    tables: Tables,
-) -> Result<Outcome, Reason>
-    ensures run { IfOk result (IsRunOf input.now.document.now (map (λ t. t.now) input.now.texts.now) cycles workers.count tables) }
-    ensures legal { IfOk result (IsJudgedLegal input.now.document.now (map (λ t. t.now) input.now.texts.now) cycles workers.count tables) }
-    ensures refused { IfErr result (IsRefusal input.now.document.now (map (λ t. t.now) input.now.texts.now) cycles workers.count) }
-{
-    let Input {
-        document,
-        texts,
-        ..
-    } = *input;
-    let (threads, watch) = (host.threads, &mut *host.watch);
-    match simulate(
-        threads, alloc, &Open, watch, document, texts, cycles, workers, tables,
-    ) {
-        Ok(run) => Ok(run),
-        Err(fault) => Err(Reason::explained(
-            fault,
-            explain_run(alloc, fault, input, cycles, workers.count),
-        )),
-    }
-}
-
-// Tests the input of a run, and does not run it.
-fn test_input<R: Threads + Sync>(
+/// The configuration and the traces of a run, read and tested. Where its folder is refused, the run is refused once its input has passed all tests.
+pub(crate) fn tested_input<R: Threads + Sync>(
     threads: &R,
     alloc: Global,
+    folder: Result<(), Reason>,
     input: &Input<'_>,
     cycles: Cycle,
     workers: u64,
-) -> Result<(), Reason>
-    ensures right { OnOk result (IsOk (input_of input.now.document.now (map (λ t. t.now) input.now.texts.now) cycles workers)) }
-    ensures refused { IfErr result (λ e. e ≢ Fault.Memory → input_of input.now.document.now (map (λ t. t.now) input.now.texts.now) cycles workers ≡ Err e) }
+) -> Result<(Config, Vec<Trace>), Reason>
+    requires folder { IfErr folder (λ e. e ≡ Fault.Write) }
+    ensures read { IfOk result (λ r. IsInput input.now.document.now (map (λ t. t.now) input.now.texts.now) cycles workers r.0 r.1.items) }
+    ensures count { IfOk result (λ r. vec_len r.1 ≡ r.0.cores) }
+    ensures workers { IfOk result (λ _. (1 ≤ workers) × (workers ≤ 64)) }
+    ensures cycles { IfOk result (λ _. cycles ≤ 10 ^ 12) }
+    ensures folder { OnOk result (IsOk folder) }
+    ensures refused { IfErr result (IsRunRefusal input.now.document.now (map (λ t. t.now) input.now.texts.now) cycles workers) }
 {
     let Input {
         document,
@@ -106,7 +85,10 @@ fn test_input<R: Threads + Sync>(
         ..
     } = *input;
     match read_input(threads, alloc, document, texts, cycles, workers) {
-        Ok(_) => Ok(()),
+        Ok(read) => {
+            folder?;
+            Ok(read)
+        }
         Err(fault) => Err(Reason::explained(
             fault,
             explain_run(alloc, fault, input, cycles, workers),
@@ -114,27 +96,29 @@ fn test_input<R: Threads + Sync>(
     }
 }
 
-/// The outcome of a run. Where its folder is refused, the run is refused once its input has passed all tests, and before its first cycle.
+/// The outcome of a run whose input was read.
 pub(crate) fn outcome_of<R: Threads + Wait + Sync, W: Watch>(
     host: &mut Host<'_, R, W>,
     alloc: Global,
-    folder: Result<(), Reason>,
-    input: &Input<'_>,
+    machine: &Config,
+    traces: Vec<Trace>,
     cycles: Cycle,
     workers: Workers,
     tables: Tables,
 ) -> Result<Outcome, Reason>
-    requires folder { IfErr folder (λ e. e ≡ Fault.Write) }
-    ensures run { IfOk result (IsRunOf input.now.document.now (map (λ t. t.now) input.now.texts.now) cycles workers.count tables) }
-    ensures legal { IfOk result (IsJudgedLegal input.now.document.now (map (λ t. t.now) input.now.texts.now) cycles workers.count tables) }
-    ensures folder { OnOk result (IsOk folder) }
-    ensures refused { IfErr result (IsRunRefusal input.now.document.now (map (λ t. t.now) input.now.texts.now) cycles workers.count) }
+    requires one_trace_a_core { length traces.items ≡ machine.now.cores }
+    requires some { 1 ≤ workers.count }
+    requires few { workers.count ≤ 64 }
+    requires limit { cycles ≤ 10 ^ 12 }
+    ensures run { IfOk result (HoldsOfInput cycles workers.count machine.now traces.items (λ config texts. IsRunOf config texts cycles workers.count tables)) }
+    ensures legal { IfOk result (HoldsOfInput cycles workers.count machine.now traces.items (λ config texts. IsJudgedLegal config texts cycles workers.count tables)) }
+    ensures refused { IfErr result (IsRefusedTo workers.count) }
 {
-    match folder {
-        Ok(()) => simulated(host, alloc, input, cycles, workers, tables),
-        Err(reason) => {
-            test_input(host.threads, alloc, input, cycles, workers.count)?;
-            Err(reason)
-        }
+    let (threads, watch) = (host.threads, &mut *host.watch);
+    match run_input(
+        threads, alloc, &Open, watch, machine, traces, cycles, workers, tables,
+    ) {
+        Ok(run) => Ok(run),
+        Err(fault) => Err(Reason::explained(fault, of_host(alloc, fault))),
     }
 }

@@ -1,19 +1,21 @@
 //! `run`: the files of a run are read, the machine is run, and its tables are written.
 
-ghost use Rattle.std.specs.Prelude.{◌≡◌, ◌<◌, ◌++◌, ◌∷◌, length, map, slice_index_or, true, Some, IsOk, IfOk, IfErr, IfSome, OnOk};
+ghost use Rattle.std.specs.Prelude.{◌≡◌, ◌<◌, ◌≤◌, ◌^◌, ◌++◌, ◌∷◌, length, vec_len, map, slice_index_or, true, Some, IsOk, IfOk, IfErr, IfSome, OnOk};
 ghost use Rattle.answers.specs.Refused.{IsFilesFault, IsReady, IsAnswerFault};
-ghost use Rattle.program.specs.Answered.{IsOutcome, IsRunDone, IsUnfinished};
+ghost use Rattle.program.specs.Answered.{IsInputOf, IsOutcome, IsRunDone, IsUnfinished};
 ghost use Rattle.program.specs.Refused.{IsRunFault, IsRightRun};
 ghost use Rattle.refusal.specs.Refusals.{fault_of};
 ghost use Rattle.whole_files.specs.Files.{SameFiles, AreHeld, IsReadFault};
 
-use crate::explained::{Input, outcome_of};
+use crate::explained::{Input, outcome_of, tested_input};
 use crate::host::Host;
 use crate::shared::SharedText;
+use cpu_trace::trace::Trace;
 use refusal::reason::Reason;
 use refusal::refusal::Refusal;
 use run_outcome::outcome::Outcome;
 use run_outcome::tables::Tables;
+use sim_base::config::Config;
 use sim_base::fault::Fault;
 use sim_base::message::Cycle;
 use std::alloc::{AllocError, Global};
@@ -88,6 +90,40 @@ fn slices_of<'a>(alloc: Global, texts: &'a [SharedText]) -> Result<Vec<&'a [u8]>
     Ok(slices)
 }
 
+// The configuration and the traces of a run over the files that are named, if its folder was not refused. The texts of the files are let go.
+fn read_files<R: Threads + Sync, F: FileSet>(
+    threads: &R,
+    alloc: Global,
+    files: &mut F,
+    folder: Result<(), Reason>,
+    config: &str,
+    cycles: Cycle,
+    workers: u64,
+    traces: &[&str],
+) -> Result<(Config, Vec<Trace>), Reason>
+    requires folder { IfErr folder (λ e. e ≡ Fault.Write) }
+    ensures folder { OnOk result (IsOk folder) }
+    ensures read { IfOk result (λ r. F.tells → IsInputOf config.now cycles workers (map (λ t. t.now) traces.now) (F.held files.old) r.0 r.1.items) }
+    ensures count { IfOk result (λ r. vec_len r.1 ≡ r.0.cores) }
+    ensures workers { IfOk result (λ _. (1 ≤ workers) × (workers ≤ 64)) }
+    ensures cycles { IfOk result (λ _. cycles ≤ 10 ^ 12) }
+    ensures ready { OnOk result (IsReady F.tells (F.held files.old) (config.now ∷ map (λ t. t.now) traces.now) (IsRightRun cycles workers)) }
+    ensures fault { IfErr result (IsAnswerFault F.tells (F.held files.old) (config.now ∷ map (λ t. t.now) traces.now) (IsRunFault cycles workers) (IsRightRun cycles workers)) }
+    ensures same { F.tells → SameFiles (F.held files.old) (F.held files.new) }
+    ensures unopened { F.tells → F.opened files.new ≡ F.opened files.old }
+{
+    let document = files.read(alloc, config)?;
+    let texts = read_texts(alloc, files, traces)?;
+    let slices = slices_of(alloc, &texts)?;
+    let input = Input {
+        config,
+        document: &document,
+        traces,
+        texts: &slices,
+    };
+    tested_input(threads, alloc, folder, &input, cycles, workers)
+}
+
 // The outcome of a run over the files that are named, if its folder was not refused.
 fn run_files<R: Threads + Wait + Sync, W: Watch, F: FileSet>(
     host: &mut Host<'_, R, W>,
@@ -108,16 +144,17 @@ fn run_files<R: Threads + Wait + Sync, W: Watch, F: FileSet>(
     ensures same { F.tells → SameFiles (F.held files.old) (F.held files.new) }
     ensures unopened { F.tells → F.opened files.new ≡ F.opened files.old }
 {
-    let document = files.read(alloc, config)?;
-    let texts = read_texts(alloc, files, traces)?;
-    let slices = slices_of(alloc, &texts)?;
-    let input = Input {
+    let (machine, traces) = read_files(
+        host.threads,
+        alloc,
+        files,
+        folder,
         config,
-        document: &document,
+        cycles,
+        workers.count,
         traces,
-        texts: &slices,
-    };
-    outcome_of(host, alloc, folder, &input, cycles, workers, tables)
+    )?;
+    outcome_of(host, alloc, &machine, traces, cycles, workers, tables)
 }
 
 // `run CONFIG --cycles N --workers N [--share auto|always] [--tables LIST] --out DIR TRACE...`: no cycle is run if the folder is not there, and nothing is

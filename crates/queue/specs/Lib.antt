@@ -1,3 +1,2 @@
-pub mod Aged
 pub mod View
 pub mod Kept

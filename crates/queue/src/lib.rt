@@ -1,24 +1,20 @@
-//! The requests that wait in a channel, by age, and their columns.
+//! The requests that wait in a channel, by age, and whether it drains its writes.
 #![tactic(auto)]
 
-mod aged;
-mod lines;
+ghost use Rattle.std.specs.Prelude.{◌≡◌, ◌+◌, ◌-◌, ◌^◌, ◌<◌, ◌≤◌, ◌++◌, [], ◌∷◌, true, false, IfOk, length};
+ghost use Rattle.queue.specs.View.{drains_by, is_draining, places_for};
 
-ghost use Rattle.std.specs.Prelude.{◌≡◌, ◌+◌, ◌-◌, ◌^◌, ◌<◌, ◌≤◌, ◌++◌, [], ◌∷◌, false, IfOk, length, remove, slice_index_or};
-ghost use Rattle.sim_base.specs.declared.message.Request.{Request};
-ghost use Rattle.queue_columns.specs.Columns.{eligible_column, tag_column, slot_of_row};
-ghost use Rattle.queue.specs.View.{QueueView, drains_by, is_draining};
-
-use crate::aged::Aged;
-use crate::lines::{counters, is_line_asked, unblock_next};
-use queue_columns::Columns;
-use queue_columns::words::{bank_number, line_slot, row_slot};
+use request_log::RequestLog;
 use sim_base::message::Request;
 use std::alloc::{AllocError, Global};
 use std::marker::Model;
 
-/// There are counters of rows for no more requests than these, so that those of a large queue take little memory.
-const ROOM_OF_ROWS: usize = 2048;
+/// The highest number of places that a log may have.
+const MOST_PLACES: usize = 65_534;
+
+/// Those that wait move to the front where more than twice as many and these have arrived since they last did, so that a log in which few
+/// wait stays short, and its places in the caches.
+const SPARE_PLACES: usize = 256;
 
 /// Whether a queue with `writes` writes drains, given whether it drained before.
 #[inline(always)]
@@ -30,14 +26,11 @@ fn drains(high: u32, low: u32, drain_decided: bool, writes: usize) -> bool
     (0 < high && high <= writes) || (drain_decided && low < writes)
 }
 
-/// The counter of a request among those of rows, which go up to `mask`.
-#[inline(always)]
-fn row_slot_of(request: Request, mask: usize) -> usize
-    ensures value { result ≡ slot_of_row mask request }
-    ensures within { result ≤ mask }
+/// How many requests there are places for, where `room` of them may wait.
+fn places_for(room: usize) -> usize
+    ensures { result ≡ places_for room }
 {
-    let bank = bank_number(request.place);
-    row_slot(bank, request.write, request.place.row, mask)
+    room.saturating_mul(2).saturating_add(256).min(MOST_PLACES)
 }
 
 /// The requests that wait in a channel, by age.
@@ -50,118 +43,134 @@ pub struct Queue {
     low: u32,
     /// Whether it drained when that was last decided.
     drain_decided: bool,
-    /// Writes among the requests.
-    writes: usize,
-    /// Whether it drains with these writes.
+    /// Whether it drains with the writes that wait.
     drains: bool,
-    /// Requests that are blocked by an older one of the same line.
-    blocked: usize,
-    aged: Aged,
-    /// How many requests are for the lines of each counter. There are so many counters that few count two lines.
-    lines: Vec<u16>,
-    /// The highest of these counters.
-    mask: usize,
-    /// How many requests are for the rows of each counter, to write or to read.
-    rows: Vec<u16>,
-    /// The highest of these.
-    row_mask: usize,
+    /// Requests that wait.
+    waiting: usize,
+    /// Writes among them.
+    writes: usize,
+    log: RequestLog,
 }
 
 impl Model for Queue {
     ghost use Rattle.queue.specs.View.{QueueView};
+    ghost use Rattle.queue.specs.Kept.{AreKept};
 
     ghost Value = { QueueView };
 
-    ghost use Rattle.queue.specs.Kept.{AreKept};
-
-    ghost view = { λ q. record { room = q.room; high = q.high; low = q.low; requests = q.aged.requests; drain_decided = q.drain_decided } };
+    ghost view = { λ q. record { room = q.room; places = q.log.places; high = q.high; low = q.low; log = q.log.log; drain_decided = q.drain_decided } };
 
     ghost invariant = { AreKept };
 }
 
 impl Queue {
-    /// An empty queue with places for `room` requests, which drains its writes from `high` of them down to `low`, and never
+    ghost use Rattle.std.specs.Prelude.{IfSome, slice_set};
+    ghost use Rattle.request_log.specs.Log.{waiting, waiting_requests, arrived_now, served_at, activated_at, waits_at, eligible_column, unblocked_by};
+
+    /// An empty queue in which `room` requests may wait, and which drains its writes from `high` of them down to `low`, and never
     /// if `high` is 0. Only this call allocates memory.
-    #[tactic(auto, unfolding(queue_columns::specs::Columns::eligible_column, queue_columns::specs::Columns::tag_column))]
+    #[tactic(auto, unfolding(request_log::specs::Log::waiting))]
     pub fn with_room(alloc: Global, room: usize, high: u32, low: u32) -> Result<Self, AllocError>
         requires room { room < 2 ^ 16 - 1 }
-        ensures { IfOk result (λ queue. queue ≡ record { room = room; high = high; low = low; requests = []; drain_decided = false }) }
+        ensures { IfOk result (λ queue. queue ≡ record { room = room; places = places_for room; high = high; low = low; log = []; drain_decided = false }) }
     {
-        let (lines, mask) = counters(alloc, room)?;
-        let (rows, row_mask) = counters(alloc, room.min(ROOM_OF_ROWS))?;
         Ok(Queue {
             room,
             high,
             low,
             drain_decided: false,
-            writes: 0,
             drains: false,
-            blocked: 0,
-            aged: Aged::with_room(alloc, room)?,
-            lines,
-            mask,
-            rows,
-            row_mask,
+            waiting: 0,
+            writes: 0,
+            log: RequestLog::with_places(alloc, places_for(room), room)?,
         })
     }
 
     /// How many requests wait.
+    #[inline(always)]
     pub fn len(&self) -> usize
-        ensures value { result ≡ length self.now.requests }
+        ensures value { result ≡ length (waiting_requests self.now.log) }
         ensures short { result < 2 ^ 16 - 1 }
     {
-        self.aged.len()
+        self.waiting
     }
 
-    /// Takes in a request that is younger than all that wait.
-    pub fn arrive(&mut self, request: Request)
-        requires { length self.old.requests < self.old.room }
-        ensures { self.new ≡ record self.old { requests = self.old.requests ++ request ∷ [] } }
+    /// The requests that have arrived, by age, some of which wait.
+    #[inline(always)]
+    pub fn log(&self) -> &RequestLog
+        ensures { result.now ≡ record { places = self.now.places; log = self.now.log } }
     {
-        let line = line_slot(request.place, self.mask);
-        let alike = self.lines[line];
-        let asked = is_line_asked(request.place, alike, self.aged.requests());
-        self.aged.push(request, !asked);
-        self.lines[line] = alike + 1;
-        let row = row_slot_of(request, self.row_mask);
-        let others = self.rows[row];
-        self.rows[row] = others + 1;
-        self.blocked += usize::from(asked);
+        &self.log
+    }
+
+    /// Makes places for `count` requests that arrive. Where too few are left, or far more than wait are in use, those that wait move to
+    /// the front; the call tells whether they did.
+    #[inline(always)]
+    pub fn make_room(&mut self, count: usize) -> bool
+        requires { length (waiting_requests self.old.log) + count ≤ self.old.room }
+        ensures places { length self.new.log + count ≤ self.new.places }
+        ensures kept { result ≡ false → self.new ≡ self.old }
+        ensures moved { result ≡ true → self.new ≡ record self.old { log = waiting self.old.log } }
+    {
+        if count <= self.log.free() && self.log.len() <= self.waiting * 2 + SPARE_PLACES {
+            return false;
+        }
+        self.log.renumber();
+        true
+    }
+
+    /// Takes in a request that is younger than all that have arrived.
+    #[inline(always)]
+    pub fn arrive(&mut self, request: Request)
+        requires room { length (waiting_requests self.old.log) < self.old.room }
+        requires places { length self.old.log < self.old.places }
+        ensures { self.new ≡ record self.old { log = self.old.log ++ arrived_now request ∷ [] } }
+    {
+        self.log.arrive(request);
+        self.waiting += 1;
         if request.write {
             self.writes += 1;
             self.drains = drains(self.high, self.low, self.drain_decided, self.writes);
         }
     }
 
-    /// Takes out the request at a place. The others keep their order, and the next one for its line is no longer blocked.
-    pub fn serve(&mut self, slot: usize) -> Request
-        requires { slot < length self.old.requests }
-        ensures request { (d : Request) → result ≡ slice_index_or self.old.requests slot d }
-        ensures rest { self.new ≡ record self.old { requests = remove self.old.requests slot } }
+    /// Serves the request at a place, which no longer waits then. Returns the place of the next one for its line, if that was blocked by it
+    /// and may be served now.
+    #[inline(always)]
+    pub fn serve(&mut self, slot: usize) -> Option<usize>
+        requires within { slot < length self.old.log }
+        requires waits { waits_at self.old.log slot ≡ true }
+        ensures log { self.new ≡ record self.old { log = served_at self.old.log slot } }
+        ensures unblocked { eligible_column self.new.log ≡ unblocked_by result (slice_set (eligible_column self.old.log) slot 0) }
+        ensures place { IfSome result (λ next. next < length self.new.log) }
     {
-        let request = self.aged.requests()[slot];
-        let was_first = self.aged.eligible()[slot] == 1;
-        self.aged.remove(slot);
-        let line = line_slot(request.place, self.mask);
-        let alike = self.lines[line] - 1;
-        self.lines[line] = alike;
-        let row = row_slot_of(request, self.row_mask);
-        let others = self.rows[row] - 1;
-        self.rows[row] = others;
-        let waited = if was_first {
-            unblock_next(request.place, slot, self.blocked, alike, &mut self.aged)
-        } else {
-            true
-        };
-        self.blocked -= usize::from(waited);
-        if request.write {
+        let write = self.log.log()[slot].request.write;
+        let unblocked = self.log.serve(slot);
+        self.waiting -= 1;
+        if write {
             self.writes -= 1;
             self.drains = drains(self.high, self.low, self.drain_decided, self.writes);
         }
-        request
+        unblocked
     }
 
-    /// Decides whether the queue drains with the requests that it has, as it does once in each cycle.
+    /// Notes that an ACT was issued in the name of the request at a place.
+    #[inline(always)]
+    pub fn activate(&mut self, slot: usize)
+        requires { slot < length self.old.log }
+        ensures { self.new ≡ record self.old { log = activated_at self.old.log slot } }
+    {
+        self.log.activate(slot);
+    }
+
+    /// The requests that wait, by age.
+    pub fn waiting(&self, alloc: Global) -> Result<Vec<Request>, AllocError>
+        ensures { IfOk result (λ requests. requests.items ≡ waiting_requests self.now.log) }
+    {
+        self.log.waiting(alloc)
+    }
+
+    /// Decides whether the queue drains with the requests that wait, as it does once in each cycle.
     #[inline(always)]
     pub fn decide_drain(&mut self)
         ensures value { self.new ≡ record self.old { drain_decided = is_draining self.old } }
@@ -170,7 +179,7 @@ impl Queue {
         self.drain_decided = self.drains;
     }
 
-    /// Whether the queue drains its writes with the requests that it has; `decide_drain` does not change that.
+    /// Whether the queue drains its writes with the requests that wait; `decide_drain` does not change that.
     #[inline(always)]
     pub fn draining(&self) -> bool
         ensures { result ≡ is_draining self.now }
@@ -179,31 +188,10 @@ impl Queue {
     }
 
     /// The number of writes with which a drain begins; 0 where none ever does.
+    #[inline(always)]
     pub fn high(&self) -> u32
         ensures { result ≡ self.now.high }
     {
         self.high
-    }
-
-    /// The requests, by age.
-    pub fn requests(&self) -> &[Request]
-        ensures { result.now ≡ self.now.requests }
-    {
-        self.aged.requests()
-    }
-
-    /// The requests by age, with their marks and tags.
-    #[inline(always)]
-    pub fn columns(&self) -> Columns<'_>
-        ensures { result.requests.now ≡ self.now.requests }
-    {
-        let aged = &self.aged;
-        Columns::new(
-            aged.requests(),
-            aged.eligible(),
-            aged.tags(),
-            &self.rows,
-            self.row_mask,
-        )
     }
 }

@@ -1,10 +1,12 @@
 //! Rows that are handed to `csv` as one text.
 
-ghost use Rattle.std.specs.Prelude.{◌≡◌, ◌≤◌, ◌<◌, ◌+◌, ◌++◌, ◌↔◌, [], length, take, codes, IsTrue};
+ghost use Rattle.std.specs.Prelude.{◌≡◌, ◌≤◌, ◌<◌, ◌+◌, ◌++◌, ◌↔◌, [], length, take, drop, codes, IsTrue};
+ghost use Rattle.std.specs.Simd.Lanes.{chunk};
 ghost use Rattle.reports.specs.Rows.{ended};
 
 use crate::line::ROOM;
 use std::marker::Model;
+use std::simd::prelude::*;
 
 /// The room for the text, in bytes.
 const SIZE: usize = 4096;
@@ -39,6 +41,43 @@ fn end_last(bytes: &mut [u8; SIZE], len: usize) -> usize
     }
     bytes[len] = b'\n';
     len + 1
+}
+
+// Copies 16 bytes of a row, from a place in it on, to where the row stands from `start` on.
+#[inline(always)]
+fn copy_piece(bytes: &mut [u8; SIZE], start: usize, row: &[u8], at: usize)
+    requires piece { at + 16 ≤ length row.now }
+    requires room { start + length row.now ≤ 4096 }
+    ensures { take (start + at + 16) bytes.new ≡ take (start + at) bytes.old ++ chunk at 16 row.now }
+{
+    let piece: u8x16 = Simd::from_slice(&row[at..]);
+    piece.copy_to_slice(&mut bytes[start + at..]);
+}
+
+// Copies a row of any length.
+#[inline(never)]
+fn copy_row(bytes: &mut [u8; SIZE], start: usize, row: &[u8])
+    requires room { start + length row.now ≤ 4096 }
+    ensures { take (start + length row.now) bytes.new ≡ take start bytes.old ++ row.now }
+{
+    bytes[start..start + row.len()].copy_from_slice(row);
+}
+
+// Puts a row at a place. Most have 16 to 48 bytes; the last 16 of these may overlap those before.
+#[inline(always)]
+fn put_row(bytes: &mut [u8; SIZE], start: usize, row: &[u8])
+    requires room { start + length row.now ≤ 4096 }
+    ensures { take (start + length row.now) bytes.new ≡ take start bytes.old ++ row.now }
+{
+    let len = row.len();
+    if len < 16 || len > 48 {
+        return copy_row(bytes, start, row);
+    }
+    copy_piece(bytes, start, row, 0);
+    if len > 32 {
+        copy_piece(bytes, start, row, 16);
+    }
+    copy_piece(bytes, start, row, len - 16);
 }
 
 impl Block {
@@ -85,15 +124,14 @@ impl Block {
     }
 
     /// Appends a row.
-    #[inline]
+    #[inline(always)]
     pub(crate) fn push(&mut self, row: &[u8])
         requires some { 0 < length row.now }
         requires room { length self.old + length row.now ≤ 4096 }
         ensures { self.new ≡ self.old ++ (row.now ++ codes "\n") }
     {
         let start = end_last(&mut self.bytes, self.len);
-        let end = start + row.len();
-        self.bytes[start..end].copy_from_slice(row);
-        self.len = end;
+        put_row(&mut self.bytes, start, row);
+        self.len = start + row.len();
     }
 }

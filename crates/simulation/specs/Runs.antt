@@ -3,6 +3,8 @@
 --     AreRead texts traces      the traces of the first cores are what their texts mean
 --     limits_of cores texts cycles workers      whether there is one trace per core, and so on
 --     input_of config texts cycles workers      the entries of all traces, or the first fault of a run's input
+--     IsInput config texts cycles workers machine traces      a machine and its traces are what these bytes mean
+--     HoldsOfInput cycles workers machine traces law outcome      whatever bytes they were read from, a law holds of these and an outcome
 --     IsRefusal config texts cycles workers fault      why a run with these workers is refused
 --     IsRunOf config texts cycles workers tables outcome      what the one-clock machine that the bytes describe did and left
 --     HoldsOfRun config texts cycles workers tables law outcome      the same, and a law holds of the run
@@ -54,6 +56,17 @@ input_of config texts cycles workers = do
   values ← document_of config
   _ ← limits_of values.cores (length texts) cycles workers
   traces_of 0 texts
+
+-- the machine is what the document states, and the traces are what the texts mean, which pass all tests
+pub record IsInput (config : List ℕ) (texts : List (List ℕ)) (cycles workers : ℕ) (machine : Config) (traces : List (List Entry)) : Type 0 where
+  pub configured : document_of config ≡ Ok (values_of machine)
+  pub traces_are : traces_of 0 texts ≡ Ok traces
+  pub read : input_of config texts cycles workers ≡ Ok traces
+
+-- whatever bytes a machine and its traces were read from, a law holds of these and an outcome
+abbrev pub HoldsOfInput : ℕ → ℕ → Config → List (List Entry) → (List ℕ → List (List ℕ) → RunOutcome → Type 0) → RunOutcome → Type 0
+HoldsOfInput cycles workers machine traces law outcome =
+    (config : List ℕ) (texts : List (List ℕ)) → IsInput config texts cycles workers machine traces → law config texts outcome
 
 -- Memory was refused; or this is the first fault of the input; or the input has none, and one of several workers was not started.
 abbrev pub IsRefusal : List ℕ → List (List ℕ) → ℕ → ℕ → Fault → Type 0

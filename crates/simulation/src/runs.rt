@@ -1,13 +1,16 @@
 //! A run of the simulator, from the bytes of its input.
 
-ghost use Rattle.std.specs.Prelude.{map, IfOk, IfErr};
-ghost use Rattle.simulation.specs.Runs.{IsRefusal, IsRunOf, HoldsOfRun, IsJudgedLegal};
+ghost use Rattle.std.specs.Prelude.{◌≡◌, ◌≤◌, ◌^◌, length, map, IfOk, IfErr};
+ghost use Rattle.simulation.specs.Runs.{HoldsOfInput, IsRefusal, IsRunOf, HoldsOfRun, IsJudgedLegal};
 ghost use Rattle.simulation.specs.Outcomes.{HoldsUnder};
 ghost use Rattle.table_laws.specs.Outcomes.{OwnsDataBus, IsRefreshed, HasBoundedQueues, HoldsFewCredits, KeepsCreditsUntil};
+ghost use Rattle.workers.specs.Runs.{IsRefusedTo};
 
 use crate::input::read_input;
+use cpu_trace::trace::Trace;
 use run_outcome::outcome::Outcome;
 use run_outcome::tables::Tables;
+use sim_base::config::Config;
 use sim_base::fault::Fault;
 use sim_base::message::Cycle;
 use std::alloc::Global;
@@ -17,6 +20,37 @@ use workers::gate::Gate;
 use workers::machine::run_machine;
 use workers::sharing::Workers;
 use workers::watch::Watch;
+
+/// Runs the machine of an input that was read, for at most `cycles` cycles, as `simulate` says. Whatever texts the input was read from, the outcome is that of
+/// their run, so that a caller need not hold them while the machine runs.
+pub fn run_input<R: Threads + Wait + Sync, G: Gate + Sync, W: Watch>(
+    rt: &R,
+    alloc: Global,
+    gate: &G,
+    watch: &mut W,
+    machine: &Config,
+    traces: Vec<Trace>,
+    cycles: Cycle,
+    workers: Workers,
+    tables: Tables,
+) -> Result<Outcome, Fault>
+    requires one_trace_a_core { length traces.items ≡ machine.now.cores }
+    requires some { 1 ≤ workers.count }
+    requires few { workers.count ≤ 64 }
+    requires limit { cycles ≤ 10 ^ 12 }
+    ensures run { IfOk result (HoldsOfInput cycles workers.count machine.now traces.items (λ config texts. IsRunOf config texts cycles workers.count tables)) }
+    ensures legal { IfOk result (HoldsOfInput cycles workers.count machine.now traces.items (λ config texts. IsJudgedLegal config texts cycles workers.count tables)) }
+    ensures data_bus { IfOk result (HoldsOfInput cycles workers.count machine.now traces.items (λ config texts. HoldsOfRun config texts cycles workers.count tables OwnsDataBus)) }
+    ensures refreshed { IfOk result (HoldsOfInput cycles workers.count machine.now traces.items (λ config texts. HoldsOfRun config texts cycles workers.count tables IsRefreshed)) }
+    ensures bounded { IfOk result (HoldsOfInput cycles workers.count machine.now traces.items (λ config texts. HoldsUnder config HasBoundedQueues)) }
+    ensures held { IfOk result (HoldsOfInput cycles workers.count machine.now traces.items (λ config texts. HoldsUnder config HoldsFewCredits)) }
+    ensures credits { IfOk result (HoldsOfInput cycles workers.count machine.now traces.items (λ config texts. HoldsOfRun config texts cycles workers.count tables KeepsCreditsUntil)) }
+    ensures refused { IfErr result (IsRefusedTo workers.count) }
+{
+    run_machine(
+        rt, alloc, gate, watch, workers, machine, traces, tables, cycles,
+    )
+}
 
 /// Runs the machine that a configuration and one trace per core describe, for at most `cycles` cycles, and returns its commands, if
 /// their table is asked for, its statistics and the state in which it ends. At most as many workers run it as are named, 1 to 64, each in a thread of its
@@ -57,7 +91,7 @@ pub fn simulate<R: Threads + Wait + Sync, G: Gate + Sync, W: Watch>(
         Ok(input) => input,
         Err(fault) => return Err(fault),
     };
-    run_machine(
-        rt, alloc, gate, watch, workers, &config, traces, tables, cycles,
+    run_input(
+        rt, alloc, gate, watch, &config, traces, cycles, workers, tables,
     )
 }

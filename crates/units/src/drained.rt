@@ -21,7 +21,7 @@ fn has_finished(machine: &Machine, place: usize, part: &UnitState) -> bool
 {
     match part {
         UnitState::Core(core) => core.stats().retired == machine.trace_len(place),
-        UnitState::Channel(channel, _) => channel.requests().is_empty(),
+        UnitState::Channel(channel, _) => channel.waiting() == 0,
     }
 }
 

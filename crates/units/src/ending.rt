@@ -159,7 +159,7 @@ fn channel_left(
         UnitState::Channel(channel, _) => Ok(ChannelState {
             due: all_due(alloc, machine, now, number, channel)?,
             open_rows: open_rows(alloc, machine, now, number, channel)?,
-            queue: channel.requests().to_vec(alloc)?,
+            queue: channel.requests(alloc)?,
         }),
     }
 }

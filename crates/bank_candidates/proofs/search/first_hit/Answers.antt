@@ -1,21 +1,22 @@
 -- The oldest one passes where it asks for the row, and no other stands before it.
 use Rattle.std.proofs.Common.{length, sym, ap, ◌∙◌, arith}
+use Rattle.request_log.specs.Log.{absent}
 use Rattle.bank_candidates.proofs.Hits.{row_at, hit_here, hit_behind}
 use Rattle.bank_candidates.proofs.search.first_hit.Goals as goal
-use Rattle.bank_candidates.proofs.search.first_hit.Goals.{else-oldest-requests-via-then-oldest-requests+else-asks_for_row, else-oldest-requests-via-else-oldest-requests}
+use Rattle.bank_candidates.proofs.search.first_hit.Goals.{else-oldest-arrived-via-then-oldest-arrived+else-asks_for_row, else-oldest-arrived-via-else-oldest-arrived}
 
 pub returns-then-asks_for_row-clause-first : goal.returns-then-asks_for_row-clause-first
 returns-then-asks_for_row-clause-first c is =
-    hit_here c.args.queue.now.requests.now c.requests-requests.result.now c.args.oldest c.args.bank c.args.row c.args.write _ (omega (arith, ap length c.requests-requests.ensures, c.if-oldest-requests.true))
-    c.requests-requests.ensures is (sym c.asks_for_row.ensures ∙ c.if-asks_for_row.true)
+    hit_here c.args.log.now.log c.log-arrived.result.now c.args.oldest c.args.bank c.args.row c.args.write _ (omega (arith, ap length c.log-arrived.ensures.log, c.if-oldest-arrived.true))
+    c.log-arrived.ensures.log is (sym c.asks_for_row.ensures ∙ c.if-asks_for_row.true)
 
 pub returns-clause-first : goal.returns-clause-first
 returns-clause-first c is =
-    let rs = c.args.queue.now.requests.now in
+    let log = c.args.log.now.log in
     c.first_from.ensures.first
-    (hit_behind rs c.args.oldest c.args.bank c.args.row c.args.write is
-    (λ d within. elim c.else-oldest-requests.branch [
-      | else-oldest-requests-via-then-oldest-requests+else-asks_for_row w ↦
-          row_at rs c.requests-requests.result.now c.args.oldest _ d c.args.row within c.requests-requests.ensures ∙ sym w.asks_for_row.ensures ∙ w.if-asks_for_row.false
-      | else-oldest-requests-via-else-oldest-requests w ↦ absurd (omega (arith, within, w.if-oldest-requests.false, ap length c.requests-requests.ensures))
+    (hit_behind log c.args.oldest c.args.bank c.args.row c.args.write is
+    (λ within. elim c.else-oldest-arrived.branch [
+      | else-oldest-arrived-via-then-oldest-arrived+else-asks_for_row w ↦
+          row_at log c.log-arrived.result.now c.args.oldest _ absent c.args.row within c.log-arrived.ensures.log ∙ sym w.asks_for_row.ensures ∙ w.if-asks_for_row.false
+      | else-oldest-arrived-via-else-oldest-arrived w ↦ absurd (omega (arith, within, w.if-oldest-arrived.false, ap length c.log-arrived.ensures.log))
     ]))

@@ -13,7 +13,7 @@ pub returns-then-hit : goal.returns-then-hit
 unfolding needed
 returns-then-hit c s history hits stands knows =
     let r = c.args.request.now in
-    let row_is = c.open_row-open_row.ensures knows.requests history knows.stands ∙ ap (λ b. open_row b history) c.bank_id.ensures in
+    let row_is = c.open_row-open_row.ensures knows.log history knows.stands ∙ ap (λ b. open_row b history) c.bank_id.ensures in
     let kind_is = sym (c.kind_needed-kind.ensures.kind r refl refl ∙ ap (λ o. kind_of (needed_at o r)) row_is) in
     after_ready s history (rank_count c.args.banks.now) r c.kind_needed-kind.result c.ready.result c.args.cycle c.args.hit c.requires.place
     (subst (λ n. IsReadyFrom s history (bank_at n) c.kind_needed-kind.result c.ready.result) c.bank_number.ensures.number (c.ready.ensures s history stands)) kind_is c.if-after.true
@@ -23,7 +23,7 @@ pub returns-else-hit : goal.returns-else-hit
 unfolding needed
 returns-else-hit c s history other stands knows =
     let r = c.args.request.now in
-    let row_is = c.open_row-open_row.ensures knows.requests history knows.stands ∙ ap (λ b. open_row b history) c.bank_id.ensures in
+    let row_is = c.open_row-open_row.ensures knows.log history knows.stands ∙ ap (λ b. open_row b history) c.bank_id.ensures in
     let kind_is = sym (c.kind_needed-kind.ensures.kind r refl refl ∙ ap (λ o. kind_of (needed_at o r)) row_is) in
     after_ready s history (rank_count c.args.banks.now) r c.kind_needed-kind.result c.ready.result c.args.cycle c.args.hit c.requires.place
     (subst (λ n. IsReadyFrom s history (bank_at n) c.kind_needed-kind.result c.ready.result) c.bank_number.ensures.number (c.ready.ensures s history stands)) kind_is c.if-after.true

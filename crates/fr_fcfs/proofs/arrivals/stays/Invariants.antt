@@ -3,6 +3,7 @@ use Rattle.std.specs.List.{AllWithin}
 use Rattle.sim_base.specs.declared.config.Config.{Config}
 use Rattle.sim_base.specs.declared.command.IssuedCommand.{IssuedCommand}
 use Rattle.bank_ready.specs.Stands.{StandsFor as BanksStandFor}
+use Rattle.request_log.specs.Log.{all_requests}
 use Rattle.fr_fcfs.specs.Arrivals.{ComesAfter}
 use Rattle.fr_fcfs.specs.Requests.{KnowsRows}
 use Rattle.fr_fcfs.proofs.arrivals.stays.Given as goal
@@ -10,4 +11,4 @@ use Rattle.fr_fcfs.proofs.arrivals.stays.Given as goal
 -- the requests so far come after
 abbrev pub invariant-loop-slot : goal.invariant-loop-slot
 invariant-loop-slot l =
-    (s : Config) (history : List IssuedCommand) → BanksStandFor l.banks s history → KnowsRows l.bank_candidates history → AllWithin (ComesAfter s history l.cycle l.hit) l.requests l.fn.from l.slot
+    (s : Config) (history : List IssuedCommand) → BanksStandFor l.banks s history → KnowsRows l.bank_candidates history → AllWithin (ComesAfter s history l.cycle l.hit) (all_requests l.log) l.fn.from l.slot

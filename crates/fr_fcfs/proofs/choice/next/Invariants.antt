@@ -2,9 +2,10 @@ use Rattle.std.proofs.Common.{◌≡◌, ℕ, ◌+◌, ◌≤◌, List}
 use Rattle.std.specs.Option.{IfSome}
 use Rattle.sim_base.specs.declared.config.Config.{Config}
 use Rattle.sim_base.specs.declared.command.IssuedCommand.{IssuedCommand}
+use Rattle.bank_ready.specs.Stands.{rank_count}
 use Rattle.fr_fcfs.specs.Requests.{candidates_of}
 use Rattle.fr_fcfs.specs.Cycles.{IsNext}
-use Rattle.fr_fcfs.specs.Choices.{StandFor, IsFor}
+use Rattle.fr_fcfs.specs.Choices.{StandFor, command_of, IsFor}
 use Rattle.fr_fcfs.proofs.Waking.{chosen_from}
 use Rattle.fr_fcfs.proofs.choice.next.Given as goal
 
@@ -13,8 +14,9 @@ abbrev pub invariant-loop-rank : goal.invariant-loop-rank
 invariant-loop-rank l = record {
   rank : l.rank ≤ l.refresh.ranks;
   next : (s : Config) (history : List IssuedCommand) → StandFor l.bank_candidates l.banks l.refresh l.queue l.groups s history → (n : ℕ) → l.rank + n ≡ l.refresh.ranks
-      → IsNext (chosen_from s history (candidates_of s l.queue) l.rank n) l.now l.next;
-  place : IfSome l.next (λ next. IsFor l.queue.requests next.1);
+      → IsNext (chosen_from s history (candidates_of s l.queue) l.rank n) (command_of s history l.queue.log) l.now l.next;
+  place : (s : Config) (history : List IssuedCommand) → StandFor l.bank_candidates l.banks l.refresh l.queue l.groups s history
+      → IfSome l.next (λ next. IsFor (rank_count l.banks) l.queue.log next.1);
 }
 
 abbrev pub decreases-loop-rank : goal.decreases-loop-rank

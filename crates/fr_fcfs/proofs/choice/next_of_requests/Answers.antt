@@ -1,12 +1,18 @@
--- Each request asks for a bank that has candidates.
-use Rattle.std.proofs.Common.{List, sym, subst}
-use Rattle.std.specs.List.{All}
-use Rattle.sim_base.specs.Places.{bank_in}
-use Rattle.sim_base.specs.declared.message.Request.{Request}
-use Rattle.bank_candidates.specs.Stands.{IsAmong}
-use Rattle.fr_fcfs.proofs.Legal.{all_among}
+-- The request is that of the first offer.
+use Rattle.std.proofs.Common.{arith}
+use Rattle.fr_fcfs.proofs.Below.{command_there}
 use Rattle.fr_fcfs.proofs.choice.next_of_requests.Goals as goal
 
-pub choice_at-requires-clause-places : goal.choice_at-requires-clause-places
-choice_at-requires-clause-places c =
-    subst (λ (rs : List Request). All (λ r. IsAmong c.args.bank_candidates.now (bank_in r.place)) rs) (sym c.requests.ensures) (all_among c.args.bank_candidates.now _ _ c.requires.banks c.requires.places)
+pub overflow_cast-result : goal.overflow_cast-result
+overflow_cast-result c = omega (arith, c.in-Some.ensures.short)
+
+pub returns-in-Some-clause-next : goal.returns-in-Some-clause-next
+returns-in-Some-clause-next c s history banks bank_candidates high =
+    let offer = c.in-Some.offer in
+    let first = c.in-Some.ensures.first s history banks bank_candidates high in
+    record {
+      from_now = first.from_now;
+      then_is = first.then_is;
+      there_is = command_there history c.args.queue.now.log offer.slot c.in-Some.ensures.within;
+      none_before = first.none_before;
+    }

@@ -18,14 +18,14 @@ loop-bank-init c =
     let rest = c.hit-rest.result in
     record {
       within = c.hit-rest.ensures.within;
-      so_far = λ s history requests hits rows stands bank_candidates places before.
-          so_far_same (length requests) now hits rows (λ cycle. earlier (hits cycle) (place_beside (λ k. is_in rest k) (hits_now s history (only write) cycle) requests)) rows c.args.best.now
+      so_far = λ s history log hits rows stands bank_candidates places before.
+          so_far_same (length log) now hits rows (λ cycle. earlier (hits cycle) (place_beside (λ k. is_in rest k) (hits_now s history (only write) cycle) log)) rows c.args.best.now
           (λ cycle late.
           sym
           (ap (earlier (hits cycle))
-          (beside_nothing (λ k. is_in rest k) (bank_count c.args.bank_candidates.now) (hits_now s history (only write) cycle) requests bank_candidates.within
+          (beside_nothing (λ k. is_in rest k) (bank_count c.args.bank_candidates.now) (hits_now s history (only write) cycle) log bank_candidates.within
           (λ k exists off.
-          hit_none s history _ requests write k (candidates_of_bank c.args.bank_candidates.now k nowhere) places (bank_candidates.candidates_are k nowhere exists) (bank_candidates.rows_are k nowhere exists)
+          hit_none s history _ log write k (candidates_of_bank c.args.bank_candidates.now k nowhere) places (bank_candidates.candidates_are k nowhere exists) (bank_candidates.rows_are k nowhere exists)
           (sym (c.hit-rest.ensures.each k nowhere exists) ∙ off) cycle))
           ∙ first_alone (hits cycle)))
           (λ cycle late. refl) before;
@@ -49,25 +49,25 @@ loop-bank-preserved c =
     let others = c.without_first-rest.ensures.others bank c.in-Some.ensures.first c.in-Some.ensures.lowest in
     record {
       within = λ k still. c.loop-bank.invariant.within k (left_before (λ j. is_in rest j) (λ j. is_in after j) bank is others k still);
-      so_far = λ s history requests hits rows stands bank_candidates places before.
-          let here = λ (cycle : ℕ). place_beside (λ k. is_in rest k) (hits_now s history (only write) cycle) requests in
+      so_far = λ s history log hits rows stands bank_candidates places before.
+          let here = λ (cycle : ℕ). place_beside (λ k. is_in rest k) (hits_now s history (only write) cycle) log in
           let so_far = λ (cycle : ℕ). earlier (hits cycle) (here cycle) in
-          so_far_same (length requests) now (λ cycle. earlier (so_far cycle) (hits_in s history requests (only write) bank cycle)) rows
-          (λ cycle. earlier (hits cycle) (place_beside (λ k. is_in after k) (hits_now s history (only write) cycle) requests)) rows c.with_hit.new.best
+          so_far_same (length log) now (λ cycle. earlier (so_far cycle) (hits_in s history log (only write) bank cycle)) rows
+          (λ cycle. earlier (hits cycle) (place_beside (λ k. is_in after k) (hits_now s history (only write) cycle) log)) rows c.with_hit.new.best
           (λ cycle late.
-          earlier_assoc (hits cycle) (here cycle) (hits_in s history requests (only write) bank cycle)
+          earlier_assoc (hits cycle) (here cycle) (hits_in s history log (only write) bank cycle)
           ∙ ap (earlier (hits cycle))
           (sym
-          (beside_more (λ k. is_in rest k) (λ k. is_in after k) bank (hits_now s history (only write) cycle) requests c.in-Some.ensures.first is
+          (beside_more (λ k. is_in rest k) (λ k. is_in after k) bank (hits_now s history (only write) cycle) log c.in-Some.ensures.first is
           others)))
           (λ cycle late. refl)
-          (c.with_hit.ensures s history requests so_far rows stands bank_candidates places (c.loop-bank.invariant.so_far s history requests hits rows stands bank_candidates places before));
+          (c.with_hit.ensures s history log so_far rows stands bank_candidates places (c.loop-bank.invariant.so_far s history log hits rows stands bank_candidates places before));
     }
 
 pub returns : goal.returns
-returns c s history requests hits rows stands bank_candidates places before =
+returns c s history log hits rows stands bank_candidates places before =
     let rest = c.loop-bank.rest in
-    so_far_same (length requests) c.args.now (λ cycle. earlier (hits cycle) (place_beside (λ k. is_in rest k) (hits_now s history (only c.args.write) cycle) requests)) rows
-    (λ cycle. earlier (hits cycle) (first_place (hits_now s history (only c.args.write) cycle) requests)) rows c.loop-bank.best
-    (λ cycle late. ap (earlier (hits cycle)) (beside_all (λ k. is_in rest k) (hits_now s history (only c.args.write) cycle) requests c.in_default.ensures.none)) (λ cycle late. refl)
-    (c.loop-bank.invariant.so_far s history requests hits rows stands bank_candidates places before)
+    so_far_same (length log) c.args.now (λ cycle. earlier (hits cycle) (place_beside (λ k. is_in rest k) (hits_now s history (only c.args.write) cycle) log)) rows
+    (λ cycle. earlier (hits cycle) (first_place (hits_now s history (only c.args.write) cycle) log)) rows c.loop-bank.best
+    (λ cycle late. ap (earlier (hits cycle)) (beside_all (λ k. is_in rest k) (hits_now s history (only c.args.write) cycle) log c.in_default.ensures.none)) (λ cycle late. refl)
+    (c.loop-bank.invariant.so_far s history log hits rows stands bank_candidates places before)

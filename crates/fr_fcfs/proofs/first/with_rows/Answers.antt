@@ -87,7 +87,7 @@ with_rows_of-requires-2-clause-kind c k d there =
     opens (candidates_of_bank c.args.bank_candidates.now k d).row (sym (c.open_banks.ensures k d exists) ∙ not_true (is_in c.open_banks.result k) closed.1)
 
 pub returns : goal.returns
-returns c s history requests hits stands bank_candidates places before =
+returns c s history log hits stands bank_candidates places before =
     let now = c.args.now in
     let accesses = c.args.accesses in
     let asked = c.minus-asked.result in
@@ -99,21 +99,21 @@ returns c s history requests hits stands bank_candidates places before =
     ∙ (λ i. (is_in asked k && not (c.minus-closed.ensures k i)) || c.minus-closed.ensures k i)
     ∙ either (is_in asked k) (is_in c.open_banks.result k) in
     let start =
-    so_far_same (length requests) now hits (λ cycle. None) hits (rows_beside s history requests accesses (λ k. is_in opened k || is_in closed k)) c.args.best.now (λ cycle late. refl)
+    so_far_same (length log) now hits (λ cycle. None) hits (rows_beside s history log accesses (λ k. is_in opened k || is_in closed k)) c.args.best.now (λ cycle late. refl)
     (λ cycle late.
     sym
-    (beside_nothing (λ k. is_in opened k || is_in closed k) (bank_count c.args.bank_candidates.now) (rows_now s history requests accesses cycle) requests bank_candidates.within
+    (beside_nothing (λ k. is_in opened k || is_in closed k) (bank_count c.args.bank_candidates.now) (rows_now s history log accesses cycle) log bank_candidates.within
     (λ k exists off.
-    row_none s history _ requests accesses k (candidates_of_bank c.args.bank_candidates.now k nowhere) places (bank_candidates.candidates_are k nowhere exists) (bank_candidates.rows_are k nowhere exists)
+    row_none s history _ log accesses k (candidates_of_bank c.args.bank_candidates.now k nowhere) places (bank_candidates.candidates_are k nowhere exists) (bank_candidates.rows_are k nowhere exists)
     ((λ i. (sym (c.banks_with_candidate.ensures.each k nowhere exists)) i && not ((sym (c.hit.ensures k nowhere exists)) i)) ∙ sym (c.minus-asked.ensures k) ∙ sym (whole k) ∙ off) cycle)))
     before in
     let apart : (k : ℕ) → is_in opened k ≡ true → is_in closed k ≡ false =
     λ k there. not_true (is_in closed k) (and_parts (is_in asked k) (not (is_in closed k)) (sym (c.minus-opened.ensures k) ∙ there)).1 in
-    let half = c.with_rows_of.ensures s history requests hits (λ k. is_in closed k) stands bank_candidates places apart start in
+    let half = c.with_rows_of.ensures s history log hits (λ k. is_in closed k) stands bank_candidates places apart start in
     let rest =
-    so_far_same (length requests) now hits (rows_beside s history requests accesses (λ k. is_in closed k)) hits (rows_beside s history requests accesses (λ k. is_in closed k || false)) c.with_rows_of.new.best
+    so_far_same (length log) now hits (rows_beside s history log accesses (λ k. is_in closed k)) hits (rows_beside s history log accesses (λ k. is_in closed k || false)) c.with_rows_of.new.best
     (λ cycle late. refl)
-    (λ cycle late. beside_same (λ k. is_in closed k) (λ k. is_in closed k || false) (rows_now s history requests accesses cycle) requests (λ k. sym (or_false (is_in closed k)))) half in
-    so_far_same (length requests) now hits (rows_beside s history requests accesses (λ k. false)) hits (λ cycle. first_place (rows_now s history requests accesses cycle) requests) c.with_rows_of-2.new.best
-    (λ cycle late. refl) (λ cycle late. beside_all (λ k. false) (rows_now s history requests accesses cycle) requests (λ k. refl))
-    (c.with_rows_of-2.ensures s history requests hits (λ k. false) stands bank_candidates places (λ k there. refl) rest)
+    (λ cycle late. beside_same (λ k. is_in closed k) (λ k. is_in closed k || false) (rows_now s history log accesses cycle) log (λ k. sym (or_false (is_in closed k)))) half in
+    so_far_same (length log) now hits (rows_beside s history log accesses (λ k. false)) hits (λ cycle. first_place (rows_now s history log accesses cycle) log) c.with_rows_of-2.new.best
+    (λ cycle late. refl) (λ cycle late. beside_all (λ k. false) (rows_now s history log accesses cycle) log (λ k. refl))
+    (c.with_rows_of-2.ensures s history log hits (λ k. false) stands bank_candidates places (λ k there. refl) rest)

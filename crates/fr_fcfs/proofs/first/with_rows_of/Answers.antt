@@ -10,7 +10,7 @@ use Rattle.fr_fcfs.proofs.first.with_rows_of.Goals as goal
 pub loop-bank-init : goal.loop-bank-init
 loop-bank-init c = record {
   among = λ k there. there;
-  so_far = λ s history requests hits left stands bank_candidates places apart before. before;
+  so_far = λ s history log hits left stands bank_candidates places apart before. before;
 }
 
 pub loop-bank-smaller : goal.loop-bank-smaller
@@ -48,23 +48,23 @@ loop-bank-preserved c =
     let others = c.without_first-rest.ensures.others bank there c.in-Some.ensures.lowest in
     record {
       among = λ k still. c.loop-bank.invariant.among k (left_before (λ j. is_in rest j) (λ j. is_in after j) bank is others k still);
-      so_far = λ s history requests hits left stands bank_candidates places apart before.
-          let rows = rows_beside s history requests accesses (λ k. is_in rest k || left k) in
-          so_far_same (length requests) now hits (λ cycle. earlier (rows cycle) (rows_in s history requests accesses bank cycle)) hits
-          (rows_beside s history requests accesses (λ k. is_in after k || left k)) c.with_row.new.best (λ cycle late. refl)
+      so_far = λ s history log hits left stands bank_candidates places apart before.
+          let rows = rows_beside s history log accesses (λ k. is_in rest k || left k) in
+          so_far_same (length log) now hits (λ cycle. earlier (rows cycle) (rows_in s history log accesses bank cycle)) hits
+          (rows_beside s history log accesses (λ k. is_in after k || left k)) c.with_row.new.best (λ cycle late. refl)
           (λ cycle late.
           sym
-          (beside_more (λ k. is_in rest k || left k) (λ k. is_in after k || left k) bank (rows_now s history requests accesses cycle) requests (ap (λ b. b || left bank) there)
+          (beside_more (λ k. is_in rest k || left k) (λ k. is_in after k || left k) bank (rows_now s history log accesses cycle) log (ap (λ b. b || left bank) there)
           (ap (λ b. b || left bank) is ∙ apart bank (c.loop-bank.invariant.among bank there))
           (λ j other. ap (λ b. b || left j) (others j other))))
-          (c.with_row.ensures s history requests hits rows stands bank_candidates places (c.loop-bank.invariant.so_far s history requests hits left stands bank_candidates places apart before));
+          (c.with_row.ensures s history log hits rows stands bank_candidates places (c.loop-bank.invariant.so_far s history log hits left stands bank_candidates places apart before));
     }
 
 pub returns : goal.returns
-returns c s history requests hits left stands bank_candidates places apart before =
+returns c s history log hits left stands bank_candidates places apart before =
     let accesses = c.args.commands.accesses in
     let rest = c.loop-bank.rest in
-    so_far_same (length requests) c.args.now hits (rows_beside s history requests accesses (λ k. is_in rest k || left k)) hits (rows_beside s history requests accesses left) c.loop-bank.best
+    so_far_same (length log) c.args.now hits (rows_beside s history log accesses (λ k. is_in rest k || left k)) hits (rows_beside s history log accesses left) c.loop-bank.best
     (λ cycle late. refl)
-    (λ cycle late. beside_same (λ k. is_in rest k || left k) left (rows_now s history requests accesses cycle) requests (λ k. ap (λ b. b || left k) (c.in_default.ensures.none k)))
-    (c.loop-bank.invariant.so_far s history requests hits left stands bank_candidates places apart before)
+    (λ cycle late. beside_same (λ k. is_in rest k || left k) left (rows_now s history log accesses cycle) log (λ k. ap (λ b. b || left k) (c.in_default.ensures.none k)))
+    (c.loop-bank.invariant.so_far s history log hits left stands bank_candidates places apart before)

@@ -3,8 +3,9 @@ use Rattle.std.specs.List.{All}
 use Rattle.sim_base.specs.Rules.{open_row}
 use Rattle.sim_base.specs.declared.config.Config.{Config}
 use Rattle.sim_base.specs.declared.command.IssuedCommand.{IssuedCommand}
-use Rattle.sim_base.specs.declared.message.Request.{Request}
 use Rattle.bank_ready.specs.Stands.{rank_count, StandsFor as BanksStandFor}
+use Rattle.request_log.specs.declared.Arrived.{Arrived}
+use Rattle.request_log.specs.Log.{all_requests}
 use Rattle.bank_candidates.specs.Candidates.{bank_at}
 use Rattle.bank_candidates.specs.Sets.{is_in}
 use Rattle.bank_candidates.specs.Stands.{StandsFor as CandidatesStandFor}
@@ -17,11 +18,11 @@ use Rattle.fr_fcfs.proofs.first.with_rows_of.Given as goal
 abbrev pub invariant-loop-bank : goal.invariant-loop-bank
 invariant-loop-bank l = record {
   among : (k : ℕ) → is_in l.rest k ≡ true → is_in l.fn.asked k ≡ true;
-  so_far : (s : Config) (history : List IssuedCommand) (requests : List Request) (hits : ℕ → Option ℕ) (left : ℕ → Bool) → BanksStandFor l.banks s history
-      → CandidatesStandFor l.bank_candidates requests (λ bank. open_row (bank_at bank) history) → All (IsInBanks (rank_count l.banks)) requests
+  so_far : (s : Config) (history : List IssuedCommand) (log : List Arrived) (hits : ℕ → Option ℕ) (left : ℕ → Bool) → BanksStandFor l.banks s history
+      → CandidatesStandFor l.bank_candidates log (λ bank. open_row (bank_at bank) history) → All (IsInBanks (rank_count l.banks)) (all_requests log)
       → ((k : ℕ) → is_in l.fn.asked k ≡ true → left k ≡ false)
-      → IsBestSoFar (length requests) l.now hits (rows_beside s history requests l.commands.accesses (λ k. is_in l.fn.asked k || left k)) l.fn.best
-      → IsBestSoFar (length requests) l.now hits (rows_beside s history requests l.commands.accesses (λ k. is_in l.rest k || left k)) l.best;
+      → IsBestSoFar (length log) l.now hits (rows_beside s history log l.commands.accesses (λ k. is_in l.fn.asked k || left k)) l.fn.best
+      → IsBestSoFar (length log) l.now hits (rows_beside s history log l.commands.accesses (λ k. is_in l.rest k || left k)) l.best;
 }
 
 abbrev pub decreases-loop-bank : goal.decreases-loop-bank

@@ -1,39 +1,12 @@
-use Rattle.std.proofs.Common.{◌≡◌, Err, inl, ◌∷◌, map, rules}
 use Rattle.std.proofs.lemmas.Result.{IfOk-weaker, IfErr-weaker}
-use Rattle.answers.proofs.ManyFiles.{texts_held}
-use Rattle.program.proofs.HeldTexts.{both_ok}
-use Rattle.program.proofs.RefusedFacts.{not_read_later, run_texts, right_run, run_refused}
+use Rattle.program.proofs.ReadInputs.{outcome_read, host_refused}
 use Rattle.program.proofs.runs.run_files.Goals as goal
 
 pub returns-clause-outcome : goal.returns-clause-outcome
-returns-clause-outcome g c =
-    both_ok c.outcome_of.result _ _ _ (λ run ran legal. λ tells. record {
-      document = c.in_ok-document.document.items;
-      texts = map (λ t. t) c.in_ok-texts.texts.items;
-      config_is = c.in_ok-document.ensures.bytes tells;
-      traces_are = texts_held _ _ (λ t. t.now) (λ t. t) c.args.traces.now c.in_ok-texts.texts.items (c.in_ok-document.ensures.same tells) (c.in_ok-texts.ensures.texts tells);
-      run_is = rw (c.deref-2.ensures.value, c.deref-3.ensures.value, c.in_ok-slices.ensures, c.deref.ensures.value) at ran;
-      legal = rw (c.deref-2.ensures.value, c.deref-3.ensures.value, c.in_ok-slices.ensures, c.deref.ensures.value) at legal;
-    }) c.outcome_of.ensures.run c.outcome_of.ensures.legal
+returns-clause-outcome g c = outcome_read _ _ _ _ _ _ _ _ _ c.outcome_of.result c.in_ok-machine.ensures.read c.outcome_of.ensures.run c.outcome_of.ensures.legal
 
 pub returns-clause-ready : goal.returns-clause-ready
-returns-clause-ready g c =
-    IfOk-weaker c.outcome_of.result _ _ (λ run ran. record {
-      texts = c.in_ok-document.document.items ∷ map (λ t. t) c.in_ok-texts.texts.items;
-      read =
-          run_texts _ _ _ _ _ (λ t. t.now) (λ t. t) c.args.traces.now c.in_ok-texts.texts.items c.in_ok-document.ensures.bytes c.in_ok-document.ensures.same
-          c.in_ok-texts.ensures.count c.in_ok-texts.ensures.texts;
-      right = right_run _ _ _ _ _ run (rw (c.deref-2.ensures.value, c.deref-3.ensures.value, c.in_ok-slices.ensures, c.deref.ensures.value) at ran);
-    }) c.outcome_of.ensures.run
+returns-clause-ready g c = IfOk-weaker c.outcome_of.result _ _ (λ run is. c.in_ok-machine.ensures.ready) c.outcome_of.ensures.run
 
 pub returns-clause-fault : goal.returns-clause-fault
-returns-clause-fault g c =
-    IfErr-weaker c.outcome_of.result _ _ (λ fault refused. run_refused _ _ _ _ _ _ _ fault
-    (run_texts _ _ _ _ _ (λ t. t.now) (λ t. t) c.args.traces.now c.in_ok-texts.texts.items c.in_ok-document.ensures.bytes c.in_ok-document.ensures.same
-    c.in_ok-texts.ensures.count c.in_ok-texts.ensures.texts)
-    (rw (c.deref-2.ensures.value, c.deref-3.ensures.value, c.in_ok-slices.ensures, c.deref.ensures.value) at refused)) c.outcome_of.ensures.refused
-
-pub returns-in_err-texts-clause-fault : goal.returns-in_err-texts-clause-fault
-returns-in_err-texts-clause-fault g c =
-    let kept : c.from_residual-in_err-texts.result ≡ Err c.in_err-texts.field-0.0 = search rules in
-    rw kept (inl (inl (not_read_later _ _ _ _ _ _ c.in_ok-document.ensures.same c.in_err-texts.ensures.fault)))
+returns-clause-fault g c = IfErr-weaker c.outcome_of.result _ _ (λ fault refused. host_refused _ _ _ _ _ fault c.in_ok-machine.ensures.ready refused) c.outcome_of.ensures.refused

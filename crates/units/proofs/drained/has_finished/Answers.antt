@@ -1,7 +1,8 @@
 use Rattle.std.proofs.Common.{◌≡◌, length, sym, ap, subst, ◌∙◌}
 use Rattle.std.proofs.lemmas.Bool.{eqb-true, eq-eqb}
 use Rattle.sim_base.specs.Final.{queue_left}
-use Rattle.sim_base.specs.History.{trace_of, retired_before}
+use Rattle.sim_base.specs.Scheduling.{queued_requests}
+use Rattle.sim_base.specs.History.{trace_of, retired_before, issued_commands}
 use Rattle.laws.specs.Commands.{channel_steps_of}
 use Rattle.span_laws.specs.Cores.{core_steps_of}
 use Rattle.span_laws.specs.Mail.{mail_before}
@@ -35,7 +36,7 @@ returns-in-Channel c now h =
     let place = c.args.place in
     let at = channel-place s traces now place c.in-Channel.channel c.in-Channel.field-1 (subst (IsPart s traces (unit_at s place) now) c.in-Channel.is h) in
     let is = channel-at_place s place at.channel at.is in
-    let queue = c.requests.ensures s at.channel (channel_steps_of s traces now at.channel) (mail_before s traces now (unit.Channel at.channel) now) at.stands in (
-      λ e. subst (HasFinished s traces now) (sym is) (sym queue ∙ nothing_left c.requests.result.now (eqb-true _ _ (sym c.is_empty.ensures ∙ e))),
-      λ f. c.is_empty.ensures ∙ eq-eqb _ _ (ap length (queue ∙ subst (HasFinished s traces now) is f)),
+    let queue = c.waiting.ensures s at.channel (channel_steps_of s traces now at.channel) (mail_before s traces now (unit.Channel at.channel) now) at.stands in (
+      λ e. subst (HasFinished s traces now) (sym is) (nothing_left (queued_requests (issued_commands at.channel (channel_steps_of s traces now at.channel)) (mail_before s traces now (unit.Channel at.channel) now) (length (channel_steps_of s traces now at.channel))) (sym queue ∙ eqb-true _ _ e)),
+      λ f. eq-eqb _ _ (queue ∙ ap length (subst (HasFinished s traces now) is f)),
     )

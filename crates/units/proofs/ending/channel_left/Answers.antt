@@ -14,6 +14,5 @@ returns c =
     let number = c.args.number in
     let stands = subst (IsPart s traces (unit.Channel number) now) c.in-Channel.is c.requires.stands in
     left_of (c.in_ok-all_due-in-Channel.ensures {u = tt}) (c.in_ok-open_rows-in-Channel.ensures {u = tt})
-    (c.in_ok-to_vec-in-Channel.ensures.items_if_clones_equal (λ x y e. e)
-    ∙ c.requests.ensures s number (channel_steps_of s traces now number) (mail_before s traces now (unit.Channel number) now) stands.0)
+    (c.in_ok-requests-in-Channel.ensures {u = tt} s number (channel_steps_of s traces now number) (mail_before s traces now (unit.Channel number) now) stands.0)
     ∙ channel_left_is s traces number now

@@ -1,22 +1,7 @@
--- No request is for the open row where none is open.
-use Rattle.std.proofs.Common.{Bool, None, ap, ◌∙◌}
-use Rattle.bank_candidates.specs.Candidates.{hits, AreFirst, access_number}
-use Rattle.bank_candidates.specs.Places.{access_in}
-use Rattle.bank_candidates.proofs.OneBank.{never_hits}
-use Rattle.bank_candidates.proofs.Searches.{none_everywhere}
-use Rattle.bank_candidates.proofs.Stood.{to_parts, from_parts, row_stand}
+use Rattle.std.proofs.Common.{None, subst}
+use Rattle.bank_candidates.specs.Stands.{StandsFor, with_row}
 use Rattle.bank_candidates.proofs.all_banks.BankCandidates.closed.Goals as goal
 
 pub returns-clause-stands : goal.returns-clause-stands
-returns-clause-stands c rs open_rows stands =
-    let old = c.args.self.now in
-    let number = c.args.number in
-    let words = c.close.new.self.words.items in
-    let parts = to_parts old rs open_rows stands in
-    let own : (write : Bool) → AreFirst rs number write None (access_in words (access_number number write)) = λ write. record {
-      oldest_is = ap (λ h. h.oldest) (c.close.ensures.own write) ∙ (parts.first number write c.requires).oldest_is;
-      hit_is = ap (λ h. h.hit) (c.close.ensures.own write) ∙ none_everywhere (hits number write None) rs (never_hits number write);
-    } in
-    from_parts _ rs _
-    (row_stand old.rows.items old.places.words.items words old.blocked.items rs open_rows number None c.requires own (λ other write apart. c.close.ensures.others other write apart) parts)
-    stands.counts_are
+returns-clause-stands c log open_rows stands =
+    subst (λ n. StandsFor c.close.new.self log (with_row n None open_rows)) c.number_of.ensures (c.close.ensures.stands log open_rows stands)

@@ -8,8 +8,8 @@ use Rattle.bank_candidates.proofs.all_banks.BankCandidates.closed_rank.Goals.{th
 pub loop-number-init : goal.loop-number-init
 loop-number-init c = record {
   banks = refl;
-  stands = λ requests open_rows stands.
-      same_rows c.args.self.now requests open_rows (closed_before 0 c.args.rank open_rows) stands (λ bank exists. closed_none c.args.rank open_rows bank);
+  stands = λ log open_rows stands.
+      same_rows c.args.self.now log open_rows (closed_before 0 c.args.rank open_rows) stands (λ bank exists. closed_none c.args.rank open_rows bank);
 }
 
 pub loop-number-preserved : goal.loop-number-preserved
@@ -19,23 +19,23 @@ loop-number-preserved c =
     let before = c.loop-number.invariant in
     elim c.if-number-rank.branch [
       | then-number-rank w ↦ record {
-        banks = ap bank_count w.self-is ∙ w.closed.ensures.banks ∙ before.banks;
-        stands = λ requests open_rows stands.
-            let closed = w.closed.ensures.stands requests (closed_before number c.args.rank open_rows) (before.stands requests open_rows stands) in
-            subst (λ x. StandsFor x requests (closed_before (number + 1) c.args.rank open_rows)) (sym w.self-is)
-            (same_rows w.closed.new.self requests (with_row number None (closed_before number c.args.rank open_rows)) (closed_before (number + 1) c.args.rank open_rows) closed
+        banks = ap bank_count w.self-is ∙ w.close.ensures.banks ∙ before.banks;
+        stands = λ log open_rows stands.
+            let closed = w.close.ensures.stands log (closed_before number c.args.rank open_rows) (before.stands log open_rows stands) in
+            subst (λ x. StandsFor x log (closed_before (number + 1) c.args.rank open_rows)) (sym w.self-is)
+            (same_rows w.close.new.self log (with_row number None (closed_before number c.args.rank open_rows)) (closed_before (number + 1) c.args.rank open_rows) closed
             (λ bank there. closed_more number c.args.rank open_rows (eq-eqb (number / 16) c.args.rank w.if-number-rank.true) bank));
       }
       | else-number-rank w ↦ record {
         banks = ap bank_count w.self-is ∙ before.banks;
-        stands = λ requests open_rows stands.
-            subst (λ x. StandsFor x requests (closed_before (number + 1) c.args.rank open_rows)) (sym w.self-is)
-            (same_rows old requests (closed_before number c.args.rank open_rows) (closed_before (number + 1) c.args.rank open_rows) (before.stands requests open_rows stands)
+        stands = λ log open_rows stands.
+            subst (λ x. StandsFor x log (closed_before (number + 1) c.args.rank open_rows)) (sym w.self-is)
+            (same_rows old log (closed_before number c.args.rank open_rows) (closed_before (number + 1) c.args.rank open_rows) (before.stands log open_rows stands)
             (λ bank there. closed_same number c.args.rank open_rows (ne_eqb (number / 16) c.args.rank w.if-number-rank.false) bank));
       }
     ]
 
 pub returns-clause-stands : goal.returns-clause-stands
-returns-clause-stands c requests open_rows stands =
-    same_rows c.loop-number.self requests (closed_before c.loop-number.number c.args.rank open_rows) (closed_in c.args.rank open_rows) (c.loop-number.invariant.stands requests open_rows stands)
+returns-clause-stands c log open_rows stands =
+    same_rows c.loop-number.self log (closed_before c.loop-number.number c.args.rank open_rows) (closed_in c.args.rank open_rows) (c.loop-number.invariant.stands log open_rows stands)
     (λ bank there. closed_all c.loop-number.number c.args.rank open_rows bank (omega (arith, c.loop-number.invariant.banks, c.len-number-end.ensures)))

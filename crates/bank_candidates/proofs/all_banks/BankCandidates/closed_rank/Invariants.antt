@@ -1,5 +1,5 @@
 use Rattle.std.proofs.Common.{◌≡◌, ℕ, List, Option}
-use Rattle.sim_base.specs.declared.message.Request.{Request}
+use Rattle.request_log.specs.declared.Arrived.{Arrived}
 use Rattle.bank_candidates.specs.Stands.{StandsFor, bank_count}
 use Rattle.bank_candidates.proofs.Stood.{closed_before}
 use Rattle.bank_candidates.proofs.all_banks.BankCandidates.closed_rank.Given as goal
@@ -8,6 +8,6 @@ use Rattle.bank_candidates.proofs.all_banks.BankCandidates.closed_rank.Given as 
 abbrev pub invariant-loop-number : goal.invariant-loop-number
 invariant-loop-number l = record {
   banks : bank_count l.self ≡ bank_count l.initial.self;
-  stands : (requests : List Request) (open_rows : ℕ → Option ℕ) → StandsFor l.initial.self requests open_rows
-      → StandsFor l.self requests (closed_before l.number l.rank open_rows);
+  stands : (log : List Arrived) (open_rows : ℕ → Option ℕ) → StandsFor l.initial.self log open_rows
+      → StandsFor l.self log (closed_before l.number l.rank open_rows);
 }

@@ -3,7 +3,7 @@ use Rattle.std.proofs.Common.{◌≡◌, ℕ, ◌<◌, Bool, true, false, not, �
 use Rattle.std.proofs.lemmas.Bool.{cases_Bool}
 use Rattle.std.specs.Option.{is_some}
 use Rattle.sim_base.specs.Scheduling.{is_favoured}
-use Rattle.queue_columns.specs.Columns.{bank_number}
+use Rattle.request_log.specs.Columns.{bank_number}
 use Rattle.bank_candidates.specs.Candidates.{asks, first_place}
 use Rattle.bank_candidates.specs.Stands.{bank_count, candidates_of_bank}
 use Rattle.bank_candidates.specs.Sets.{is_in}
@@ -15,22 +15,22 @@ never true = refl
 never false = refl
 
 pub returns : goal.returns
-returns c requests open_rows stands =
+returns c log open_rows stands =
     let candidates = c.args.self.now in
     let write = c.args.write in
     let banks = c.banks_with_candidate.result in
-    let oldest : (bank : ℕ) → bank < bank_count candidates → is_in banks bank ≡ is_some (first_place (asks bank write) requests) =
-    λ bank exists. c.banks_with_candidate.ensures.each bank no_candidates exists ∙ ap is_some (oldest_is write requests bank (candidates_of_bank candidates bank no_candidates) (stands.candidates_are bank no_candidates exists)) in
+    let oldest : (bank : ℕ) → bank < bank_count candidates → is_in banks bank ≡ is_some (first_place (asks bank write) log) =
+    λ bank exists. c.banks_with_candidate.ensures.each bank no_candidates exists ∙ ap is_some (oldest_is write log bank (candidates_of_bank candidates bank no_candidates) (stands.candidates_are bank no_candidates exists)) in
     elim (cases_Bool c.is_empty.result) [
       | inl none ↦
           ap not none
           ∙ ap is_some
-          (none_at_all write requests (bank_count candidates) stands.within
-          (λ bank exists. none_is (first_place (asks bank write) requests) (sym (oldest bank exists) ∙ c.is_empty.ensures.none none bank)))
+          (none_at_all write log (bank_count candidates) stands.within
+          (λ bank exists. none_is (first_place (asks bank write) log) (sym (oldest bank exists) ∙ c.is_empty.ensures.none none bank)))
       | inr some ↦
           let found = c.is_empty.ensures.some some in
           let bank = found.0 in
           let exists = c.banks_with_candidate.ensures.within bank found.2 in
           ap not some
-          ∙ sym (some_wider (asks bank write) (is_favoured write) requests (λ x none. ap (λ b. eqb (bank_number x.place) bank && b) none ∙ never (eqb (bank_number x.place) bank)) (sym (oldest bank exists) ∙ found.2))
+          ∙ sym (some_wider (asks bank write) (is_favoured write) log (λ x none. ap (λ b. eqb (bank_number x.place) bank && b) none ∙ never (eqb (bank_number x.place) bank)) (sym (oldest bank exists) ∙ found.2))
     ]

@@ -1,68 +1,72 @@
 -- The candidates of the request's bank take it in, if it may be served.
-use Rattle.std.proofs.Common.{◌≡◌, ◌+◌, ◌<◌, min, arith, Bool, true, false, not, Some, None, cond, get_or, set, ◌++◌, ◌∷◌, [], length, refl, sym, ap, subst, ◌∙◌}
+use Rattle.std.proofs.Common.{◌≡◌, ℕ, ◌-◌, ◌^◌, ◌+◌, ◌<◌, min, arith, Bool, true, false, not, ◌&&◌, Some, None, cond, get_or, set, ◌++◌, ◌∷◌, [], length, List, sym, ap, subst, ◌∙◌}
 use Rattle.std.proofs.lemmas.List.{get_or_default}
 use Rattle.sim_base.specs.Rules.{is_row}
 use Rattle.sim_base.specs.Scheduling.{asks_for_line, or_else}
-use Rattle.queue_columns.specs.Columns.{bank_number}
+use Rattle.sim_base.specs.declared.message.Request.{Request}
+use Rattle.request_log.specs.declared.Arrived.{Arrived}
+use Rattle.request_log.specs.Log.{waiting_requests}
+use Rattle.request_log.specs.Columns.{bank_number}
 use Rattle.bank_candidates.specs.Candidates.{access_number, access_of}
 use Rattle.bank_candidates.specs.Places.{candidate_in}
 use Rattle.bank_candidates.proofs.Counted.{AreCounted, counted_push, access_below}
-use Rattle.bank_candidates.proofs.Stood.{AreStanding, to_parts, from_parts, joined_stand, unjoined_stand}
+use Rattle.bank_candidates.proofs.Joined.{may_follow}
+use Rattle.bank_candidates.proofs.Stood.{to_parts, from_parts, joined_stand, unjoined_stand, waiting_push, few_wait}
 use Rattle.bank_candidates.proofs.all_banks.BankCandidates.join.Goals as goal
 
-not_not : (b : Bool) → b ≡ not (not b)
-not_not true = refl
-not_not false = refl
+-- whether it may be served, where it waits
+follows : (older : List Arrived) (a : Arrived) (eligible : Bool) → a.waits ≡ true → eligible ≡ not (asks_for_line a.request.place (waiting_requests older)) → may_follow older a ≡ eligible
+follows older a eligible waits is = ap (λ b. b && not (asks_for_line a.request.place (waiting_requests older))) waits ∙ sym is
 
-pub returns-then-first_of_line-clause-stands : goal.returns-then-first_of_line-clause-stands
-returns-then-first_of_line-clause-stands c older open_rows long is stands =
-    let r = c.args.request in
+-- its counter, once it was counted
+counted_more : (counts : List ℕ) (older : List Arrived) (a : Arrived) (access more : ℕ) → a.waits ≡ true → access ≡ access_of a.request → access_of a.request < length counts
+    → length older < 2 ^ 16 - 1 → more ≡ min (get_or counts access 0 + 1) 65535 → AreCounted counts (waiting_requests older)
+    → AreCounted (set counts access more) (waiting_requests (older ++ a ∷ []))
+counted_more counts older a access more waits access_is below short value counted =
+    subst (AreCounted (set counts access more)) (sym (waiting_push older a waits))
+    (subst (λ n. AreCounted (set counts n more) (waiting_requests older ++ a.request ∷ [])) (sym access_is)
+    (counted_push counts (waiting_requests older) a.request more counted below (omega (arith, few_wait older, short)) (value ∙ ap (λ n. min (get_or counts n 0 + 1) 65535) access_is)))
+
+pub returns-then-eligible-clause-stands : goal.returns-then-eligible-clause-stands
+returns-then-eligible-clause-stands c older a open_rows long request waits is stands =
+    let r = a.request in
     let old = c.args.self.now in
     let rows = old.rows.items in
     let own = bank_number r.place in
-    let number = c.bank_number-bank.ensures.number in
-    let asked : asks_for_line r.place older ≡ false = not_not (asks_for_line r.place older) ∙ ap not (sym is ∙ c.if-first_of_line.true) in
+    let number : c.bank_number-bank.result ≡ own = c.bank_number-bank.ensures.number ∙ ap (λ (x : Request). bank_number x.place) request in
+    let access_is : access_number c.bank_number-bank.result c.args.request.now.write ≡ access_of r = (λ i. access_number (number i) (request i).write) in
+    let exists : own < length rows = subst (λ (x : Request). bank_number x.place < length rows) request c.requires.bank in
+    let short : r.place.row < 2 ^ 32 = subst (λ (x : Request). x.place.row < 2 ^ 32) request c.bank_number-bank.ensures.row in
     let was = old.places.words.items in
     let now = c.join.new.self.words.items in
-    let access : access_number c.bank_number-bank.result r.write ≡ access_of r = ap (λ n. access_number n r.write) number in
     let hit = c.is_open-hit.result in
     let hit_is : hit ≡ is_row r.place.row (get_or rows own None) =
-    c.is_open-hit.ensures ∙ ap (is_row r.place.row) (c.index-then-first_of_line.ensures ∙ ap (λ n. get_or rows n c.index-then-first_of_line.result.now) number ∙ get_or_default rows own c.index-then-first_of_line.result.now None c.requires.bank) in
-    let counts = old.counts.items in
-    let counted_access = c.access_number-access.result in
-    let access_is : counted_access ≡ access_of r = c.access_number-access.ensures ∙ ap (λ n. access_number n r.write) c.bank_number-bank.ensures.number in
-    let below : access_of r < length counts = omega (arith, old.all_counts, access_below (bank_number r.place) (length old.rows.items) r.write c.requires.bank) in
-    let more = c.saturating_add.result in
-    let value : more ≡ min (get_or counts (access_of r) 0 + 1) 65535 =
-    c.saturating_add.ensures ∙ ap (λ n. min (n + 1) 65535) (c.index.ensures ∙ ap (λ n. get_or counts n c.index.result.now) access_is ∙ get_or_default counts (access_of r) c.index.result.now 0 below) in
-    let counted : AreCounted (set counts counted_access more) (older ++ r ∷ []) =
-    subst (λ n. AreCounted (set counts n more) (older ++ r ∷ [])) (sym access_is)
-    (counted_push counts older r more stands.counts_are below (omega (arith, long, c.requires.short)) value) in
-    from_parts _ _ open_rows
-    (joined_stand rows was now old.blocked.items older r open_rows c.args.slot hit long c.requires.bank c.bank_number-bank.ensures.row asked hit_is
-    (subst (λ k. candidate_in now k false ≡ or_else (candidate_in was k false) (Some c.args.slot)) access c.join.ensures.oldest)
-    (subst (λ k. candidate_in now k true ≡ cond hit (or_else (candidate_in was k true) (Some c.args.slot)) (candidate_in was k true)) access c.join.ensures.hit)
-    (λ other apart. c.join.ensures.others other (λ e. apart (e ∙ access))) (to_parts old older open_rows stands))
-    counted
+    c.is_open-hit.ensures ∙ (λ i. is_row (request i).place.row c.index-then-eligible.result.now)
+    ∙ ap (is_row r.place.row) (c.index-then-eligible.ensures ∙ ap (λ n. get_or rows n c.index-then-eligible.result.now) number ∙ get_or_default rows own c.index-then-eligible.result.now None exists) in
+    let below : access_of r < length old.counts.items = omega (arith, old.all_counts, access_below own (length rows) r.write exists) in
+    let counted_access : c.access_number-access.result ≡ access_of r = c.access_number-access.ensures ∙ access_is in
+    let value : c.saturating_add.result ≡ min (get_or old.counts.items c.access_number-access.result 0 + 1) 65535 =
+    c.saturating_add.ensures ∙ ap (λ n. min (n + 1) 65535) (c.index.ensures ∙ get_or_default old.counts.items c.access_number-access.result c.index.result.now 0 (omega (arith, counted_access, below))) in
+    from_parts _ (older ++ a ∷ []) open_rows
+    (joined_stand rows was now older a open_rows c.args.slot hit long exists short (follows older a c.args.eligible waits is ∙ c.if-eligible.true) hit_is
+    (subst (λ k. candidate_in now k false ≡ or_else (candidate_in was k false) (Some c.args.slot)) access_is c.join.ensures.oldest)
+    (subst (λ k. candidate_in now k true ≡ cond hit (or_else (candidate_in was k true) (Some c.args.slot)) (candidate_in was k true)) access_is c.join.ensures.hit)
+    (λ other apart. c.join.ensures.others other (λ e. apart (e ∙ access_is))) (to_parts old older open_rows stands))
+    (counted_more old.counts.items older a c.access_number-access.result c.saturating_add.result waits counted_access below (omega (arith, long, c.requires.short)) value stands.counts_are)
 
-pub returns-else-first_of_line-clause-stands : goal.returns-else-first_of_line-clause-stands
-returns-else-first_of_line-clause-stands c older open_rows long is stands =
-    let r = c.args.request in
+pub returns-else-eligible-clause-stands : goal.returns-else-eligible-clause-stands
+returns-else-eligible-clause-stands c older a open_rows long request waits is stands =
+    let r = a.request in
     let old = c.args.self.now in
-    let noted : set old.blocked.items c.access_number-access.result true ≡ set old.blocked.items (access_of r) true =
-    ap (λ n. set old.blocked.items n true) (c.access_number-access.ensures ∙ ap (λ n. access_number n r.write) c.bank_number-bank.ensures.number) in
-    let counts = old.counts.items in
-    let counted_access = c.access_number-access.result in
-    let access_is : counted_access ≡ access_of r = c.access_number-access.ensures ∙ ap (λ n. access_number n r.write) c.bank_number-bank.ensures.number in
-    let below : access_of r < length counts = omega (arith, old.all_counts, access_below (bank_number r.place) (length old.rows.items) r.write c.requires.bank) in
-    let more = c.saturating_add.result in
-    let value : more ≡ min (get_or counts (access_of r) 0 + 1) 65535 =
-    c.saturating_add.ensures ∙ ap (λ n. min (n + 1) 65535) (c.index.ensures ∙ ap (λ n. get_or counts n c.index.result.now) access_is ∙ get_or_default counts (access_of r) c.index.result.now 0 below) in
-    let counted : AreCounted (set counts counted_access more) (older ++ r ∷ []) =
-    subst (λ n. AreCounted (set counts n more) (older ++ r ∷ [])) (sym access_is)
-    (counted_push counts older r more stands.counts_are below (omega (arith, long, c.requires.short)) value) in
-    from_parts _ _ open_rows
-    (subst (λ ws. AreStanding old.rows.items old.places.words.items ws (older ++ r ∷ []) open_rows) (sym noted)
-    (unjoined_stand old.rows.items old.places.words.items old.blocked.items older r open_rows c.requires.bank c.bank_number-bank.ensures.row
-    (not_not (asks_for_line r.place older) ∙ ap not (sym is ∙ c.if-first_of_line.false)) (to_parts old older open_rows stands)))
-    counted
+    let rows = old.rows.items in
+    let own = bank_number r.place in
+    let number : c.bank_number-bank.result ≡ own = c.bank_number-bank.ensures.number ∙ ap (λ (x : Request). bank_number x.place) request in
+    let exists : own < length rows = subst (λ (x : Request). bank_number x.place < length rows) request c.requires.bank in
+    let short : r.place.row < 2 ^ 32 = subst (λ (x : Request). x.place.row < 2 ^ 32) request c.bank_number-bank.ensures.row in
+    let below : access_of r < length old.counts.items = omega (arith, old.all_counts, access_below own (length rows) r.write exists) in
+    let counted_access : c.access_number-access.result ≡ access_of r = c.access_number-access.ensures ∙ (λ i. access_number (number i) (request i).write) in
+    let value : c.saturating_add.result ≡ min (get_or old.counts.items c.access_number-access.result 0 + 1) 65535 =
+    c.saturating_add.ensures ∙ ap (λ n. min (n + 1) 65535) (c.index.ensures ∙ get_or_default old.counts.items c.access_number-access.result c.index.result.now 0 (omega (arith, counted_access, below))) in
+    from_parts _ (older ++ a ∷ []) open_rows
+    (unjoined_stand rows old.places.words.items older a open_rows exists short (follows older a c.args.eligible waits is ∙ c.if-eligible.false) (to_parts old older open_rows stands))
+    (counted_more old.counts.items older a c.access_number-access.result c.saturating_add.result waits counted_access below (omega (arith, long, c.requires.short)) value stands.counts_are)

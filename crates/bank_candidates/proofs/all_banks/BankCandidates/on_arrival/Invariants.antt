@@ -6,6 +6,6 @@ use Rattle.bank_candidates.proofs.all_banks.BankCandidates.on_arrival.Given as g
 abbrev pub invariant-loop-slot : goal.invariant-loop-slot
 invariant-loop-slot l = record {
   banks : bank_count l.self ≡ bank_count l.initial.self;
-  stands : (open_rows : ℕ → Option ℕ) → StandsFor l.initial.self (take l.fn.from l.queue.requests.now) open_rows
-      → StandsFor l.self (take l.slot l.queue.requests.now) open_rows;
+  stands : (open_rows : ℕ → Option ℕ) → StandsFor l.initial.self (take l.fn.from l.log.log) open_rows
+      → StandsFor l.self (take l.slot l.log.log) open_rows;
 }

@@ -9,7 +9,7 @@ pub row_of-requires : goal.row_of-requires
 row_of-requires c = omega (arith, c.requires.number, c.number_of.ensures)
 
 pub returns : goal.returns
-returns c requests history stands =
+returns c log history stands =
     let b = c.args.bank in
     let none : CandidatesOfBank = record { row = None; reads = record { oldest = None; hit = None }; writes = record { oldest = None; hit = None } } in
     c.row_of.ensures none

@@ -1,39 +1,54 @@
--- Candidates that only move are the first still, where none is left there is none, and others are found.
-use Rattle.std.proofs.Common.{◌≡◌, ℕ, Bool, true, Option, None, eqb, sym, ap, subst, ◌∙◌}
-use Rattle.std.proofs.lemmas.Bool.{and_parts}
-use Rattle.sim_base.specs.Rules.{is_row}
-use Rattle.sim_base.specs.declared.message.Request.{Request}
-use Rattle.bank_candidates.specs.Candidates.{asks, hits, first_place, access_number, access_of, AreFirst}
-use Rattle.bank_candidates.proofs.Blocked.{unblocked_place, wants_access}
+-- Where none is left there is no candidate, and else each is the first with the one that may be served now.
+use Rattle.std.proofs.Common.{◌≡◌, ℕ, ◌+◌, ◌≢◌, Bool, List, Option, Some, None, sym, ◌∙◌}
+use Rattle.request_log.specs.declared.Arrived.{Arrived}
+use Rattle.bank_candidates.specs.Candidates.{asks, hits, wants, first_place}
+use Rattle.bank_candidates.specs.Moves.{earlier, NoneBefore}
+use Rattle.bank_candidates.specs.Served.{passing, IsServed}
+use Rattle.bank_candidates.proofs.OneBank.{never_hits, hits_narrower}
+use Rattle.bank_candidates.proofs.Searches.{none_everywhere, none_narrower_all}
 use Rattle.bank_candidates.proofs.Counted.{no_first}
-use Rattle.bank_candidates.proofs.Stood.{item_at}
+use Rattle.bank_candidates.proofs.Served.{left_candidate, no_candidate}
 use Rattle.bank_candidates.proofs.places.Places.leave.Goals as goal
 
-hits_access : (bank : ℕ) (write : Bool) (row : Option ℕ) (x : Request) → hits bank write row x ≡ true → eqb (access_of x) (access_number bank write) ≡ true
-hits_access bank write row x is = wants_access bank write None x (and_parts (asks bank write x) (is_row x.place.row row) is).0
+-- the first hit that is left: no request hits where no row is open
+left_hit : (bank : ℕ) (write : Bool) (row : Option ℕ) (was log : List Arrived) (slot : ℕ) (unblocked : Option ℕ) (old new : Option ℕ) → IsServed was slot unblocked log
+    → old ≡ first_place (hits bank write row) was → (old ≢ Some slot → new ≡ old)
+    → (old ≡ Some slot → NoneBefore (wants bank write row) log (slot + 1) → new ≡ first_place (wants bank write row) log)
+    → earlier new (passing (hits bank write row) log unblocked) ≡ first_place (hits bank write row) log
+left_hit bank write None was log slot unblocked old new served is kept found =
+    let never : None ≡ old = none_everywhere (hits bank write None) was (never_hits bank write) ∙ sym is in
+    left_candidate (hits bank write None) was log slot unblocked old new served is kept (λ there. absurd (cc (never ∙ there)))
+left_hit bank write (Some row) was log slot unblocked old new served is kept found =
+    left_candidate (hits bank write (Some row)) was log slot unblocked old new served is kept found
 
 pub returns-then-departure-clause-own : goal.returns-then-departure-clause-own
-returns-then-departure-clause-own c earlier was within left moved oldest_moves hit_moves empty first =
-    no_first c.args.queue.now.requests.now c.args.departure.bank c.args.write c.args.row _ (empty c.if-departure.true) (c.set-then-departure.ensures.beside ∙ c.set.ensures.same) c.set-then-departure.ensures.same
+returns-then-departure-clause-own c was unblocked served empty first =
+    let bank = c.args.departure.bank in
+    let write = c.args.departure.write in
+    let row = c.args.row in
+    let log = c.args.log.now.log in
+    let slot = c.args.departure.slot in
+    let none = no_first log bank write (empty c.if-departure.true) in
+    record {
+      oldest_is = no_candidate (asks bank write) was log slot unblocked _ served (c.set-then-departure.ensures.beside ∙ c.set.ensures.same) none;
+      hit_is =
+          no_candidate (hits bank write row) was log slot unblocked _ served c.set-then-departure.ensures.same
+          (none_narrower_all (hits bank write row) (asks bank write) log (hits_narrower bank write row) none);
+    }
 
 pub returns-clause-own : goal.returns-clause-own
-returns-clause-own c earlier was within left moved oldest_moves hit_moves empty first =
-    subst (AreFirst c.args.queue.now.requests.now c.args.departure.bank c.args.write c.args.row) (sym c.set_access.ensures.same)
-    (c.after-candidates.ensures.first earlier was within left (c.of_access.ensures.candidates ∙ moved) oldest_moves hit_moves first)
-
-pub returns-then-stay-clause-own : goal.returns-then-stay-clause-own
-returns-then-stay-clause-own c earlier was within left moved oldest_moves hit_moves empty first =
-    let slot = c.args.departure.slot in
+returns-clause-own c was unblocked served empty first =
     let bank = c.args.departure.bank in
-    let write = c.args.write in
+    let write = c.args.departure.write in
     let row = c.args.row in
-    let item = item_at earlier slot within in
-    let oldest = oldest_moves (c.stay.ensures.oldest c.if-stay.true) in
-    let hit = hit_moves (c.stay.ensures.hit c.if-stay.true) in
-    subst (AreFirst c.args.queue.now.requests.now bank write row) (sym moved)
-    (record {
-      oldest_is = unblocked_place (access_number bank write) (asks bank write) earlier slot item.0 was.oldest within item.1 (wants_access bank write None) oldest.0 first.oldest_is oldest.1
-          ∙ ap (first_place (asks bank write)) (sym left);
-      hit_is = unblocked_place (access_number bank write) (hits bank write row) earlier slot item.0 was.hit within item.1 (hits_access bank write row) hit.0 first.hit_is hit.1
-          ∙ ap (first_place (hits bank write row)) (sym left);
-    })
+    let log = c.args.log.now.log in
+    let slot = c.args.departure.slot in
+    let oldest = c.replace.ensures in
+    let hit = c.replace-2.ensures in
+    record {
+      oldest_is =
+          left_candidate (asks bank write) was log slot unblocked _ _ served first.oldest_is (λ apart. hit.beside ∙ oldest.kept apart)
+          (λ there none. hit.beside ∙ oldest.found there none);
+      hit_is =
+          left_hit bank write row was log slot unblocked _ _ served (oldest.beside ∙ first.hit_is) hit.kept hit.found;
+    }

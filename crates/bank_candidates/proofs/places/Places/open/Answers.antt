@@ -7,19 +7,13 @@ use Rattle.bank_candidates.proofs.places.Places.open.Goals as goal
 
 pub returns-in_default-clause-own : goal.returns-in_default-clause-own
 returns-in_default-clause-own c old first =
-    let rs = c.args.queue.now.requests.now in
+    let log = c.args.log.now.log in
     let bank = c.args.bank in
     let write = c.args.write in
-    let none : None ≡ first_place (asks bank write) rs = sym c.in_default.is ∙ c.candidate.ensures.candidate ∙ first.oldest_is in
+    let none : None ≡ first_place (asks bank write) log = sym c.in_default.is ∙ c.candidate.ensures.candidate ∙ first.oldest_is in
     record {
       oldest_is = first.oldest_is;
       hit_is =
-          first.hit_is ∙ sym (none_narrower_all (hits bank write old) (asks bank write) rs (hits_narrower bank write old) none)
-          ∙ none_narrower_all (hits bank write (Some c.args.row)) (asks bank write) rs (hits_narrower bank write (Some c.args.row)) none;
+          first.hit_is ∙ sym (none_narrower_all (hits bank write old) (asks bank write) log (hits_narrower bank write old) none)
+          ∙ none_narrower_all (hits bank write (Some c.args.row)) (asks bank write) log (hits_narrower bank write (Some c.args.row)) none;
     }
-
-pub returns-in-Some-clause-own : goal.returns-in-Some-clause-own
-returns-in-Some-clause-own c old first = record {
-  oldest_is = c.set.ensures.beside ∙ first.oldest_is;
-  hit_is = c.set.ensures.same ∙ c.first_hit-hit.ensures.first (sym c.in-Some.is ∙ c.candidate.ensures.candidate ∙ first.oldest_is);
-}

@@ -1,6 +1,4 @@
 -- One command more is noted, and so all stands for one more.
-use Rattle.std.proofs.Common.{refl}
-use Rattle.sim_base.specs.declared.command.Command.TheVariants.{Rd, Wr}
 use Rattle.bank_ready.proofs.Stood.{noted_is}
 use Rattle.bank_ready.proofs.banks.Banks.note.Goals as goal
 
@@ -13,17 +11,17 @@ returns-in-Act-clause-ranks c = (c.note_act.ensures c.in-Act.row c.in-Act.source
 
 pub returns-in-Rd-clause-stands : goal.returns-in-Rd-clause-stands
 returns-in-Rd-clause-stands c s history channel h later =
-    noted_is c.args.self.now c.note_data.new.self s history c.args.cycle channel c.args.command _ h later c.in-Rd.is (c.note_data.ensures (Rd c.in-Rd.bank c.in-Rd.row c.in-Rd.column c.in-Rd.source) refl refl)
+    noted_is c.args.self.now c.note_read.new.self s history c.args.cycle channel c.args.command _ h later c.in-Rd.is (c.note_read.ensures c.in-Rd.row c.in-Rd.column c.in-Rd.source)
 
 pub returns-in-Rd-clause-ranks : goal.returns-in-Rd-clause-ranks
-returns-in-Rd-clause-ranks c = (c.note_data.ensures (Rd c.in-Rd.bank c.in-Rd.row c.in-Rd.column c.in-Rd.source) refl refl).rank_count
+returns-in-Rd-clause-ranks c = (c.note_read.ensures c.in-Rd.row c.in-Rd.column c.in-Rd.source).rank_count
 
 pub returns-in-Wr-clause-stands : goal.returns-in-Wr-clause-stands
 returns-in-Wr-clause-stands c s history channel h later =
-    noted_is c.args.self.now c.note_data-in-Wr.new.self s history c.args.cycle channel c.args.command _ h later c.in-Wr.is (c.note_data-in-Wr.ensures (Wr c.in-Wr.bank c.in-Wr.row c.in-Wr.column c.in-Wr.source) refl refl)
+    noted_is c.args.self.now c.note_write.new.self s history c.args.cycle channel c.args.command _ h later c.in-Wr.is (c.note_write.ensures c.in-Wr.row c.in-Wr.column c.in-Wr.source)
 
 pub returns-in-Wr-clause-ranks : goal.returns-in-Wr-clause-ranks
-returns-in-Wr-clause-ranks c = (c.note_data-in-Wr.ensures (Wr c.in-Wr.bank c.in-Wr.row c.in-Wr.column c.in-Wr.source) refl refl).rank_count
+returns-in-Wr-clause-ranks c = (c.note_write.ensures c.in-Wr.row c.in-Wr.column c.in-Wr.source).rank_count
 
 pub returns-in-Pre-clause-stands : goal.returns-in-Pre-clause-stands
 returns-in-Pre-clause-stands c s history channel h later =

@@ -1,24 +1,24 @@
-use Rattle.std.proofs.Common.{◌≡◌, take, Some, sym, ap, subst, ◌∙◌}
-use Rattle.queue.specs.View.{QueueView}
-use Rattle.fr_fcfs.specs.Arrivals.{KeepsNext}
-use Rattle.fr_fcfs.specs.Choices.{choice_in}
-use Rattle.channel_step.specs.Channels.{IsAhead, CandidatesStand}
+use Rattle.std.proofs.Common.{◌≡◌, Some, sym, ap, subst}
+use Rattle.std.specs.Option.{IfSome}
+use Rattle.bank_ready.specs.Stands.{rank_count}
+use Rattle.fr_fcfs.specs.Choices.{IsFor}
+use Rattle.channel_step.specs.Channels.{IsAhead}
 use Rattle.channel_step.specs.declared.ahead.Ahead.TheVariants.{Known}
 use Rattle.channel_step.proofs.Foreseen.{ahead-kept}
 use Rattle.channel_step.proofs.channel.Channel.keeps_found.Goals as goal
+
+pub stays-requires-clause-choice : goal.stays-requires-clause-choice
+stays-requires-clause-choice c =
+    let x = c.args.self.now in
+    subst (λ found. IfSome found (λ n. IsFor (rank_count x.banks) x.queue.log n.1)) c.in-Some.is c.requires.found
 
 pub returns-in-Some : goal.returns-in-Some
 returns-in-Some c s history earlier keeps stands bank_candidates high before known =
     let cycle = c.in-Some.cycle in
     let choice = c.in-Some.choice in
-    let q = c.args.self.now.marked_queue.queue in
-    let from = c.args.self.now.cycle in
+    let x = c.args.self.now in
     let found_is : Known c.args.found ≡ Known (Some (cycle, choice)) = ap Known c.in-Some.is in
-    let same = c.queue.ensures in
-    let next : KeepsNext (choice_in s history earlier) (choice_in s history q) cycle choice.command =
-    subst (λ (x : QueueView). KeepsNext (choice_in s history earlier) (choice_in s history x) cycle choice.command) same
-    (c.stays.ensures s history earlier keeps stands (subst (λ (x : QueueView). CandidatesStand c.args.self.now.bank_candidates x.requests history) (sym same) bank_candidates)
-    (high ∙ ap (λ (x : QueueView). x.high) (sym same)) (before ∙ ap (λ (x : QueueView). take c.args.older x.requests) (sym same))) in
-    subst (IsAhead (choice_in s history q) q.requests from) (sym found_is)
-    (ahead-kept (choice_in s history earlier) (choice_in s history q) earlier.requests q.requests c.args.older from cycle choice before next
-    (subst (IsAhead (choice_in s history earlier) earlier.requests from) found_is known))
+    subst (IsAhead s history x.queue x.cycle) (sym found_is)
+    (ahead-kept s history earlier x.queue c.args.older x.cycle cycle choice before
+    (λ command needs. c.stays.ensures s history earlier command keeps stands bank_candidates high before needs)
+    (subst (IsAhead s history earlier x.cycle) found_is known))

@@ -1,6 +1,6 @@
 use Rattle.std.proofs.Common.{◌≡◌, ◌≤◌, refl, subst, arith}
 use Rattle.sim_base.specs.History.{issued_commands}
-use Rattle.fr_fcfs.specs.Choices.{choice_in}
+use Rattle.fr_fcfs.specs.Choices.{choice_in, command_of}
 use Rattle.fr_fcfs.specs.Cycles.{IsNext}
 use Rattle.channel_step.proofs.Deciding.{cycle-in_banks, cycle-stands, found-before, none-before}
 use Rattle.channel_step.proofs.Foreseen.{ahead-from, kept-in_cycle}
@@ -8,7 +8,7 @@ use Rattle.channel_step.proofs.channel.Channel.look.Goals as goal
 use Rattle.channel_step.proofs.channel.Channel.look.Goals.{in_default-via-in-Some+else-cycle-end, in_default-via-in_default}
 
 pub find-found-requires-clause-places : goal.find-found-requires-clause-places
-find-found-requires-clause-places c = cycle-in_banks c.args.self.now c.args.now c.args.self.now.marked_queue.queue c.requires refl
+find-found-requires-clause-places c = cycle-in_banks c.args.self.now c.args.now c.requires
 
 pub find-found-requires-clause-banks : goal.find-found-requires-clause-banks
 find-found-requires-clause-banks c = let i = c.requires.is_in in omega (arith, i.made_for.banks_are, i.banks_stand.ranks)
@@ -16,15 +16,8 @@ find-found-requires-clause-banks c = let i = c.requires.is_in in omega (arith, i
 pub returns-in-Some-clause-next : goal.returns-in-Some-clause-next
 returns-in-Some-clause-next c s channel steps mail h at =
     let x = c.args.self.now in
-    let q = x.marked_queue.queue in
-    let found = (c.in-Some.ensures {u = tt}) s (issued_commands channel steps) (cycle-stands x s channel steps mail q h refl) (ahead-from _ _ _ _ h.foresees) (omega (arith, h.cycle_is, at)) in
-    found-before x s channel steps mail c.args.now c.args.end c.in-Some.cycle c.in-Some.choice.command q h at refl found.0 c.if-cycle-end.true
-
-pub returns-in-Some-clause-place : goal.returns-in-Some-clause-place
-returns-in-Some-clause-place c =
-    let p = c.requires in
-    let x = c.args.self.now in
-    ((c.in-Some.ensures {u = tt}) p.s (issued_commands p.channel p.steps) (cycle-stands x p.s p.channel p.steps p.mail x.marked_queue.queue p.is_in refl) (ahead-from _ _ _ _ p.is_in.foresees) (omega (arith, p.is_in.cycle_is, p.at))).1
+    let found = (c.in-Some.ensures {u = tt}) s (issued_commands channel steps) (cycle-stands x s channel steps mail h) (ahead-from _ _ _ _ _ h.foresees) (omega (arith, h.cycle_is, at)) in
+    found-before x s channel steps mail c.args.now c.args.end c.in-Some.cycle c.in-Some.choice h at found.0 found.1 c.if-cycle-end.true
 
 pub returns-in_default-clause-in_cycle : goal.returns-in_default-clause-in_cycle
 returns-in_default-clause-in_cycle c s channel steps mail h =
@@ -32,28 +25,26 @@ returns-in_default-clause-in_cycle c s channel steps mail h =
     let p = c.requires in
     let here : c.args.now ≡ x.cycle = omega (arith, p.is_in.cycle_is, p.at) in
     kept-in_cycle x s channel steps mail c.args.now c.find-found.result h here
-    (c.find-found.ensures s (issued_commands channel steps) (cycle-stands x s channel steps mail x.marked_queue.queue h refl) (ahead-from _ _ _ _ h.foresees) (omega arith))
+    (c.find-found.ensures s (issued_commands channel steps) (cycle-stands x s channel steps mail h) (ahead-from _ _ _ _ _ h.foresees) (omega arith))
 
 pub returns-in_default-clause-next : goal.returns-in_default-clause-next
 returns-in_default-clause-next c s channel steps mail h at =
     let x = c.args.self.now in
-    let q = x.marked_queue.queue in
     let history = issued_commands channel steps in
-    let stand = cycle-stands x s channel steps mail q h refl in
+    let stand = cycle-stands x s channel steps mail h in
     let here : x.cycle ≤ c.args.now = omega (arith, h.cycle_is, at) in
     elim c.in_default.branch [
       | in_default-via-in-Some+else-cycle-end w ↦
-          let found = ((w.in-Some.ensures {u = tt}) s history stand (ahead-from _ _ _ _ h.foresees) here).0 in
-          none-before x s channel steps mail c.args.now c.args.end q h at refl (λ t l m. found.none_before t l (omega (arith, w.if-cycle-end.false)))
+          let found = ((w.in-Some.ensures {u = tt}) s history stand (ahead-from _ _ _ _ _ h.foresees) here).0 in
+          none-before x s channel steps mail c.args.now c.args.end h at (λ t l m. found.none_before t l (omega (arith, w.if-cycle-end.false)))
       | in_default-via-in_default w ↦
-          none-before x s channel steps mail c.args.now c.args.end q h at refl
-          (λ t l m. (subst (IsNext (choice_in s history q) c.args.now) w.in_default.is (c.find-found.ensures s history stand (ahead-from _ _ _ _ h.foresees) here).0) t l)
+          none-before x s channel steps mail c.args.now c.args.end h at
+          (λ t l m. (subst (IsNext (choice_in s history x.queue) (command_of s history x.queue.log) c.args.now) w.in_default.is (c.find-found.ensures s history stand (ahead-from _ _ _ _ _ h.foresees) here).0) t l)
     ]
 
 pub returns-then-waits_until-clause-next : goal.returns-then-waits_until-clause-next
 returns-then-waits_until-clause-next c s channel steps mail h at =
     let x = c.args.self.now in
-    let q = x.marked_queue.queue in
     let here : x.cycle ≤ c.args.now = omega (arith, h.cycle_is, at) in
-    none-before x s channel steps mail c.args.now c.args.end q h at refl
-    (λ t l m. c.if-waits_until.ensures (choice_in s (issued_commands channel steps) q) q.requests x.cycle refl (ahead-from _ _ _ _ h.foresees) t (omega arith) m)
+    none-before x s channel steps mail c.args.now c.args.end h at
+    (λ t l m. c.if-waits_until.ensures s (issued_commands channel steps) x.queue x.cycle refl (ahead-from _ _ _ _ _ h.foresees) t (omega arith) m)

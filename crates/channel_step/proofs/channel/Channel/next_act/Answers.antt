@@ -1,14 +1,14 @@
-use Rattle.std.proofs.Common.{Some, None, refl, ap, arith}
+use Rattle.std.proofs.Common.{Some, None, ap, arith}
 use Rattle.std.specs.Option.{is_some}
 use Rattle.sim_base.specs.History.{issued_commands}
-use Rattle.fr_fcfs.specs.Choices.{choice_in}
+use Rattle.fr_fcfs.specs.Choices.{choice_in, command_of}
 use Rattle.fr_fcfs.proofs.Waking.{first_cycle}
 use Rattle.channel_step.proofs.Starting.{at-in_banks, at-stand, at-first}
 use Rattle.channel_step.proofs.Foreseen.{ahead-from}
 use Rattle.channel_step.proofs.channel.Channel.next_act.Goals as goal
 
 pub find-requires-clause-places : goal.find-requires-clause-places
-find-requires-clause-places c = at-in_banks c.args.self.now c.args.from c.args.self.now.marked_queue.queue c.requires refl
+find-requires-clause-places c = at-in_banks c.args.self.now c.args.from c.requires
 
 pub find-requires-clause-banks : goal.find-requires-clause-banks
 find-requires-clause-banks c = let i = c.requires.stands in omega (arith, i.made_for.banks_are, i.banks_stand.ranks)
@@ -16,14 +16,13 @@ find-requires-clause-banks c = let i = c.requires.stands in omega (arith, i.made
 pub returns-in-Some-clause-first : goal.returns-in-Some-clause-first
 returns-in-Some-clause-first c s channel steps mail h at =
     let x = c.args.self.now in
-    let q = x.marked_queue.queue in
-    let found = (c.in-Some.ensures {u = tt}) s (issued_commands channel steps) (at-stand x s channel steps mail q h refl) (ahead-from _ _ _ _ h.foresees) (omega (arith, h.cycle_is, at)) in
-    at-first x s channel steps mail c.args.from q (Some c.in-Some.cycle) h at refl
-    (first_cycle (choice_in s (issued_commands channel steps) q) c.args.from c.in-Some.cycle c.in-Some.field-0-1.command found.0)
+    let history = issued_commands channel steps in
+    let found = (c.in-Some.ensures {u = tt}) s history (at-stand x s channel steps mail h) (ahead-from _ _ _ _ _ h.foresees) (omega (arith, h.cycle_is, at)) in
+    at-first x s channel steps mail c.args.from (Some c.in-Some.cycle) h at
+    (first_cycle (choice_in s history x.queue) c.args.from c.in-Some.cycle (command_of s history x.queue.log c.in-Some.field-0-1) found.0)
 
 pub returns-in-None-clause-first : goal.returns-in-None-clause-first
 returns-in-None-clause-first c s channel steps mail h at =
     let x = c.args.self.now in
-    let q = x.marked_queue.queue in
-    let found = (c.in-None.ensures {u = tt}) s (issued_commands channel steps) (at-stand x s channel steps mail q h refl) (ahead-from _ _ _ _ h.foresees) (omega (arith, h.cycle_is, at)) in
-    at-first x s channel steps mail c.args.from q None h at refl (λ t late. ap is_some (found.0 t late))
+    let found = (c.in-None.ensures {u = tt}) s (issued_commands channel steps) (at-stand x s channel steps mail h) (ahead-from _ _ _ _ _ h.foresees) (omega (arith, h.cycle_is, at)) in
+    at-first x s channel steps mail c.args.from None h at (λ t late. ap is_some (found.0 t late))

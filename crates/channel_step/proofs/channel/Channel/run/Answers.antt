@@ -39,6 +39,22 @@ loop-now-preserved c =
           (run-fit l.self s channel steps mail inbox c.args.from l.now c.args.until l.arrived h.issued h.sent h.has_run)),
     )
 
+pub foresee-requires : goal.foresee-requires
+foresee-requires c =
+    let p = c.requires.can_run in
+    let l = c.loop-now in
+    let end : l.now ≡ c.args.until = omega (arith, l.invariant.2) in
+    let h = subst (λ t. HasAdvanced l.self p.s p.channel p.steps p.mail c.args.inbox.now c.args.from t c.args.until l.arrived c.args.commands.now l.commands c.args.messages.now.items l.messages.items) end
+    (l.invariant.3 p.s p.channel p.steps p.mail p.stands p.at p.fit) in
+    record {
+      s = p.s;
+      channel = p.channel;
+      steps = channel_run p.s p.channel p.steps (p.mail ++ c.args.inbox.now) (c.args.until - c.args.from);
+      mail = p.mail ++ c.args.inbox.now;
+      stands = run-ends l.self p.s p.channel p.steps p.mail c.args.inbox.now c.args.from c.args.until l.arrived h.issued h.sent h.has_run;
+      at = run-length p.s p.channel p.steps (p.mail ++ c.args.inbox.now) c.args.from c.args.until p.at c.requires.span;
+    }
+
 pub returns : goal.returns
 returns c s channel steps mail stands at f =
     let l = c.loop-now in
@@ -48,7 +64,10 @@ returns c s channel steps mail stands at f =
     record {
       issued = h.issued;
       sent = h.sent;
-      stands = run-ends l.self s channel steps mail c.args.inbox.now c.args.from c.args.until l.arrived h.issued h.sent h.has_run;
+      stands =
+          c.foresee.ensures s channel (channel_run s channel steps (mail ++ c.args.inbox.now) (c.args.until - c.args.from)) (mail ++ c.args.inbox.now)
+          (run-ends l.self s channel steps mail c.args.inbox.now c.args.from c.args.until l.arrived h.issued h.sent h.has_run)
+          (run-length s channel steps (mail ++ c.args.inbox.now) c.args.from c.args.until at c.requires.span);
       commands_are = h.has_run.commands_are;
       messages_are = h.has_run.messages_are;
       commands_behind = h.commands_are;

@@ -3,4 +3,4 @@ use Rattle.channel_step.specs.Channels.{IsAhead}
 use Rattle.channel_step.proofs.channel.Channel.waits_until.Goals as goal
 
 pub returns-in-Known : goal.returns-in-Known
-returns-in-Known c commands requests from waits known = c.is_none_before.ensures commands requests from waits (subst (IsAhead commands requests from) c.in-Known.is known)
+returns-in-Known c s history queue from waits known = c.is_none_before.ensures s history queue from waits (subst (IsAhead s history queue from) c.in-Known.is known)

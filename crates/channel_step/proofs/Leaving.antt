@@ -1,0 +1,129 @@
+-- What is left of a log, and of the marks of those that wait, when one is served or an ACT is issued in its name.
+use Rattle.std.proofs.Common.{◌≡◌, ℕ, zero, suc, ◌<◌, Bool, true, false, cond, ◌||◌, List, [], ◌∷◌, length, get_or, take, drop, map, Some, sym, ap, ap₂, subst, ◌∙◌, arith}
+use Rattle.std.specs.Prelude.{slice_get}
+use Rattle.std.specs.List.{All, AllByRecursion as Each}
+use Rattle.std.proofs.lemmas.Bool.{true≢false}
+use Rattle.std.proofs.lemmas.Option.{slice_get-get_or}
+use Rattle.std.proofs.lemmas.List.Elements.{All-from_recursion, recursion_from_All}
+use Rattle.sim_base.proofs.Ordered.{Each-weaker}
+use Rattle.sim_base.specs.Scheduling.{is_source, source_of, column_command}
+use Rattle.sim_base.specs.declared.message.Request.{Request}
+use Rattle.request_log.specs.declared.Arrived.{Arrived}
+use Rattle.request_log.specs.Log.{absent, waiting, waiting_requests, all_requests, served_at, activated_at, waits_at}
+use Rattle.request_log.proofs.Places.{waiting_at, waiting_within, waiting_served}
+use Rattle.channel_step.specs.Past.{IsOther, Differ}
+use Rattle.channel_step.specs.Queued.{marks_in, request_at}
+use Rattle.channel_step.proofs.Requests.{unserved_by, same_source, own_source}
+use Rattle.channel_step.proofs.Marks.{map-agree, served-remove, or-false, or-true}
+
+-- the request at a place is one of those that wait
+pub request-waits : (log : List Arrived) (slot : ℕ) → slot < length log → waits_at log slot ≡ true
+    → slice_get (waiting_requests log) (length (waiting_requests (take slot log))) ≡ Some (request_at log slot)
+request-waits log slot l w =
+    let i = length (waiting_requests (take slot log)) in
+    slice_get-get_or (waiting_requests log) i (request_at log slot) (waiting_within log slot l w) ∙ ap Some (waiting_at log slot (request_at log slot) l w)
+
+Each-get : {X : Type 0} (P : X → Type 0) (xs : List X) (k : ℕ) (x : X) → slice_get xs k ≡ Some x → Each P xs → P x
+Each-get P [] k x e h = absurd (cc)
+Each-get P (y ∷ ys) zero x e h = let same : y ≡ x = cc in subst P same h.0
+Each-get P (y ∷ ys) (suc k) x e h = Each-get P ys k x e h.1
+
+-- so what holds of each that waits holds of it
+pub at-waiting : (P : Request → Type 0) (log : List Arrived) (slot : ℕ) → slot < length log → waits_at log slot ≡ true → Each P (waiting_requests log) → P (request_at log slot)
+at-waiting P log slot l w h = Each-get P (waiting_requests log) (length (waiting_requests (take slot log))) (request_at log slot) (request-waits log slot l w) h
+
+-- the others are left when it is served
+pub served-waits : (log : List Arrived) (slot : ℕ) → slot < length log → waits_at log slot ≡ true → Differ (waiting_requests log)
+    → waiting_requests (served_at log slot) ≡ unserved_by (column_command (request_at log slot)) (waiting_requests log)
+served-waits log slot l w d =
+    waiting_served log slot l w
+    ∙ sym (served-remove (waiting_requests log) (length (waiting_requests (take slot log))) (request_at log slot) d (request-waits log slot l w))
+
+head : (x y : Bool) (xs ys : List Bool) → x ∷ xs ≡ y ∷ ys → x ≡ y
+head x y xs ys e = ap (λ zs. get_or zs 0 x) e
+
+tail : (x y : Bool) (xs ys : List Bool) → x ∷ xs ≡ y ∷ ys → xs ≡ ys
+tail x y xs ys e = ap (drop 1) e
+
+-- their marks stay
+pub served-marks : (g : Request → Bool) (log : List Arrived) (slot : ℕ) → marks_in log ≡ map g (waiting_requests log) → marks_in (served_at log slot) ≡ map g (waiting_requests (served_at log slot))
+unfolding waiting
+served-marks g [] slot h = h
+served-marks g (a ∷ log) zero h = by a.waits h
+  where
+    by : (b : Bool) → map (λ (x : Arrived). x.activated) (cond b (a ∷ waiting log) (waiting log)) ≡ map g (map (λ (x : Arrived). x.request) (cond b (a ∷ waiting log) (waiting log)))
+        → marks_in log ≡ map g (waiting_requests log)
+    by true e = tail _ _ _ _ e
+    by false e = e
+served-marks g (a ∷ log) (suc slot) h = by a.waits (served-marks g log slot) h
+  where
+    by : (b : Bool) → (marks_in log ≡ map g (waiting_requests log) → marks_in (served_at log slot) ≡ map g (waiting_requests (served_at log slot)))
+        → map (λ (x : Arrived). x.activated) (cond b (a ∷ waiting log) (waiting log)) ≡ map g (map (λ (x : Arrived). x.request) (cond b (a ∷ waiting log) (waiting log)))
+        → map (λ (x : Arrived). x.activated) (cond b (a ∷ waiting (served_at log slot)) (waiting (served_at log slot)))
+        ≡ map g (map (λ (x : Arrived). x.request) (cond b (a ∷ waiting (served_at log slot)) (waiting (served_at log slot))))
+    by true later e = ap₂ (λ x xs. x ∷ xs) (head _ _ _ _ e) (later (tail _ _ _ _ e))
+    by false later e = later e
+
+-- its mark is there as well
+pub mark-at : (g : Request → Bool) (log : List Arrived) (slot : ℕ) → slot < length log → waits_at log slot ≡ true → marks_in log ≡ map g (waiting_requests log)
+    → (get_or log slot absent).activated ≡ g (request_at log slot)
+unfolding waiting
+mark-at g [] slot l w h = absurd (omega arith)
+mark-at g (a ∷ log) zero l w h = by a.waits w h
+  where
+    by : (b : Bool) → b ≡ true → map (λ (x : Arrived). x.activated) (cond b (a ∷ waiting log) (waiting log)) ≡ map g (map (λ (x : Arrived). x.request) (cond b (a ∷ waiting log) (waiting log)))
+        → a.activated ≡ g a.request
+    by true w e = head _ _ _ _ e
+    by false w e = absurd (true≢false (sym w))
+mark-at g (a ∷ log) (suc slot) l w h = by a.waits (mark-at g log slot (omega arith) w) h
+  where
+    by : (b : Bool) → (marks_in log ≡ map g (waiting_requests log) → (get_or log slot absent).activated ≡ g (request_at log slot))
+        → map (λ (x : Arrived). x.activated) (cond b (a ∷ waiting log) (waiting log)) ≡ map g (map (λ (x : Arrived). x.request) (cond b (a ∷ waiting log) (waiting log)))
+        → (get_or log slot absent).activated ≡ g (request_at log slot)
+    by true later e = later (tail _ _ _ _ e)
+    by false later e = later e
+
+-- an ACT in its name marks it, and no other one
+pub activated-marks : (g : Request → Bool) (log : List Arrived) (slot : ℕ) → slot < length log → waits_at log slot ≡ true → Differ (waiting_requests log) → marks_in log ≡ map g (waiting_requests log)
+    → marks_in (activated_at log slot) ≡ map (λ r. g r || is_source r (source_of (request_at log slot))) (waiting_requests log)
+unfolding waiting
+activated-marks g [] slot l w d h = absurd (omega arith)
+activated-marks g (a ∷ log) zero l w d h = by a.waits w d h
+  where
+    by : (b : Bool) → b ≡ true → Differ (map (λ (x : Arrived). x.request) (cond b (a ∷ waiting log) (waiting log)))
+        → map (λ (x : Arrived). x.activated) (cond b (a ∷ waiting log) (waiting log)) ≡ map g (map (λ (x : Arrived). x.request) (cond b (a ∷ waiting log) (waiting log)))
+        → map (λ (x : Arrived). x.activated) (cond b (record a { activated = true } ∷ waiting log) (waiting log))
+        ≡ map (λ r. g r || is_source r (source_of a.request)) (map (λ (x : Arrived). x.request) (cond b (a ∷ waiting log) (waiting log)))
+    by true w d e =
+        ap₂ (λ x xs. x ∷ xs) (sym (ap (λ b. g a.request || b) (own_source a.request) ∙ or-true (g a.request)))
+        (tail _ _ _ _ e
+        ∙ map-agree g (λ r. g r || is_source r (source_of a.request)) (waiting_requests log)
+        (Each-weaker (IsOther a.request) _ (λ r o. sym (ap (λ b. g r || b) o ∙ or-false (g r))) (waiting_requests log) d.0))
+    by false w d e = absurd (true≢false (sym w))
+activated-marks g (a ∷ log) (suc slot) l w d h = by a.waits (activated-marks g log slot (omega arith) w) d h
+  where
+    by : (b : Bool)
+        → (Differ (waiting_requests log) → marks_in log ≡ map g (waiting_requests log)
+        → marks_in (activated_at log slot) ≡ map (λ r. g r || is_source r (source_of (request_at log slot))) (waiting_requests log))
+        → Differ (map (λ (x : Arrived). x.request) (cond b (a ∷ waiting log) (waiting log)))
+        → map (λ (x : Arrived). x.activated) (cond b (a ∷ waiting log) (waiting log)) ≡ map g (map (λ (x : Arrived). x.request) (cond b (a ∷ waiting log) (waiting log)))
+        → map (λ (x : Arrived). x.activated) (cond b (a ∷ waiting (activated_at log slot)) (waiting (activated_at log slot)))
+        ≡ map (λ r. g r || is_source r (source_of (request_at log slot))) (map (λ (x : Arrived). x.request) (cond b (a ∷ waiting log) (waiting log)))
+    by true later d e =
+        let other = same_source (request_at log slot) a.request (at-waiting (IsOther a.request) log slot (omega arith) w d.0) in
+        ap₂ (λ x xs. x ∷ xs) (head _ _ _ _ e ∙ sym (ap (λ b. g a.request || b) other ∙ or-false (g a.request)))
+        (later d.1 (tail _ _ _ _ e))
+    by false later d e = later d e
+
+waits-each : (P : Request → Type 0) (log : List Arrived) → Each P (all_requests log) → Each P (waiting_requests log)
+unfolding waiting
+waits-each P [] h = tt
+waits-each P (a ∷ log) h = by a.waits (waits-each P log h.1)
+  where
+    by : (b : Bool) → Each P (waiting_requests log) → Each P (map (λ (x : Arrived). x.request) (cond b (a ∷ waiting log) (waiting log)))
+    by true rest = (h.0, rest)
+    by false rest = rest
+
+-- what holds of all holds of those that wait
+pub waits-all : (P : Request → Type 0) (log : List Arrived) → All P (all_requests log) → All P (waiting_requests log)
+waits-all P log h = All-from_recursion P (waiting_requests log) (waits-each P log (recursion_from_All P (all_requests log) h))

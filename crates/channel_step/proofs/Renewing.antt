@@ -1,0 +1,57 @@
+-- A channel whose log has been renumbered.
+use Rattle.std.proofs.Common.{◌≡◌, ℕ, List, length, map, Option, sym, ap, ◌∙◌, arith}
+use Rattle.sim_base.specs.declared.config.Config.{Config}
+use Rattle.sim_base.specs.History.{issued_commands}
+use Rattle.sim_base.specs.declared.command.Command.{Command}
+use Rattle.sim_base.specs.declared.message.Message.{Message}
+use Rattle.request_log.specs.declared.Arrived.{Arrived}
+use Rattle.request_log.specs.Log.{waiting, waiting_requests}
+use Rattle.request_log.proofs.Renumbered.{waiting_twice}
+use Rattle.bank_candidates.specs.declared.all_banks.BankCandidates.{BankCandidates}
+use Rattle.bank_candidates.specs.Stands.{bank_count}
+use Rattle.fr_fcfs.specs.Requests.{IsInBanks}
+use Rattle.channel_step.specs.Stands.{marks_of}
+use Rattle.channel_step.specs.Channels.{CandidatesStand, StandsFor}
+use Rattle.channel_step.specs.declared.ahead.Ahead.TheVariants.{Unknown}
+use Rattle.channel_step.specs.declared.channel.Channel.{Channel}
+use Rattle.channel_step.proofs.Foreseen.{foreseen-unknown}
+use Rattle.channel_step.proofs.Leaving.{waits-all}
+
+-- the same requests wait
+pub waiting-same : (log : List Arrived) → waiting_requests (waiting log) ≡ waiting_requests log
+waiting-same log = ap (map (λ (a : Arrived). a.request)) (waiting_twice log)
+
+-- so it stands for the same past
+pub renewed-stands : (c : Channel) (s : Config) (channel : ℕ) (steps : List (Option Command)) (mail : List Message) (bank_candidates : BankCandidates) → StandsFor c s channel steps mail
+    → bank_count bank_candidates ≡ bank_count c.bank_candidates → CandidatesStand bank_candidates (waiting c.queue.log) (issued_commands channel steps)
+    → StandsFor (record c { queue = record c.queue { log = waiting c.queue.log }; bank_candidates = bank_candidates; ahead = Unknown }) s channel steps mail
+renewed-stands c s channel steps mail bank_candidates h count stands =
+    let history = issued_commands channel steps in
+    let same = waiting-same c.queue.log in
+    let few = h.made_for.within in
+    record {
+      made_for = record {
+        config_is = h.made_for.config_is;
+        number_is = h.made_for.number_is;
+        high_is = h.made_for.high_is;
+        low_is = h.made_for.low_is;
+        room_is = h.made_for.room_is;
+        banks_are = count ∙ h.made_for.banks_are;
+        in_banks = waits-all (IsInBanks s.ranks) c.queue.log h.made_for.in_banks;
+        within = omega (arith, ap length same);
+        longest = h.made_for.longest;
+      };
+      cycle_is = h.cycle_is;
+      recalls = record {
+        past = h.recalls.past;
+        queue_is = same ∙ h.recalls.queue_is;
+        drained_is = h.recalls.drained_is;
+        marks_are = ap (map (λ (a : Arrived). a.activated)) (waiting_twice c.queue.log) ∙ h.recalls.marks_are ∙ ap (marks_of history) (sym same);
+        stats_are = h.recalls.stats_are;
+      };
+      candidates_stand = stands;
+      banks_stand = h.banks_stand;
+      refreshes_stand = h.refreshes_stand;
+      foresees = foreseen-unknown s history (record c.queue { log = waiting c.queue.log }) c.cycle;
+      keeps_served = h.keeps_served;
+    }

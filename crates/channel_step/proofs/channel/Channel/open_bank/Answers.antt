@@ -1,0 +1,49 @@
+use Rattle.std.proofs.Common.{◌≡◌, ◌<◌, ℕ, false, get_or, Option, Some, None, sym, ap, subst, ◌∙◌}
+use Rattle.sim_base.specs.History.{issued_commands}
+use Rattle.sim_base.specs.Places.{bank_in}
+use Rattle.sim_base.specs.Rules.{open_row}
+use Rattle.sim_base.specs.Scheduling.{source_of, needed_at}
+use Rattle.sim_base.specs.declared.place.BankId.{BankId}
+use Rattle.sim_base.specs.declared.command.Command.{Command}
+use Rattle.sim_base.specs.declared.command.Command.TheVariants.{Act}
+use Rattle.request_log.specs.declared.Arrived.{Arrived}
+use Rattle.request_log.specs.Log.{absent, activated_at, LogView}
+use Rattle.queue.specs.View.{QueueView}
+use Rattle.bank_candidates.specs.Candidates.{bank_at, number_of}
+use Rattle.bank_candidates.specs.Stands.{bank_count, with_row, StandsFor as CandidatesStandFor}
+use Rattle.bank_candidates.proofs.Stood.{activated_stand}
+use Rattle.channel_step.specs.Queued.{request_at}
+use Rattle.channel_step.specs.Readied.{IsReadied}
+use Rattle.channel_step.proofs.Readying.{placed-among, opened-readied}
+use Rattle.channel_step.proofs.channel.Channel.open_bank.Goals as goal
+
+pub opened-requires : goal.opened-requires
+opened-requires c =
+    let p = c.requires in
+    let x = c.args.self.now in
+    let read : get_or c.log-2.result.now c.args.slot absent ≡ get_or x.queue.log c.args.slot absent =
+    ap (λ l. get_or l c.args.slot absent) (c.log-2.ensures.log ∙ ap (λ (v : LogView). v.log) c.log.ensures) in
+    subst (λ (b : BankId). number_of b < bank_count x.bank_candidates) (sym (c.bank_id-bank.ensures ∙ ap (λ (a : Arrived). bank_in a.request.place) read))
+    (placed-among x p.s p.channel p.steps p.mail c.args.slot p.is_in p.within).number
+
+pub returns-clause-readied : goal.returns-clause-readied
+returns-clause-readied c s channel steps mail h chosen =
+    let x = c.args.self.now in
+    let slot = c.args.slot in
+    let r = request_at x.queue.log slot in
+    let rows : ℕ → Option ℕ = λ n. open_row (bank_at n) (issued_commands channel steps) in
+    let read : get_or c.log-2.result.now slot absent ≡ get_or x.queue.log slot absent =
+    ap (λ l. get_or l slot absent) (c.log-2.ensures.log ∙ ap (λ (v : LogView). v.log) c.log.ensures) in
+    let bank : c.bank_id-bank.result ≡ bank_in r.place = c.bank_id-bank.ensures ∙ ap (λ (a : Arrived). bank_in a.request.place) read in
+    let log : c.log-3.result.now.log ≡ activated_at x.queue.log slot = ap (λ (v : LogView). v.log) c.log-3.ensures ∙ ap (λ (q : QueueView). q.log) c.activate.ensures in
+    let before = subst (λ l. CandidatesStandFor x.bank_candidates l rows) (sym log) (activated_stand x.bank_candidates x.queue.log slot rows h.candidates_stand) in
+    let row : (get_or c.log-2.result.now slot absent).request.place.row ≡ r.place.row = ap (λ (a : Arrived). a.request.place.row) read in
+    let source : c.source.result ≡ source_of r = c.source.ensures ∙ ap (λ (a : Arrived). source_of a.request) read in
+    let command : Act c.bank_id-bank.result (get_or c.log-2.result.now slot absent).request.place.row c.source.result ≡ needed_at None r = λ i. Act (bank i) (row i) (source i) in
+    let stands = subst (λ l. CandidatesStandFor c.opened.new.self l (with_row (number_of c.bank_id-bank.result) (Some (get_or c.log-2.result.now slot absent).request.place.row) rows)) log (c.opened.ensures.stands rows before) in
+    let placed =
+    subst (λ k. CandidatesStandFor c.opened.new.self (activated_at x.queue.log slot) (with_row (number_of (bank_in r.place)) (Some k) rows)) row
+    (subst (λ (b : BankId). CandidatesStandFor c.opened.new.self (activated_at x.queue.log slot) (with_row (number_of b) (Some (get_or c.log-2.result.now slot absent).request.place.row) rows)) bank stands) in
+    subst (λ (issued : Command). IsReadied (record x { queue = c.activate.new.self; bank_candidates = c.opened.new.self }) s channel steps mail issued false) (sym command)
+    (subst (λ (q : QueueView). IsReadied (record x { queue = q; bank_candidates = c.opened.new.self }) s channel steps mail (needed_at None r) false) (sym c.activate.ensures)
+    (opened-readied x s channel steps mail slot c.opened.new.self h c.requires.within c.requires.waits (ap Some (sym command) ∙ chosen) c.opened.ensures.banks placed))

@@ -1,0 +1,21 @@
+use Rattle.std.proofs.Common.{◌≡◌, ℕ, Option, sym, ap, subst, ◌∙◌}
+use Rattle.sim_base.specs.History.{issued_commands}
+use Rattle.sim_base.specs.Rules.{open_row}
+use Rattle.request_log.specs.Log.{waiting, LogView}
+use Rattle.bank_candidates.specs.declared.all_banks.BankCandidates.{BankCandidates}
+use Rattle.bank_candidates.specs.Candidates.{bank_at}
+use Rattle.bank_candidates.specs.Stands.{bank_count, StandsFor as CandidatesStandFor}
+use Rattle.channel_step.specs.Channels.{StandsFor}
+use Rattle.channel_step.specs.declared.channel.Channel.{Channel}
+use Rattle.channel_step.specs.declared.ahead.Ahead.TheVariants.{Unknown}
+use Rattle.channel_step.proofs.Renewing.{renewed-stands}
+use Rattle.channel_step.proofs.channel.Channel.renew.Goals as goal
+
+pub returns-clause-stands : goal.returns-clause-stands
+returns-clause-stands c d e s channel steps mail h =
+    let rows : ℕ → Option ℕ = λ n. open_row (bank_at n) (issued_commands channel steps) in
+    let log : c.log.result.now.log ≡ waiting d.queue.log = ap (λ (v : LogView). v.log) c.log.ensures ∙ ap (λ (y : Channel). y.queue.log) e in
+    let old = subst (λ (b : BankCandidates). CandidatesStandFor b d.queue.log rows) (sym (ap (λ (y : Channel). y.bank_candidates) e)) h.candidates_stand in
+    let stands = subst (λ l. CandidatesStandFor c.renew.new.self l rows) log (c.renew.ensures.stands d.queue.log rows log old) in
+    subst (λ (y : Channel). StandsFor (record y { bank_candidates = c.renew.new.self; ahead = Unknown }) s channel steps mail) (sym e)
+    (renewed-stands d s channel steps mail c.renew.new.self h (c.renew.ensures.banks ∙ ap (λ (y : Channel). bank_count y.bank_candidates) e) stands)

@@ -1,0 +1,52 @@
+use Rattle.std.proofs.Common.{◌≡◌, ◌<◌, ℕ, false, [], ◌∷◌, get_or, not, Option, sym, ap, subst, ◌∙◌}
+use Rattle.std.specs.List.{All}
+use Rattle.std.proofs.lemmas.List.{get_or-set_same}
+use Rattle.sim_base.specs.History.{issued_commands}
+use Rattle.sim_base.specs.Rules.{open_row}
+use Rattle.sim_base.specs.Scheduling.{column_command}
+use Rattle.request_log.specs.declared.Arrived.{Arrived}
+use Rattle.request_log.specs.Log.{absent, served_at, eligible_column, LogView}
+use Rattle.request_log.specs.Columns.{bank_number}
+use Rattle.request_log.proofs.Places.{all_served}
+use Rattle.queue.specs.View.{QueueView}
+use Rattle.bank_candidates.specs.Candidates.{bank_at}
+use Rattle.bank_candidates.specs.Stands.{bank_count, StandsFor as CandidatesStandFor}
+use Rattle.fr_fcfs.specs.Requests.{IsInBanks}
+use Rattle.channel_step.specs.Queued.{request_at, served_now}
+use Rattle.channel_step.specs.Runs.{with_more}
+use Rattle.channel_step.specs.Readied.{IsReadied}
+use Rattle.channel_step.proofs.Places.{banks-below}
+use Rattle.channel_step.proofs.Readying.{served-readied}
+use Rattle.channel_step.proofs.Serving.{rows_in}
+use Rattle.channel_step.proofs.channel.Channel.serve.Goals as goal
+
+pub on_service-requires-clause-banks : goal.on_service-requires-clause-banks
+on_service-requires-clause-banks c =
+    let p = c.requires in
+    let x = c.args.self.now in
+    let log : c.log.result.now.log ≡ served_at x.queue.log c.args.slot = ap (λ (v : LogView). v.log) c.log.ensures ∙ ap (λ (q : QueueView). q.log) c.serve-unblocked.ensures.log in
+    subst (All (λ (a : Arrived). bank_number a.request.place < bank_count x.bank_candidates)) (sym log)
+    (banks-below p.s.ranks (bank_count x.bank_candidates) (served_at x.queue.log c.args.slot) p.is_in.made_for.banks_are
+    (subst (All (IsInBanks p.s.ranks)) (sym (all_served x.queue.log c.args.slot)) p.is_in.made_for.in_banks))
+
+pub returns : goal.returns
+returns c s channel steps mail h chosen =
+    let x = c.args.self.now in
+    let slot = c.args.slot in
+    let r = request_at x.queue.log slot in
+    let hit = not (get_or x.queue.log slot absent).activated in
+    let rows : ℕ → Option ℕ = λ n. open_row (bank_at n) (issued_commands channel steps) in
+    let log : c.log.result.now.log ≡ served_at x.queue.log slot = ap (λ (v : LogView). v.log) c.log.ensures ∙ ap (λ (q : QueueView). q.log) c.serve-unblocked.ensures.log in
+    let marks = ap (λ (v : LogView). eligible_column v.log) c.log.ensures ∙ c.serve-unblocked.ensures.unblocked in
+    let stands =
+    subst (λ l. CandidatesStandFor c.on_service.new.self l rows) log
+    (c.on_service.ensures.stands x.queue.log rows c.requires.within c.requires.waits log marks h.candidates_stand) in
+    let then : c.log-3.result.now ≡ served_at x.queue.log slot =
+    c.log-3.ensures.log ∙ ap (λ (v : LogView). v.log) c.log-2.ensures ∙ ap (λ (q : QueueView). q.log) c.serve-unblocked.ensures.log in
+    let left : get_or c.log-3.result.now slot absent ≡ record (get_or x.queue.log slot absent) { waits = false } =
+    ap (λ l. get_or l slot absent) then ∙ get_or-set_same x.queue.log slot (record (get_or x.queue.log slot absent) { waits = false }) absent c.requires.within in
+    subst (λ b. IsReadied (record x { queue = c.serve-unblocked.new.self; bank_candidates = c.on_service.new.self; served = c.keep_served.new.kept }) s channel steps mail (column_command r) b)
+    (sym (ap (λ (a : Arrived). not a.activated) left))
+    (subst (λ (q : QueueView). IsReadied (record x { queue = q; bank_candidates = c.on_service.new.self; served = c.keep_served.new.kept }) s channel steps mail (column_command r) hit) (sym c.serve-unblocked.ensures.log)
+    (served-readied x s channel steps mail slot c.on_service.new.self c.keep_served.new.kept h c.requires.within c.requires.waits chosen c.on_service.ensures.banks stands
+    (c.in_ok-keep_served.ensures ∙ ap (λ (a : Arrived). with_more (rows_in x.served) (served_now x.number x.cycle a.request (not a.activated) ∷ [])) left)))

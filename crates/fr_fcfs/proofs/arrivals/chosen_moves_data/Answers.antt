@@ -1,0 +1,25 @@
+-- A request that asks for the open row needs its data, and a rank that is to be refreshed moves none.
+use Rattle.std.proofs.Common.{sym, ap, ◌∙◌}
+use Rattle.sim_base.specs.Scheduling.{is_column_command}
+use Rattle.sim_base.specs.Places.{bank_in}
+use Rattle.request_log.specs.Log.{absent}
+use Rattle.bank_candidates.specs.Stands.{IsAmong}
+use Rattle.bank_candidates.proofs.Waits.{request_at}
+use Rattle.fr_fcfs.specs.Choices.{command_of}
+use Rattle.fr_fcfs.proofs.Staying.{needed_there, refresh_moves_none}
+use Rattle.fr_fcfs.proofs.arrivals.chosen_moves_data.Goals as goal
+
+pub is_hit-requires : goal.is_hit-requires
+is_hit-requires c = request_at (λ r. IsAmong c.args.bank_candidates.now (bank_in r.place)) c.args.log.now c.in-Request.slot c.requires.places (c.requires.within c.in-Request.slot c.in-Request.is)
+
+pub returns-in-Request : goal.returns-in-Request
+returns-in-Request c s history command knows is =
+    let log = c.args.log.now in
+    let slot = c.in-Request.slot in
+    c.is_hit.ensures history knows
+    ∙ ap is_column_command (needed_there history log slot absent command (c.requires.within slot c.in-Request.is) (ap (command_of s history log) (sym c.in-Request.is) ∙ is))
+
+pub returns-in-Refresh : goal.returns-in-Refresh
+returns-in-Refresh c s history command knows is =
+    let rank = c.in-Refresh.field-0 in
+    sym (refresh_moves_none s history rank command (ap (command_of s history c.args.log.now) (sym c.in-Refresh.is) ∙ is))

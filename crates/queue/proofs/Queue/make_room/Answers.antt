@@ -1,0 +1,20 @@
+use Rattle.std.proofs.Common.{◌≡◌, length, map, sym, ap, ◌∙◌, arith}
+use Rattle.request_log.specs.declared.Arrived.{Arrived}
+use Rattle.request_log.specs.Log.{waiting_requests}
+use Rattle.request_log.specs.Columns.{write_count}
+use Rattle.request_log.proofs.Renumbered.{waiting_twice}
+use Rattle.queue.proofs.Queue.make_room.Goals as goal
+
+pub invariant_of-self : goal.invariant_of-self
+invariant_of-self c =
+    let k = c.self.invariant in
+    let same : waiting_requests c.renumber.new.self.log ≡ waiting_requests c.self.inside.log.log =
+    ap (λ l. waiting_requests l.log) c.renumber.ensures ∙ ap (map (λ (a : Arrived). a.request)) (waiting_twice c.self.inside.log.log) in
+    record {
+      waiting_are = k.waiting_are ∙ ap length (sym same);
+      writes_are = k.writes_are ∙ ap write_count (sym same);
+      drains_are = k.drains_are;
+      within = omega (arith, k.within, ap length same);
+      enough = omega (arith, k.enough, ap (λ l. l.places) c.renumber.ensures);
+      short = k.short;
+    }

@@ -1,3 +1,0 @@
-pub mod SameLine
-pub mod Eligible
-pub mod Tags

@@ -1,0 +1,14 @@
+pub mod SameLine
+pub mod Waiting
+pub mod Eligible
+pub mod Tags
+pub mod Places
+pub mod Renumbered
+pub mod Firsts
+pub mod Activated
+pub mod Served
+pub mod TagsChanged
+pub mod Told
+pub mod ToFront
+pub mod Counted
+pub mod Left
