@@ -1,18 +1,17 @@
 -- What `check`, `map`, `show` and `compare` answer, from what the files hold that they name.
 --     IsVerdict config commands held found      what a table of commands is found to be
 --     verdict_line found, verdict_status found      the line and the status that tell it
---     IsChecked config commands status held before after      it was told
+--     IsChecked config commands status held is_printed      it was told
 --     IsPlace config address held ranks place      the place of an address, and how many ranks there are
 --     place_line ranks place      the line that tells it
---     IsMapped config address held before after      it was told
+--     IsMapped config address held is_printed      it was told
 --     IsStatsOf path held stats      the statistics whose table a file holds
---     IsShown dir config held before after      their screen was printed
+--     IsShown dir config held is_printed      their screen was printed
 --     stats_path dir      the file of the statistics in a folder
 --     stats_table stats      the records of their table
 --     AreStatsOf dirs held runs      the statistics whose tables are in folders
---     IsCompared dirs layout held before after      their comparison was printed
+--     IsCompared dirs layout held is_printed      their comparison was printed
 use Rattle.std.specs.Prelude.{◌≡◌, ℕ, nat_lt, List, [], ◌∷◌, ◌++◌, codes, decimal, map, Option, Some, Ok, if◌then◌else◌}
-use Rattle.std.specs.Io.KnownBytes.{Appends}
 use Rattle.sim_base.specs.declared.config.Config.{Config}
 use Rattle.sim_base.specs.declared.place.Place.{Place}
 use Rattle.sim_base.specs.Places.{place_of}
@@ -52,11 +51,11 @@ verdict_status Legal = 0
 verdict_status (Broken row rule) = 1
 
 -- the verdict was printed, and the status is that of the verdict
-pub record IsChecked (config commands : List ℕ) (status : ℕ) (held : Held) (before after : Option (List ℕ)) : Type 0 where
+pub record IsChecked (config commands : List ℕ) (status : ℕ) (held : Held) (is_printed : List ℕ → Type 0) : Type 0 where
   pub found : Verdict
   pub judged : IsVerdict config commands held found
   pub status_is : status ≡ verdict_status found
-  pub printed : Appends before after (verdict_line found)
+  pub printed : is_printed (verdict_line found)
 
 -- the place of an address under the configuration that a file holds, and how many ranks there are
 pub record IsPlace (config : List ℕ) (address : ℕ) (held : Held) (ranks : ℕ) (place : Place) : Type 0 where
@@ -78,11 +77,11 @@ place_line ranks place =
     ++ codes " bank " ++ decimal place.bank ++ codes " row " ++ decimal place.row ++ codes " column " ++ decimal place.column ++ codes "\n"
 
 -- the place of an address was printed
-pub record IsMapped (config : List ℕ) (address : ℕ) (held : Held) (before after : Option (List ℕ)) : Type 0 where
+pub record IsMapped (config : List ℕ) (address : ℕ) (held : Held) (is_printed : List ℕ → Type 0) : Type 0 where
   pub ranks : ℕ
   pub place : Place
   pub is_place : IsPlace config address held ranks place
-  pub printed : Appends before after (place_line ranks place)
+  pub printed : is_printed (place_line ranks place)
 
 -- the statistics whose table a file holds
 pub record IsStatsOf (path : List ℕ) (held : Held) (stats : RunStats) : Type 0 where
@@ -90,9 +89,9 @@ pub record IsStatsOf (path : List ℕ) (held : Held) (stats : RunStats) : Type 0
   pub table_is : held path ≡ Some table
   pub rows_are : records_of table ≡ stats_header ∷ stats_rows stats
 
--- a folder has the table of statistics, a configuration that is named is one that they fit, and their screen was printed, with that of the requests
--- where the folder has their table too
-pub record IsShown (dir : List ℕ) (config : Option (List ℕ)) (held : Held) (before after : Option (List ℕ)) : Type 0 where
+-- a folder has the table of statistics, a configuration that is named is one that they fit, and their screen was
+-- printed, with that of the requests where the folder has their table too
+pub record IsShown (dir : List ℕ) (config : Option (List ℕ)) (held : Held) (is_printed : List ℕ → Type 0) : Type 0 where
   pub stats : RunStats
   pub requests : Option (List RequestTimes)
   pub text : List ℕ
@@ -100,7 +99,7 @@ pub record IsShown (dir : List ℕ) (config : Option (List ℕ)) (held : Held) (
   pub configured : IsConfigured config held stats
   pub requests_are : AreRequestsAt (held (requests_path dir)) stats requests
   pub screen : IsRunScreen stats requests text
-  pub printed : Appends before after text
+  pub printed : is_printed text
 
 -- the file of the statistics in a folder
 abbrev pub stats_path : List ℕ → List ℕ
@@ -116,10 +115,11 @@ pub record AreStatsOf (dirs : List (List ℕ)) (held : Held) (runs : List RunSta
   pub tables_are : map held (map stats_path dirs) ≡ map Some tables
   pub rows_are : map records_of tables ≡ map stats_table runs
 
--- each folder has the table of statistics, and their comparison was printed, with p99 of the read latencies where each has a table of requests
-pub record IsCompared (dirs : List (List ℕ)) (layout : Layout) (held : Held) (before after : Option (List ℕ)) : Type 0 where
+-- each folder has the table of statistics, and their comparison was printed, with p99 of the read latencies where each
+-- has a table of requests
+pub record IsCompared (dirs : List (List ℕ)) (layout : Layout) (held : Held) (is_printed : List ℕ → Type 0) : Type 0 where
   pub runs : List RunStats
   pub tails : List (Option ℕ)
   pub runs_are : AreStatsOf dirs held runs
   pub tails_are : AreTails dirs held runs tails
-  pub printed : Appends before after (comparison_text layout dirs runs tails)
+  pub printed : is_printed (comparison_text layout dirs runs tails)

@@ -1,7 +1,6 @@
 -- What `show --banks` answers, from what the files hold that it names.
---     IsShownWithBanks dir config held before after      the screen of a run and its banks were printed
+--     IsShownWithBanks dir config held is_printed      the screen of a run and its banks were printed
 use Rattle.std.specs.Prelude.{ℕ, List, Option}
-use Rattle.std.specs.Io.KnownBytes.{Appends}
 use Rattle.sim_base.specs.declared.command.IssuedCommand.{IssuedCommand}
 use Rattle.page.specs.Rows.{IsOfRunAt}
 use Rattle.request_table.specs.declared.times.RequestTimes.{RequestTimes}
@@ -12,9 +11,9 @@ use Rattle.answers.specs.Named.{IsConfigured}
 use Rattle.answers.specs.Pages.{AreTablesAt}
 use Rattle.answers.specs.Requests.{requests_path, AreRequestsAt, IsRunBanksScreen}
 
--- a folder has the tables of a run, a configuration that is named is one that it fits, each command is of the run, and the screen of the run was
--- printed with its banks, and with its requests where the folder has their table too
-pub record IsShownWithBanks (dir : List ℕ) (config : Option (List ℕ)) (held : Held) (before after : Option (List ℕ)) : Type 0 where
+-- a folder has the tables of a run, a configuration that is named is one that it fits, each command is of the run, and
+-- the screen of the run was printed with its banks, and with its requests where the folder has their table too
+pub record IsShownWithBanks (dir : List ℕ) (config : Option (List ℕ)) (held : Held) (is_printed : List ℕ → Type 0) : Type 0 where
   pub stats : RunStats
   pub commands : List IssuedCommand
   pub requests : Option (List RequestTimes)
@@ -24,4 +23,4 @@ pub record IsShownWithBanks (dir : List ℕ) (config : Option (List ℕ)) (held 
   pub of_run : (place : ℕ) → IsOfRunAt stats commands place
   pub requests_are : AreRequestsAt (held (requests_path dir)) stats requests
   pub screen : IsRunBanksScreen stats commands requests text
-  pub printed : Appends before after text
+  pub printed : is_printed text

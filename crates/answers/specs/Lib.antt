@@ -4,3 +4,4 @@ pub mod Pages
 pub mod Requests
 pub mod Answers
 pub mod Refused
+pub mod Inputs

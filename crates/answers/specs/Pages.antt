@@ -21,7 +21,8 @@ use Rattle.request_table.specs.declared.times.RequestTimes.{RequestTimes}
 use Rattle.answers.specs.Named.{IsConfigured}
 use Rattle.answers.specs.Requests.{requests_path, AreRequestsAt}
 
--- one table has just the records of the statistics, and the other a row for each command, by their cycles, below its header
+-- one table has just the records of the statistics, and the other a row for each command, by their cycles, below its
+-- header
 pub record AreTablesIn (stats_table commands_table : List ℕ) (stats : RunStats) (commands : List IssuedCommand) : Type 0 where
   pub rows_are : records_of stats_table ≡ stats_header ∷ stats_rows stats
   pub count_is : length (records_of commands_table) ≡ length commands + 1
@@ -42,8 +43,9 @@ IsNoPage stats commands Memory = ⊤
 IsNoPage stats commands Write = ⊤
 IsNoPage stats commands _ = ⊥
 
--- the folder has the tables of a run, a configuration that is named is one that it fits, each command is of the run, so is a table of requests, where there is one, the file is
--- a new one, nothing else has changed, and a page of more than 50 MB is warned of
+-- the folder has the tables of a run, a configuration that is named is one that it fits, each command is of the run, so
+-- is a table of requests, where there is one, the file is a new one, nothing else has changed, and a page of more than
+-- 50 MB is warned of
 pub record IsPageDone (dir file : List ℕ) (config : Option (List ℕ)) (warning : Option LargePage) (old new : Held) : Type 0 where
   pub stats : RunStats
   pub commands : List IssuedCommand

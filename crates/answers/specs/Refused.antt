@@ -1,5 +1,6 @@
--- Why an answer is refused, from what the files hold that it is made of. What is tested comes in this order: whether each file can be
--- read; what these files hold, a configuration before all else; and last, whether the answer can be written.
+-- Why an answer is refused, from what the files hold that it is made of. What is tested comes in this order: whether
+-- each file can be read; what these files hold, a configuration before all else; and last, whether the answer can be
+-- written.
 --     LacksOne tells held paths      one of the files is not there
 --     AreTexts tells held paths texts      they hold these texts
 --     IsTableFault, IsMapFault, IsShowFault, IsPageFault, IsCompareFault texts fault      what is wrong with the texts of an answer
@@ -47,7 +48,8 @@ pub record IsJudged (document table : List ℕ) : Type 0 where
   pub configured : document_of document ≡ Ok (values_of machine)
   pub found_is : verdict machine (records_of table) ≡ Ok found
 
--- what is wrong with the configuration and the table of a check: the first fault of the configuration, or else of the table
+-- what is wrong with the configuration and the table of a check: the first fault of the configuration, or else of the
+-- table
 abbrev pub IsTableFault : List (List ℕ) → Fault → Type 0
 IsTableFault (document ∷ table ∷ []) fault = (document_of document ≡ Err fault) ⊎ IsRowFault document table fault
 IsTableFault _ fault = ⊥
@@ -93,7 +95,8 @@ pub record IsFaultUnder (document table : List ℕ) (fault : Fault) : Type 0 whe
   pub configured : document_of document ≡ Ok (values_of machine)
   pub fault_is : IsRowRefusal fault ⊎ IsMisfit machine table fault
 
--- what is wrong with the texts of a show: a row of the table; or, where a configuration is named, first that, and last that it does not fit
+-- what is wrong with the texts of a show: a row of the table; or, where a configuration is named, first that, and last
+-- that it does not fit
 abbrev pub IsShowFault : List (List ℕ) → Fault → Type 0
 IsShowFault (table ∷ []) fault = IsRowRefusal fault
 IsShowFault (document ∷ table ∷ []) fault = (document_of document ≡ Err fault) ⊎ IsFaultUnder document table fault
@@ -117,7 +120,8 @@ IsRightShow (table ∷ []) = IsStatsTable table
 IsRightShow (document ∷ table ∷ []) = IsStatsUnder document table
 IsRightShow _ = ⊥
 
--- what is wrong with the texts of a page: a row of one of the tables; or, where a configuration is named, what is wrong with that
+-- what is wrong with the texts of a page: a row of one of the tables; or, where a configuration is named, what is wrong
+-- with that
 abbrev pub IsPageFault : List (List ℕ) → Fault → Type 0
 IsPageFault (stats ∷ commands ∷ []) fault = IsRowRefusal fault
 IsPageFault (document ∷ stats ∷ commands ∷ []) fault = (document_of document ≡ Err fault) ⊎ IsFaultUnder document stats fault

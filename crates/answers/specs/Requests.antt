@@ -7,7 +7,7 @@
 --     AreShown requests text      what a screen has of requests, where there are any
 --     IsTailAt found stats tail      the 99th percentile of the read latencies that a path holds
 --     AreTails dirs held runs tails      the same of each folder, or none
-use Rattle.std.specs.Prelude.{◌≡◌, ◌⊎◌, ℕ, ◌<◌, ⊤, List, [], ◌++◌, length, codes, slice_get, Option, Some, None, MatchOption}
+use Rattle.std.specs.Prelude.{◌≡◌, ◌⊎◌, ℕ, ⊤, List, [], ◌++◌, length, codes, slice_get, Option, Some, None, MatchOption}
 use Rattle.sim_base.specs.declared.command.IssuedCommand.{IssuedCommand}
 use Rattle.sim_base.specs.declared.fault.Fault.{Fault}
 use Rattle.sim_base.specs.declared.fault.Fault.TheVariants.{CheckRow, Memory}
@@ -49,7 +49,8 @@ pub record IsOfOtherRun (table : List ℕ) (stats : RunStats) (row : ℕ) : Type
   pub differs : IsMismatch stats requests mismatch
   pub row_is : row ≡ row_of mismatch (length requests)
 
--- why a table holds no requests of the run: it is no table of requests from this row on, or of another run; or memory was refused
+-- why a table holds no requests of the run: it is no table of requests from this row on, or of another run; or memory
+-- was refused
 abbrev pub IsNoRequests : List ℕ → RunStats → Fault → Type 0
 IsNoRequests table stats (CheckRow row) = IsFirstWrong HoldsRequests (records_of table) row ⊎ IsOfOtherRun table stats row
 IsNoRequests table stats Memory = ⊤

@@ -1,10 +1,10 @@
 //! Runs beside the first of them.
 
-ghost use Rattle.std.specs.Prelude.{◌≡◌, ◌⊎◌, ◌∷◌, length, map, Some, IfOk, IfErr, OnOk};
-ghost use Rattle.answers.specs.Answers.{stats_path, stats_table, AreStatsOf, IsCompared};
-ghost use Rattle.answers.specs.Requests.{requests_path, IsTailOf, IsTailIn, AreTails};
-ghost use Rattle.answers.specs.Refused.{IsRowRefusal, IsCompareFault, IsRightCompare, IsFilesFault, IsReady, IsInputFault, IsAnswerFault};
-ghost use Rattle.rule_check.specs.Verdict.{records_of};
+ghost use Rattle.std.specs.Prelude.{◌≡◌, ◌⊎◌, length, IfOk, IfErr, OnOk};
+ghost use Rattle.answers.specs.Answers.{stats_path};
+ghost use Rattle.answers.specs.Inputs.{Prints, IsUnread, stats_paths, IsTableIn, AreStatsTablesIn, HoldRuns, AreRunsIn, CanCompare, BarsCompare, IsTailInFolder, AreTailsIn, Compares, RefusesCompare};
+ghost use Rattle.answers.specs.Refused.{IsRowRefusal};
+ghost use Rattle.answers.specs.Requests.{IsTailOf};
 ghost use Rattle.whole_files.specs.Files.{SameFiles, IsReadFault};
 
 use crate::explained::statistics_of;
@@ -32,7 +32,7 @@ struct StatsTable {
 
 // The table of the run in a folder.
 fn table_in<F: FileSet>(alloc: Global, files: &mut F, dir: &str) -> Result<StatsTable, Reason>
-    ensures text { IfOk result (λ table. F.tells → F.held files.old (stats_path dir.now) ≡ Some table.bytes.items) }
+    ensures text { IfOk result (IsTableIn F.FileSet files.old dir.now) }
     ensures fault { IfErr result (IsReadFault F.tells (F.held files.old (stats_path dir.now))) }
     ensures same { F.tells → SameFiles (F.held files.old) (F.held files.new) }
     ensures unopened { F.tells → F.opened files.new ≡ F.opened files.old }
@@ -48,9 +48,9 @@ fn tables_in<F: FileSet>(
     files: &mut F,
     dirs: &[&str],
 ) -> Result<Vec<StatsTable>, Reason>
-    ensures texts { IfOk result (λ tables. F.tells → map (λ d. F.held files.old (stats_path d.now)) dirs.now ≡ map (λ t. Some t.bytes.items) tables.items) }
+    ensures texts { IfOk result (AreStatsTablesIn F.FileSet files.old dirs.now) }
     ensures count { IfOk result (λ tables. length tables.items ≡ length dirs.now) }
-    ensures fault { IfErr result (IsFilesFault F.tells (F.held files.old) (map (λ d. stats_path d.now) dirs.now)) }
+    ensures fault { IfErr result (IsUnread F.FileSet files.old (stats_paths dirs.now)) }
     ensures same { F.tells → SameFiles (F.held files.old) (F.held files.new) }
     ensures unopened { F.tells → F.opened files.new ≡ F.opened files.old }
 {
@@ -65,7 +65,7 @@ fn tables_in<F: FileSet>(
 // What they hold.
 #[tactic(auto, using(std::proofs::lemmas::List::map_more))]
 fn runs_of(alloc: Global, tables: &[StatsTable]) -> Result<Vec<Stats>, Reason>
-    ensures read { IfOk result (λ runs. map (λ t. records_of t.bytes.items) tables.now ≡ map stats_table runs.items) }
+    ensures read { IfOk result (HoldRuns tables.now) }
     ensures fault { IfErr result (λ e. (e ≡ Fault.Memory) ⊎ IsRowRefusal e) }
 {
     let mut runs = Vec::new(alloc);
@@ -78,10 +78,10 @@ fn runs_of(alloc: Global, tables: &[StatsTable]) -> Result<Vec<Stats>, Reason>
 
 // The statistics of the runs in folders; each table is read before one is looked at.
 fn runs_in<F: FileSet>(alloc: Global, files: &mut F, dirs: &[&str]) -> Result<Vec<Stats>, Reason>
-    ensures runs { IfOk result (λ runs. F.tells → AreStatsOf (map (λ d. d.now) dirs.now) (F.held files.old) runs.items) }
+    ensures runs { IfOk result (AreRunsIn F.FileSet files.old dirs.now) }
     ensures count { IfOk result (λ runs. length runs.items ≡ length dirs.now) }
-    ensures ready { OnOk result (IsReady F.tells (F.held files.old) (map (λ d. stats_path d.now) dirs.now) IsRightCompare) }
-    ensures fault { IfErr result (IsInputFault F.tells (F.held files.old) (map (λ d. stats_path d.now) dirs.now) IsCompareFault) }
+    ensures ready { OnOk result (CanCompare F.FileSet files.old dirs.now) }
+    ensures fault { IfErr result (BarsCompare F.FileSet files.old dirs.now) }
     ensures same { F.tells → SameFiles (F.held files.old) (F.held files.new) }
     ensures unopened { F.tells → F.opened files.new ≡ F.opened files.old }
 {
@@ -106,7 +106,7 @@ fn tail_in<F: FileSet>(
     dir: &str,
     stats: &Stats,
 ) -> Result<Option<Option<Cycle>>, Reason>
-    ensures found { IfOk result (λ found. F.tells → IsTailIn (F.held files.old (requests_path dir.now)) stats.now found) }
+    ensures found { IfOk result (IsTailInFolder F.FileSet files.old dir.now stats.now) }
     ensures kind { IfErr result (λ e. (e ≡ Fault.Memory) ⊎ IsRowRefusal e) }
     ensures same { F.tells → SameFiles (F.held files.old) (F.held files.new) }
     ensures unopened { F.tells → F.opened files.new ≡ F.opened files.old }
@@ -125,7 +125,7 @@ fn tails_in<F: FileSet>(
     runs: &[Stats],
 ) -> Result<Vec<Option<Cycle>>, Reason>
     requires { length runs.now ≡ length dirs.now }
-    ensures tails { IfOk result (λ tails. F.tells → AreTails (map (λ d. d.now) dirs.now) (F.held files.old) runs.now tails.items) }
+    ensures tails { IfOk result (AreTailsIn F.FileSet files.old dirs.now runs.now) }
     ensures kind { IfErr result (λ e. (e ≡ Fault.Memory) ⊎ IsRowRefusal e) }
     ensures same { F.tells → SameFiles (F.held files.old) (F.held files.new) }
     ensures unopened { F.tells → F.opened files.new ≡ F.opened files.old }
@@ -140,12 +140,14 @@ fn tails_in<F: FileSet>(
     Ok(tails)
 }
 
-/// `compare DIR DIR... [--csv]`: prints the runs whose tables are in folders beside the first of them, with p99 of the read latencies
-/// where each folder has a table of requests. It opens and changes no file.
+/// `compare DIR DIR... [--csv]`: prints the runs whose tables are in folders beside the first of them, with p99 of the
+/// read latencies where each folder has a table of requests. It opens and changes no file.
 ///
 /// # Errors
 ///
-/// `Fault::Read`, the fault of the first table of statistics that has one, that of the first table of requests, `Fault::CheckRow` where this is not of its run, `Fault::Write` where the answer cannot be written, and `Fault::Memory`.
+/// `Fault::Read`, the fault of the first table of statistics that has one, that of the first table of requests,
+/// `Fault::CheckRow` where this is not of its run, `Fault::Write` where the answer cannot be written, and
+/// `Fault::Memory`.
 pub fn perform_compare<F: FileSet, P: Write>(
     alloc: Global,
     files: &mut F,
@@ -153,8 +155,9 @@ pub fn perform_compare<F: FileSet, P: Write>(
     dirs: &[&str],
     layout: Layout,
 ) -> Result<(), Reason>
-    ensures compared { OnOk result (F.tells → IsCompared (map (λ d. d.now) dirs.now) layout (F.held files.old) (P.contents output.old) (P.contents output.new)) }
-    ensures fault { IfErr result (IsAnswerFault F.tells (F.held files.old) (map (λ d. stats_path d.now) dirs.now) IsCompareFault IsRightCompare) }
+    ensures compared { let printed = Prints P.Write output.old output.new in
+        OnOk result (Compares F.FileSet files.old dirs.now layout printed) }
+    ensures fault { IfErr result (RefusesCompare F.FileSet files.old dirs.now) }
     ensures same { F.tells → SameFiles (F.held files.old) (F.held files.new) }
     ensures unopened { F.tells → F.opened files.new ≡ F.opened files.old }
 {

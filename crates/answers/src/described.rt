@@ -1,9 +1,10 @@
 //! The statistics of a run, and the configuration that may be named beside them.
 
-ghost use Rattle.std.specs.Prelude.{◌≡◌, ◌⊎◌, ◌∷◌, [], Some, None, option_map, IfOk, IfErr, IfSome, OnOk};
-ghost use Rattle.answers.specs.Named.{with_config, IsNamedText, Fits, IsConfiguredBy};
-ghost use Rattle.answers.specs.Refused.{IsMisfitKey, IsSizeFault, IsShowFault, IsFilesFault};
-ghost use Rattle.reports.specs.Stats.{stats_header, stats_rows};
+ghost use Rattle.std.specs.Prelude.{◌≡◌, Some, None, IfOk, IfErr, IfSome, OnOk};
+ghost use Rattle.answers.specs.Answers.{stats_table};
+ghost use Rattle.answers.specs.Inputs.{IsDocumentAt, IsUnreadConfig, IsRunUnder, IsNoRun, text_of};
+ghost use Rattle.answers.specs.Named.{Fits};
+ghost use Rattle.answers.specs.Refused.{IsMisfitKey, IsSizeFault};
 ghost use Rattle.rule_check.specs.Verdict.{records_of};
 ghost use Rattle.whole_files.specs.Files.{SameFiles};
 
@@ -16,11 +17,11 @@ use statistics::stats::Stats;
 use std::alloc::{AllocError, Global};
 use whole_files::files::FileSet;
 
-/// The file of a configuration, and what it holds.
+/// A file, and what it holds.
 #[derive(Drop)]
-pub(crate) struct Document<'a> {
-    path: &'a str,
-    bytes: Vec<u8>,
+pub(crate) struct FileText<'a> {
+    pub(crate) path: &'a str,
+    pub(crate) bytes: Vec<u8>,
 }
 
 /// The statistics of a run, and its configuration where one is named.
@@ -35,15 +36,15 @@ pub(crate) fn document_at<'a, F: FileSet>(
     alloc: Global,
     files: &mut F,
     path: Option<&'a str>,
-) -> Result<Option<Document<'a>>, Reason>
-    ensures text { IfOk result (λ found. IsNamedText F.tells (F.held files.old) (option_map (λ p. p.now) path.entry) (option_map (λ d. d.bytes.items) found)) }
-    ensures fault { IfErr result (IsFilesFault F.tells (F.held files.old) (with_config (option_map (λ p. p.now) path.entry) [])) }
+) -> Result<Option<FileText<'a>>, Reason>
+    ensures text { IfOk result (IsDocumentAt F.FileSet files.old path.entry) }
+    ensures fault { IfErr result (IsUnreadConfig F.FileSet files.old path.entry) }
     ensures same { F.tells → SameFiles (F.held files.old) (F.held files.new) }
     ensures unopened { F.tells → F.opened files.new ≡ F.opened files.old }
 {
     match path {
         None => Ok(None),
-        Some(path) => Ok(Some(Document {
+        Some(path) => Ok(Some(FileText {
             path,
             bytes: files.read(alloc, path)?,
         })),
@@ -95,13 +96,13 @@ fn check_fits(alloc: Global, path: &str, config: &Config, stats: &Stats) -> Resu
 // The statistics that a table holds, under a configuration.
 fn described_by(
     alloc: Global,
-    document: &Document<'_>,
+    document: &FileText<'_>,
     path: &str,
     table: &[u8],
 ) -> Result<RunRecord, Reason>
-    ensures read { IfOk result (λ run. records_of table.now ≡ stats_header ∷ stats_rows run.stats) }
-    ensures configured { IfOk result (λ run. IsConfiguredBy (Some document.now.bytes.items) run.stats run.config) }
-    ensures fault { IfErr result (λ e. (e ≡ Fault.Memory) ⊎ IsShowFault (document.now.bytes.items ∷ table.now ∷ []) e) }
+    ensures read { IfOk result (λ run. records_of table.now ≡ stats_table run.stats) }
+    ensures configured { IfOk result (IsRunUnder (Some document.now.bytes.items)) }
+    ensures fault { IfErr result (IsNoRun (Some document.now.bytes.items) table.now) }
 {
     let config = configuration_of(alloc, document.path, &document.bytes)?;
     let stats = statistics_of(alloc, path, table)?;
@@ -112,17 +113,17 @@ fn described_by(
     })
 }
 
-/// The statistics that a table holds, under the configuration that is named, if one is: that is tested first, and has to have the run's
-/// numbers of cores and channels.
+/// The statistics that a table holds, under the configuration that is named, if one is: that is tested first, and has
+/// to have the run's numbers of cores and channels.
 pub(crate) fn described(
     alloc: Global,
-    document: &Option<Document<'_>>,
+    document: &Option<FileText<'_>>,
     path: &str,
     table: &[u8],
 ) -> Result<RunRecord, Reason>
-    ensures read { IfOk result (λ run. records_of table.now ≡ stats_header ∷ stats_rows run.stats) }
-    ensures configured { IfOk result (λ run. IsConfiguredBy (option_map (λ d. d.bytes.items) document.now) run.stats run.config) }
-    ensures fault { IfErr result (λ e. (e ≡ Fault.Memory) ⊎ IsShowFault (with_config (option_map (λ d. d.bytes.items) document.now) (table.now ∷ [])) e) }
+    ensures read { IfOk result (λ run. records_of table.now ≡ stats_table run.stats) }
+    ensures configured { IfOk result (IsRunUnder (text_of document.now)) }
+    ensures fault { IfErr result (IsNoRun (text_of document.now) table.now) }
 {
     match document {
         None => Ok(RunRecord {

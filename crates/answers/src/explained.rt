@@ -1,9 +1,10 @@
 //! What files hold, read as the other crates do, with a refusal that is explained by their texts.
 
-ghost use Rattle.std.specs.Prelude.{◌≡◌, ◌≢◌, ◌+◌, ◌∷◌, length, Ok, Err, IfOk, IfErr};
+ghost use Rattle.std.specs.Prelude.{◌≡◌, ◌+◌, length, Ok, IfOk, IfErr};
+ghost use Rattle.answers.specs.Answers.{stats_table};
+ghost use Rattle.answers.specs.Inputs.{IsConfigRefusal, IsVerdictRefusal};
 ghost use Rattle.command_table.specs.Tables.{IsRising};
 ghost use Rattle.config_reader.specs.Document.{document_of};
-ghost use Rattle.reports.specs.Stats.{stats_header, stats_rows};
 ghost use Rattle.rule_check.specs.Verdict.{records_of, verdict};
 ghost use Rattle.run_tables.specs.Records.{IsTableFault};
 ghost use Rattle.sim_base.specs.Values.{values_of};
@@ -22,7 +23,7 @@ use std::alloc::Global;
 /// A configuration.
 pub(crate) fn configuration_of(alloc: Global, path: &str, document: &[u8]) -> Result<Config, Reason>
     ensures ok { IfOk result (λ config. document_of document.now ≡ Ok (values_of config)) }
-    ensures refused { IfErr result (λ e. e ≢ Fault.Memory → document_of document.now ≡ Err e) }
+    ensures refused { IfErr result (IsConfigRefusal document.now) }
 {
     match read_config(alloc, document) {
         Ok(config) => Ok(config),
@@ -38,7 +39,7 @@ pub(crate) fn verdict_of(
     table: &[u8],
 ) -> Result<Verdict, Reason>
     ensures ok { IfOk result (λ found. verdict config.now (records_of table.now) ≡ Ok found) }
-    ensures refused { IfErr result (λ e. e ≢ Fault.Memory → verdict config.now (records_of table.now) ≡ Err e) }
+    ensures refused { IfErr result (IsVerdictRefusal config.now table.now) }
 {
     match check(alloc, config, table) {
         Ok(found) => Ok(found),
@@ -51,7 +52,7 @@ pub(crate) fn verdict_of(
 
 /// The statistics of a run.
 pub(crate) fn statistics_of(alloc: Global, path: &str, table: &[u8]) -> Result<Stats, Reason>
-    ensures read { IfOk result (λ stats. records_of table.now ≡ stats_header ∷ stats_rows stats) }
+    ensures read { IfOk result (λ stats. records_of table.now ≡ stats_table stats) }
     ensures fault { IfErr result IsTableFault }
 {
     match read_stats(alloc, table) {

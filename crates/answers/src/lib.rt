@@ -5,6 +5,7 @@ pub mod banks;
 pub mod comparisons;
 mod described;
 mod explained;
+pub mod folder;
 pub mod pages;
 pub mod places;
 pub mod print;

@@ -1,14 +1,12 @@
 //! The page of a run, from the tables in its folder. What stands in it is covered by tests, not by a contract.
 
-ghost use Rattle.std.specs.Prelude.{◌≡◌, ◌++◌, ◌∷◌, [], ℕ, option_map, IfOk, IfErr, OnOk, OnErr};
-ghost use Rattle.page.specs.Rows.{IsOfRunAt};
+ghost use Rattle.std.specs.Prelude.{IfOk, IfErr, OnOk, OnErr};
 ghost use Rattle.refusal.specs.Warnings.{IsWarningOf};
-ghost use Rattle.whole_files.specs.Tables.{path_in, stats_name, commands_name};
-ghost use Rattle.whole_files.specs.WholeFile.{part_of, IsUnwritten};
-ghost use Rattle.answers.specs.Named.{with_config};
-ghost use Rattle.answers.specs.Pages.{IsNoPage, IsPageDone};
-ghost use Rattle.answers.specs.Refused.{IsPageFault, IsRightPage, IsAnswerFault};
+ghost use Rattle.whole_files.specs.WholeFile.{part_of};
+ghost use Rattle.answers.specs.Inputs.{HasOwnCommands, MakesPage, OpensOne, LeavesUnwritten, RefusesPage};
+ghost use Rattle.answers.specs.Pages.{IsNoPage};
 
+use crate::folder::RunFolder;
 use crate::requests::requests_in;
 use crate::tables::{RunTables, stranger, tables_in};
 use page::fault::PageFault;
@@ -47,7 +45,7 @@ fn page_text(
     found: &RunTables,
     shown: Shown<'_>,
 ) -> Result<Vec<u8>, Reason>
-    ensures of_run { OnOk result ((place : ℕ) → IsOfRunAt found.now.run.stats found.now.commands place) }
+    ensures of_run { OnOk result (HasOwnCommands found.now) }
     ensures fault { IfErr result (IsNoPage found.now.run.stats found.now.commands) }
 {
     let mut text = Vec::new(alloc);
@@ -79,7 +77,8 @@ fn in_proportion(cycles: u64, bytes: u64) -> u64 {
     }
 }
 
-// The window with a number of cycles, of those that were tried, that gives a page of at most 50 MB. None where none of them does, or memory is refused.
+// The window with a number of cycles, of those that were tried, that gives a page of at most 50 MB. None where none of
+// them does, or memory is refused.
 fn cycles_that_fit(
     alloc: Global,
     dir: &str,
@@ -127,36 +126,36 @@ fn warning_of(
     })
 }
 
-/// `page DIR FILE [--config FILE] [--mhz N] [--from N] [--cycles N]`: draws the run whose tables are in a folder, and its commands in a window of
-/// cycles, with what its configuration, its clock and its table of requests add, as a file that is written whole or not at all. What is given back is a warning of a page of more than
-/// 50 MB (50,000,000 bytes), with how many cycles of the window would give one that is not.
+/// `page DIR FILE [--config FILE] [--mhz N] [--from N] [--cycles N]`: draws the run whose tables are in a folder, and
+/// its commands in a window of cycles, with what its configuration, its clock and its table of requests add, as a file
+/// that is written whole or not at all. What is given back is a warning of a page of more than 50 MB (50,000,000
+/// bytes), with how many cycles of the window would give one that is not.
 ///
 /// # Errors
 ///
-/// `Fault::Read`, the first fault of the configuration, the faults of the tables, `Fault::ConfigRange` of `cores` or `channels` where the
-/// configuration has another number of them than the run, `Fault::CheckRow` for the first command or request that is not of the run, `Fault::Write`
-/// where the file cannot be written, and `Fault::Memory`.
+/// `Fault::Read`, the first fault of the configuration, the faults of the tables, `Fault::ConfigRange` of `cores` or
+/// `channels` where the configuration has another number of them than the run, `Fault::CheckRow` for the first command
+/// or request that is not of the run, `Fault::Write` where the file cannot be written, and `Fault::Memory`.
 pub fn perform_page<F: FileSet>(
     alloc: Global,
     files: &mut F,
-    dir: &str,
+    folder: &RunFolder<'_>,
     file: &str,
-    config: Option<&str>,
     view: View,
 ) -> Result<Option<LargePage>, Reason>
-    ensures done { IfOk result (λ warning. F.tells → IsPageDone dir.now file.now (option_map (λ c. c.now) config.entry) warning (F.held files.old) (F.held files.new)) }
-    ensures noted { OnOk result (F.tells → F.opened files.new ≡ F.opened files.old ++ part_of file.now ∷ []) }
-    ensures refused { OnErr result (F.tells → IsUnwritten file.now (F.held files.old) (F.held files.new) (F.opened files.old) (F.opened files.new)) }
-    ensures fault { IfErr result (IsAnswerFault F.tells (F.held files.old) (with_config (option_map (λ c. c.now) config.entry) (path_in dir.now stats_name ∷ path_in dir.now commands_name ∷ [])) IsPageFault IsRightPage) }
+    ensures done { IfOk result (MakesPage F.FileSet files.old files.new folder.now file.now) }
+    ensures noted { OnOk result (OpensOne F.FileSet files.old files.new (part_of file.now)) }
+    ensures refused { OnErr result (LeavesUnwritten F.FileSet files.old files.new file.now) }
+    ensures fault { IfErr result (RefusesPage F.FileSet files.old folder.now) }
 {
-    let found = tables_in(alloc, files, config, dir)?;
-    let requests = requests_in(alloc, files, dir, &found.run.stats)?;
+    let found = tables_in(alloc, files, folder)?;
+    let requests = requests_in(alloc, files, folder.dir, &found.run.stats)?;
     let shown = Shown {
         view,
         requests: rows_of(&requests),
     };
-    let text = page_text(alloc, dir, &found, shown)?;
-    let warning = warning_of(alloc, dir, &found, shown, &text);
+    let text = page_text(alloc, folder.dir, &found, shown)?;
+    let warning = warning_of(alloc, folder.dir, &found, shown, &text);
     write_whole(alloc, files, file, &text)?;
     Ok(warning)
 }

@@ -1,9 +1,9 @@
 //! Where an address lies.
 
-ghost use Rattle.std.specs.Prelude.{◌≡◌, ◌∷◌, [], IfOk, IfErr, OnOk, string_bytes};
+ghost use Rattle.std.specs.Prelude.{◌≡◌, IfOk, IfErr, OnOk, string_bytes};
 ghost use Rattle.whole_files.specs.Files.{SameFiles};
-ghost use Rattle.answers.specs.Answers.{IsPlace, rank_words, place_line, IsMapped};
-ghost use Rattle.answers.specs.Refused.{IsMapFault, IsRightMap, IsReady, IsInputFault, IsAnswerFault};
+ghost use Rattle.answers.specs.Answers.{rank_words, place_line};
+ghost use Rattle.answers.specs.Inputs.{Prints, LiesAt, CanMap, BarsMap, Maps, RefusesMap};
 
 use crate::explained::configuration_of;
 use crate::print::print_text;
@@ -22,9 +22,9 @@ fn find_place<F: FileSet>(
     config: &str,
     address: u64,
 ) -> Result<(u32, Place), Reason>
-    ensures place { IfOk result (λ found. F.tells → IsPlace config.now address (F.held files.old) found.0 found.1) }
-    ensures ready { OnOk result (IsReady F.tells (F.held files.old) (config.now ∷ []) IsRightMap) }
-    ensures fault { IfErr result (IsInputFault F.tells (F.held files.old) (config.now ∷ []) IsMapFault) }
+    ensures place { IfOk result (LiesAt F.FileSet files.old config.now address) }
+    ensures ready { OnOk result (CanMap F.FileSet files.old config.now) }
+    ensures fault { IfErr result (BarsMap F.FileSet files.old config.now) }
     ensures same { F.tells → SameFiles (F.held files.old) (F.held files.new) }
     ensures unopened { F.tells → F.opened files.new ≡ F.opened files.old }
 {
@@ -55,11 +55,13 @@ fn place_line_of(alloc: Global, ranks: u32, place: Place) -> Result<String, Faul
     )?)
 }
 
-/// `map CONFIG ADDRESS`: prints where an address lies under the configuration that a file holds. It opens and changes no file.
+/// `map CONFIG ADDRESS`: prints where an address lies under the configuration that a file holds. It opens and changes
+/// no file.
 ///
 /// # Errors
 ///
-/// `Fault::Read`, the configuration's first fault, `Fault::Write` where the answer cannot be written, and `Fault::Memory`.
+/// `Fault::Read`, the configuration's first fault, `Fault::Write` where the answer cannot be written, and
+/// `Fault::Memory`.
 pub fn perform_map<F: FileSet, P: Write>(
     alloc: Global,
     files: &mut F,
@@ -67,8 +69,9 @@ pub fn perform_map<F: FileSet, P: Write>(
     config: &str,
     address: u64,
 ) -> Result<(), Reason>
-    ensures mapped { OnOk result (F.tells → IsMapped config.now address (F.held files.old) (P.contents output.old) (P.contents output.new)) }
-    ensures fault { IfErr result (IsAnswerFault F.tells (F.held files.old) (config.now ∷ []) IsMapFault IsRightMap) }
+    ensures mapped { let printed = Prints P.Write output.old output.new in
+        OnOk result (Maps F.FileSet files.old config.now address printed) }
+    ensures fault { IfErr result (RefusesMap F.FileSet files.old config.now) }
     ensures same { F.tells → SameFiles (F.held files.old) (F.held files.new) }
     ensures unopened { F.tells → F.opened files.new ≡ F.opened files.old }
 {

@@ -1,7 +1,7 @@
 //! Answers on a stream.
 
 ghost use Rattle.std.specs.Prelude.{◌≡◌, IfErr, OnOk};
-ghost use Rattle.std.specs.Io.KnownBytes.{Appends};
+ghost use Rattle.answers.specs.Inputs.{Prints};
 
 use refusal::reason::Reason;
 use sim_base::fault::Fault;
@@ -10,7 +10,7 @@ use std::io::{self, Write};
 
 // Sends a text down a stream.
 fn send<P: Write>(output: &mut P, text: &str) -> io::Result<()>
-    ensures { OnOk result (Appends (P.contents output.old) (P.contents output.new) text.now) }
+    ensures { OnOk result (Prints P.Write output.old output.new text.now) }
 {
     output.write_all(text.as_bytes())?;
     output.flush()
@@ -18,7 +18,7 @@ fn send<P: Write>(output: &mut P, text: &str) -> io::Result<()>
 
 /// Puts a text on the stream of answers. Refuses by `Fault::Write` where the stream does not take it whole.
 pub fn print_text<P: Write>(alloc: Global, output: &mut P, text: &str) -> Result<(), Reason>
-    ensures printed { OnOk result (Appends (P.contents output.old) (P.contents output.new) text.now) }
+    ensures printed { OnOk result (Prints P.Write output.old output.new text.now) }
     ensures fault { IfErr result (λ e. e ≡ Fault.Write) }
 {
     match send(output, text) {

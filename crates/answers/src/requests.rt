@@ -1,12 +1,13 @@
 //! The requests of a run, where a file of its folder holds their table.
 
-ghost use Rattle.std.specs.Prelude.{◌≡◌, ◌⊎◌, option_map, string_bytes, IfOk, IfErr, OnOk};
+ghost use Rattle.std.specs.Prelude.{◌≡◌, ◌⊎◌, IfOk, IfErr, OnOk};
 ghost use Rattle.rule_check.specs.Verdict.{records_of};
 ghost use Rattle.run_tables.specs.Records.{IsRefusedFor};
 ghost use Rattle.run_tables.specs.Requests.{IsRequestTable, HoldsRequests};
 ghost use Rattle.whole_files.specs.Files.{SameFiles};
 ghost use Rattle.answers.specs.Refused.{IsRowRefusal};
-ghost use Rattle.answers.specs.Requests.{requests_path, AreRequestsOf, AreRequestsAt, IsNoRequests, IsRequestsFault, AddsRequests};
+ghost use Rattle.answers.specs.Requests.{AreRequestsOf, IsNoRequests};
+ghost use Rattle.answers.specs.Inputs.{IsTextAt, ReadsRequests, BarsRequests, FindsRequests, BarsRequestsIn, GetsRequests};
 
 use refusal::reason::Reason;
 use request_check::agreement::{Mismatch, check_requests, row_of};
@@ -117,7 +118,7 @@ fn requests_of(
 
 // What a file holds, if it can be read.
 fn text_at<F: FileSet>(alloc: Global, files: &mut F, path: &str) -> Result<Option<Vec<u8>>, Reason>
-    ensures text { IfOk result (λ text. F.tells → F.held files.old path.now ≡ option_map (λ t. t.items) text) }
+    ensures text { IfOk result (IsTextAt F.FileSet files.old path.now) }
     ensures fault { IfErr result (λ e. e ≡ Fault.Memory) }
     ensures same { F.tells → SameFiles (F.held files.old) (F.held files.new) }
     ensures unopened { F.tells → F.opened files.new ≡ F.opened files.old }
@@ -138,8 +139,8 @@ fn requests_at<F: FileSet>(
     path: &str,
     stats: &Stats,
 ) -> Result<Option<Vec<RequestTimes>>, Reason>
-    ensures found { IfOk result (λ found. F.tells → AreRequestsAt (F.held files.old path.now) stats.now (option_map (λ r. r.items) found)) }
-    ensures fault { IfErr result (λ e. F.tells → IsRequestsFault (F.held files.old path.now) stats.now e) }
+    ensures found { IfOk result (ReadsRequests F.FileSet files.old path.now stats.now) }
+    ensures fault { IfErr result (BarsRequests F.FileSet files.old path.now stats.now) }
     ensures kind { IfErr result (λ e. (e ≡ Fault.Memory) ⊎ IsRowRefusal e) }
     ensures same { F.tells → SameFiles (F.held files.old) (F.held files.new) }
     ensures unopened { F.tells → F.opened files.new ≡ F.opened files.old }
@@ -150,16 +151,16 @@ fn requests_at<F: FileSet>(
     }
 }
 
-/// The requests of the run whose tables are in a folder, where the table of requests is there and can be read: they have to be of the run of these
-/// statistics.
+/// The requests of the run whose tables are in a folder, where the table of requests is there and can be read: they
+/// have to be of the run of these statistics.
 pub(crate) fn requests_in<F: FileSet>(
     alloc: Global,
     files: &mut F,
     dir: &str,
     stats: &Stats,
 ) -> Result<Option<Vec<RequestTimes>>, Reason>
-    ensures found { IfOk result (λ found. F.tells → AreRequestsAt (F.held files.old (requests_path dir.now)) stats.now (option_map (λ r. r.items) found)) }
-    ensures fault { IfErr result (λ e. F.tells → IsRequestsFault (F.held files.old (requests_path dir.now)) stats.now e) }
+    ensures found { IfOk result (FindsRequests F.FileSet files.old dir.now stats.now) }
+    ensures fault { IfErr result (BarsRequestsIn F.FileSet files.old dir.now stats.now) }
     ensures kind { IfErr result (λ e. (e ≡ Fault.Memory) ⊎ IsRowRefusal e) }
     ensures same { F.tells → SameFiles (F.held files.old) (F.held files.new) }
     ensures unopened { F.tells → F.opened files.new ≡ F.opened files.old }
@@ -168,7 +169,8 @@ pub(crate) fn requests_in<F: FileSet>(
     requests_at(alloc, files, path.as_str(), stats)
 }
 
-/// Puts what there is to say of requests behind a screen; nothing where there are none. The only error is out of memory.
+/// Puts what there is to say of requests behind a screen; nothing where there are none. The only error is out of
+/// memory.
 pub(crate) fn add_requests(
     alloc: Global,
     stats: &Stats,
@@ -176,7 +178,7 @@ pub(crate) fn add_requests(
     options: Options,
     screen: &mut String,
 ) -> Result<(), AllocError>
-    ensures { OnOk result (AddsRequests (option_map (λ r. r.items) requests.now) (string_bytes screen.old) (string_bytes screen.new)) }
+    ensures { OnOk result (GetsRequests requests.now screen.old screen.new) }
 {
     let Some(requests) = requests else {
         return Ok(());

@@ -1,14 +1,12 @@
 //! The tables of a run, its statistics and its commands, from the files of its folder.
 
-ghost use Rattle.std.specs.Prelude.{◌≡◌, ◌⊎◌, ◌+◌, ◌<◌, ◌∷◌, [], length, option_map, IfOk, IfErr, OnOk};
+ghost use Rattle.std.specs.Prelude.{◌≡◌, ◌+◌, ◌<◌, length, IfOk, IfErr, OnOk};
 ghost use Rattle.whole_files.specs.Files.{SameFiles};
-ghost use Rattle.whole_files.specs.Tables.{path_in, stats_name, commands_name};
-ghost use Rattle.answers.specs.Named.{with_config, IsConfiguredBy, IsConfigured};
-ghost use Rattle.answers.specs.Pages.{AreTablesIn, AreTablesAt};
-ghost use Rattle.answers.specs.Refused.{IsPageFault, IsRightPage, IsReady, IsInputFault};
+ghost use Rattle.answers.specs.Inputs.{HoldTables, IsRunUnder, text_of, AreNoTables, AreTablesOf, RunFits, CanPage, BarsPage, AreTablesInFolder, CanPageIn, BarsPageIn};
 
-use crate::described::{Document, RunRecord, described, document_at};
+use crate::described::{FileText, RunRecord, described, document_at};
 use crate::explained::commands_of;
+use crate::folder::RunFolder;
 use command_table::list::CommandList;
 use refusal::reason::Reason;
 use sim_base::fault::Fault;
@@ -26,18 +24,16 @@ pub(crate) struct RunTables {
 // What two tables hold, under the configuration that is named, if one is.
 fn read_tables(
     alloc: Global,
-    document: &Option<Document<'_>>,
-    stats_path: &str,
-    stats: &[u8],
-    commands_path: &str,
-    commands: &[u8],
+    document: &Option<FileText<'_>>,
+    stats: &FileText<'_>,
+    commands: &FileText<'_>,
 ) -> Result<RunTables, Reason>
-    ensures tables { IfOk result (λ found. AreTablesIn stats.now commands.now found.run.stats found.commands) }
-    ensures configured { IfOk result (λ found. IsConfiguredBy (option_map (λ d. d.bytes.items) document.now) found.run.stats found.run.config) }
-    ensures fault { IfErr result (λ e. (e ≡ Fault.Memory) ⊎ IsPageFault (with_config (option_map (λ d. d.bytes.items) document.now) (stats.now ∷ commands.now ∷ [])) e) }
+    ensures tables { IfOk result (HoldTables stats.now commands.now) }
+    ensures configured { IfOk result (λ found. IsRunUnder (text_of document.now) found.run) }
+    ensures fault { IfErr result (AreNoTables (text_of document.now) stats.now commands.now) }
 {
-    let run = described(alloc, document, stats_path, stats)?;
-    let commands = commands_of(alloc, commands_path, commands)?;
+    let run = described(alloc, document, stats.path, &stats.bytes)?;
+    let commands = commands_of(alloc, commands.path, &commands.bytes)?;
     Ok(RunTables { run, commands })
 }
 
@@ -49,43 +45,49 @@ fn tables_at<F: FileSet>(
     stats: &str,
     commands: &str,
 ) -> Result<RunTables, Reason>
-    ensures tables { IfOk result (λ found. F.tells → AreTablesAt stats.now commands.now (F.held files.old) found.run.stats found.commands) }
-    ensures configured { IfOk result (λ found. F.tells → IsConfigured (option_map (λ c. c.now) config.entry) (F.held files.old) found.run.stats) }
-    ensures ready { OnOk result (IsReady F.tells (F.held files.old) (with_config (option_map (λ c. c.now) config.entry) (stats.now ∷ commands.now ∷ [])) IsRightPage) }
-    ensures fault { IfErr result (IsInputFault F.tells (F.held files.old) (with_config (option_map (λ c. c.now) config.entry) (stats.now ∷ commands.now ∷ [])) IsPageFault) }
+    ensures tables { IfOk result (AreTablesOf F.FileSet files.old stats.now commands.now) }
+    ensures fits { IfOk result (λ found. RunFits F.FileSet files.old config.entry found.run) }
+    ensures ready { OnOk result (CanPage F.FileSet files.old config.entry stats.now commands.now) }
+    ensures fault { IfErr result (BarsPage F.FileSet files.old config.entry stats.now commands.now) }
     ensures same { F.tells → SameFiles (F.held files.old) (F.held files.new) }
     ensures unopened { F.tells → F.opened files.new ≡ F.opened files.old }
 {
     let document = document_at(alloc, files, config)?;
     let stats_table = files.read(alloc, stats)?;
     let commands_table = files.read(alloc, commands)?;
-    read_tables(
-        alloc,
-        &document,
-        stats,
-        &stats_table,
-        commands,
-        &commands_table,
-    )
+    let stats = FileText {
+        path: stats,
+        bytes: stats_table,
+    };
+    let commands = FileText {
+        path: commands,
+        bytes: commands_table,
+    };
+    read_tables(alloc, &document, &stats, &commands)
 }
 
 /// What the tables of the run in a folder hold.
 pub(crate) fn tables_in<F: FileSet>(
     alloc: Global,
     files: &mut F,
-    config: Option<&str>,
-    dir: &str,
+    folder: &RunFolder<'_>,
 ) -> Result<RunTables, Reason>
-    ensures tables { IfOk result (λ found. F.tells → AreTablesAt (path_in dir.now stats_name) (path_in dir.now commands_name) (F.held files.old) found.run.stats found.commands) }
-    ensures configured { IfOk result (λ found. F.tells → IsConfigured (option_map (λ c. c.now) config.entry) (F.held files.old) found.run.stats) }
-    ensures ready { OnOk result (IsReady F.tells (F.held files.old) (with_config (option_map (λ c. c.now) config.entry) (path_in dir.now stats_name ∷ path_in dir.now commands_name ∷ [])) IsRightPage) }
-    ensures fault { IfErr result (IsInputFault F.tells (F.held files.old) (with_config (option_map (λ c. c.now) config.entry) (path_in dir.now stats_name ∷ path_in dir.now commands_name ∷ [])) IsPageFault) }
+    ensures tables { IfOk result (AreTablesInFolder F.FileSet files.old folder.now) }
+    ensures fits { IfOk result (λ found. RunFits F.FileSet files.old folder.now.config found.run) }
+    ensures ready { OnOk result (CanPageIn F.FileSet files.old folder.now) }
+    ensures fault { IfErr result (BarsPageIn F.FileSet files.old folder.now) }
     ensures same { F.tells → SameFiles (F.held files.old) (F.held files.new) }
     ensures unopened { F.tells → F.opened files.new ≡ F.opened files.old }
 {
-    let stats = path_of(alloc, dir, "stats.csv")?;
-    let commands = path_of(alloc, dir, "commands.csv")?;
-    tables_at(alloc, files, config, stats.as_str(), commands.as_str())
+    let stats = path_of(alloc, folder.dir, "stats.csv")?;
+    let commands = path_of(alloc, folder.dir, "commands.csv")?;
+    tables_at(
+        alloc,
+        files,
+        folder.config,
+        stats.as_str(),
+        commands.as_str(),
+    )
 }
 
 // The row of a command in its table, where 0 is the header.

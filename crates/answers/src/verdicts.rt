@@ -1,9 +1,9 @@
 //! Whether a table of commands keeps the rules.
 
-ghost use Rattle.std.specs.Prelude.{◌≡◌, ◌≤◌, ◌∷◌, [], IfOk, IfErr, OnOk, string_bytes};
+ghost use Rattle.std.specs.Prelude.{◌≡◌, ◌≤◌, IfOk, IfErr, OnOk, string_bytes};
 ghost use Rattle.whole_files.specs.Files.{SameFiles};
-ghost use Rattle.answers.specs.Answers.{IsVerdict, verdict_line, verdict_status, IsChecked};
-ghost use Rattle.answers.specs.Refused.{IsTableFault, IsRightTable, IsReady, IsInputFault, IsAnswerFault};
+ghost use Rattle.answers.specs.Answers.{verdict_line, verdict_status};
+ghost use Rattle.answers.specs.Inputs.{Prints, IsVerdictAt, CanCheck, BarsCheck, Checks, RefusesCheck};
 
 use crate::explained::{configuration_of, verdict_of};
 use crate::print::print_text;
@@ -22,9 +22,9 @@ fn judge<F: FileSet>(
     config: &str,
     commands: &str,
 ) -> Result<Verdict, Reason>
-    ensures found { IfOk result (λ found. F.tells → IsVerdict config.now commands.now (F.held files.old) found) }
-    ensures ready { OnOk result (IsReady F.tells (F.held files.old) (config.now ∷ commands.now ∷ []) IsRightTable) }
-    ensures fault { IfErr result (IsInputFault F.tells (F.held files.old) (config.now ∷ commands.now ∷ []) IsTableFault) }
+    ensures found { IfOk result (IsVerdictAt F.FileSet files.old config.now commands.now) }
+    ensures ready { OnOk result (CanCheck F.FileSet files.old config.now commands.now) }
+    ensures fault { IfErr result (BarsCheck F.FileSet files.old config.now commands.now) }
     ensures same { F.tells → SameFiles (F.held files.old) (F.held files.new) }
     ensures unopened { F.tells → F.opened files.new ≡ F.opened files.old }
 {
@@ -56,12 +56,13 @@ fn status_of(found: Verdict) -> u8
     }
 }
 
-/// `check CONFIG COMMANDS`: prints the verdict on a table of commands, and gives the status, 0 for a legal table and 1 for one that breaks
-/// a rule. It opens and changes no file.
+/// `check CONFIG COMMANDS`: prints the verdict on a table of commands, and gives the status, 0 for a legal table and 1
+/// for one that breaks a rule. It opens and changes no file.
 ///
 /// # Errors
 ///
-/// `Fault::Read`, the configuration's first fault, the table's, `Fault::Write` where the answer cannot be written, and `Fault::Memory`.
+/// `Fault::Read`, the configuration's first fault, the table's, `Fault::Write` where the answer cannot be written, and
+/// `Fault::Memory`.
 pub fn perform_check<F: FileSet, P: Write>(
     alloc: Global,
     files: &mut F,
@@ -69,9 +70,10 @@ pub fn perform_check<F: FileSet, P: Write>(
     config: &str,
     commands: &str,
 ) -> Result<u8, Reason>
-    ensures checked { IfOk result (λ status. F.tells → IsChecked config.now commands.now status (F.held files.old) (P.contents output.old) (P.contents output.new)) }
+    ensures checked { let printed = Prints P.Write output.old output.new in
+        IfOk result (Checks F.FileSet files.old config.now commands.now printed) }
     ensures status { IfOk result (λ status. status ≤ 1) }
-    ensures fault { IfErr result (IsAnswerFault F.tells (F.held files.old) (config.now ∷ commands.now ∷ []) IsTableFault IsRightTable) }
+    ensures fault { IfErr result (RefusesCheck F.FileSet files.old config.now commands.now) }
     ensures same { F.tells → SameFiles (F.held files.old) (F.held files.new) }
     ensures unopened { F.tells → F.opened files.new ≡ F.opened files.old }
 {

@@ -16,10 +16,6 @@ use Rattle.bank_candidates.proofs.Entries.{none_before}
 use Rattle.bank_candidates.proofs.Searches.{here_is, none_narrower_all, found_none}
 use Rattle.bank_candidates.proofs.Waits.{request_at}
 
--- no candidates
-abbrev pub no_candidates : CandidatesOfBank
-no_candidates = record { row = None; reads = record { oldest = None; hit = None }; writes = record { oldest = None; hit = None } }
-
 -- the oldest of an access
 pub oldest_is : (write : Bool) (log : List Arrived) (bank : ℕ) (h : CandidatesOfBank) → AreCandidates log bank h
     → (cond write h.writes h.reads).oldest ≡ first_place (asks bank write) log

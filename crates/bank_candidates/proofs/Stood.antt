@@ -19,7 +19,6 @@ use Rattle.request_log.proofs.Eligible.{asked_with, marks_after, length-eligible
 use Rattle.request_log.proofs.Places.{around, all_served}
 use Rattle.request_log.proofs.Renumbered.{waiting_twice}
 use Rattle.request_log.proofs.Waiting.{waiting_append, waiting_one}
-use Rattle.bank_candidates.specs.declared.entry.CandidatesOfBank.{CandidatesOfBank}
 use Rattle.bank_candidates.specs.declared.all_banks.BankCandidates.{BankCandidates}
 use Rattle.bank_candidates.specs.Candidates.{asks, hits, passes, first_place, AreFirst, AreCandidates, RowsFit, access_number, access_of, bank_at, number_of}
 use Rattle.bank_candidates.specs.Moves.{earlier}
@@ -40,29 +39,20 @@ pub record AreStanding (rows : List (Option ℕ)) (words : List ℕ) (log : List
   pub opened : (bank : ℕ) → bank < length rows → get_or rows bank None ≡ open_rows bank
   pub first : (bank : ℕ) (write : Bool) → bank < length rows → AreFirst log bank write (open_rows bank) (access_in words (access_number bank write))
 
-pub candidates_read : (candidates : BankCandidates) (bank : ℕ) (d : CandidatesOfBank) → bank < bank_count candidates
-    → record { row = get_or candidates.rows.items bank None; reads = access_in candidates.places.words.items (access_number bank false); writes = access_in candidates.places.words.items (access_number bank true) }
-    ≡ candidates_of_bank candidates bank d
-candidates_read candidates bank d exists = sym (cond-true (ltb bank (bank_count candidates)) _ d (lt-ltb bank (bank_count candidates) exists))
-
 pub to_parts : (candidates : BankCandidates) (log : List Arrived) (open_rows : ℕ → Option ℕ) → StandsFor candidates log open_rows
     → AreStanding candidates.rows.items candidates.places.words.items log open_rows
 to_parts candidates log open_rows stands =
-    let none : CandidatesOfBank = record { row = None; reads = record { oldest = None; hit = None }; writes = record { oldest = None; hit = None } } in
-    let opened : (bank : ℕ) → bank < bank_count candidates → get_or candidates.rows.items bank None ≡ open_rows bank =
-    λ bank exists. ap (λ h. h.row) (candidates_read candidates bank none exists) ∙ stands.rows_are bank none exists in
-    let known : (bank : ℕ) → bank < bank_count candidates → AreCandidates log bank _ =
-    λ bank exists. subst (AreCandidates log bank) (sym (candidates_read candidates bank none exists)) (stands.candidates_are bank none exists) in
     record {
       within = stands.within;
       fit = stands.rows_fit;
-      opened = opened;
+      opened = stands.rows_are;
       first = λ bank write exists.
-          subst (λ row. AreFirst log bank write row (access_in candidates.places.words.items (access_number bank write))) (opened bank exists) (of_access bank write exists (known bank exists));
+          subst (λ row. AreFirst log bank write row (access_in candidates.places.words.items (access_number bank write))) (stands.rows_are bank exists)
+          (of_access bank write exists (stands.candidates_are bank exists));
     }
   where
     of_access : (bank : ℕ) (write : Bool) → bank < bank_count candidates
-        → AreCandidates log bank (record { row = get_or candidates.rows.items bank None; reads = access_in candidates.places.words.items (access_number bank false); writes = access_in candidates.places.words.items (access_number bank true) })
+        → AreCandidates log bank (candidates_of_bank candidates bank)
         → AreFirst log bank write (get_or candidates.rows.items bank None) (access_in candidates.places.words.items (access_number bank write))
     of_access bank true exists are = are.writes_are
     of_access bank false exists are = are.reads_are
@@ -77,8 +67,8 @@ from_parts candidates log open_rows parts counted =
     record {
       within = parts.within;
       rows_fit = parts.fit;
-      rows_are = λ bank d exists. sym (ap (λ h. h.row) (candidates_read candidates bank d exists)) ∙ parts.opened bank exists;
-      candidates_are = λ bank d exists. subst (AreCandidates log bank) (candidates_read candidates bank d exists) (record { reads_are = first bank false exists; writes_are = first bank true exists });
+      rows_are = parts.opened;
+      candidates_are = λ bank exists. record { reads_are = first bank false exists; writes_are = first bank true exists };
       counts_are = counted;
     }
 
@@ -311,7 +301,7 @@ same_rows candidates log a b stands same = record {
   within = stands.within;
   rows_fit = stands.rows_fit;
   counts_are = stands.counts_are;
-  rows_are = λ bank d exists. stands.rows_are bank d exists ∙ same bank exists;
+  rows_are = λ bank exists. stands.rows_are bank exists ∙ same bank exists;
   candidates_are = stands.candidates_are;
 }
 

@@ -5,7 +5,7 @@ use Rattle.std.specs.Option.{is_some}
 use Rattle.bank_candidates.specs.declared.sets.BankSet.{BankSet}
 use Rattle.bank_candidates.specs.Candidates.{access_number}
 use Rattle.bank_candidates.specs.Moves.{earlier}
-use Rattle.bank_candidates.specs.Places.{candidate_of, word_of, column, candidate_in, access_in}
+use Rattle.bank_candidates.specs.Places.{candidate_of, word_of, column, Agree, candidate_in, access_in}
 use Rattle.bank_candidates.specs.Sets.{is_in}
 
 -- the word of a bank is that of its access
@@ -24,9 +24,6 @@ column_few false false = omega arith
 pub candidate_word : (o : Option ℕ) → candidate_of (word_of o) ≡ o
 candidate_word None = refl
 candidate_word (Some k) = ap candidate_of (add-one k)
-
-abbrev pub Agree : List ℕ → List BankSet → Type 0
-Agree words sets = (bank number : ℕ) (d : BankSet) → number < 4 → is_in (get_or sets number d) bank ≡ is_some (candidate_of (get_or words (4 * bank + number) 0))
 
 -- one word written, and its set
 pub set_agrees : (words : List ℕ) (sets : List BankSet) (bank number : ℕ) (candidate : Option ℕ) (s : BankSet) → length sets ≡ 4 → 4 * bank + 3 < length words → number < 4

@@ -5,17 +5,22 @@
 --     wants bank write row r      it does, and for this row if one is given
 --     RowsFit requests      each asks for a row whose number has 32 bits
 --     first_place test log      the place of the first request that may be served and passes a test
+--     NonePasses test log      no request that waits passes a test
+--     bank_asked_at log slot      the bank of the request at a place
+--     rows_after history      the rows that a list of commands leaves open, by the number of their bank
 --     access_number bank write, access_of r      the number of a bank and an access, and of those that a request asks for
 --     access_count access requests      how many ask for a bank and an access
+--     NoneWaits log bank write      none that waits does
 --     AreCandidates log bank candidates      each candidate of a bank is the place of the first such request
-use Rattle.std.specs.Prelude.{◌≡◌, ℕ, ◌+◌, ◌*◌, ◌/◌, ◌%◌, ◌^◌, ◌<◌, ◌==◌, Bool, true, false, not, ◌&&◌, List, All, count_by, position, Option, Some, None, if◌then◌else◌}
+use Rattle.std.specs.Prelude.{◌≡◌, ℕ, ◌+◌, ◌*◌, ◌/◌, ◌%◌, ◌^◌, ◌<◌, ◌==◌, Bool, true, false, not, ◌&&◌, List, All, count_by, slice_index_or, position, Option, Some, None, if◌then◌else◌}
 use Rattle.std.specs.List.{zip}
 use Rattle.sim_base.specs.declared.message.Request.{Request}
 use Rattle.sim_base.specs.declared.place.BankId.{BankId}
-use Rattle.sim_base.specs.Rules.{is_row}
+use Rattle.sim_base.specs.Rules.{is_row, open_row}
+use Rattle.sim_base.specs.declared.command.IssuedCommand.{IssuedCommand}
 use Rattle.request_log.specs.declared.Arrived.{Arrived}
 use Rattle.request_log.specs.Marks.{is_marked}
-use Rattle.request_log.specs.Log.{all_requests, eligible_column}
+use Rattle.request_log.specs.Log.{absent, all_requests, waiting_requests, eligible_column}
 use Rattle.request_log.specs.Columns.{bank_number}
 use Rattle.bank_candidates.specs.declared.entry.AccessCandidates.{AccessCandidates}
 use Rattle.bank_candidates.specs.declared.entry.CandidatesOfBank.{CandidatesOfBank}
@@ -57,6 +62,18 @@ entries log = zip (all_requests log) (eligible_column log)
 abbrev pub first_place : (Request → Bool) → List Arrived → Option ℕ
 first_place test log = position (passes test) (entries log)
 
+-- no request that waits passes a test
+abbrev pub NonePasses : (Request → Bool) → List Arrived → Type 0
+NonePasses test log = All (λ r. test r ≡ false) (waiting_requests log)
+
+-- the number of the bank that the request at a place asks for
+abbrev pub bank_asked_at : List Arrived → ℕ → ℕ
+bank_asked_at log slot = bank_number (slice_index_or log slot absent).request.place
+
+-- the rows that a list of commands leaves open, by the number of their bank
+abbrev pub rows_after : List IssuedCommand → ℕ → Option ℕ
+rows_after history = λ number. open_row (bank_at number) history
+
 -- the number of a bank and an access: twice that of the bank, plus one for a write
 abbrev pub access_number : ℕ → Bool → ℕ
 access_number bank write = bank * 2 + (if write then 1 else 0)
@@ -68,6 +85,10 @@ access_of r = access_number (bank_number r.place) r.write
 -- how many requests ask for a bank and an access
 abbrev pub access_count : ℕ → List Request → ℕ
 access_count access requests = count_by (λ r. access_of r == access) requests
+
+-- no request that waits asks for a bank and an access
+abbrev pub NoneWaits : List Arrived → ℕ → Bool → Type 0
+NoneWaits log bank write = access_count (access_number bank write) (waiting_requests log) ≡ 0
 
 -- the candidates of a bank to read or to write, where this row is open
 pub record AreFirst (log : List Arrived) (bank : ℕ) (write : Bool) (row : Option ℕ) (candidates : AccessCandidates) : Type 0 where

@@ -1,4 +1,5 @@
 pub mod Candidates
+pub mod Changes
 pub mod Moves
 pub mod Places
 pub mod Served

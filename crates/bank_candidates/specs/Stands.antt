@@ -1,16 +1,22 @@
 -- What the candidates of a channel stand for.
 --     bank_count candidates      how many banks they were made for
+--     candidates_of_bank candidates bank      the candidates of a bank
+--     candidates_to candidates bank write      those of one access
+--     oldest_of_bank candidates bank      the first request of a bank that may be served
+--     row_of_bank candidates bank      its open row
 --     StandsFor candidates log open_rows      they are those of a log, where these rows are open
 --     StandsUpTo candidates log unblocked open_rows      the same, but for a request that may be served since another one was, if there is one
 --     with_row number row open_rows, closed_in rank open_rows      the rows that are open once one bank has this row, and once a rank is closed
-use Rattle.std.specs.Prelude.{◌≡◌, ℕ, ◌/◌, ◌<◌, nat_lt, ◌==◌, Bool, false, true, List, length, slice_index_or, All, Option, None, if◌then◌else◌}
+use Rattle.std.specs.Prelude.{◌≡◌, ℕ, ◌/◌, ◌<◌, ◌==◌, Bool, false, true, List, length, slice_index_or, All, Option, None, if◌then◌else◌}
 use Rattle.sim_base.specs.declared.place.BankId.{BankId}
 use Rattle.request_log.specs.declared.Arrived.{Arrived}
 use Rattle.request_log.specs.Log.{all_requests, waiting_requests}
 use Rattle.request_log.specs.Columns.{bank_number}
+use Rattle.bank_candidates.specs.declared.entry.AccessCandidates.{AccessCandidates}
 use Rattle.bank_candidates.specs.declared.entry.CandidatesOfBank.{CandidatesOfBank}
 use Rattle.bank_candidates.specs.declared.all_banks.BankCandidates.{BankCandidates}
 use Rattle.bank_candidates.specs.Candidates.{number_of, access_number, RowsFit, access_count, AreCandidates}
+use Rattle.bank_candidates.specs.Moves.{earlier}
 use Rattle.bank_candidates.specs.Served.{AreFirstWith}
 use Rattle.bank_candidates.specs.Places.{access_in}
 
@@ -18,27 +24,41 @@ use Rattle.bank_candidates.specs.Places.{access_in}
 abbrev pub bank_count : BankCandidates → ℕ
 bank_count candidates = length candidates.rows.items
 
--- the candidates of a bank by its number, and d where there is none
-abbrev pub candidates_of_bank : BankCandidates → ℕ → CandidatesOfBank → CandidatesOfBank
-candidates_of_bank candidates bank d =
-    let words = candidates.places.words.items in
-    let own : CandidatesOfBank = record { row = slice_index_or candidates.rows.items bank None; reads = access_in words (access_number bank false); writes = access_in words (access_number bank true) } in
-    if nat_lt bank (bank_count candidates) then own else d
+-- the candidates of a bank by its number, and its open row; none where there is no such bank
+abbrev pub candidates_of_bank : BankCandidates → ℕ → CandidatesOfBank
+candidates_of_bank candidates bank =
+    record {
+      row = slice_index_or candidates.rows.items bank None;
+      reads = access_in candidates.places.words.items (access_number bank false);
+      writes = access_in candidates.places.words.items (access_number bank true);
+    }
+
+-- the candidates of a bank to write, or to read
+abbrev pub candidates_to : BankCandidates → ℕ → Bool → AccessCandidates
+candidates_to candidates bank write = if write then (candidates_of_bank candidates bank).writes else (candidates_of_bank candidates bank).reads
+
+-- the first request of a bank that may be served, to read or to write
+abbrev pub oldest_of_bank : BankCandidates → ℕ → Option ℕ
+oldest_of_bank candidates bank = earlier (candidates_to candidates bank false).oldest (candidates_to candidates bank true).oldest
+
+-- the row that is open in a bank
+abbrev pub row_of_bank : BankCandidates → ℕ → Option ℕ
+row_of_bank candidates bank = (candidates_of_bank candidates bank).row
 
 -- Every request asks for one of the banks, and for a row of 32 bits; the row of each bank is the one that is open, each candidate is
 -- the place of the first such request, and each counter says how many requests that wait ask for its bank and access.
 pub record StandsFor (candidates : BankCandidates) (log : List Arrived) (open_rows : ℕ → Option ℕ) : Type 0 where
   pub within : All (λ r. bank_number r.place < bank_count candidates) (all_requests log)
   pub rows_fit : RowsFit (all_requests log)
-  pub rows_are : (bank : ℕ) (d : CandidatesOfBank) → bank < bank_count candidates → (candidates_of_bank candidates bank d).row ≡ open_rows bank
-  pub candidates_are : (bank : ℕ) (d : CandidatesOfBank) → bank < bank_count candidates → AreCandidates log bank (candidates_of_bank candidates bank d)
+  pub rows_are : (bank : ℕ) → bank < bank_count candidates → row_of_bank candidates bank ≡ open_rows bank
+  pub candidates_are : (bank : ℕ) → bank < bank_count candidates → AreCandidates log bank (candidates_of_bank candidates bank)
   pub counts_are : (access : ℕ) → access < length candidates.counts.items → slice_index_or candidates.counts.items access 0 ≡ access_count access (waiting_requests log)
 
 -- They will stand for a log once a request is taken in that may be served since another one was, if there is one.
 pub record StandsUpTo (candidates : BankCandidates) (log : List Arrived) (unblocked : Option ℕ) (open_rows : ℕ → Option ℕ) : Type 0 where
   pub within : All (λ r. bank_number r.place < bank_count candidates) (all_requests log)
   pub rows_fit : RowsFit (all_requests log)
-  pub rows_are : (bank : ℕ) → bank < bank_count candidates → slice_index_or candidates.rows.items bank None ≡ open_rows bank
+  pub rows_are : (bank : ℕ) → bank < bank_count candidates → row_of_bank candidates bank ≡ open_rows bank
   pub candidates_are : (bank : ℕ) (write : Bool) → bank < bank_count candidates
       → AreFirstWith log bank write (open_rows bank) unblocked (access_in candidates.places.words.items (access_number bank write))
   pub counts_are : (access : ℕ) → access < length candidates.counts.items → slice_index_or candidates.counts.items access 0 ≡ access_count access (waiting_requests log)

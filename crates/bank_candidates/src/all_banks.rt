@@ -29,19 +29,18 @@ pub struct BankCandidates {
 }
 
 impl BankCandidates {
-    ghost use Rattle.std.specs.Prelude.{ℕ, ◌≡◌, ◌<◌, ◌≤◌, ◌-◌, ◌^◌, ◌++◌, ◌∷◌, not, true, [], List, length, take, drop, slice_index_or, slice_set, All, Option, None, Some, is_some, IfOk, IfSome, if◌then◌else◌};
+    ghost use Rattle.std.specs.Prelude.{ℕ, ◌≡◌, ◌<◌, ◌≤◌, ◌-◌, ◌^◌, ◌++◌, ◌∷◌, not, true, [], List, length, take, drop, All, Option, None, Some, is_some, IfOk, IfSome};
     ghost use Rattle.sim_base.specs.Rules.{open_row};
     ghost use Rattle.sim_base.specs.Scheduling.{asks_for_line, is_favoured};
     ghost use Rattle.sim_base.specs.declared.command.IssuedCommand.{IssuedCommand};
     ghost use Rattle.request_log.specs.declared.Arrived.{Arrived};
-    ghost use Rattle.request_log.specs.Log.{absent, waiting, waiting_requests, served_at, waits_at, eligible_column, unblocked_by};
+    ghost use Rattle.request_log.specs.Log.{waiting, waiting_requests};
     ghost use Rattle.request_log.specs.Columns.{bank_number};
-    ghost use Rattle.bank_candidates.specs.declared.entry.CandidatesOfBank.{CandidatesOfBank};
-    ghost use Rattle.bank_candidates.specs.Candidates.{bank_at, number_of, first_place};
-    ghost use Rattle.bank_candidates.specs.Moves.{earlier};
+    ghost use Rattle.bank_candidates.specs.Candidates.{number_of, first_place, bank_asked_at, rows_after};
     ghost use Rattle.bank_candidates.specs.Served.{IsServed};
     ghost use Rattle.bank_candidates.specs.Sets.{is_in};
-    ghost use Rattle.bank_candidates.specs.Stands.{bank_count, candidates_of_bank, StandsFor, StandsUpTo, with_row, closed_in, IsAmong};
+    ghost use Rattle.bank_candidates.specs.Stands.{bank_count, candidates_of_bank, candidates_to, oldest_of_bank, row_of_bank};
+    ghost use Rattle.bank_candidates.specs.Stands.{StandsFor, StandsUpTo, with_row, closed_in, IsAmong};
 
     /// The candidates of an empty log, for `banks` banks, which are all closed. Only this call allocates memory.
     pub fn with_room(alloc: Global, banks: usize) -> Result<Self, AllocError>
@@ -68,7 +67,7 @@ impl BankCandidates {
     #[inline(always)]
     pub fn of_bank(&self, bank: usize) -> CandidatesOfBank
         requires { bank < bank_count self.now }
-        ensures { (d : CandidatesOfBank) → result ≡ candidates_of_bank self.now bank d }
+        ensures { result ≡ candidates_of_bank self.now bank }
     {
         CandidatesOfBank {
             row: self.rows[bank],
@@ -81,7 +80,7 @@ impl BankCandidates {
     #[inline(always)]
     pub fn of_access(&self, bank: usize, write: bool) -> AccessCandidates
         requires { bank < bank_count self.now }
-        ensures { (d : CandidatesOfBank) → result ≡ (if write then (candidates_of_bank self.now bank d).writes else (candidates_of_bank self.now bank d).reads) }
+        ensures { result ≡ candidates_to self.now bank write }
     {
         self.places.of_access(bank, write)
     }
@@ -90,8 +89,8 @@ impl BankCandidates {
     #[inline(always)]
     pub fn first(&self, bank: usize) -> usize
         requires bank { bank < bank_count self.now }
-        requires some { (d : CandidatesOfBank) → is_some (earlier (candidates_of_bank self.now bank d).reads.oldest (candidates_of_bank self.now bank d).writes.oldest) ≡ true }
-        ensures { (d : CandidatesOfBank) → Some result ≡ earlier (candidates_of_bank self.now bank d).reads.oldest (candidates_of_bank self.now bank d).writes.oldest }
+        requires some { is_some (oldest_of_bank self.now bank) ≡ true }
+        ensures { Some result ≡ oldest_of_bank self.now bank }
     {
         self.places.first(bank)
     }
@@ -99,7 +98,8 @@ impl BankCandidates {
     /// The banks in which a row is open.
     #[inline(always)]
     pub fn open_banks(&self) -> BankSet
-        ensures { (bank : ℕ) (d : CandidatesOfBank) → bank < bank_count self.now → is_in result bank ≡ is_some (candidates_of_bank self.now bank d).row }
+        ensures { (bank : ℕ) → bank < bank_count self.now
+            → is_in result bank ≡ is_some (row_of_bank self.now bank) }
     {
         self.open_banks
     }
@@ -108,7 +108,7 @@ impl BankCandidates {
     #[inline(always)]
     fn row_of(&self, bank: usize) -> Option<u32>
         requires { bank < bank_count self.now }
-        ensures { (d : CandidatesOfBank) → result ≡ (candidates_of_bank self.now bank d).row }
+        ensures { result ≡ row_of_bank self.now bank }
     {
         self.rows[bank]
     }
@@ -117,7 +117,8 @@ impl BankCandidates {
     #[inline(always)]
     pub fn open_row(&self, bank: BankId) -> Option<u32>
         requires { IsAmong self.now bank }
-        ensures { (log : List Arrived) (history : List IssuedCommand) → StandsFor self.now log (λ number. open_row (bank_at number) history) → result ≡ open_row bank history }
+        ensures { (log : List Arrived) (history : List IssuedCommand)
+            → StandsFor self.now log (rows_after history) → result ≡ open_row bank history }
     {
         self.row_of(number_of(bank))
     }
@@ -125,8 +126,9 @@ impl BankCandidates {
     /// The banks for which a request to write, or to read, may be served.
     #[inline(always)]
     pub fn banks_with_candidate(&self, write: bool) -> BankSet
-        ensures within { (k : ℕ) → is_in result k ≡ true → k < bank_count self.now }
-        ensures each { (k : ℕ) (d : CandidatesOfBank) → k < bank_count self.now → is_in result k ≡ is_some (if write then (candidates_of_bank self.now k d).writes else (candidates_of_bank self.now k d).reads).oldest }
+        ensures within { (bank : ℕ) → is_in result bank ≡ true → bank < bank_count self.now }
+        ensures each { (bank : ℕ) → bank < bank_count self.now
+            → is_in result bank ≡ is_some (candidates_to self.now bank write).oldest }
     {
         self.places.banks(write, false)
     }
@@ -134,8 +136,9 @@ impl BankCandidates {
     /// The banks whose open row an eligible request to write, or to read, asks for.
     #[inline(always)]
     pub fn hit(&self, write: bool) -> BankSet
-        ensures within { (k : ℕ) → is_in result k ≡ true → k < bank_count self.now }
-        ensures each { (k : ℕ) (d : CandidatesOfBank) → k < bank_count self.now → is_in result k ≡ is_some (if write then (candidates_of_bank self.now k d).writes else (candidates_of_bank self.now k d).reads).hit }
+        ensures within { (bank : ℕ) → is_in result bank ≡ true → bank < bank_count self.now }
+        ensures each { (bank : ℕ) → bank < bank_count self.now
+            → is_in result bank ≡ is_some (candidates_to self.now bank write).hit }
     {
         self.places.banks(write, true)
     }
@@ -143,7 +146,9 @@ impl BankCandidates {
     /// Whether some request to write, or to read, may be served.
     #[inline(always)]
     pub fn has_access(&self, write: bool) -> bool
-        ensures { (log : List Arrived) (open_rows : ℕ → Option ℕ) → StandsFor self.now log open_rows → result ≡ is_some (first_place (is_favoured write) log) }
+        ensures { (log : List Arrived) (open_rows : ℕ → Option ℕ)
+            → StandsFor self.now log open_rows
+            → result ≡ is_some (first_place (is_favoured write) log) }
     {
         !self.banks_with_candidate(write).is_empty()
     }
@@ -174,7 +179,8 @@ impl BankCandidates {
         requires banks { All (λ a. bank_number a.request.place < bank_count self.old) log.now.log }
         requires waits { All (λ a. a.waits ≡ true) (drop from log.now.log) }
         ensures banks { bank_count self.new ≡ bank_count self.old }
-        ensures stands { (open_rows : ℕ → Option ℕ) → StandsFor self.old (take from log.now.log) open_rows
+        ensures stands { (open_rows : ℕ → Option ℕ)
+            → StandsFor self.old (take from log.now.log) open_rows
             → StandsFor self.new log.now.log open_rows }
     {
         let arrived = log.log();
@@ -187,11 +193,12 @@ impl BankCandidates {
     #[inline(always)]
     fn leave(&mut self, slot: usize, log: &RequestLog)
         requires slot { slot < length log.now.log }
-        requires bank { bank_number (slice_index_or log.now.log slot absent).request.place < bank_count self.old }
+        requires bank { bank_asked_at log.now.log slot < bank_count self.old }
         ensures banks { bank_count self.new ≡ bank_count self.old }
         ensures stands { (earlier : List Arrived) (unblocked : Option ℕ) (open_rows : ℕ → Option ℕ)
             → IsServed earlier slot unblocked log.now.log
-            → StandsFor self.old earlier open_rows → StandsUpTo self.new log.now.log unblocked open_rows }
+            → StandsFor self.old earlier open_rows
+            → StandsUpTo self.new log.now.log unblocked open_rows }
     {
         let request = &log.log()[slot].request;
         let bank = bank_number(request.place);
@@ -212,9 +219,10 @@ impl BankCandidates {
     #[inline(always)]
     fn unblock(&mut self, next: usize, log: &RequestLog)
         requires next { next < length log.now.log }
-        requires bank { bank_number (slice_index_or log.now.log next absent).request.place < bank_count self.old }
+        requires bank { bank_asked_at log.now.log next < bank_count self.old }
         ensures banks { bank_count self.new ≡ bank_count self.old }
-        ensures stands { (open_rows : ℕ → Option ℕ) → StandsUpTo self.old log.now.log (Some next) open_rows
+        ensures stands { (open_rows : ℕ → Option ℕ)
+            → StandsUpTo self.old log.now.log (Some next) open_rows
             → StandsFor self.new log.now.log open_rows }
     {
         let request = &log.log()[next].request;
@@ -231,8 +239,7 @@ impl BankCandidates {
         requires banks { All (λ a. bank_number a.request.place < bank_count self.old) log.now.log }
         ensures banks { bank_count self.new ≡ bank_count self.old }
         ensures stands { (earlier : List Arrived) (open_rows : ℕ → Option ℕ)
-            → slot < length earlier → waits_at earlier slot ≡ true → log.now.log ≡ served_at earlier slot
-            → eligible_column log.now.log ≡ unblocked_by unblocked (slice_set (eligible_column earlier) slot 0)
+            → IsServed earlier slot unblocked log.now.log
             → StandsFor self.old earlier open_rows → StandsFor self.new log.now.log open_rows }
     {
         self.leave(slot, log);
@@ -244,7 +251,8 @@ impl BankCandidates {
     /// Looks for all candidates anew, once those that wait have moved to the front of the log.
     pub fn renew(&mut self, log: &RequestLog)
         ensures banks { bank_count self.new ≡ bank_count self.old }
-        ensures stands { (earlier : List Arrived) (open_rows : ℕ → Option ℕ) → log.now.log ≡ waiting earlier
+        ensures stands { (earlier : List Arrived) (open_rows : ℕ → Option ℕ)
+            → log.now.log ≡ waiting earlier
             → StandsFor self.old earlier open_rows → StandsFor self.new log.now.log open_rows }
     {
         // tells the proof that the log has fewer than 2^16 - 1 requests
@@ -261,7 +269,8 @@ impl BankCandidates {
     pub fn opened(&mut self, bank: BankId, row: u32, log: &RequestLog)
         requires { number_of bank < bank_count self.old }
         ensures banks { bank_count self.new ≡ bank_count self.old }
-        ensures stands { (open_rows : ℕ → Option ℕ) → StandsFor self.old log.now.log open_rows
+        ensures stands { (open_rows : ℕ → Option ℕ)
+            → StandsFor self.old log.now.log open_rows
             → StandsFor self.new log.now.log (with_row (number_of bank) (Some row) open_rows) }
     {
         // tells the proof that the log has fewer than 2^16 - 1 requests
@@ -278,7 +287,8 @@ impl BankCandidates {
     fn close(&mut self, number: usize)
         requires { number < bank_count self.old }
         ensures banks { bank_count self.new ≡ bank_count self.old }
-        ensures stands { (log : List Arrived) (open_rows : ℕ → Option ℕ) → StandsFor self.old log open_rows
+        ensures stands { (log : List Arrived) (open_rows : ℕ → Option ℕ)
+            → StandsFor self.old log open_rows
             → StandsFor self.new log (with_row number None open_rows) }
     {
         self.rows[number] = None;
@@ -291,7 +301,8 @@ impl BankCandidates {
     pub fn closed(&mut self, bank: BankId)
         requires { number_of bank < bank_count self.old }
         ensures banks { bank_count self.new ≡ bank_count self.old }
-        ensures stands { (log : List Arrived) (open_rows : ℕ → Option ℕ) → StandsFor self.old log open_rows
+        ensures stands { (log : List Arrived) (open_rows : ℕ → Option ℕ)
+            → StandsFor self.old log open_rows
             → StandsFor self.new log (with_row (number_of bank) None open_rows) }
     {
         self.close(number_of(bank));
@@ -301,7 +312,8 @@ impl BankCandidates {
     #[inline(never)]
     pub fn closed_rank(&mut self, rank: u32)
         ensures banks { bank_count self.new ≡ bank_count self.old }
-        ensures stands { (log : List Arrived) (open_rows : ℕ → Option ℕ) → StandsFor self.old log open_rows
+        ensures stands { (log : List Arrived) (open_rows : ℕ → Option ℕ)
+            → StandsFor self.old log open_rows
             → StandsFor self.new log (closed_in rank open_rows) }
     {
         for number in 0..self.rows.len() {

@@ -1,10 +1,8 @@
 //! The places of the candidates of all banks.
 
-ghost use Rattle.std.specs.Prelude.{◌≡◌, ◌≢◌, ℕ, ◌+◌, ◌*◌, ◌^◌, ◌-◌, ◌<◌, ◌≤◌, true, false, length, slice_index_or, Some, is_some};
-ghost use Rattle.bank_candidates.specs.declared.sets.BankSet.{BankSet};
-ghost use Rattle.bank_candidates.specs.Sets.{is_in};
+ghost use Rattle.std.specs.Prelude.{◌≡◌, ◌≢◌, ◌^◌, ◌-◌, ◌<◌, ◌≤◌, true, false, length, Some, is_some};
 ghost use Rattle.bank_candidates.specs.Moves.{earlier};
-ghost use Rattle.bank_candidates.specs.Places.{candidate_of, word_of, IsShort, column, candidate_in};
+ghost use Rattle.bank_candidates.specs.Places.{candidate_of, word_of, IsShort, column, Agree};
 
 use crate::entry::AccessCandidates;
 use crate::search::{first_from, first_hit, first_open_hit};
@@ -23,7 +21,7 @@ pub(crate) struct Places {
     sets: [BankSet; 4],
     ghost few: { length words.items ≤ 256 },
     ghost four: { length sets ≡ 4 },
-    ghost agree: { (bank number : ℕ) (d : BankSet) → number < 4 → is_in (slice_index_or sets number d) bank ≡ is_some (candidate_of (slice_index_or words.items (4 * bank + number) 0)) },
+    ghost agree: { Agree words.items sets },
 }
 
 /// The place that a word tells.
@@ -104,20 +102,21 @@ pub(crate) struct Departure {
 }
 
 impl Places {
-    ghost use Rattle.std.specs.Prelude.{ℕ, ◌≡◌, ◌≢◌, ◌+◌, ◌*◌, ◌<◌, ◌≤◌, ◌^◌, ◌-◌, Bool, true, false, not, length, Option, Some, None, is_some, IfOk, List, if◌then◌else◌};
-    ghost use Rattle.sim_base.specs.Scheduling.{or_else};
+    ghost use Rattle.std.specs.Prelude.{ℕ, ◌≡◌, ◌≢◌, ◌+◌, ◌*◌, ◌<◌, ◌≤◌, ◌^◌, ◌-◌, true, false, not, length, Option, Some, is_some, IfOk, List};
     ghost use Rattle.request_log.specs.declared.Arrived.{Arrived};
-    ghost use Rattle.request_log.specs.Log.{waiting_requests};
-    ghost use Rattle.bank_candidates.specs.Candidates.{wants, first_place, access_number, access_count, AreFirst};
-    ghost use Rattle.bank_candidates.specs.Moves.{earlier, NoneBefore};
-    ghost use Rattle.bank_candidates.specs.Served.{IsServed, AreFirstWith, candidate_for, access_for};
-    ghost use Rattle.bank_candidates.specs.Places.{access_in};
+    ghost use Rattle.bank_candidates.specs.Sets.{is_in};
+    ghost use Rattle.bank_candidates.specs.Candidates.{AreFirst, NoneWaits};
+    ghost use Rattle.bank_candidates.specs.Moves.{IsFirstFrom};
+    ghost use Rattle.bank_candidates.specs.Changes.{HasBank, candidate_at, candidates_at, first_at, HasNoCandidate};
+    ghost use Rattle.bank_candidates.specs.Changes.{SameRoom, SameCandidate, SameOthers, SameOtherBanks};
+    ghost use Rattle.bank_candidates.specs.Changes.{HasJoined, HasTakenIn, IsClosed};
+    ghost use Rattle.bank_candidates.specs.Served.{IsServed, AreFirstWithout, candidate_for, candidates_for, wants_like};
 
     /// The places of the candidates of an empty log.
     pub(crate) fn with_room(alloc: Global, banks: usize) -> Result<Self, AllocError>
         requires { banks ≤ 64 }
         ensures room { IfOk result (λ places. length places.words.items ≡ 4 * banks) }
-        ensures none { IfOk result (λ places. (access : ℕ) (hit : Bool) → candidate_in places.words.items access hit ≡ None) }
+        ensures none { IfOk result HasNoCandidate }
     {
         Ok(Places {
             words: vec![in alloc; 0; 4 * banks]?,
@@ -128,8 +127,8 @@ impl Places {
     /// A candidate of a bank to write, or to read: the first hit, or the oldest.
     #[inline(always)]
     pub(crate) fn candidate(&self, bank: usize, write: bool, hit: bool) -> Option<usize>
-        requires { 4 * bank + 3 < length self.now.words.items }
-        ensures candidate { result ≡ candidate_in self.now.words.items (access_number bank write) hit }
+        requires { HasBank self.now bank }
+        ensures candidate { result ≡ candidate_at self.now bank write hit }
         ensures short { IsShort result }
     {
         candidate_of(self.words[4 * bank + column(write, hit)])
@@ -138,8 +137,8 @@ impl Places {
     /// The candidates of a bank to write, or to read.
     #[inline(always)]
     pub(crate) fn of_access(&self, bank: usize, write: bool) -> AccessCandidates
-        requires { 4 * bank + 3 < length self.now.words.items }
-        ensures candidates { result ≡ access_in self.now.words.items (access_number bank write) }
+        requires { HasBank self.now bank }
+        ensures candidates { result ≡ candidates_at self.now bank write }
         ensures oldest { IsShort result.oldest }
         ensures hit { IsShort result.hit }
     {
@@ -152,9 +151,9 @@ impl Places {
     /// The first request of a bank that may be served, to read or to write, where there is one.
     #[inline(always)]
     pub(crate) fn first(&self, bank: usize) -> usize
-        requires bank { 4 * bank + 3 < length self.now.words.items }
-        requires some { is_some (earlier (candidate_in self.now.words.items (access_number bank false) false) (candidate_in self.now.words.items (access_number bank true) false)) ≡ true }
-        ensures { Some result ≡ earlier (candidate_in self.now.words.items (access_number bank false) false) (candidate_in self.now.words.items (access_number bank true) false) }
+        requires bank { HasBank self.now bank }
+        requires some { is_some (first_at self.now bank) ≡ true }
+        ensures { Some result ≡ first_at self.now bank }
     {
         first_of(
             self.words[4 * bank + column(false, false)],
@@ -165,7 +164,7 @@ impl Places {
     /// The banks with a candidate: the first hit or the oldest, to write or to read.
     #[inline(always)]
     pub(crate) fn banks(&self, write: bool, hit: bool) -> BankSet
-        ensures { (bank : ℕ) → is_in result bank ≡ is_some (candidate_in self.now.words.items (access_number bank write) hit) }
+        ensures { (bank : ℕ) → is_in result bank ≡ is_some (candidate_at self.now bank write hit) }
     {
         self.sets[column(write, hit)]
     }
@@ -173,12 +172,12 @@ impl Places {
     /// Writes a candidate of a bank.
     #[inline(always)]
     pub(crate) fn set(&mut self, bank: usize, write: bool, hit: bool, candidate: Option<usize>)
-        requires bank { 4 * bank + 3 < length self.old.words.items }
+        requires bank { HasBank self.old bank }
         requires short { IsShort candidate }
-        ensures room { length self.new.words.items ≡ length self.old.words.items }
-        ensures same { candidate_in self.new.words.items (access_number bank write) hit ≡ candidate }
-        ensures beside { candidate_in self.new.words.items (access_number bank write) (not hit) ≡ candidate_in self.old.words.items (access_number bank write) (not hit) }
-        ensures others { (access : ℕ) → access ≢ access_number bank write → access_in self.new.words.items access ≡ access_in self.old.words.items access }
+        ensures room { SameRoom self.old self.new }
+        ensures same { candidate_at self.new bank write hit ≡ candidate }
+        ensures beside { SameCandidate self.old self.new bank write (not hit) }
+        ensures others { SameOthers self.old self.new bank write }
     {
         let column = column(write, hit);
         self.words[4 * bank + column] = word_of(candidate);
@@ -193,13 +192,11 @@ impl Places {
     /// Takes note of a request after all others, which may be served and asks for the open row or not.
     #[inline(always)]
     pub(crate) fn join(&mut self, bank: usize, write: bool, slot: usize, hit: bool)
-        requires bank { 4 * bank + 3 < length self.old.words.items }
+        requires bank { HasBank self.old bank }
         requires short { slot < 2 ^ 16 - 1 }
-        ensures room { length self.new.words.items ≡ length self.old.words.items }
-        ensures oldest { let access = access_number bank write in candidate_in self.new.words.items access false ≡ or_else (candidate_in self.old.words.items access false) (Some slot) }
-        ensures hit { let access = access_number bank write in candidate_in self.new.words.items access true
-            ≡ (if hit then or_else (candidate_in self.old.words.items access true) (Some slot) else candidate_in self.old.words.items access true) }
-        ensures others { (access : ℕ) → access ≢ access_number bank write → access_in self.new.words.items access ≡ access_in self.old.words.items access }
+        ensures room { SameRoom self.old self.new }
+        ensures joined { HasJoined self.old self.new bank write slot hit }
+        ensures others { SameOthers self.old self.new bank write }
     {
         if self.candidate(bank, write, false).is_none() {
             self.set(bank, write, false, Some(slot));
@@ -212,10 +209,10 @@ impl Places {
     /// Takes note that no row is open in a bank.
     #[inline(always)]
     pub(crate) fn close(&mut self, bank: usize)
-        requires { 4 * bank + 3 < length self.old.words.items }
-        ensures room { length self.new.words.items ≡ length self.old.words.items }
-        ensures own { (write : Bool) → access_in self.new.words.items (access_number bank write) ≡ record (access_in self.old.words.items (access_number bank write)) { hit = None } }
-        ensures others { (other : ℕ) (write : Bool) → other ≢ bank → access_in self.new.words.items (access_number other write) ≡ access_in self.old.words.items (access_number other write) }
+        requires { HasBank self.old bank }
+        ensures room { SameRoom self.old self.new }
+        ensures own { IsClosed self.old self.new bank }
+        ensures others { SameOtherBanks self.old self.new bank }
     {
         self.set(bank, false, true, None);
         self.set(bank, true, true, None);
@@ -224,10 +221,10 @@ impl Places {
     /// Whether a candidate of a bank is the request at a place.
     #[inline(always)]
     pub(crate) fn is_at(&self, bank: usize, write: bool, hit: bool, slot: usize) -> bool
-        requires bank { 4 * bank + 3 < length self.now.words.items }
+        requires bank { HasBank self.now bank }
         requires short { slot < 2 ^ 16 - 1 }
-        ensures there { result ≡ true → candidate_in self.now.words.items (access_number bank write) hit ≡ Some slot }
-        ensures elsewhere { result ≡ false → candidate_in self.now.words.items (access_number bank write) hit ≢ Some slot }
+        ensures there { result ≡ true → candidate_at self.now bank write hit ≡ Some slot }
+        ensures elsewhere { result ≡ false → candidate_at self.now bank write hit ≢ Some slot }
     {
         tells(self.words[4 * bank + column(write, hit)], slot)
     }
@@ -235,12 +232,13 @@ impl Places {
     /// Takes note of a row that is open in a bank, for its requests to write, or to read.
     #[inline(always)]
     pub(crate) fn open(&mut self, bank: usize, write: bool, row: u32, log: &RequestLog)
-        requires bank { 4 * bank + 3 < length self.old.words.items }
+        requires bank { HasBank self.old bank }
         requires log { length log.now.log < 2 ^ 16 - 1 }
-        ensures room { length self.new.words.items ≡ length self.old.words.items }
-        ensures own { (old : Option ℕ) → AreFirst log.now.log bank write old (access_in self.old.words.items (access_number bank write))
-            → AreFirst log.now.log bank write (Some row) (access_in self.new.words.items (access_number bank write)) }
-        ensures others { (access : ℕ) → access ≢ access_number bank write → access_in self.new.words.items access ≡ access_in self.old.words.items access }
+        ensures room { SameRoom self.old self.new }
+        ensures own { (old : Option ℕ)
+            → AreFirst log.now.log bank write old (candidates_at self.old bank write)
+            → AreFirst log.now.log bank write (Some row) (candidates_at self.new bank write) }
+        ensures others { SameOthers self.old self.new bank write }
     {
         if let Some(oldest) = self.candidate(bank, write, false) {
             let hit = first_hit(log, oldest, bank, write, row);
@@ -252,18 +250,17 @@ impl Places {
     /// access, and for a row if one is given.
     #[inline(always)]
     fn replace(&mut self, log: &RequestLog, departure: Departure, hit: bool, row: Option<u32>)
-        requires bank { 4 * departure.bank + 3 < length self.old.words.items }
+        requires bank { HasBank self.old departure.bank }
         requires slot { departure.slot < length log.now.log }
         requires log { length log.now.log < 2 ^ 16 - 1 }
-        ensures room { length self.new.words.items ≡ length self.old.words.items }
-        ensures kept { candidate_for self.old.words.items departure hit ≢ Some departure.slot
-            → candidate_for self.new.words.items departure hit ≡ candidate_for self.old.words.items departure hit }
-        ensures found { candidate_for self.old.words.items departure hit ≡ Some departure.slot
-            → NoneBefore (wants departure.bank departure.write row) log.now.log (departure.slot + 1)
-            → candidate_for self.new.words.items departure hit ≡ first_place (wants departure.bank departure.write row) log.now.log }
-        ensures beside { candidate_for self.new.words.items departure (not hit) ≡ candidate_for self.old.words.items departure (not hit) }
-        ensures others { (access : ℕ) → access ≢ access_number departure.bank departure.write
-            → access_in self.new.words.items access ≡ access_in self.old.words.items access }
+        ensures room { SameRoom self.old self.new }
+        ensures kept { candidate_for self.old departure hit ≢ Some departure.slot
+            → SameCandidate self.old self.new departure.bank departure.write hit }
+        ensures found { candidate_for self.old departure hit ≡ Some departure.slot
+            → IsFirstFrom (wants_like departure row) log.now.log (departure.slot + 1)
+            (candidate_for self.new departure hit) }
+        ensures beside { SameCandidate self.old self.new departure.bank departure.write (not hit) }
+        ensures others { SameOthers self.old self.new departure.bank departure.write }
     {
         let Departure {
             slot,
@@ -280,16 +277,18 @@ impl Places {
     /// Takes note of a request that has been served.
     #[inline(always)]
     pub(crate) fn leave(&mut self, log: &RequestLog, departure: Departure, row: Option<u32>)
-        requires bank { 4 * departure.bank + 3 < length self.old.words.items }
+        requires bank { HasBank self.old departure.bank }
         requires slot { departure.slot < length log.now.log }
         requires log { length log.now.log < 2 ^ 16 - 1 }
-        ensures room { length self.new.words.items ≡ length self.old.words.items }
-        ensures own { (earlier : List Arrived) (unblocked : Option ℕ) → IsServed earlier departure.slot unblocked log.now.log
-            → (departure.empty ≡ true → access_count (access_number departure.bank departure.write) (waiting_requests log.now.log) ≡ 0)
-            → AreFirst earlier departure.bank departure.write row (access_for self.old.words.items departure)
-            → AreFirstWith log.now.log departure.bank departure.write row unblocked (access_for self.new.words.items departure) }
-        ensures others { (access : ℕ) → access ≢ access_number departure.bank departure.write
-            → access_in self.new.words.items access ≡ access_in self.old.words.items access }
+        ensures room { SameRoom self.old self.new }
+        ensures own { (earlier : List Arrived) (unblocked : Option ℕ)
+            → IsServed earlier departure.slot unblocked log.now.log
+            → (departure.empty ≡ true → NoneWaits log.now.log departure.bank departure.write)
+            → AreFirst earlier departure.bank departure.write row
+            (candidates_for self.old departure)
+            → AreFirstWithout departure log.now.log row unblocked
+            (candidates_for self.new departure) }
+        ensures others { SameOthers self.old self.new departure.bank departure.write }
     {
         if departure.empty {
             self.set(departure.bank, departure.write, false, None);
@@ -302,14 +301,11 @@ impl Places {
 
     /// Takes note of a request that may be served now, and asks for the open row or not.
     pub(crate) fn unblock(&mut self, bank: usize, write: bool, slot: usize, hit: bool)
-        requires bank { 4 * bank + 3 < length self.old.words.items }
+        requires bank { HasBank self.old bank }
         requires short { slot < 2 ^ 16 - 1 }
-        ensures room { length self.new.words.items ≡ length self.old.words.items }
-        ensures oldest { let access = access_number bank write in candidate_in self.new.words.items access false
-            ≡ earlier (candidate_in self.old.words.items access false) (Some slot) }
-        ensures hit { let access = access_number bank write in candidate_in self.new.words.items access true
-            ≡ earlier (candidate_in self.old.words.items access true) (if hit then Some slot else None) }
-        ensures others { (access : ℕ) → access ≢ access_number bank write → access_in self.new.words.items access ≡ access_in self.old.words.items access }
+        ensures room { SameRoom self.old self.new }
+        ensures taken { HasTakenIn self.old self.new bank write slot hit }
+        ensures others { SameOthers self.old self.new bank write }
     {
         let oldest = earlier_of(self.candidate(bank, write, false), slot);
         self.set(bank, write, false, oldest);
@@ -321,11 +317,11 @@ impl Places {
 
     /// Looks for the candidates of a bank to write, or to read, in the whole log.
     pub(crate) fn renew(&mut self, log: &RequestLog, bank: usize, write: bool, row: Option<u32>)
-        requires bank { 4 * bank + 3 < length self.old.words.items }
+        requires bank { HasBank self.old bank }
         requires log { length log.now.log < 2 ^ 16 - 1 }
-        ensures room { length self.new.words.items ≡ length self.old.words.items }
-        ensures own { AreFirst log.now.log bank write row (access_in self.new.words.items (access_number bank write)) }
-        ensures others { (access : ℕ) → access ≢ access_number bank write → access_in self.new.words.items access ≡ access_in self.old.words.items access }
+        ensures room { SameRoom self.old self.new }
+        ensures own { AreFirst log.now.log bank write row (candidates_at self.new bank write) }
+        ensures others { SameOthers self.old self.new bank write }
     {
         let oldest = first_from(log, 0, bank, write, None);
         let hit = first_open_hit(log, oldest, bank, write, row);

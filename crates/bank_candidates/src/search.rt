@@ -1,9 +1,8 @@
 //! Searches for the first request of a bank and an access.
 
-ghost use Rattle.std.specs.Prelude.{◌≡◌, ◌-◌, ◌<◌, ◌^◌, ◌==◌, false, All, length, Some, IfSome};
-ghost use Rattle.request_log.specs.Log.{waiting_requests};
-ghost use Rattle.bank_candidates.specs.Candidates.{asks, hits, wants, first_place};
-ghost use Rattle.bank_candidates.specs.Moves.{NoneBefore};
+ghost use Rattle.std.specs.Prelude.{◌≡◌, ◌-◌, ◌<◌, ◌^◌, ◌==◌, false, length, Some, IfSome};
+ghost use Rattle.bank_candidates.specs.Candidates.{wants, NonePasses};
+ghost use Rattle.bank_candidates.specs.Moves.{IsFirstFrom, IsFirstHit};
 ghost use Rattle.bank_candidates.specs.Places.{IsShort};
 
 use memchr::memchr;
@@ -34,7 +33,7 @@ fn asks_for_row(request: &Request, row: u32) -> bool
 /// Whether some request that waits may be of a bank and an access, and ask for a row if one is given: false only where none is and does.
 #[inline(always)]
 fn may_be_wanted(log: &RequestLog, bank: usize, write: bool, row: Option<u32>) -> bool
-    ensures { result ≡ false → All (λ r. wants bank write row r ≡ false) (waiting_requests log.now.log) }
+    ensures { result ≡ false → NonePasses (wants bank write row) log.now.log }
 {
     match row {
         Some(row) => log.may_ask(bank, write, row),
@@ -51,7 +50,7 @@ pub(crate) fn first_from(
     write: bool,
     row: Option<u32>,
 ) -> Option<usize>
-    ensures first { NoneBefore (wants bank write row) log.now.log from → result ≡ first_place (wants bank write row) log.now.log }
+    ensures first { IsFirstFrom (wants bank write row) log.now.log from result }
     ensures within { IfSome result (λ k. k < length log.now.log) }
 {
     if !may_be_wanted(log, bank, write, row) {
@@ -83,7 +82,7 @@ pub(crate) fn first_hit(
     row: u32,
 ) -> Option<usize>
     requires short { oldest < 2 ^ 16 - 1 }
-    ensures first { Some oldest ≡ first_place (asks bank write) log.now.log → result ≡ first_place (wants bank write (Some row)) log.now.log }
+    ensures first { IsFirstHit log.now.log bank write (Some row) (Some oldest) result }
     ensures within { IfSome result (λ k. k < length log.now.log) }
 {
     let arrived = log.log();
@@ -102,7 +101,7 @@ pub(crate) fn first_open_hit(
     row: Option<u32>,
 ) -> Option<usize>
     requires short { IsShort oldest }
-    ensures first { oldest ≡ first_place (asks bank write) log.now.log → result ≡ first_place (hits bank write row) log.now.log }
+    ensures first { IsFirstHit log.now.log bank write row oldest result }
     ensures within { IfSome result (λ k. k < length log.now.log) }
 {
     match (row, oldest) {

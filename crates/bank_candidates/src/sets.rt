@@ -8,7 +8,7 @@ pub struct BankSet {
 
 impl BankSet {
     ghost use Rattle.std.specs.Prelude.{◌≡◌, ◌≢◌, ◌<◌, ℕ, true, false, not, ◌&&◌, ◌||◌, IfSome, IfNone};
-    ghost use Rattle.bank_candidates.specs.Sets.{is_in};
+    ghost use Rattle.bank_candidates.specs.Sets.{is_in, IsLowest};
 
     /// No bank.
     #[inline(always)]
@@ -45,8 +45,9 @@ impl BankSet {
     /// These banks except the lowest.
     #[inline(always)]
     pub fn without_first(self) -> Self
-        ensures same { (bank : ℕ) → is_in self bank ≡ true → ((k : ℕ) → k < bank → is_in self k ≡ false) → is_in result bank ≡ false }
-        ensures others { (bank : ℕ) → is_in self bank ≡ true → ((k : ℕ) → k < bank → is_in self k ≡ false) → (k : ℕ) → k ≢ bank → is_in result k ≡ is_in self k }
+        ensures same { (bank : ℕ) → IsLowest self bank → is_in result bank ≡ false }
+        ensures others { (bank k : ℕ) → IsLowest self bank
+            → k ≢ bank → is_in result k ≡ is_in self k }
     {
         BankSet {
             bits: self.bits & self.bits.wrapping_sub(1),
@@ -86,8 +87,7 @@ impl BankSet {
     #[inline(always)]
     pub fn first(self) -> Option<usize>
         ensures none { IfNone result ((k : ℕ) → is_in self k ≡ false) }
-        ensures first { IfSome result (λ bank. is_in self bank ≡ true) }
-        ensures lowest { IfSome result (λ bank. (k : ℕ) → k < bank → is_in self k ≡ false) }
+        ensures lowest { IfSome result (IsLowest self) }
         ensures within { IfSome result (λ bank. bank < 64) }
     {
         if self.bits == 0 {

@@ -1,4 +1,5 @@
 pub mod Ready
 pub mod Words
+pub mod Raised
 pub mod Noted
 pub mod Stands

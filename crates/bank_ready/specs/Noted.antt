@@ -3,6 +3,7 @@
 --     window_word banks command k      from which cycle on a command leaves room for one more ACT of the bank with a number
 --     IsFloorRaised t cycle command later before after      a cycle before which no command of a kind is allowed is not raised too far
 --     IsNoted banks after t cycle command      one more command is noted, by these distances
+--     HasNoted banks after cycle command      the same, by the distances of the banks
 use Rattle.std.specs.Prelude.{◌≡◌, ℕ, ◌*◌, ◌/◌, ◌<◌, ◌≤◌, max, length, slice_index_or, Option, if◌then◌else◌}
 use Rattle.sim_base.specs.declared.timing.Timing.{Timing}
 use Rattle.sim_base.specs.declared.place.BankId.{BankId}
@@ -12,7 +13,7 @@ use Rattle.sim_base.specs.declared.command.Kind.TheVariants.{Act, Rd, Wr, Pre}
 use Rattle.sim_base.specs.Rules.{kind_of}
 use Rattle.timing.specs.Relation.{relation_to}
 use Rattle.bank_ready.specs.Ready.{held_until}
-use Rattle.bank_ready.specs.Words.{act_word, rd_word, wr_word, pre_word, word_until, acts_in, no_acts, rank_state_after}
+use Rattle.bank_ready.specs.Words.{act_word, rd_word, wr_word, pre_word, word_until, acts_in, unused_rank, rank_state_after}
 use Rattle.bank_ready.specs.declared.words.RankState.{RankState}
 use Rattle.bank_ready.specs.declared.banks.Banks.{Banks}
 
@@ -24,7 +25,7 @@ pub record IsRaised (count : ℕ) (before after until : ℕ → ℕ) : Type 0 wh
 -- from where the ACT that is then the oldest of the last four no longer counts
 abbrev pub window_word : Banks → Command → ℕ → ℕ
 window_word banks command k =
-    if acts_in command (k / 16) then (slice_index_or banks.ranks.items (k / 16) (record { prea = 0; refresh = 0; window = no_acts })).window.second else 0
+    if acts_in command (k / 16) then (slice_index_or banks.ranks.items (k / 16) unused_rank).window.second else 0
 
 -- a cycle before which no command of a kind is allowed is raised no further than this command holds back each one of the kind
 abbrev pub IsFloorRaised : Timing → ℕ → Command → Kind → ℕ → ℕ → Type 0
@@ -42,3 +43,7 @@ pub record IsNoted (banks after : Banks) (t : Timing) (cycle : ℕ) (command : C
   pub wr_floor : IsFloorRaised t cycle command Wr banks.wr_floor after.wr_floor
   pub rank_count : length after.ranks.items ≡ length banks.ranks.items
   pub ranks : (k : ℕ) (d : RankState) → k < length banks.ranks.items → slice_index_or after.ranks.items k d ≡ rank_state_after t cycle command k (slice_index_or banks.ranks.items k d)
+
+-- the same, by the distances that the banks keep
+abbrev pub HasNoted : Banks → Banks → ℕ → Command → Type 0
+HasNoted banks after cycle command = IsNoted banks after banks.delays.value cycle command

@@ -3,8 +3,9 @@
 --     IsAllowedFrom s history command cycle      from which cycle on a command is allowed after a history
 --     Ascends history      each command is later than those before it
 --     IsFloor t history later cycle      no command of a kind is allowed before a cycle
+--     followed_by history channel cycle command      a list of commands with one more
 --     StandsFor banks s history      all that it keeps is what the commands of a history make of it
-use Rattle.std.specs.Prelude.{◌≡◌, ℕ, ◌*◌, ◌<◌, ◌≤◌, ◌↔◌, IsTrue, Option, List, [], ◌∷◌, map, length}
+use Rattle.std.specs.Prelude.{◌≡◌, ℕ, ◌*◌, ◌<◌, ◌≤◌, ◌↔◌, IsTrue, Option, List, [], ◌∷◌, ◌++◌, map, length}
 use Rattle.std.specs.List.{AllByRecursion as Each}
 use Rattle.sim_base.specs.declared.config.Config.{Config}
 use Rattle.sim_base.specs.declared.timing.Timing.{Timing}
@@ -26,6 +27,10 @@ rank_count banks = length banks.ranks.items
 -- From this cycle on, and not before, the distances and the four-activate window allow a command after a history.
 abbrev pub IsAllowedFrom : Config → List IssuedCommand → Command → ℕ → Type 0
 IsAllowedFrom s history command cycle = (now : ℕ) → (cycle ≤ now) ↔ IsTrue (is_allowed s.timing history now command)
+
+-- a list of commands with one more, which a channel issues in a cycle
+abbrev pub followed_by : List IssuedCommand → ℕ → ℕ → Command → List IssuedCommand
+followed_by history channel cycle command = history ++ record { cycle = cycle; channel = channel; command = command } ∷ []
 
 -- each command is later than those before it
 abbrev pub Ascends : List IssuedCommand → Type 0

@@ -1,15 +1,20 @@
 -- What a bank and a rank keep of a history.
 --     bank_at k, number_of bank      the bank with a number, and the number of a bank
 --     is_own own k      a number is that of a bank, if there is such a bank
+--     own_until own until k, rank_until rank until k      to which cycle the word of a bank is raised
+--     groups_rank_until, group_until, ranks_until, all_groups_until      to which cycle that of a group is
 --     relation_from bank k, group_relation_from bank k      how a bank relates to the one with a number, and to the group with a number
 --     act_word banks k, rd_word banks k, wr_word banks k, pre_word banks k      what is kept of the bank with a number
 --     names_bank kind, names_rank kind, moves_data kind      a command of this kind names a bank, or a rank alone, or moves data
+--     unused_rank      a rank that has had no command
 --     pushed window end      the last four ACTs of a rank after one more
 --     window_from t rank history      the last four ACTs of a rank
 --     word_from t history later k, act_word_from t history k      from which cycle on no command of a history holds back one of a bank
 --     rank_state_from t history rank      what a rank keeps of the commands of a history
 --     word_until t cycle command later k      from which cycle on one command no longer holds back another of a bank
---     rank_raised t cycle earlier state, rank_state_after t cycle command rank state      what a rank keeps after one more command
+--     rank_raised t cycle earlier state      what a rank keeps after one more command in it
+--     rank_after_act t cycle end state      what it keeps after an ACT
+--     rank_state_after t cycle command rank state      what a rank keeps after one more command
 use Rattle.std.specs.Prelude.{ℕ, ◌+◌, ◌*◌, ◌/◌, ◌%◌, ◌==◌, ◌&&◌, max, Bool, true, false, List, slice_index_or, fold, Option, Some, None, if◌then◌else◌}
 use Rattle.sim_base.specs.declared.timing.Timing.{Timing}
 use Rattle.sim_base.specs.declared.place.BankId.{BankId}
@@ -38,6 +43,31 @@ number_of bank = bank.rank * 16 + bank.group * 4 + bank.bank
 abbrev pub is_own : Option ℕ → ℕ → Bool
 is_own (Some own) k = k == own
 is_own None k = false
+
+-- to which cycle the word of the bank with this number is raised: it alone, if there is such a bank
+abbrev pub own_until : Option ℕ → ℕ → ℕ → ℕ
+own_until own until k = if is_own own k then until else 0
+
+-- the same of each bank of a rank, and of each group of a rank
+abbrev pub rank_until : ℕ → ℕ → ℕ → ℕ
+rank_until rank until k = if rank == k / 16 then until else 0
+
+abbrev pub groups_rank_until : ℕ → ℕ → ℕ → ℕ
+groups_rank_until rank until k = if rank == k / 4 then until else 0
+
+-- the same of each group of a rank, for one group a cycle of its own
+abbrev pub group_until : ℕ → ℕ → ℕ → ℕ → ℕ → ℕ
+group_until rank group same_group other_group k =
+    if rank == k / 4 then (if group == k % 4 then same_group else other_group) else 0
+
+-- the same of each group of all ranks, for those of one rank a cycle of their own
+abbrev pub ranks_until : ℕ → ℕ → ℕ → ℕ → ℕ
+ranks_until rank same_rank other_rank k = if rank == k / 4 then same_rank else other_rank
+
+-- the same of each group of all ranks: that of a bank, the others of its rank, and those of the other ranks
+abbrev pub all_groups_until : BankId → ℕ → ℕ → ℕ → ℕ → ℕ
+all_groups_until bank same_group other_group other_rank k =
+    if bank.rank == k / 4 then (if bank.group == k % 4 then same_group else other_group) else other_rank
 
 -- how a bank relates to the one with this number
 abbrev pub relation_from : BankId → ℕ → Relation
@@ -92,6 +122,10 @@ moves_data Ref = false
 abbrev pub no_acts : Window
 no_acts = record { oldest = 0; second = 0; third = 0; last = 0 }
 
+-- a rank that has had no command
+abbrev pub unused_rank : RankState
+unused_rank = record { prea = 0; refresh = 0; window = no_acts }
+
 abbrev pub pushed : Window → ℕ → Window
 pushed window end = record { oldest = window.second; second = window.third; third = window.last; last = end }
 
@@ -132,6 +166,11 @@ rank_raised t cycle earlier state =
 -- a rank with one more ACT
 abbrev pub act_pushed : RankState → ℕ → RankState
 act_pushed state end = record state { window = pushed state.window end }
+
+-- a rank with one more ACT, whose words the ACT raises, and which no longer counts for the four-activate window from
+-- `end` on
+abbrev pub rank_after_act : Timing → ℕ → ℕ → RankState → RankState
+rank_after_act t cycle end state = act_pushed (rank_raised t cycle Act state) end
 
 -- an ACT in this rank
 abbrev pub acts_in : Command → ℕ → Bool

@@ -3,8 +3,8 @@
 ghost use Rattle.std.specs.Prelude.{◌≡◌, ◌+◌, ◌*◌, ◌^◌, ◌<◌, ◌≤◌, length};
 
 use crate::words::{
-    RankState, Window, bound_until, note_act_in_rank, own_number, raise_acts, raise_data,
-    raise_own, raise_rank, raise_rank_groups, raise_rank_words,
+    RankState, bound_until, note_act_in_rank, own_number, raise_acts, raise_data, raise_own,
+    raise_rank, raise_rank_groups, raise_rank_words, unused_rank,
 };
 use sim_base::command::{Command, Kind, Relation};
 use sim_base::config::Config;
@@ -40,32 +40,16 @@ pub struct Banks {
     ghost all_pres: { length pre.items ≡ 16 * length ranks.items },
 }
 
-/// A rank that has had no command.
-fn unused_rank() -> RankState
-    ensures { result ≡ record { prea = 0; refresh = 0; window = record { oldest = 0; second = 0; third = 0; last = 0 } } }
-{
-    RankState {
-        prea: 0,
-        refresh: 0,
-        window: Window {
-            oldest: 0,
-            second: 0,
-            third: 0,
-            last: 0,
-        },
-    }
-}
-
 impl Banks {
-    ghost use Rattle.std.specs.Prelude.{ℕ, ◌≡◌, ◌+◌, ◌*◌, ◌^◌, ◌<◌, ◌≤◌, List, [], ◌∷◌, ◌++◌, All, Some, None, IsTrue, IfOk};
+    ghost use Rattle.std.specs.Prelude.{ℕ, ◌≡◌, ◌+◌, ◌*◌, ◌^◌, ◌<◌, ◌≤◌, List, [], All, Some, None, IsTrue, IfOk};
     ghost use Rattle.sim_base.specs.declared.config.Config.{Config};
     ghost use Rattle.sim_base.specs.declared.command.Command.{Command};
     ghost use Rattle.sim_base.specs.declared.command.IssuedCommand.{IssuedCommand};
     ghost use Rattle.sim_base.specs.declared.command.Source.{Source};
     ghost use Rattle.sim_base.specs.Rules.{kind_of, bank_of, rank_of};
     ghost use Rattle.bank_ready.specs.Words.{names_bank, names_rank, moves_data, bank_at};
-    ghost use Rattle.bank_ready.specs.Noted.{IsNoted};
-    ghost use Rattle.bank_ready.specs.Stands.{rank_count, IsAllowedFrom, StandsFor};
+    ghost use Rattle.bank_ready.specs.Noted.{HasNoted};
+    ghost use Rattle.bank_ready.specs.Stands.{rank_count, IsAllowedFrom, followed_by, StandsFor};
 
     /// Banks that were never used.
     pub fn new(alloc: Global, config: &Config) -> Result<Self, AllocError>
@@ -95,7 +79,8 @@ impl Banks {
         requires kind { IsTrue (names_bank kind) }
         requires bank { bank < 16 * rank_count self.now }
         ensures least { (s : Config) (history : List IssuedCommand) (command : Command)
-            → StandsFor self.now s history → kind_of command ≡ kind → bank_of command ≡ Some (bank_at bank)
+            → StandsFor self.now s history
+            → kind_of command ≡ kind → bank_of command ≡ Some (bank_at bank)
             → IsAllowedFrom s history command result }
     {
         match kind {
@@ -112,7 +97,8 @@ impl Banks {
     pub fn data_floor(&self, kind: Kind) -> Cycle
         requires kind { IsTrue (moves_data kind) }
         ensures least { (s : Config) (history : List IssuedCommand) (command : Command) (cycle : ℕ)
-            → StandsFor self.now s history → kind_of command ≡ kind → IsAllowedFrom s history command cycle → result ≤ cycle }
+            → StandsFor self.now s history → kind_of command ≡ kind
+            → IsAllowedFrom s history command cycle → result ≤ cycle }
     {
         match kind {
             Kind::Rd => self.rd_floor,
@@ -127,7 +113,8 @@ impl Banks {
         requires kind { IsTrue (names_rank kind) }
         requires rank { rank < rank_count self.now }
         ensures least { (s : Config) (history : List IssuedCommand) (command : Command)
-            → StandsFor self.now s history → kind_of command ≡ kind → rank_of command ≡ rank
+            → StandsFor self.now s history
+            → kind_of command ≡ kind → rank_of command ≡ rank
             → IsAllowedFrom s history command result }
     {
         let state = &self.ranks[rank as usize];
@@ -144,7 +131,8 @@ impl Banks {
     fn note_act(&mut self, bank: BankId, cycle: Cycle)
         requires rank { bank.rank < rank_count self.old }
         requires cycle { cycle < 2 ^ 62 }
-        ensures { (row : ℕ) (source : Source) → IsNoted self.old self.new self.old.delays.value cycle (Command.Act bank row source) }
+        ensures { (row : ℕ) (source : Source)
+            → HasNoted self.old self.new cycle (Command.Act bank row source) }
     {
         let delays = &*self.delays;
         let own = own_number(bank);
@@ -170,7 +158,9 @@ impl Banks {
         requires kind { IsTrue (moves_data kind) }
         requires rank { bank.rank < rank_count self.old }
         requires cycle { cycle < 2 ^ 62 }
-        ensures { (command : Command) → kind_of command ≡ kind → bank_of command ≡ Some bank → IsNoted self.old self.new self.old.delays.value cycle command }
+        ensures { (command : Command)
+            → kind_of command ≡ kind → bank_of command ≡ Some bank
+            → HasNoted self.old self.new cycle command }
     {
         let delays = &*self.delays;
         let own = own_number(bank);
@@ -188,7 +178,8 @@ impl Banks {
     fn note_read(&mut self, bank: BankId, cycle: Cycle)
         requires rank { bank.rank < rank_count self.old }
         requires cycle { cycle < 2 ^ 62 }
-        ensures { (row column : ℕ) (source : Source) → IsNoted self.old self.new self.old.delays.value cycle (Command.Rd bank row column source) }
+        ensures { (row column : ℕ) (source : Source)
+            → HasNoted self.old self.new cycle (Command.Rd bank row column source) }
     {
         self.note_data(Kind::Rd, bank, cycle);
     }
@@ -198,7 +189,8 @@ impl Banks {
     fn note_write(&mut self, bank: BankId, cycle: Cycle)
         requires rank { bank.rank < rank_count self.old }
         requires cycle { cycle < 2 ^ 62 }
-        ensures { (row column : ℕ) (source : Source) → IsNoted self.old self.new self.old.delays.value cycle (Command.Wr bank row column source) }
+        ensures { (row column : ℕ) (source : Source)
+            → HasNoted self.old self.new cycle (Command.Wr bank row column source) }
     {
         self.note_data(Kind::Wr, bank, cycle);
     }
@@ -209,7 +201,7 @@ impl Banks {
     fn note_pre(&mut self, bank: BankId, cycle: Cycle)
         requires rank { bank.rank < rank_count self.old }
         requires cycle { cycle < 2 ^ 62 }
-        ensures { (source : Source) → IsNoted self.old self.new self.old.delays.value cycle (Command.Pre bank source) }
+        ensures { (source : Source) → HasNoted self.old self.new cycle (Command.Pre bank source) }
     {
         let delays = &*self.delays;
         let own = own_number(bank);
@@ -224,7 +216,7 @@ impl Banks {
     fn note_prea(&mut self, rank: u32, cycle: Cycle)
         requires rank { rank < rank_count self.old }
         requires cycle { cycle < 2 ^ 62 }
-        ensures { IsNoted self.old self.new self.old.delays.value cycle (Command.Prea rank) }
+        ensures { HasNoted self.old self.new cycle (Command.Prea rank) }
     {
         let delays = &*self.delays;
         let to_act = bound_until(delays, cycle, Kind::Prea, Kind::Act, Relation::SameBank);
@@ -238,7 +230,7 @@ impl Banks {
     fn note_refresh(&mut self, rank: u32, cycle: Cycle)
         requires rank { rank < rank_count self.old }
         requires cycle { cycle < 2 ^ 62 }
-        ensures { IsNoted self.old self.new self.old.delays.value cycle (Command.Ref rank) }
+        ensures { HasNoted self.old self.new cycle (Command.Ref rank) }
     {
         let delays = &*self.delays;
         let to_act = bound_until(delays, cycle, Kind::Ref, Kind::Act, Relation::SameBank);
@@ -256,7 +248,7 @@ impl Banks {
         requires cycle { cycle < 2 ^ 62 }
         ensures stands { (s : Config) (history : List IssuedCommand) (channel : ℕ)
             → StandsFor self.old s history → All (λ i. i.cycle < cycle) history
-            → StandsFor self.new s (history ++ record { cycle = cycle; channel = channel; command = command } ∷ []) }
+            → StandsFor self.new s (followed_by history channel cycle command) }
         ensures ranks { rank_count self.new ≡ rank_count self.old }
     {
         match command {

@@ -1,13 +1,15 @@
 //! What a channel keeps of the commands that were issued: columns with a word for each bank or for each group, and what it keeps
 //! of each rank.
 
-ghost use Rattle.std.specs.Prelude.{◌≡◌, ◌+◌, ◌*◌, ◌/◌, ◌%◌, ◌^◌, ◌<◌, ◌≤◌, ◌==◌, max, ℕ, IsTrue, IfSome, length, slice_index_or, if◌then◌else◌};
+ghost use Rattle.std.specs.Prelude.{◌≡◌, ◌+◌, ◌*◌, ◌%◌, ◌^◌, ◌<◌, ◌≤◌, ℕ, IsTrue, IfSome, length};
 ghost use Rattle.sim_base.specs.Places.{is_bank};
 ghost use Rattle.sim_base.specs.declared.command.Relation.{Relation};
 ghost use Rattle.sim_base.specs.Rules.{is_bound};
 ghost use Rattle.bank_ready.specs.Ready.{held_until};
-ghost use Rattle.bank_ready.specs.declared.words.RankState.{RankState};
-ghost use Rattle.bank_ready.specs.Words.{moves_data, group_relation_from, is_own, bank_at, number_of, act_pushed, rank_raised};
+ghost use Rattle.bank_ready.specs.Words.{moves_data, is_own, bank_at, number_of, rank_after_act, rank_raised, own_until, rank_until, unused_rank};
+ghost use Rattle.bank_ready.specs.Words.{groups_rank_until, group_until, ranks_until, all_groups_until};
+ghost use Rattle.bank_ready.specs.Raised.{AreRaised, AreAllRaised, IsSpanRaised, AreSameBefore, AreSameFrom};
+ghost use Rattle.bank_ready.specs.Raised.{data_until, act_until, IsRankChanged};
 
 use sim_base::command::{Kind, Relation};
 use sim_base::message::Cycle;
@@ -30,6 +32,22 @@ pub(crate) struct RankState {
     pub(crate) prea: Cycle,
     pub(crate) refresh: Cycle,
     pub(crate) window: Window,
+}
+
+/// A rank that has had no command.
+pub(crate) fn unused_rank() -> RankState
+    ensures { result ≡ unused_rank }
+{
+    RankState {
+        prea: 0,
+        refresh: 0,
+        window: Window {
+            oldest: 0,
+            second: 0,
+            third: 0,
+            last: 0,
+        },
+    }
 }
 
 /// From which cycle on a command no longer holds back a later one that a rule binds to it.
@@ -79,9 +97,9 @@ pub(crate) fn own_number(bank: BankId) -> Option<usize>
 #[inline(always)]
 pub(crate) fn raise<const N: usize>(words: &mut [Cycle], first: usize, until: Cycle)
     requires inside { first + N ≤ length words.old }
-    ensures inside { (k d : ℕ) → first ≤ k → k < first + N → slice_index_or words.new k d ≡ max (slice_index_or words.old k d) until }
-    ensures below { (k d : ℕ) → k < first → slice_index_or words.new k d ≡ slice_index_or words.old k d }
-    ensures above { (k d : ℕ) → first + N ≤ k → slice_index_or words.new k d ≡ slice_index_or words.old k d }
+    ensures inside { IsSpanRaised words.old words.new first N until }
+    ensures below { AreSameBefore words.old words.new first }
+    ensures above { AreSameFrom words.old words.new (first + N) }
 {
     for place in 0..N {
         let word = &mut words[first + place];
@@ -93,7 +111,7 @@ pub(crate) fn raise<const N: usize>(words: &mut [Cycle], first: usize, until: Cy
 #[inline(always)]
 pub(crate) fn raise_own(words: &mut [Cycle], own: Option<usize>, until: Cycle)
     requires { IfSome own (λ k. k < length words.old) }
-    ensures { (k d : ℕ) → slice_index_or words.new k d ≡ max (slice_index_or words.old k d) (if is_own own k then until else 0) }
+    ensures { AreRaised words.old words.new (own_until own until) }
 {
     if let Some(own) = own {
         let word = &mut words[own];
@@ -111,8 +129,7 @@ pub(crate) fn raise_groups(
     other_group: Cycle,
 )
     requires { 4 * rank + 4 ≤ length words.old }
-    ensures { (k d : ℕ) → slice_index_or words.new k d
-        ≡ max (slice_index_or words.old k d) (if rank == k / 4 then (if group == k % 4 then same_group else other_group) else 0) }
+    ensures { AreRaised words.old words.new (group_until rank group same_group other_group) }
 {
     let first = 4 * rank as usize;
     for other in 0..4 {
@@ -130,7 +147,7 @@ pub(crate) fn raise_groups(
 #[inline(always)]
 pub(crate) fn raise_rank(words: &mut [Cycle], rank: u32, until: Cycle)
     requires { 16 * rank + 16 ≤ length words.old }
-    ensures { (k d : ℕ) → slice_index_or words.new k d ≡ max (slice_index_or words.old k d) (if rank == k / 16 then until else 0) }
+    ensures { AreRaised words.old words.new (rank_until rank until) }
 {
     raise::<16>(words, 16 * rank as usize, until);
 }
@@ -139,7 +156,7 @@ pub(crate) fn raise_rank(words: &mut [Cycle], rank: u32, until: Cycle)
 #[inline(always)]
 pub(crate) fn raise_rank_groups(words: &mut [Cycle], rank: u32, until: Cycle)
     requires { 4 * rank + 4 ≤ length words.old }
-    ensures { (k d : ℕ) → slice_index_or words.new k d ≡ max (slice_index_or words.old k d) (if rank == k / 4 then until else 0) }
+    ensures { AreRaised words.old words.new (groups_rank_until rank until) }
 {
     raise::<4>(words, 4 * rank as usize, until);
 }
@@ -148,8 +165,7 @@ pub(crate) fn raise_rank_groups(words: &mut [Cycle], rank: u32, until: Cycle)
 #[inline(always)]
 pub(crate) fn raise_ranks(words: &mut [Cycle], rank: u32, same_rank: Cycle, other_rank: Cycle)
     requires { length words.old % 4 ≡ 0 }
-    ensures { (k d : ℕ) → k < length words.old
-        → slice_index_or words.new k d ≡ max (slice_index_or words.old k d) (if rank == k / 4 then same_rank else other_rank) }
+    ensures { AreAllRaised words.old words.new (ranks_until rank same_rank other_rank) }
 {
     for other in 0..words.len() / 4 {
         let until = if other == rank as usize {
@@ -173,9 +189,8 @@ pub(crate) fn raise_all_groups(
 )
     requires inside { 4 * bank.rank + 4 ≤ length words.old }
     requires whole { length words.old % 4 ≡ 0 }
-    ensures { (k d : ℕ) → k < length words.old → slice_index_or words.new k d
-        ≡ max (slice_index_or words.old k d)
-        (if bank.rank == k / 4 then (if bank.group == k % 4 then same_group else other_group) else other_rank) }
+    ensures { AreAllRaised words.old words.new
+        (all_groups_until bank same_group other_group other_rank) }
 {
     if bank.group < 4 {
         let own = 4 * bank.rank as usize + bank.group as usize;
@@ -204,9 +219,10 @@ pub(crate) fn raise_data(
     requires cycle { cycle < 2 ^ 62 }
     requires inside { 4 * bank.rank + 4 ≤ length words.old }
     requires whole { length words.old % 4 ≡ 0 }
-    ensures words { (k d : ℕ) → k < length words.old → slice_index_or words.new k d
-        ≡ max (slice_index_or words.old k d) (held_until delays.now cycle earlier later (group_relation_from bank k)) }
-    ensures least { (relation : Relation) → result ≤ held_until delays.now cycle earlier later relation }
+    ensures words { AreAllRaised words.old words.new
+        (data_until delays.now cycle earlier later bank) }
+    ensures least { (relation : Relation)
+        → result ≤ held_until delays.now cycle earlier later relation }
 {
     let same_group = bound_until(delays, cycle, earlier, later, Relation::SameGroup);
     let other_group = bound_until(delays, cycle, earlier, later, Relation::OtherGroup);
@@ -228,9 +244,7 @@ pub(crate) fn raise_acts(
 )
     requires cycle { cycle < 2 ^ 62 }
     requires inside { 4 * bank.rank + 4 ≤ length words.old }
-    ensures { (k d : ℕ) → slice_index_or words.new k d
-        ≡ max (slice_index_or words.old k d)
-        (max (held_until delays.now cycle Kind.Act Kind.Act (group_relation_from bank k)) (if bank.rank == k / 4 then end else 0)) }
+    ensures { AreRaised words.old words.new (act_until delays.now cycle bank end) }
 {
     let same_group = bound_until(delays, cycle, Kind::Act, Kind::Act, Relation::SameGroup);
     let other_group = bound_until(delays, cycle, Kind::Act, Kind::Act, Relation::OtherGroup);
@@ -283,8 +297,7 @@ pub(crate) fn raise_rank_words(
 )
     requires cycle { cycle < 2 ^ 62 }
     requires inside { rank < length ranks.old }
-    ensures { (k : ℕ) (d : RankState) → slice_index_or ranks.new k d
-        ≡ (if rank == k then rank_raised delays.now cycle earlier (slice_index_or ranks.old k d) else slice_index_or ranks.old k d) }
+    ensures { IsRankChanged ranks.old ranks.new rank (rank_raised delays.now cycle earlier) }
 {
     let state = &mut ranks[rank as usize];
     state.prea = state.prea.max(prea_until(delays, cycle, earlier));
@@ -302,8 +315,7 @@ pub(crate) fn note_act_in_rank(
 )
     requires cycle { cycle < 2 ^ 62 }
     requires inside { rank < length ranks.old }
-    ensures { (k : ℕ) (d : RankState) → slice_index_or ranks.new k d
-        ≡ (if rank == k then act_pushed (rank_raised delays.now cycle Kind.Act (slice_index_or ranks.old k d)) end else slice_index_or ranks.old k d) }
+    ensures { IsRankChanged ranks.old ranks.new rank (rank_after_act delays.now cycle end) }
 {
     raise_rank_words(delays, ranks, rank, cycle, Kind::Act);
     let window = &mut ranks[rank as usize].window;

@@ -50,38 +50,21 @@ fn text_of(alloc: Global, count: u64) -> Result<String, AllocError> {
     Ok(text)
 }
 
+// Asserts what this many threads write, and that a writer that takes only one byte is reported.
 fn assert_written<R: Threads + Sync + Abort>(
     rt: &R,
     alloc: Global,
-    count: u64,
+    (table, want): (&CommandTable, &str),
     threads: usize,
 ) -> Result<(), Fail> {
-    let table = table_of(alloc, count)?;
-    let want = text_of(alloc, count)?;
     let mut text = Vec::new(alloc);
-    write_commands_by(rt, alloc, threads, 1, &table, &mut text)?;
-    expect(
-        rt,
-        &(count, threads, str::from_utf8(text.as_slice())),
-        &(count, threads, Ok(want.as_str())),
-    );
-    Ok(())
-}
-
-/// A writer that takes only one byte is reported.
-fn assert_refused<R: Threads + Sync + Abort>(
-    rt: &R,
-    alloc: Global,
-    count: u64,
-    threads: usize,
-) -> Result<(), Fail> {
-    let table = table_of(alloc, count)?;
+    write_commands_by(rt, alloc, threads, 1, table, &mut text)?;
     let mut slow = Slow::new(alloc, 1, 1, true)?;
-    let ended = write_commands_by(rt, alloc, threads, 1, &table, &mut slow);
+    let ended = write_commands_by(rt, alloc, threads, 1, table, &mut slow);
     expect(
         rt,
-        &(count, threads, ended),
-        &(count, threads, Err(Fault::Write)),
+        &(threads, str::from_utf8(text.as_slice()), ended),
+        &(threads, Ok(want), Err(Fault::Write)),
     );
     Ok(())
 }
@@ -89,9 +72,10 @@ fn assert_refused<R: Threads + Sync + Abort>(
 #[test]
 fn threads_write_commands(rt: HostRuntime) -> Result<(), Fail> {
     for count in COUNTS {
+        let table = table_of(rt.alloc(), count)?;
+        let want = text_of(rt.alloc(), count)?;
         for threads in 0..5 {
-            assert_written(&rt, rt.alloc(), count, threads)?;
-            assert_refused(&rt, rt.alloc(), count, threads)?;
+            assert_written(&rt, rt.alloc(), (&table, want.as_str()), threads)?;
         }
     }
     Ok(())

@@ -5,7 +5,7 @@ ghost use Rattle.command_table.specs.Tables.{IsRising};
 use crate::expect::expect;
 use crate::written::{Report, assert_report};
 use command_table::list::CommandList;
-use command_table::table::{CommandTable, Rows};
+use command_table::table::CommandTable;
 use fixtures::lists::list_of_two;
 use sim_base::command::{Command, IssuedCommand, Source};
 use sim_base::place::BankId;
@@ -233,20 +233,7 @@ fn table_of_channels(alloc: Global) -> Result<CommandTable, AllocError> {
     table_of(alloc, first, second, third)
 }
 
-// The next three commands.
-fn next_three(rows: &mut Rows<'_>) -> Three {
-    [rows.next(), rows.next(), rows.next()]
-}
-
-// The commands of each piece.
-fn read_pieces(alloc: Global, table: &CommandTable, most: usize) -> Result<Vec<Three>, AllocError> {
-    let mut read = Vec::new(alloc);
-    for piece in &table.pieces(alloc, most)? {
-        read.push(next_three(&mut piece.copied(alloc)?))?;
-    }
-    Ok(read)
-}
-
+// Asserts the commands of each piece, of which there are three at most.
 fn assert_pieces(
     rt: &impl Abort,
     alloc: Global,
@@ -254,7 +241,11 @@ fn assert_pieces(
     most: usize,
     want: &[Three],
 ) -> Result<(), AllocError> {
-    let read = read_pieces(alloc, table, most)?;
+    let mut read = Vec::new(alloc);
+    for piece in &table.pieces(alloc, most)? {
+        let mut rows = piece.copied(alloc)?;
+        read.push([rows.next(), rows.next(), rows.next()])?;
+    }
     expect(rt, &(most, read.as_slice()), &(most, want));
     Ok(())
 }

@@ -1,6 +1,7 @@
 //! Statistics of small runs, cut into stretches by hand: two reads of one row, of which the second finds the row open.
 
 use crate::expect::expect;
+use fixtures::none::{NO_CHANNEL, NO_CORE};
 use sim_base::command::Kind;
 use statistics::channels::ChannelStats;
 use statistics::cores::CoreStats;
@@ -14,7 +15,7 @@ fn joined_channel() -> (ChannelStats, ChannelStats) {
         queued: 5,
         queued_max: 2,
         idle: 2,
-        ..ChannelStats::new()
+        ..NO_CHANNEL
     };
     let serving = ChannelStats {
         rd: 2,
@@ -22,11 +23,11 @@ fn joined_channel() -> (ChannelStats, ChannelStats) {
         queued: 7,
         queued_max: 2,
         idle: 5,
-        ..ChannelStats::new()
+        ..NO_CHANNEL
     };
     let idling = ChannelStats {
         idle: 1,
-        ..ChannelStats::new()
+        ..NO_CHANNEL
     };
     let whole = ChannelStats {
         act: 1,
@@ -35,7 +36,7 @@ fn joined_channel() -> (ChannelStats, ChannelStats) {
         queued: 12,
         queued_max: 2,
         idle: 23,
-        ..ChannelStats::new()
+        ..NO_CHANNEL
     };
     (opening.joined(serving).joined(idling.times(16)), whole)
 }
@@ -44,7 +45,7 @@ fn joined_channel() -> (ChannelStats, ChannelStats) {
 fn added_channel() -> (ChannelStats, ChannelStats) {
     let mut run = ChannelStats {
         draining: Some(1),
-        ..ChannelStats::new()
+        ..NO_CHANNEL
     };
     run.add_cycles(3, 2, true, true);
     run.add_cycles(1, 1, false, false);
@@ -60,7 +61,7 @@ fn added_channel() -> (ChannelStats, ChannelStats) {
         idle: 4,
         refreshing: 3,
         draining: Some(4),
-        ..ChannelStats::new()
+        ..NO_CHANNEL
     };
     (run, whole)
 }
@@ -76,7 +77,7 @@ fn joined_core() -> (CoreStats, CoreStats) {
         stop_memory: 1,
         stop_credit: 6,
         stop_end: 9,
-        ..CoreStats::new()
+        ..NO_CORE
     };
     let second = CoreStats {
         retired: 1,
@@ -84,11 +85,11 @@ fn joined_core() -> (CoreStats, CoreStats) {
         read_latency: 13,
         stop_end: 1,
         finish: Some(20),
-        ..CoreStats::new()
+        ..NO_CORE
     };
     let ended = CoreStats {
         stop_end: 1,
-        ..CoreStats::new()
+        ..NO_CORE
     };
     let whole = CoreStats {
         issued: 2,
@@ -100,13 +101,23 @@ fn joined_core() -> (CoreStats, CoreStats) {
         stop_credit: 6,
         stop_end: 25,
         finish: Some(20),
-        ..CoreStats::new()
+        ..NO_CORE
     };
     (first.joined(second).joined(ended.times(15)), whole)
 }
 
+static CORES: [CoreStats; 1] = [NO_CORE];
+
+static CHANNELS: [ChannelStats; 2] = [
+    ChannelStats {
+        act: 1,
+        ..NO_CHANNEL
+    },
+    NO_CHANNEL,
+];
+
 #[test]
-fn counts_of_stretches(rt: HostRuntime) {
+fn counts_of_stretches(rt: HostRuntime) -> Result<(), Fail> {
     let (joined, wanted_joined) = joined_channel();
     let (added, wanted_added) = added_channel();
     let (core, wanted_core) = joined_core();
@@ -115,17 +126,7 @@ fn counts_of_stretches(rt: HostRuntime) {
         &(joined, added, core),
         &(wanted_joined, wanted_added, wanted_core),
     );
-}
-
-#[test]
-fn keeps_its_parts(rt: HostRuntime) -> Result<(), Fail> {
-    let cores = [CoreStats::new()];
-    let busy = ChannelStats {
-        act: 1,
-        ..ChannelStats::new()
-    };
-    let channels = [busy, ChannelStats::new()];
-    let stats = Stats::of_parts(rt.alloc(), 16, &cores, &channels)?;
+    let stats = Stats::of_parts(rt.alloc(), 16, &CORES, &CHANNELS)?;
     expect(
         &rt,
         &(
@@ -133,7 +134,7 @@ fn keeps_its_parts(rt: HostRuntime) -> Result<(), Fail> {
             stats.cores.as_slice(),
             stats.channels.as_slice(),
         ),
-        &(16, cores.as_slice(), channels.as_slice()),
+        &(16, CORES.as_slice(), CHANNELS.as_slice()),
     );
     Ok(())
 }

@@ -11,8 +11,8 @@ use std::test::Fail;
 use timing::gap_table::GapTable;
 use timing::rules::relation;
 
-// An earlier command, a later one and how their banks relate; the distance that a rule asks for, or none where no rule binds
-// them.
+// An earlier command, a later one and how their banks relate; the distance that a rule asks for, or none where no rule
+// binds them.
 type Case = (Kind, Kind, Relation, Option<u64>);
 
 // Asserts that a machine with these changes has these distances. Where no rule binds, the distance is 0.

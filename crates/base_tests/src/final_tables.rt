@@ -5,7 +5,6 @@ use sim_base::message::{Load, Message, Request};
 use sim_base::place::{BankId, Place};
 use statistics::final_state::{ChannelState, CoreState, Credits, FinalState, OpenRow};
 use std::alloc::{AllocError, Global};
-use std::process::Abort;
 use std::test::Fail;
 
 const FIRST: BankId = BankId {
@@ -73,19 +72,14 @@ fn cores(alloc: Global, rows: &[CoreStep<'_>]) -> Result<Vec<CoreState>, AllocEr
 // The refreshes of a channel that are due, its open rows and its queue.
 type ChannelRow<'x> = (&'x [u64], &'x [OpenRow], &'x [Request]);
 
-fn channel(alloc: Global, row: &ChannelRow<'_>) -> Result<ChannelState, AllocError> {
-    let (due, open_rows, queue) = *row;
-    Ok(ChannelState {
-        due: due.to_vec(alloc)?,
-        open_rows: open_rows.to_vec(alloc)?,
-        queue: queue.to_vec(alloc)?,
-    })
-}
-
 fn channels(alloc: Global, rows: &[ChannelRow<'_>]) -> Result<Vec<ChannelState>, AllocError> {
     let mut channels = Vec::new(alloc);
-    for row in rows {
-        channels.push(channel(alloc, row)?)?;
+    for (due, open_rows, queue) in rows {
+        channels.push(ChannelState {
+            due: due.to_vec(alloc)?,
+            open_rows: open_rows.to_vec(alloc)?,
+            queue: queue.to_vec(alloc)?,
+        })?;
     }
     Ok(channels)
 }
@@ -174,7 +168,8 @@ const SOME: Credits = Credits { read: 3, write: 4 };
 
 const OTHERS: Credits = Credits { read: 4, write: 2 };
 
-// Two cores, two channels of two ranks, and messages of all kinds. Core c and channel k have the links from 3(2c + k) on.
+// Two cores, two channels of two ranks, and messages of all kinds. Core c and channel k have the links from 3(2c + k)
+// on.
 const RANKS: Case<'static> = Case {
     cores: &[(5, 2, &[SOME, OTHERS]), (1, 0, &[OTHERS, SOME])],
     channels: &[
@@ -247,15 +242,16 @@ flight_credit_write,1,0,,,,4,51,8
 
 static CASES: [Case<'static>; 4] = [ONE_READ, A_REPLY, A_QUEUE, RANKS];
 
-fn assert_case(rt: &impl Abort, alloc: Global, case: &Case<'_>) -> Result<(), Fail> {
-    let state = state_of(alloc, case)?;
-    assert_report(rt, alloc, Report::Last(case.ranks, &state), case.table)
-}
-
 #[test]
 fn writes_states(rt: HostRuntime) -> Result<(), Fail> {
     for case in &CASES {
-        assert_case(&rt, rt.alloc(), case)?;
+        let state = state_of(rt.alloc(), case)?;
+        assert_report(
+            &rt,
+            rt.alloc(),
+            Report::Last(case.ranks, &state),
+            case.table,
+        )?;
     }
     Ok(())
 }

@@ -93,8 +93,8 @@ channel,1,draining,5
 /// Cycles, what each core and each channel counts in them, and their table.
 type Case<'x> = (u64, &'x [CoreStats], &'x [ChannelStats], &'x str);
 
-// A core that reads the first line and its channel, up to the end of cycles 15, 14 and 2; and two channels, of which the second may
-// drain its writes, and counts past 64 bits.
+// A core that reads the first line and its channel, up to the end of cycles 15, 14 and 2; and two channels, of which
+// the second may drain its writes, and counts past 64 bits.
 static CASES: [Case<'static>; 4] = [
     (
         16,

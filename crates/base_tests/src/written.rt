@@ -28,14 +28,6 @@ fn write<W: Write>(alloc: Global, report: Report<'_>, writer: &mut W) -> Result<
     }
 }
 
-/// Asserts the text of a report.
-fn assert_text(rt: &impl Abort, alloc: Global, report: Report<'_>, want: &str) -> Result<(), Fail> {
-    let mut text = Vec::new(alloc);
-    write(alloc, report, &mut text)?;
-    expect(rt, &str::from_utf8(text.as_slice()), &Ok(want));
-    Ok(())
-}
-
 /// What is written of a report by a writer that takes one byte per call, in `calls` calls, and how that ends.
 fn slowly(
     alloc: Global,
@@ -48,21 +40,7 @@ fn slowly(
     Ok((slow.taken, ended))
 }
 
-/// A writer that takes too little, or fails, is reported.
-fn assert_refused(
-    rt: &impl Abort,
-    alloc: Global,
-    report: Report<'_>,
-    calls: usize,
-) -> Result<(), Fail> {
-    for fails in [false, true] {
-        let (_, ended) = slowly(alloc, report, calls, fails)?;
-        expect(rt, &(calls, ended), &(calls, Err(Fault::Write)));
-    }
-    Ok(())
-}
-
-/// Asserts the text of a report that is written byte by byte, and that it is refused where a byte is not taken.
+/// Asserts the text of a report that is written byte by byte. A writer that takes too little, or fails, is reported.
 fn assert_slow(rt: &impl Abort, alloc: Global, report: Report<'_>, want: &str) -> Result<(), Fail> {
     let (text, ended) = slowly(alloc, report, 600, false)?;
     expect(
@@ -71,7 +49,10 @@ fn assert_slow(rt: &impl Abort, alloc: Global, report: Report<'_>, want: &str) -
         &(Ok(want), Ok(())),
     );
     for calls in 0..want.len() {
-        assert_refused(rt, alloc, report, calls)?;
+        let (_, cut) = slowly(alloc, report, calls, false)?;
+        let (_, failed) = slowly(alloc, report, calls, true)?;
+        let refused = Err(Fault::Write);
+        expect(rt, &(calls, cut, failed), &(calls, refused, refused));
     }
     Ok(())
 }
@@ -83,7 +64,9 @@ pub(crate) fn assert_report(
     report: Report<'_>,
     want: &str,
 ) -> Result<(), Fail> {
-    assert_text(rt, alloc, report, want)?;
+    let mut text = Vec::new(alloc);
+    write(alloc, report, &mut text)?;
+    expect(rt, &str::from_utf8(text.as_slice()), &Ok(want));
     if want.len() < 500 {
         assert_slow(rt, alloc, report, want)?;
     }

@@ -1,40 +1,170 @@
-//! Sends messages over the links of 256 cores and 16 channels, phase by phase, and prints how many arrived, and how long each kind
-//! of call took.
+//! Sends messages over the links of 256 cores and 16 channels, phase by phase, and prints how many arrived, and how
+//! long each kind of call took.
 
-mod phases;
+ghost use Rattle.std.specs.Prelude.{◌≡◌, []};
 
-use crate::clock::{Effort, show_count, show_share};
-use crate::link_times::phases::{Times, UNITS, run_phases};
-use anyhow::Result;
-use std::alloc::Global;
+use crate::figures::{Effort, now, show_count};
+use fixtures::small::small;
+use links::flight::Links;
+use sim_base::fault::Fault;
+use sim_base::message::{Cycle, LinkId, Load, Message, Unit};
+use std::alloc::{AllocError, Global};
 use std::rt::Clock;
+
+/// What differs from the small machine of the worked cases.
+const MANY: [&str; 2] = ["cores = 256", "channels = 16"];
+
+/// Cores and channels.
+const UNITS: u64 = 256 + 16;
+
+/// Cycles of a phase, and of a message's travel.
+const SPAN: u64 = 2;
 
 /// Phases of a short run.
 const FEW: u64 = 10;
 
 /// Phases in which a million messages are sent.
-const MANY: u64 = 3_473;
+const MANY_PHASES: u64 = 3_473;
 
-/// Prints the time of a call of each kind.
-fn show_times(rt: &impl Print, times: Times) -> Result<()> {
-    show_share(rt, times.accept, times.arrived, "ns a message, accept")?;
-    show_share(rt, times.take_due, UNITS * MANY, "ns a call, take_due_into")?;
-    show_share(rt, times.next_arrival, MANY, "ns a call, next_arrival")?;
-    show_share(
-        rt,
-        times.idle,
-        MANY,
-        "ns a call, next_arrival with nothing in flight",
-    )
+/// How much arrived, and how many nanoseconds the calls of each kind took.
+#[derive(Clone, Copy)]
+struct Times {
+    arrived: u64,
+    accept: u64,
+    take_due: u64,
+    next_arrival: u64,
+    /// Of `next_arrival`, with nothing in flight.
+    idle: u64,
+}
+
+fn message(link: LinkId, arrival: Cycle) -> Message {
+    Message {
+        link,
+        arrival,
+        load: Load::Reply(0),
+    }
+}
+
+/// Each core sends a request, and each channel a reply and a credit.
+fn messages_of(alloc: Global, phase: u64, arrival: Cycle) -> Result<Vec<Message>, AllocError> {
+    let mut messages = Vec::new(alloc);
+    for unit in 0..UNITS {
+        if unit < 256 {
+            let channel = (unit ^ phase) % 16;
+            messages.push(message(3 * (unit * 16 + channel), arrival))?;
+        } else {
+            let channel = unit - 256;
+            let core = (16 * channel ^ phase) % 256;
+            messages.push(message(3 * (core * 16 + channel) + 1, arrival))?;
+            messages.push(message(3 * (core * 16 + channel) + 2, arrival))?;
+        }
+    }
+    Ok(messages)
+}
+
+/// Takes out what arrives at each unit, and returns how much that is.
+fn take_all(alloc: Global, links: &mut Links, until: Cycle) -> Result<u64, AllocError> {
+    let mut arrived = 0u64;
+    let mut inbox = Vec::new(alloc);
+    for unit in 0..UNITS {
+        inbox.clear();
+        let unit = match u16::try_from(unit) {
+            Ok(core) if core < 256 => Unit::Core(core),
+            _ => Unit::Channel((unit % 256) as u32),
+        };
+        links.take_due_into(unit, until, &mut inbox)?;
+        arrived = arrived.wrapping_add(inbox.len() as u64);
+    }
+    Ok(arrived)
+}
+
+/// Sends messages over links with nothing in flight, and takes out what arrives: the same messages.
+fn add_phase(
+    rt: &impl Clock,
+    alloc: Global,
+    links: &mut Links,
+    (messages, cycle): (&mut [Message], Cycle),
+    times: &mut Times,
+) -> Result<(), AllocError> {
+    let start = now(rt);
+    let none = links.next_arrival();
+    let asked = now(rt);
+    links.accept(messages)?;
+    let accepted = now(rt);
+    let some = links.next_arrival();
+    let found = now(rt);
+    if none.is_none() && some == Some(cycle) {
+        let arrived = take_all(alloc, links, cycle.wrapping_add(SPAN))?;
+        times.arrived = times.arrived.wrapping_add(arrived);
+    }
+    times.take_due = times.take_due.wrapping_add(now(rt).saturating_sub(found));
+    times.next_arrival = times
+        .next_arrival
+        .wrapping_add(found.saturating_sub(accepted));
+    times.accept = times.accept.wrapping_add(accepted.saturating_sub(asked));
+    times.idle = times.idle.wrapping_add(asked.saturating_sub(start));
+    Ok(())
+}
+
+/// The links of the machine, with nothing in flight.
+fn start_links(alloc: Global) -> Result<Links, Fault> {
+    let config = small(alloc, &MANY, "")?;
+    match Links::start(alloc, &config) {
+        Ok(links) => Ok(links),
+        Err(_) => Err(Fault::Memory),
+    }
+}
+
+/// Sends messages in `phases` phases, each of which takes out what it sent.
+fn run_phases(rt: &impl Clock, alloc: Global, phases: u64) -> Result<Times, Fault> {
+    let mut times = Times {
+        arrived: 0,
+        accept: 0,
+        take_due: 0,
+        next_arrival: 0,
+        idle: 0,
+    };
+    let mut links = start_links(alloc)?;
+    for phase in 0..phases {
+        let cycle = phase.wrapping_mul(SPAN);
+        let mut messages = messages_of(alloc, phase, cycle)?;
+        add_phase(rt, alloc, &mut links, (&mut messages, cycle), &mut times)?;
+    }
+    Ok(times)
+}
+
+/// Prints the time of a call of each kind, in nanoseconds, rounded down.
+fn show_times(rt: &impl Print, times: Times) -> Result<(), Fault> {
+    for (sum, calls, what) in [
+        (times.accept, times.arrived, "ns a message, accept"),
+        (
+            times.take_due,
+            UNITS * MANY_PHASES,
+            "ns a call, take_due_into",
+        ),
+        (times.next_arrival, MANY_PHASES, "ns a call, next_arrival"),
+        (
+            times.idle,
+            MANY_PHASES,
+            "ns a call, next_arrival with nothing in flight",
+        ),
+    ] {
+        show_count(rt, sum / calls.max(1), what)?;
+    }
+    Ok(())
 }
 
 /// Sends messages in some phases, with an effort.
-pub fn show(rt: &(impl Clock + Print), alloc: Global, effort: Effort) -> Result<()> {
-    let phases = if effort.is_timed() { MANY } else { FEW };
-    let times = run_phases(rt, alloc, phases)?;
-    show_count(rt, times.arrived, "messages")?;
-    if effort.is_timed() {
-        show_times(rt, times)?;
+pub fn show(rt: &(impl Clock + Print), alloc: Global, effort: Effort) -> Result<(), Fault> {
+    match effort {
+        Effort::Little => {
+            let times = run_phases(rt, alloc, FEW)?;
+            show_count(rt, times.arrived, "messages")
+        }
+        Effort::Timed => {
+            let times = run_phases(rt, alloc, MANY_PHASES)?;
+            show_count(rt, times.arrived, "messages")?;
+            show_times(rt, times)
+        }
     }
-    Ok(())
 }

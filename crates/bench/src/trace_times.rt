@@ -1,37 +1,37 @@
 //! Reads a trace, and prints how many entries it has, and how long the reading took, without that of the file.
 
-use crate::clock::{Effort, Stopwatch, show_count};
-use anyhow::Result;
+use crate::figures::{Effort, now, show_count};
 use cpu_trace::reader::read_trace;
-use cpu_trace::trace::Trace;
 use sim_base::fault::Fault;
 use std::alloc::Global;
 use std::fs;
 use std::rt::{Clock, Files};
 use std::thread::Threads;
-use std::time::Instant;
 
-/// How many entries the trace has that was read.
-fn entries_of(read: Result<Trace, Fault>) -> Result<u64, Fault> {
-    Ok(read?.len())
-}
+/// How many entries a trace has, and in how many nanoseconds it was read.
+type Reading = (u64, u64);
 
-/// Reads a trace.
-fn show_text<R: Clock + Print + Threads + Sync>(
-    rt: &R,
+/// Reads a text.
+fn read_text(
+    rt: &(impl Clock + Threads + Sync),
     alloc: Global,
     text: &[u8],
-    effort: Effort,
-) -> Result<()> {
-    let mut watch = Stopwatch::new();
-    let start = Instant::now(rt);
-    let trace = read_trace(rt, alloc, 0, text);
-    watch.stop(rt, start);
-    show_count(rt, entries_of(trace)?, "entries")?;
-    if effort.is_timed() {
-        show_count(rt, watch.read()? / 1_000_000, "ms")?;
+) -> Result<Reading, Fault> {
+    let start = now(rt);
+    let trace = read_trace(rt, alloc, 0, text)?;
+    Ok((trace.len(), now(rt).saturating_sub(start)))
+}
+
+/// Reads the text of a file.
+fn read_file<R: Alloc + Clock + Files + Threads + Sync>(
+    rt: &R,
+    alloc: Global,
+    path: &str,
+) -> Result<Reading, Fault> {
+    match fs::read(rt, path) {
+        Ok(text) => read_text(rt, alloc, &text),
+        Err(_) => Err(Fault::Read),
     }
-    Ok(())
 }
 
 /// Reads the trace of a file.
@@ -40,7 +40,11 @@ pub fn show<R: Alloc + Clock + Files + Print + Threads + Sync>(
     alloc: Global,
     path: &str,
     effort: Effort,
-) -> Result<()> {
-    let text = fs::read(rt, path)?;
-    show_text(rt, alloc, &text, effort)
+) -> Result<(), Fault> {
+    let (entries, time) = read_file(rt, alloc, path)?;
+    show_count(rt, entries, "entries")?;
+    match effort {
+        Effort::Little => Ok(()),
+        Effort::Timed => show_count(rt, time / 1_000_000, "ms"),
+    }
 }

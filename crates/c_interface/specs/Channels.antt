@@ -1,5 +1,6 @@
 -- A channel that a program in C keeps.
 --     IsWell c      it is closed and owns nothing, or open with a session that has some past
+--     ForPasts c fact      a fact of its session, where it is open, and of each past that this may have
 --     HasPast c p      it is open, and its session has this past
 --     StandsAt c now      it is open, and its session stands at this cycle
 --     IsClosed c      it is closed
@@ -17,7 +18,7 @@ use Rattle.sim_base.specs.Values.{Values, values_of}
 use Rattle.sim_base.specs.declared.config.Config.{Config}
 use Rattle.sim_base.specs.declared.fault.Fault.{Fault}
 use Rattle.sim_base.specs.declared.place.Place.{Place}
-use Rattle.c_interface.specs.Kept.{IsWellAt, IsThere}
+use Rattle.c_interface.specs.Kept.{IsWellAt, IsThere, IsOpenAnswer}
 use Rattle.c_interface.specs.declared.channel.KeptChannel.{KeptChannel}
 use Rattle.c_interface.specs.declared.fault.CallFault.{CallFault}
 use Rattle.c_interface.specs.declared.fault.CallFault.TheVariants as call
@@ -25,6 +26,10 @@ use Rattle.c_interface.specs.declared.fault.CallFault.TheVariants as call
 -- a channel that is open has a session with some past, and one that is closed has none
 abbrev pub IsWell : KeptChannel → Type 0
 IsWell c = IsWellAt IsOpen c.is_open c.handle.value
+
+-- this is so of its session, where it is open, and of each past that the session may have
+abbrev pub ForPasts : KeptChannel → (Session → Past → Type 0) → Type 0
+ForPasts c fact = (s : Session) (p : Past) → c.handle.value ≡ Some s → IsSession s p → fact s p
 
 -- its session has this past
 abbrev pub HasPast : KeptChannel → Past → Type 0
@@ -38,8 +43,8 @@ StandsAt c now = IsThere (λ (session : Session). session.cycle ≡ now) c.handl
 abbrev pub IsClosed : KeptChannel → Type 0
 IsClosed c = c.is_open ≡ false
 
--- The session of the channel with a number, of the machine whose configuration a text states, before its first cycle; nothing was sent
--- to it. It has some past then.
+-- The session of the channel with a number, of the machine whose configuration a text states, before its first cycle;
+-- nothing was sent to it. It has some past then.
 pub record IsNewSession (text : List ℕ) (number : ℕ) (session : Session) : Type 0 where
   pub config : Config
   pub configured : document_of text ≡ Ok (values_of config)
@@ -50,12 +55,18 @@ pub record IsNewSession (text : List ℕ) (number : ℕ) (session : Session) : T
 abbrev pub IsOpened : List ℕ → ℕ → KeptChannel → Type 0
 IsOpened text number c = IsThere (IsNewSession text number) c.handle.value
 
--- why no channel with a number is opened for what a document says, if none is: the document is refused, or its machine has none
+-- why no channel with a number is opened for what a document says, if none is: the document is refused, or its machine
+-- has none
 abbrev pub open_refusal : Result Values Fault → ℕ → Option CallFault
 open_refusal (Err refused) number = Some (call.Configuration refused)
 open_refusal (Ok values) number = if nat_lt number values.channels then None else Some (call.Session NoSuchChannel)
 
--- the answer of a call that looks for the address of a place: the least one that lies there, or that the memory has no such place
+-- the answer of a call that opens a closed channel
+abbrev pub IsOpenedAs : List ℕ → ℕ → Result (Unit {0}) CallFault → Type 0
+IsOpenedAs text number result = IsOpenAnswer (open_refusal (document_of text) number) result
+
+-- the answer of a call that looks for the address of a place: the least one that lies there, or that the memory has no
+-- such place
 abbrev pub IsAddressAnswer : Config → Place → Result ℕ CallFault → Type 0
 IsAddressAnswer s place (Ok address) = IsAddressOf s place address
 IsAddressAnswer s place (Err refused) = (refused ≡ call.NoSuchPlace) × (is_place s place ≡ false)

@@ -2,7 +2,7 @@
 --     sent_request row      the request of a row
 --     kind_number kind      the number of a kind of commands
 --     command_row issued      the row of a command
---     reply_row s reply      the row of a reply or of a credit
+--     message_row core reply, reply_row s reply      the row of a reply or of a credit
 --     place_row place      the row of a place
 --     place_in row      the place that a row states
 --     stats_row stats      the row of a channel's statistics
@@ -98,10 +98,14 @@ reply_kind (load.Reply entry) = 0
 reply_kind (load.Credit false entry) = 1
 reply_kind (load.Credit true entry) = 2
 
+-- the row of a message to the core with a number
+abbrev pub message_row : ℕ → Message → ReplyRow
+message_row core reply =
+    record { arrival = reply.arrival; entry = entry_in reply.load; core = core; kind = reply_kind reply.load }
+
 -- the row of a reply or of a credit
 abbrev pub reply_row : Config → Message → ReplyRow
-reply_row s reply =
-    record { arrival = reply.arrival; entry = entry_in reply.load; core = core_of s reply; kind = reply_kind reply.load }
+reply_row s reply = message_row (core_of s reply) reply
 
 -- the row of a place
 abbrev pub place_row : Place → PlaceRow

@@ -52,7 +52,8 @@ abbrev pub status : Result (Unit {0}) CallFault → ℕ
 status (Ok done) = 0
 status (Err fault) = fault_number fault
 
--- the status of a call that a session refuses so, if it does; one that is not refused has only 1, for memory, in place of 0
+-- the status of a call that a session refuses so, if it does; one that is not refused has only 1, for memory, in place
+-- of 0
 abbrev pub IsStatus : Option SessionFault → ℕ → Type 0
 IsStatus (Some fault) number = number ≡ session_number fault
 IsStatus None number = (number ≡ 0) ⊎ (number ≡ 1)
@@ -84,8 +85,8 @@ pub record IsRefused (text : List ℕ) : Type 0 where
   pub fault : Fault
   pub refused : document_of text ≡ Err fault
 
--- The status of a call that judges a table is 1 where memory was refused, and 4 where the configuration is; the row is as it was then.
--- Otherwise the table was judged.
+-- The status of a call that judges a table is 1 where memory was refused, and 4 where the configuration is; the row is
+-- as it was then. Otherwise the table was judged.
 abbrev pub IsJudgedAs : List ℕ → List ℕ → VerdictRow → VerdictRow → ℕ → Type 0
 IsJudgedAs text table old new number =
     ((number ≡ 1) × (new ≡ old)) ⊎ ((number ≡ 4) × (new ≡ old) × IsRefused text) ⊎ IsJudgedUnder text table new number

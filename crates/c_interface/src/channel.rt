@@ -1,13 +1,13 @@
 //! A channel that a program in C keeps.
 
-ghost use Rattle.std.specs.Prelude.{◌≡◌, ◌≢◌, ℕ, ◌+◌, None, Some, Err, true, option_map, IfOk, IfErr, OnOk, OnErr};
+ghost use Rattle.std.specs.Prelude.{◌≡◌, ◌≢◌, ℕ, None, Some, Err, true, option_map, IfOk, IfErr, OnOk, OnErr};
 ghost use Rattle.channel_session.specs.Sent.{message_of};
 ghost use Rattle.channel_session.specs.Ahead.{IsNextAct};
 ghost use Rattle.channel_session.specs.Keeps.{steps_of, waiting};
 ghost use Rattle.channel_session.specs.Sessions.{Past, IsSession, IsOpen, next_command_of, next_reply_of, with_sent, with_command, with_reply, refusal, end_refusal};
 ghost use Rattle.channel_session.specs.declared.session.Session.{Session};
 ghost use Rattle.channel_session.specs.declared.fault.SessionFault.TheVariants.{Memory};
-ghost use Rattle.c_interface.specs.Channels.{IsWell, HasPast, StandsAt, IsClosed, IsNewSession, IsOpened, open_refusal, IsAddressAnswer};
+ghost use Rattle.c_interface.specs.Channels.{IsWell, ForPasts, HasPast, StandsAt, IsClosed, IsNewSession, IsOpened, open_refusal, IsOpenedAs, IsAddressAnswer};
 ghost use Rattle.c_interface.specs.Kept.{IsOpenAnswer, IsCallAnswer};
 ghost use Rattle.config_reader.specs.Document.{document_of};
 ghost use Rattle.sim_base.specs.Places.{place_of};
@@ -94,13 +94,14 @@ impl KeptChannel {
         self.is_open = true;
     }
 
-    /// Opens a closed channel: the one with a number, of the machine whose configuration a text states, before its first cycle. A
-    /// refusal leaves it closed. It is refused as `AlreadyOpen` where it is open, which leaves it as it was.
+    /// Opens a closed channel: the one with a number, of the machine whose configuration a text states, before its
+    /// first cycle. A refusal leaves it closed. It is refused as `AlreadyOpen` where it is open, which leaves it as it
+    /// was.
     pub fn open(&mut self, alloc: Global, text: &[u8], number: ChannelId) -> Result<(), CallFault>
         requires well { IsWell self.old }
         ensures well { IsWell self.new }
         ensures opened { OnOk result (IsOpened text.now number self.new) }
-        ensures answer { IsClosed self.old → IsOpenAnswer (open_refusal (document_of text.now) number) result }
+        ensures answer { IsClosed self.old → IsOpenedAs text.now number result }
         ensures already { self.old.is_open ≡ true → result ≡ Err call.AlreadyOpen }
         ensures same { OnErr result (self.new ≡ self.old) }
     {
@@ -112,12 +113,13 @@ impl KeptChannel {
         Ok(())
     }
 
-    /// Sends a request. It is refused as the session refuses it, or as `Closed`; that leaves the channel with the past that it had.
+    /// Sends a request. It is refused as the session refuses it, or as `Closed`; that leaves the channel with the past
+    /// that it had.
     pub fn send(&mut self, alloc: Global, request: &SentRequest) -> Result<(), CallFault>
         requires well { IsWell self.old }
         ensures well { IsWell self.new }
-        ensures answer { (s : Session) (p : Past) → self.old.handle.value ≡ Some s → IsSession s p
-            → IsCallAnswer (refusal s (waiting p.s p.channel p.sent s.cycle) request.now) result }
+        ensures answer { ForPasts self.old (λ s p.
+            IsCallAnswer (refusal s (waiting p.s p.channel p.sent s.cycle) request.now) result) }
         ensures sent { (p : Past) → HasPast self.old p
             → OnOk result (HasPast self.new (with_sent p (message_of p.s p.channel request.now))) }
         ensures left { (p : Past) → HasPast self.old p → OnErr result (HasPast self.new p) }
@@ -136,13 +138,13 @@ impl KeptChannel {
         }
     }
 
-    /// Runs the channel over the cycles before `until`. It is refused as the session refuses it, or as `Closed`; that leaves the
-    /// channel with the past that it had. Where memory is refused, it is closed.
+    /// Runs the channel over the cycles before `until`. It is refused as the session refuses it, or as `Closed`; that
+    /// leaves the channel with the past that it had. Where memory is refused, it is closed.
     pub fn run(&mut self, alloc: Global, until: Cycle) -> Result<(), CallFault>
         requires well { IsWell self.old }
         ensures well { IsWell self.new }
-        ensures answer { (s : Session) (p : Past) → self.old.handle.value ≡ Some s → IsSession s p
-            → IsCallAnswer (end_refusal s.cycle until) result }
+        ensures answer { ForPasts self.old (λ s p.
+            IsCallAnswer (end_refusal s.cycle until) result) }
         ensures done { (p : Past) → HasPast self.old p → OnOk result (HasPast self.new p) }
         ensures now { OnOk result (StandsAt self.new until) }
         ensures left { (p : Past) → HasPast self.old p
@@ -169,14 +171,14 @@ impl KeptChannel {
         }
     }
 
-    /// The next command of the cycles that are over, if there is one: the first that was not taken. It is taken then. A closed channel
-    /// has none.
+    /// The next command of the cycles that are over, if there is one: the first that was not taken. It is taken then. A
+    /// closed channel has none.
     pub fn next_command(&mut self, alloc: Global) -> Option<IssuedCommand>
         requires well { IsWell self.old }
         ensures well { IsWell self.new }
-        ensures next { (s : Session) (p : Past) → self.old.handle.value ≡ Some s → IsSession s p
-            → result ≡ next_command_of p s.cycle }
-        ensures taken { (p : Past) → HasPast self.old p → HasPast self.new (with_command p result) }
+        ensures next { ForPasts self.old (λ s p. result ≡ next_command_of p s.cycle) }
+        ensures taken { (p : Past) → HasPast self.old p
+            → HasPast self.new (with_command p result) }
         ensures now { (cycle : ℕ) → StandsAt self.old cycle → StandsAt self.new cycle }
         ensures closed { IsClosed self.old → result ≡ None }
     {
@@ -189,15 +191,15 @@ impl KeptChannel {
         command
     }
 
-    /// The next reply or credit that the channel sent in the cycles that are over, if there is one: the first that was not taken. It
-    /// is taken then. A closed channel has none.
+    /// The next reply or credit that the channel sent in the cycles that are over, if there is one: the first that was
+    /// not taken. It is taken then. A closed channel has none.
     pub fn next_reply(&mut self, alloc: Global) -> Option<ReplyRow>
         requires well { IsWell self.old }
         ensures well { IsWell self.new }
-        ensures next { (s : Session) (p : Past) → self.old.handle.value ≡ Some s → IsSession s p
-            → result ≡ option_map (reply_row p.s) (next_reply_of p s.cycle) }
-        ensures taken { (s : Session) (p : Past) → self.old.handle.value ≡ Some s → IsSession s p
-            → HasPast self.new (with_reply p (next_reply_of p s.cycle)) }
+        ensures next { ForPasts self.old (λ s p.
+            result ≡ option_map (reply_row p.s) (next_reply_of p s.cycle)) }
+        ensures taken { ForPasts self.old (λ s p.
+            HasPast self.new (with_reply p (next_reply_of p s.cycle))) }
         ensures now { (cycle : ℕ) → StandsAt self.old cycle → StandsAt self.new cycle }
         ensures closed { IsClosed self.old → result ≡ None }
     {
@@ -225,13 +227,12 @@ impl KeptChannel {
         Some(now)
     }
 
-    /// The next cycle from now on in which an open channel acts, if nothing more is sent to it and there is one: it issues nothing
-    /// before that cycle, and in it, it issues a command or a request that was sent arrives.
+    /// The next cycle from now on in which an open channel acts, if nothing more is sent to it and there is one: it
+    /// issues nothing before that cycle, and in it, it issues a command or a request that was sent arrives.
     pub fn next_act(&mut self, alloc: Global) -> Option<Cycle>
         requires well { IsWell self.old }
         ensures well { IsWell self.new }
-        ensures next { (s : Session) (p : Past) → self.old.handle.value ≡ Some s → IsSession s p
-            → IsNextAct p s.cycle result }
+        ensures next { ForPasts self.old (λ s p. IsNextAct p s.cycle result) }
         ensures kept { self.new.handle.value ≡ self.old.handle.value }
         ensures closed { IsClosed self.old → result ≡ None }
     {
@@ -244,13 +245,12 @@ impl KeptChannel {
         cycle
     }
 
-    /// The least address of the line at a place in the memory of an open channel's machine. It is refused as `Closed`, or as
-    /// `NoSuchPlace` where the memory has none.
+    /// The least address of the line at a place in the memory of an open channel's machine. It is refused as `Closed`,
+    /// or as `NoSuchPlace` where the memory has none.
     pub fn address_of(&mut self, alloc: Global, place: &Place) -> Result<u64, CallFault>
         requires well { IsWell self.old }
         ensures well { IsWell self.new }
-        ensures address { (s : Session) (p : Past) → self.old.handle.value ≡ Some s → IsSession s p
-            → IsAddressAnswer p.s place.now result }
+        ensures address { ForPasts self.old (λ s p. IsAddressAnswer p.s place.now result) }
         ensures kept { self.new.handle.value ≡ self.old.handle.value }
         ensures closed { IsClosed self.old → result ≡ Err call.Closed }
     {
@@ -266,8 +266,7 @@ impl KeptChannel {
     pub fn place_of(&mut self, alloc: Global, address: u64) -> Option<Place>
         requires well { IsWell self.old }
         ensures well { IsWell self.new }
-        ensures place { (s : Session) (p : Past) → self.old.handle.value ≡ Some s → IsSession s p
-            → result ≡ Some (place_of p.s address) }
+        ensures place { ForPasts self.old (λ s p. result ≡ Some (place_of p.s address)) }
         ensures kept { self.new.handle.value ≡ self.old.handle.value }
         ensures closed { IsClosed self.old → result ≡ None }
     {
@@ -283,8 +282,8 @@ impl KeptChannel {
     pub fn stats(&mut self, alloc: Global) -> Option<ChannelStats>
         requires well { IsWell self.old }
         ensures well { IsWell self.new }
-        ensures stats { (s : Session) (p : Past) → self.old.handle.value ≡ Some s → IsSession s p
-            → result ≡ Some (channel_stats p.s p.channel (steps_of p.s p.channel p.sent s.cycle) p.sent) }
+        ensures stats { ForPasts self.old (λ s p.
+            result ≡ Some (channel_stats p.s p.channel (steps_of p.s p.channel p.sent s.cycle) p.sent)) }
         ensures kept { self.new.handle.value ≡ self.old.handle.value }
         ensures closed { IsClosed self.old → result ≡ None }
     {

@@ -1,4 +1,5 @@
-//! A channel that a program in C keeps and drives: its calls, and the rows that it hands over; why a configuration is refused, and the verdict on a table.
+//! A channel that a program in C keeps and drives: its calls, and the rows that it hands over; why a configuration is
+//! refused, and the verdict on a table.
 #![tactic(auto)]
 
 pub mod boxes;

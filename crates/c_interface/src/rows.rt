@@ -1,7 +1,7 @@
 //! What C hands in and gets back, row by row.
 
 ghost use Rattle.std.specs.Prelude.{◌≡◌};
-ghost use Rattle.c_interface.specs.Rows.{sent_request, kind_number, row_in, column_in, bank_or_0, source_or_0, command_row, entry_in, reply_kind, place_row, place_in, count_or_0, stats_row};
+ghost use Rattle.c_interface.specs.Rows.{sent_request, kind_number, row_in, column_in, bank_or_0, source_or_0, command_row, entry_in, reply_kind, message_row, place_row, place_in, count_or_0, stats_row};
 
 use channel_session::requests::SentRequest;
 use sim_base::command::{Command, IssuedCommand, Kind, Source};
@@ -9,8 +9,8 @@ use sim_base::message::{Load, Message};
 use sim_base::place::{BankId, Place};
 use statistics::channels::ChannelStats;
 
-/// A request as C states it: a Read or Write of the line of 64 bytes at an address, for an entry of a core, and the cycle in which it
-/// arrives at the channel.
+/// A request as C states it: a Read or Write of the line of 64 bytes at an address, for an entry of a core, and the
+/// cycle in which it arrives at the channel.
 #[repr(C)]
 #[derive(Clone, Copy)]
 pub struct RequestRow {
@@ -168,7 +168,7 @@ fn reply_kind(load: Load) -> u8
 impl ReplyRow {
     /// The row of a message to a core.
     pub fn of(core: u64, reply: &Message) -> ReplyRow
-        ensures { result ≡ record { arrival = reply.now.arrival; entry = entry_in reply.now.load; core = core; kind = reply_kind reply.now.load } }
+        ensures { result ≡ message_row core reply.now }
     {
         ReplyRow {
             arrival: reply.arrival,
@@ -278,8 +278,8 @@ impl StatsRow {
     }
 }
 
-/// What is at fault in a table of commands, as C gets it: the first row at fault, counted from 1, and 0 for the header; and the lowest
-/// rule that it breaks, from 1 to 21, and 0 where the row is none. Both are 0 where nothing is.
+/// What is at fault in a table of commands, as C gets it: the first row at fault, counted from 1, and 0 for the header;
+/// and the lowest rule that it breaks, from 1 to 21, and 0 where the row is none. Both are 0 where nothing is.
 #[repr(C)]
 #[derive(Clone, Copy)]
 pub struct VerdictRow {

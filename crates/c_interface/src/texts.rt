@@ -1,6 +1,6 @@
 //! The line of a configuration's fault, in memory of the caller's.
 
-ghost use Rattle.std.specs.Prelude.{◌≡◌, ◌≢◌, ◌⊎◌, ◌++◌, drop, length, Ok, Err, IfErr, OnOk, OnErr};
+ghost use Rattle.std.specs.Prelude.{◌≡◌, ◌⊎◌, ◌++◌, drop, length, Ok, Err, IfErr, OnOk, OnErr};
 ghost use Rattle.config_reader.specs.Document.{document_of};
 ghost use Rattle.sim_base.specs.declared.fault.Fault.TheVariants.{Memory};
 ghost use Rattle.c_interface.specs.Texts.{fault_text, IsTextAnswer};
@@ -12,7 +12,8 @@ use refusal::lines::line_of_fault;
 use sim_base::fault::Fault;
 use std::alloc::Global;
 
-/// Writes a text to the front of memory, and its length. It is refused as `TooShort` where it does not fit: the memory is as it was then.
+/// Writes a text to the front of memory, and its length. It is refused as `TooShort` where it does not fit: the memory
+/// is as it was then.
 fn write_text(text: &[u8], into: &mut [u8], wanted: &mut usize) -> Result<(), CallFault>
     ensures answer { IsTextAnswer text.now (length into.old) result }
     ensures written { OnOk result (into.new ≡ text.now ++ drop (length text.now) into.old) }
@@ -28,9 +29,9 @@ fn write_text(text: &[u8], into: &mut [u8], wanted: &mut usize) -> Result<(), Ca
     Ok(())
 }
 
-/// Writes the line for which the program refuses a configuration, without its end, to the front of memory, and its length; 0 where the
-/// configuration is not refused. It is refused as `TooShort` where the line does not fit, or where memory is refused; the memory is as it
-/// was then.
+/// Writes the line for which the program refuses a configuration, without its end, to the front of memory, and its
+/// length; 0 where the configuration is not refused. It is refused as `TooShort` where the line does not fit, or where
+/// memory is refused; the memory is as it was then.
 pub fn write_fault(
     alloc: Global,
     text: &[u8],

@@ -1,6 +1,5 @@
 //! The verdict on a table of commands.
 
-ghost use Rattle.std.specs.Prelude.{◌≡◌};
 ghost use Rattle.rule_check.specs.Verdict.{records_of, verdict};
 ghost use Rattle.c_interface.specs.Verdicts.{IsVerdictAnswer, IsCheckAnswer};
 
@@ -41,9 +40,9 @@ fn judge(
     }
 }
 
-/// Judges a table of commands under the configuration that a text states, as `dramsim check` does: legal, or refused as `BreaksRule` or
-/// `Malformed`, with the row at fault and the lowest rule that it breaks. It is refused as `Configuration`, which leaves the row as it was,
-/// where the configuration or memory is refused.
+/// Judges a table of commands under the configuration that a text states, as `dramsim check` does: legal, or refused as
+/// `BreaksRule` or `Malformed`, with the row at fault and the lowest rule that it breaks. It is refused as
+/// `Configuration`, which leaves the row as it was, where the configuration or memory is refused.
 pub fn check_commands(
     alloc: Global,
     text: &[u8],

@@ -1,5 +1,7 @@
 -- A memory that a program in C keeps.
 --     IsWell m      it is closed and owns nothing, or open with a memory whose channels have some pasts
+--     ForOpen m fact, ForMemory m fact      a fact of its memory, where it is open, and of each past that its channels may have
+--     ForPasts m fact      a fact of the pasts of its channels, where it is open
 --     HasPasts m pasts      it is open, and its channels have these pasts
 --     StandsAt m now      it is open, and its memory stands at this cycle
 --     IsOf m s      it is open, and its memory is that of a machine with this configuration
@@ -39,6 +41,18 @@ IsWell m = IsWellAt IsOpenMemory m.is_open m.handle.value
 abbrev pub HasPasts : KeptMemory → Pasts → Type 0
 HasPasts m pasts = IsThere (λ memory. IsMemory memory pasts) m.handle.value
 
+-- this is so of the pasts that its channels may have, where it is open
+abbrev pub ForPasts : KeptMemory → (Pasts → Type 0) → Type 0
+ForPasts m fact = (pasts : Pasts) → HasPasts m pasts → fact pasts
+
+-- this is so of its memory, where it is open
+abbrev pub ForOpen : KeptMemory → (MemorySession → Type 0) → Type 0
+ForOpen m fact = (memory : MemorySession) → m.handle.value ≡ Some memory → fact memory
+
+-- this is so of its memory, where it is open, and of the pasts that its channels may have
+abbrev pub ForMemory : KeptMemory → (MemorySession → Pasts → Type 0) → Type 0
+ForMemory m fact = (memory : MemorySession) (pasts : Pasts) → m.handle.value ≡ Some memory → IsMemory memory pasts → fact memory pasts
+
 -- it stands at this cycle
 abbrev pub StandsAt : KeptMemory → ℕ → Type 0
 StandsAt m now = IsThere (λ (memory : MemorySession). memory.cycle ≡ now) m.handle.value
@@ -51,7 +65,8 @@ IsOf m s = IsThere (λ (memory : MemorySession). memory.config ≡ s) m.handle.v
 abbrev pub IsClosed : KeptMemory → Type 0
 IsClosed m = m.is_open ≡ false
 
--- The memory of the machine whose configuration a text states, before its first cycle; nothing was sent to it, and nothing was taken.
+-- The memory of the machine whose configuration a text states, before its first cycle; nothing was sent to it, and
+-- nothing was taken.
 pub record IsNewMemory (text : List ℕ) (memory : MemorySession) : Type 0 where
   pub config : Config
   pub configured : document_of text ≡ Ok (values_of config)

@@ -12,7 +12,7 @@ ghost use Rattle.memory_session.specs.declared.memory.MemorySession.{MemorySessi
 ghost use Rattle.c_interface.specs.Channels.{IsAddressAnswer};
 ghost use Rattle.c_interface.specs.Kept.{IsOpenAnswer, IsCallAnswer};
 ghost use Rattle.c_interface.specs.declared.fault.CallFault.TheVariants as call;
-ghost use Rattle.c_memory.specs.Memories.{IsWell, HasPasts, StandsAt, IsOf, IsClosed, IsNewMemory, IsOpened, configuration_refusal, stats_answer, IsCommandRow, IsReplyRow, with_command_given, with_reply_given};
+ghost use Rattle.c_memory.specs.Memories.{IsWell, ForPasts, ForOpen, ForMemory, HasPasts, StandsAt, IsOf, IsClosed, IsNewMemory, IsOpened, configuration_refusal, stats_answer, IsCommandRow, IsReplyRow, with_command_given, with_reply_given};
 
 use crate::handle::Handle;
 use c_interface::boxes::boxed;
@@ -28,7 +28,8 @@ use statistics::channels::ChannelStats;
 use std::alloc::Global;
 use std::mem::replace;
 
-/// A memory that a program in C keeps: it is closed, or it owns the channels of a machine. C begins with one that is all zeros.
+/// A memory that a program in C keeps: it is closed, or it owns the channels of a machine. C begins with one that is
+/// all zeros.
 #[repr(C)]
 #[derive(Drop)]
 pub struct KeptMemory {
@@ -68,7 +69,8 @@ fn command_of(memory: &mut MemorySession) -> Option<(ChannelId, CommandRow)>
     }
 }
 
-/// The row of the next reply or credit of a memory, if there is one, with the number of the channel that sent it. It is taken then.
+/// The row of the next reply or credit of a memory, if there is one, with the number of the channel that sent it. It is
+/// taken then.
 fn reply_of(memory: &mut MemorySession) -> Option<(ChannelId, ReplyRow)>
     requires open { IsOpenMemory memory.old }
     ensures next { (pasts : Pasts) → IsMemory memory.old pasts
@@ -111,8 +113,8 @@ impl KeptMemory {
         self.is_open = true;
     }
 
-    /// Opens a closed memory: all channels of the machine whose configuration a text states, before their first cycle. A refusal leaves it
-    /// closed. It is refused as `AlreadyOpen` where it is open, which leaves it as it was.
+    /// Opens a closed memory: all channels of the machine whose configuration a text states, before their first cycle.
+    /// A refusal leaves it closed. It is refused as `AlreadyOpen` where it is open, which leaves it as it was.
     pub fn open(&mut self, alloc: Global, text: &[u8]) -> Result<(), CallFault>
         requires well { IsWell self.old }
         ensures well { IsWell self.new }
@@ -130,16 +132,16 @@ impl KeptMemory {
         Ok(())
     }
 
-    /// Sends a request to the channel of its address, and nothing to another one. It is refused as that channel refuses it, or as `Closed`;
-    /// that leaves the memory with the pasts that it had.
+    /// Sends a request to the channel of its address, and nothing to another one. It is refused as that channel refuses
+    /// it, or as `Closed`; that leaves the memory with the pasts that it had.
     pub fn send(&mut self, alloc: Global, request: &SentRequest) -> Result<(), CallFault>
         requires well { IsWell self.old }
         ensures well { IsWell self.new }
-        ensures answer { (m : MemorySession) (pasts : Pasts) (other : Session) → self.old.handle.value ≡ Some m
-            → IsMemory m pasts → IsCallAnswer (memory_refusal m pasts other request.now) result }
+        ensures answer { ForMemory self.old (λ m pasts. (other : Session) →
+            IsCallAnswer (memory_refusal m pasts other request.now) result) }
         ensures sent { (s : Config) (pasts : Pasts) → IsOf self.old s → HasPasts self.old pasts
             → OnOk result (HasPasts self.new (with_request s pasts request.now)) }
-        ensures left { (pasts : Pasts) → HasPasts self.old pasts → OnErr result (HasPasts self.new pasts) }
+        ensures left { ForPasts self.old (λ pasts. OnErr result (HasPasts self.new pasts)) }
         ensures now { (cycle : ℕ) → StandsAt self.old cycle → StandsAt self.new cycle }
         ensures config { (s : Config) → IsOf self.old s → IsOf self.new s }
         ensures closed { IsClosed self.old → result ≡ Err call.Closed }
@@ -156,19 +158,18 @@ impl KeptMemory {
         }
     }
 
-    /// Runs all channels over the cycles before `until`. It is refused where that cycle is over or after 2^62, or as `Closed`; that leaves
-    /// the memory with the pasts that it had. Where memory is refused, it is closed.
+    /// Runs all channels over the cycles before `until`. It is refused where that cycle is over or after 2^62, or as
+    /// `Closed`; that leaves the memory with the pasts that it had. Where memory is refused, it is closed.
     pub fn run(&mut self, alloc: Global, until: Cycle) -> Result<(), CallFault>
         requires well { IsWell self.old }
         ensures well { IsWell self.new }
-        ensures answer { (m : MemorySession) → self.old.handle.value ≡ Some m
-            → IsCallAnswer (end_refusal m.cycle until) result }
-        ensures done { (pasts : Pasts) → HasPasts self.old pasts → OnOk result (HasPasts self.new pasts) }
+        ensures answer { ForOpen self.old (λ m. IsCallAnswer (end_refusal m.cycle until) result) }
+        ensures done { ForPasts self.old (λ pasts. OnOk result (HasPasts self.new pasts)) }
         ensures now { OnOk result (StandsAt self.new until) }
         ensures config { (s : Config) → IsOf self.old s → result ≢ Err (call.Session Memory)
             → IsOf self.new s }
-        ensures left { (pasts : Pasts) → HasPasts self.old pasts
-            → IfErr result (λ e. e ≢ call.Session Memory → HasPasts self.new pasts) }
+        ensures left { ForPasts self.old (λ pasts.
+            IfErr result (λ e. e ≢ call.Session Memory → HasPasts self.new pasts)) }
         ensures stays { (cycle : ℕ) → StandsAt self.old cycle
             → IfErr result (λ e. e ≢ call.Session Memory → StandsAt self.new cycle) }
         ensures lost { IfErr result (λ e. e ≡ call.Session Memory → IsClosed self.new) }
@@ -191,15 +192,14 @@ impl KeptMemory {
         }
     }
 
-    /// The row of the next command of the cycles that are over, if there is one, with the number of its channel: the first that was not
-    /// taken, by cycle and then by channel. It is taken then. A closed memory has none.
+    /// The row of the next command of the cycles that are over, if there is one, with the number of its channel: the
+    /// first that was not taken, by cycle and then by channel. It is taken then. A closed memory has none.
     pub fn next_command(&mut self, alloc: Global) -> Option<(ChannelId, CommandRow)>
         requires well { IsWell self.old }
         ensures well { IsWell self.new }
-        ensures next { (m : MemorySession) (pasts : Pasts) → self.old.handle.value ≡ Some m → IsMemory m pasts
-            → IsCommandRow m.config pasts m.cycle result }
-        ensures taken { (m : MemorySession) (pasts : Pasts) → self.old.handle.value ≡ Some m → IsMemory m pasts
-            → HasPasts self.new (with_command_given pasts m.cycle result) }
+        ensures next { ForMemory self.old (λ m pasts. IsCommandRow m.config pasts m.cycle result) }
+        ensures taken { ForMemory self.old (λ m pasts.
+            HasPasts self.new (with_command_given pasts m.cycle result)) }
         ensures now { (cycle : ℕ) → StandsAt self.old cycle → StandsAt self.new cycle }
         ensures config { (s : Config) → IsOf self.old s → IsOf self.new s }
         ensures closed { IsClosed self.old → result ≡ None }
@@ -213,16 +213,15 @@ impl KeptMemory {
         command
     }
 
-    /// The row of the next reply or credit that was sent in the cycles that are over, if there is one, with the number of the channel that
-    /// sent it: of the first of each channel that was not taken, the one that arrives first, and of these that of the lowest channel. It is
-    /// taken then. A closed memory has none.
+    /// The row of the next reply or credit that was sent in the cycles that are over, if there is one, with the number
+    /// of the channel that sent it: of the first of each channel that was not taken, the one that arrives first, and of
+    /// these that of the lowest channel. It is taken then. A closed memory has none.
     pub fn next_reply(&mut self, alloc: Global) -> Option<(ChannelId, ReplyRow)>
         requires well { IsWell self.old }
         ensures well { IsWell self.new }
-        ensures next { (m : MemorySession) (pasts : Pasts) → self.old.handle.value ≡ Some m → IsMemory m pasts
-            → IsReplyRow m.config pasts m.cycle result }
-        ensures taken { (m : MemorySession) (pasts : Pasts) → self.old.handle.value ≡ Some m → IsMemory m pasts
-            → HasPasts self.new (with_reply_given pasts m.cycle result) }
+        ensures next { ForMemory self.old (λ m pasts. IsReplyRow m.config pasts m.cycle result) }
+        ensures taken { ForMemory self.old (λ m pasts.
+            HasPasts self.new (with_reply_given pasts m.cycle result)) }
         ensures now { (cycle : ℕ) → StandsAt self.old cycle → StandsAt self.new cycle }
         ensures config { (s : Config) → IsOf self.old s → IsOf self.new s }
         ensures closed { IsClosed self.old → result ≡ None }
@@ -251,14 +250,14 @@ impl KeptMemory {
         Some(now)
     }
 
-    /// The next cycle from now on in which a channel of an open memory acts, if nothing more is sent and there is one: none issues anything
-    /// before that cycle, and in it, one issues a command or a request that was sent arrives.
+    /// The next cycle from now on in which a channel of an open memory acts, if nothing more is sent and there is one:
+    /// none issues anything before that cycle, and in it, one issues a command or a request that was sent arrives.
     pub fn next_act(&mut self, alloc: Global) -> Option<Cycle>
         requires well { IsWell self.old }
         ensures well { IsWell self.new }
-        ensures next { (m : MemorySession) (pasts : Pasts) → self.old.handle.value ≡ Some m → IsMemory m pasts
-            → IsNextActOf m.config.channels pasts m.cycle result }
-        ensures left { (pasts : Pasts) → HasPasts self.old pasts → HasPasts self.new pasts }
+        ensures next { ForMemory self.old (λ m pasts.
+            IsNextActOf m.config.channels pasts m.cycle result) }
+        ensures left { ForPasts self.old (λ pasts. HasPasts self.new pasts) }
         ensures now { (cycle : ℕ) → StandsAt self.old cycle → StandsAt self.new cycle }
         ensures config { (s : Config) → IsOf self.old s → IsOf self.new s }
         ensures closed { IsClosed self.old → result ≡ None }
@@ -272,12 +271,12 @@ impl KeptMemory {
         cycle
     }
 
-    /// The least address of the line at a place in an open memory. It is refused as `Closed`, or as `NoSuchPlace` where the memory has none.
+    /// The least address of the line at a place in an open memory. It is refused as `Closed`, or as `NoSuchPlace` where
+    /// the memory has none.
     pub fn address_of(&mut self, alloc: Global, place: &Place) -> Result<u64, CallFault>
         requires well { IsWell self.old }
         ensures well { IsWell self.new }
-        ensures address { (m : MemorySession) → self.old.handle.value ≡ Some m
-            → IsAddressAnswer m.config place.now result }
+        ensures address { ForOpen self.old (λ m. IsAddressAnswer m.config place.now result) }
         ensures kept { self.new.handle.value ≡ self.old.handle.value }
         ensures closed { IsClosed self.old → result ≡ Err call.Closed }
     {
@@ -293,8 +292,7 @@ impl KeptMemory {
     pub fn place_of(&mut self, alloc: Global, address: u64) -> Option<Place>
         requires well { IsWell self.old }
         ensures well { IsWell self.new }
-        ensures place { (m : MemorySession) → self.old.handle.value ≡ Some m
-            → result ≡ Some (place_of m.config address) }
+        ensures place { ForOpen self.old (λ m. result ≡ Some (place_of m.config address)) }
         ensures kept { self.new.handle.value ≡ self.old.handle.value }
         ensures closed { IsClosed self.old → result ≡ None }
     {
@@ -306,13 +304,13 @@ impl KeptMemory {
         Some(place)
     }
 
-    /// The statistics of the cycles of a channel that are over. They are refused as `Closed`, or as `NoSuchChannel` where the memory has no
-    /// channel with this number.
+    /// The statistics of the cycles of a channel that are over. They are refused as `Closed`, or as `NoSuchChannel`
+    /// where the memory has no channel with this number.
     pub fn stats(&mut self, alloc: Global, number: ChannelId) -> Result<ChannelStats, CallFault>
         requires well { IsWell self.old }
         ensures well { IsWell self.new }
-        ensures stats { (m : MemorySession) (pasts : Pasts) → self.old.handle.value ≡ Some m → IsMemory m pasts
-            → result ≡ stats_answer (stats_of m.config.channels pasts m.cycle number) }
+        ensures stats { ForMemory self.old (λ m pasts.
+            result ≡ stats_answer (stats_of m.config.channels pasts m.cycle number)) }
         ensures kept { self.new.handle.value ≡ self.old.handle.value }
         ensures closed { IsClosed self.old → result ≡ Err call.Closed }
     {

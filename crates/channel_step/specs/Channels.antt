@@ -4,6 +4,13 @@
 --     AreServed rows history mail      these are the requests that these commands served, of those that came with these messages
 --     KeepsServed kept history mail      the same of the requests that are kept, if they are
 --     StandsFor c s channel steps mail      all that it keeps is what these steps, and the messages that arrived in them, make of it
+--     StandForTheSame old new      a channel stands for all that it stood for
+--     StaysInCycle old new      it is in each cycle that it was in
+--     PartsStand c s history      the parts of a channel stand for a configuration and its commands so far
+--     HasMore c s history earlier older      the requests from a place on have joined the queue of a channel since
+--     waiting_after channel steps mail      the requests that wait at a channel
+--     issues_in s channel steps mail from cycle      whether a channel issues a command in a cycle, if nothing arrives
+--     IsQuiet s history queue from end      nothing is issued before a cycle
 --     IsAhead s history queue from ahead, IsForeseen s history queue from ahead      what is known of the next command from a cycle on is so
 --     Foresees c s history      the same of what a channel knows
 --     IsFound c s history now next      the next command from a cycle on, if there is one
@@ -11,25 +18,27 @@
 --     IsInCycle c s channel steps mail      the same in the cycle after these steps, when what arrives in it has joined the queue
 --     IsNextBefore s channel steps mail log end next      the next command before a cycle, and when it is issued, if there is one
 --     CountsDrains c      cycles of draining are counted where the channel ever drains
---     seen_of c now      what is seen of a channel in a cycle
+--     seen_with c refreshing, seen_of c now      what is seen of a channel in a cycle
+--     counted c seen command hit      its statistics after a command
+--     after_cycle c seen command hit      what it is once that is counted
 --     idle_cycle c now      the statistics of a cycle in which a channel issues nothing
 --     passed c until      its statistics after such cycles
-use Rattle.std.specs.Prelude.{◌≡◌, ℕ, ◌-◌, ◌*◌, ◌<◌, ◌≤◌, false, List, ◌++◌, length, replicate, is_some, nat_lt, Option, Some, None, IfSome, All, Vec}
+use Rattle.std.specs.Prelude.{◌≡◌, ℕ, ◌+◌, ◌-◌, ◌*◌, ◌<◌, ◌≤◌, Bool, false, List, take, length, is_some, nat_lt, Option, Some, None, IfSome, All, Vec}
 use Rattle.std.specs.List.{AllByRecursion as Each}
 use Rattle.std.specs.declared.alloc.Global.{Global}
 use Rattle.sim_base.specs.declared.config.Config.{Config}
 use Rattle.sim_base.specs.History.{issued_commands}
-use Rattle.sim_base.specs.Rules.{open_row}
-use Rattle.sim_base.specs.Scheduling.{choice, source_of}
+use Rattle.sim_base.specs.Scheduling.{choice, queued_requests, source_of}
 use Rattle.sim_base.specs.declared.command.Command.{Command}
 use Rattle.sim_base.specs.declared.command.IssuedCommand.{IssuedCommand}
 use Rattle.sim_base.specs.declared.command.Source.{Source}
 use Rattle.sim_base.specs.declared.message.Message.{Message}
+use Rattle.sim_base.specs.declared.message.Request.{Request}
 use Rattle.sim_base.specs.declared.place.BankId.{BankId}
 use Rattle.bank_ready.specs.Stands.{StandsFor as BanksStandFor}
 use Rattle.refresh.specs.Refreshes.{lowest_owed, StandsFor as RefreshesStandFor}
 use Rattle.bank_candidates.specs.declared.all_banks.BankCandidates.{BankCandidates}
-use Rattle.bank_candidates.specs.Candidates.{bank_at}
+use Rattle.bank_candidates.specs.Candidates.{rows_after}
 use Rattle.bank_candidates.specs.Stands.{bank_count, StandsFor as CandidatesStandFor}
 use Rattle.request_log.specs.declared.Arrived.{Arrived}
 use Rattle.request_log.specs.Log.{waiting_requests, all_requests}
@@ -37,14 +46,14 @@ use Rattle.queue.specs.View.{QueueView, is_draining}
 use Rattle.statistics.specs.Channels.{channel_joined, channel_times}
 use Rattle.statistics.specs.declared.channels.ChannelStats.{ChannelStats}
 use Rattle.channel_step.specs.Counted.{cycle_with_hit}
-use Rattle.fr_fcfs.specs.Choices.{choice_in, command_of, IsFor}
+use Rattle.fr_fcfs.specs.Choices.{StandFor, choice_in, command_of, IsFor, HasPlace}
 use Rattle.fr_fcfs.specs.Requests.{IsInBanks}
 use Rattle.fr_fcfs.specs.Cycles.{IsNext}
 use Rattle.fr_fcfs.specs.declared.choice.Choice.{Choice}
 use Rattle.served_requests.specs.Served.{served_requests}
 use Rattle.served_requests.specs.declared.ServedRequest.{ServedRequest}
-use Rattle.channel_step.specs.Past.{requests_of}
-use Rattle.channel_step.specs.Fit.{queue_room, IsIdle}
+use Rattle.channel_step.specs.Past.{Steps, requests_of}
+use Rattle.channel_step.specs.Fit.{queue_room, idle_until, IsIdle}
 use Rattle.channel_step.specs.Queued.{marks_in}
 use Rattle.channel_step.specs.Stands.{Recalls, HasJoined}
 use Rattle.channel_step.specs.declared.ahead.Ahead.{Ahead}
@@ -54,7 +63,7 @@ use Rattle.channel_step.specs.declared.counting.Seen.{Seen}
 
 -- candidates are those of the requests of a log, where the open rows are those that these commands left open
 abbrev pub CandidatesStand : BankCandidates → List Arrived → List IssuedCommand → Type 0
-CandidatesStand bank_candidates log history = CandidatesStandFor bank_candidates log (λ bank. open_row (bank_at bank) history)
+CandidatesStand bank_candidates log history = CandidatesStandFor bank_candidates log (rows_after history)
 
 -- The channel with a number, of a machine with a configuration, has room in its queue for a request for each credit and candidates for
 -- each bank, and never had more requests in it; each request that has arrived asks for one of the banks.
@@ -69,10 +78,14 @@ pub record IsMadeFor (c : Channel) (s : Config) (channel : ℕ) : Type 0 where
   pub within : length (waiting_requests c.queue.log) ≤ queue_room s
   pub longest : c.stats.queued_max ≤ queue_room s
 
+-- nothing is issued in the cycles from one on and before another, with this queue
+abbrev pub IsQuiet : Config → List IssuedCommand → QueueView → ℕ → ℕ → Type 0
+IsQuiet s history queue from end = (t : ℕ) → from ≤ t → t < end → choice_in s history queue t ≡ None
+
 -- what was chosen needs a command that is issued in a cycle, and none is in the cycles from a given one on and before that
 pub record IsAheadAt (s : Config) (history : List IssuedCommand) (queue : QueueView) (from cycle : ℕ) (choice : Choice) : Type 0 where
   pub then_is : choice_in s history queue cycle ≡ command_of s history queue.log choice
-  pub none_before : (t : ℕ) → from ≤ t → t < cycle → choice_in s history queue t ≡ None
+  pub none_before : IsQuiet s history queue from cycle
   pub place : IsFor s.ranks queue.log choice
 
 -- the same, where it may not be known, or none is ever issued
@@ -84,7 +97,7 @@ IsAhead s history queue from (Known (Some next)) = IsAheadAt s history queue fro
 -- what is known of the next command, if it is, is for a request that waits or a rank that there is
 abbrev pub IsAheadFor : ℕ → List Arrived → Ahead → Type 0
 IsAheadFor ranks log Unknown = Unit {0}
-IsAheadFor ranks log (Known next) = IfSome next (λ n. IsFor ranks log n.1)
+IsAheadFor ranks log (Known next) = HasPlace ranks log next
 
 -- What is known of the next command is so from a cycle on:
 --     never      there is none
@@ -99,7 +112,19 @@ Foresees c s history = IsForeseen s history c.queue c.cycle c.ahead
 
 -- the next command from a cycle on, and what needs it, if there is one
 abbrev pub IsFound : Channel → Config → List IssuedCommand → ℕ → Option (ℕ × Choice) → Type 0
-IsFound c s history now next = IsNext (choice_in s history c.queue) (command_of s history c.queue.log) now next × IfSome next (λ n. IsFor s.ranks c.queue.log n.1)
+IsFound c s history now next = IsNext (choice_in s history c.queue) (command_of s history c.queue.log) now next × HasPlace s.ranks c.queue.log next
+
+-- the parts of a channel stand for a configuration and its commands so far
+abbrev pub PartsStand : Channel → Config → List IssuedCommand → Type 0
+PartsStand c s history = StandFor c.bank_candidates c.banks c.refresh c.queue c.config.groups s history
+
+-- Into the queue of a channel, which was `earlier`, the requests from place `older` on have come since. Its banks and
+-- its candidates stand for its commands so far, and the candidates for the queue as it is now.
+pub record HasMore (c : Channel) (s : Config) (history : List IssuedCommand) (earlier : QueueView) (older : ℕ) : Type 0 where
+  pub banks_stand : BanksStandFor c.banks s history
+  pub candidates_stand : CandidatesStand c.bank_candidates c.queue.log history
+  pub high_is : s.write_high ≡ c.queue.high
+  pub earlier_is : earlier.log ≡ take older c.queue.log
 
 -- these are the requests that these commands served, wherever it is told when each request came that these messages carry
 abbrev pub AreServed : List ServedRequest → List IssuedCommand → List Message → Type 0
@@ -111,7 +136,7 @@ abbrev pub KeepsServed : Option (Vec ServedRequest Global) → List IssuedComman
 KeepsServed kept history mail = IfSome kept (λ rows. AreServed rows.items history mail)
 
 -- All that a channel keeps between two cycles is what its steps so far, one a cycle, and the messages that arrived in them make of it.
-pub record StandsFor (c : Channel) (s : Config) (channel : ℕ) (steps : List (Option Command)) (mail : List Message) : Type 0 where
+pub record StandsFor (c : Channel) (s : Config) (channel : ℕ) (steps : Steps) (mail : List Message) : Type 0 where
   pub made_for : IsMadeFor c s channel
   pub cycle_is : c.cycle ≡ length steps
   pub recalls : Recalls (waiting_requests c.queue.log) c.queue.drain_decided (marks_in c.queue.log) c.stats s channel steps mail
@@ -121,11 +146,24 @@ pub record StandsFor (c : Channel) (s : Config) (channel : ℕ) (steps : List (O
   pub foresees : Foresees c s (issued_commands channel steps)
   pub keeps_served : KeepsServed c.served (issued_commands channel steps) mail
 
+-- whatever a channel stood for, it still does
+abbrev pub StandForTheSame : Channel → Channel → Type 0
+StandForTheSame old new =
+    (s : Config) (channel : ℕ) (steps : Steps) (mail : List Message) → StandsFor old s channel steps mail → StandsFor new s channel steps mail
+
+-- the requests that wait at a channel after these steps
+abbrev pub waiting_after : ℕ → Steps → List Message → List Request
+waiting_after channel steps mail = queued_requests (issued_commands channel steps) mail (length steps)
+
+-- whether a channel issues a command in a cycle, from one on, if it issues none and nothing arrives before that
+abbrev pub issues_in : Config → ℕ → Steps → List Message → ℕ → ℕ → Bool
+issues_in s channel steps mail from = λ cycle. is_some (choice s channel (idle_until steps from cycle) mail)
+
 -- a channel stands for a past of a machine with this rank
 pub record HasRank (c : Channel) (rank : ℕ) : Type 0 where
   pub s : Config
   pub channel : ℕ
-  pub steps : List (Option Command)
+  pub steps : Steps
   pub mail : List Message
   pub stands : StandsFor c s channel steps mail
   pub rank_in : rank < s.ranks
@@ -134,7 +172,7 @@ pub record HasRank (c : Channel) (rank : ℕ) : Type 0 where
 pub record HasBank (c : Channel) (bank : BankId) : Type 0 where
   pub s : Config
   pub channel : ℕ
-  pub steps : List (Option Command)
+  pub steps : Steps
   pub mail : List Message
   pub stands : StandsFor c s channel steps mail
   pub rank_in : bank.rank < s.ranks
@@ -142,7 +180,7 @@ pub record HasBank (c : Channel) (bank : BankId) : Type 0 where
   pub bank_in : bank.bank < 4
 
 -- The same in the cycle after these steps, when what arrives in it has joined the queue.
-pub record IsInCycle (c : Channel) (s : Config) (channel : ℕ) (steps : List (Option Command)) (mail : List Message) : Type 0 where
+pub record IsInCycle (c : Channel) (s : Config) (channel : ℕ) (steps : Steps) (mail : List Message) : Type 0 where
   pub made_for : IsMadeFor c s channel
   pub cycle_is : c.cycle ≡ length steps
   pub joined : HasJoined (waiting_requests c.queue.log) c.queue.drain_decided (marks_in c.queue.log) c.stats s channel steps mail
@@ -152,32 +190,37 @@ pub record IsInCycle (c : Channel) (s : Config) (channel : ℕ) (steps : List (O
   pub foresees : Foresees c s (issued_commands channel steps)
   pub keeps_served : KeepsServed c.served (issued_commands channel steps) mail
 
+-- a channel is still in each cycle that it was in
+abbrev pub StaysInCycle : Channel → Channel → Type 0
+StaysInCycle old new =
+    (s : Config) (channel : ℕ) (steps : Steps) (mail : List Message) → IsInCycle old s channel steps mail → IsInCycle new s channel steps mail
+
 -- a channel is in a cycle, after some steps
 pub record IsInSomeCycle (c : Channel) (now : ℕ) : Type 0 where
   pub s : Config
   pub channel : ℕ
-  pub steps : List (Option Command)
+  pub steps : Steps
   pub mail : List Message
   pub is_in : IsInCycle c s channel steps mail
   pub at : length steps ≡ now
 
 -- The next command that is issued after these steps, if nothing arrives any more: it is what the channel does in this cycle, which
 -- is before another one, and none is issued in the cycles before it.
-pub record IsNextIn (s : Config) (channel : ℕ) (steps : List (Option Command)) (mail : List Message) (end cycle : ℕ) (command : Command) : Type 0 where
+pub record IsNextIn (s : Config) (channel : ℕ) (steps : Steps) (mail : List Message) (end cycle : ℕ) (command : Command) : Type 0 where
   pub from_now : length steps ≤ cycle
   pub before_end : cycle < end
   pub idle : IsIdle s channel steps mail (cycle - length steps)
-  pub command_is : Some command ≡ choice s channel (steps ++ replicate (cycle - length steps) None) mail
+  pub command_is : Some command ≡ choice s channel (idle_until steps (length steps) cycle) mail
 
 -- the same, with what needs the command: a request of a log, or a rank
-pub record IsNeededIn (s : Config) (channel : ℕ) (steps : List (Option Command)) (mail : List Message) (log : List Arrived) (end cycle : ℕ) (chosen : Choice) : Type 0 where
+pub record IsNeededIn (s : Config) (channel : ℕ) (steps : Steps) (mail : List Message) (log : List Arrived) (end cycle : ℕ) (chosen : Choice) : Type 0 where
   pub command : Command
   pub place : IsFor s.ranks log chosen
   pub needed : command_of s (issued_commands channel steps) log chosen ≡ Some command
   pub is_next : IsNextIn s channel steps mail end cycle command
 
 -- the same, where there may be none before that cycle
-abbrev pub IsNextBefore : Config → ℕ → List (Option Command) → List Message → List Arrived → ℕ → Option (ℕ × Choice) → Type 0
+abbrev pub IsNextBefore : Config → ℕ → Steps → List Message → List Arrived → ℕ → Option (ℕ × Choice) → Type 0
 IsNextBefore s channel steps mail log end (Some next) = IsNeededIn s channel steps mail log end next.0 next.1
 IsNextBefore s channel steps mail log end None = IsIdle s channel steps mail (end - length steps)
 
@@ -185,9 +228,22 @@ IsNextBefore s channel steps mail log end None = IsIdle s channel steps mail (en
 abbrev pub CountsDrains : Channel → Type 0
 CountsDrains c = is_some c.stats.draining ≡ nat_lt 0 c.config.write_high
 
+-- what is seen of a channel before it issues a command, where it is known whether a refresh is due
+abbrev pub seen_with : Channel → Bool → Seen
+seen_with c refreshing = record { queued = length (waiting_requests c.queue.log); refreshing = refreshing; draining = is_draining c.queue }
+
 -- what is seen of a channel in a cycle, before it issues a command
 abbrev pub seen_of : Channel → ℕ → Seen
-seen_of c now = record { queued = length (waiting_requests c.queue.log); refreshing = is_some (lowest_owed c.refresh now); draining = is_draining c.queue }
+seen_of c now = seen_with c (is_some (lowest_owed c.refresh now))
+
+-- the statistics of a channel after one more cycle, in which this was seen and it issues this command, which moves
+-- data of a row hit or not
+abbrev pub counted : Channel → Seen → Command → Bool → ChannelStats
+counted c seen command hit = channel_joined c.stats (cycle_with_hit c.config seen.queued seen.refreshing seen.draining (Some command) hit)
+
+-- the channel once this cycle is counted: it is over, and what comes next is not known
+abbrev pub after_cycle : Channel → Seen → Command → Bool → Channel
+after_cycle c seen command hit = record c { cycle = c.cycle + 1; ahead = Unknown; stats = counted c seen command hit }
 
 -- the statistics of a cycle in which a channel issues nothing
 abbrev pub idle_cycle : Channel → ℕ → ChannelStats

@@ -2,8 +2,9 @@
 --     queue_room s      the places of a channel's queue
 --     is_named_by command r      a command stands in the name of a request
 --     IsFit s channel steps mail inbox from until      messages that may arrive in a span
+--     idle_until steps from cycle      these steps, and cycles in which nothing is issued
 --     IsIdle s channel steps mail n      a channel issues nothing in the n cycles after these steps, if nothing arrives in them
-use Rattle.std.specs.Prelude.{◌≡◌, ℕ, ◌+◌, ◌*◌, ◌<◌, ◌≤◌, Bool, true, false, List, [], ◌∷◌, ◌++◌, replicate, Option, None}
+use Rattle.std.specs.Prelude.{◌≡◌, ℕ, ◌+◌, ◌-◌, ◌*◌, ◌<◌, ◌≤◌, Bool, true, false, List, [], ◌∷◌, ◌++◌, replicate, Option, None}
 use Rattle.std.specs.List.{AllByRecursion as Each}
 use Rattle.sim_base.specs.declared.config.Config.{Config}
 use Rattle.sim_base.specs.Counts.{queue_length, source_in}
@@ -16,7 +17,7 @@ use Rattle.sim_base.specs.declared.command.Source.{Source}
 use Rattle.sim_base.specs.declared.message.Message.{Message}
 use Rattle.sim_base.specs.declared.message.Request.{Request}
 use Rattle.std.specs.Prelude.{Some}
-use Rattle.channel_step.specs.Past.{requests_of, CarriesRequest, Differ}
+use Rattle.channel_step.specs.Past.{Steps, requests_of, CarriesRequest, Differ}
 
 -- the places of a channel's queue: as many as there are credits
 abbrev pub queue_room : Config → ℕ
@@ -46,7 +47,7 @@ ComeByAge (m ∷ ms) = Each (λ (n : Message). is_before m n ≡ true) ms × Com
 --     differ      no two requests are of one entry, those that arrived before the span among them
 --     unnamed      no earlier command stands in the name of one, since none is issued for what has not arrived
 --     room      in the run that follows from them the queue has a place for each
-pub record IsFit (s : Config) (channel : ℕ) (steps : List (Option Command)) (mail inbox : List Message) (from until : ℕ) : Type 0 where
+pub record IsFit (s : Config) (channel : ℕ) (steps : Steps) (mail inbox : List Message) (from until : ℕ) : Type 0 where
   pub requests : Each (CarriesRequest s channel) inbox
   pub by_age : ComeByAge inbox
   pub in_span : Each (λ (m : Message). (from ≤ m.arrival) × (m.arrival < until)) inbox
@@ -55,6 +56,10 @@ pub record IsFit (s : Config) (channel : ℕ) (steps : List (Option Command)) (m
   pub room : (n : ℕ) → from + n < until
       → queue_length channel (channel_run s channel steps (mail ++ inbox) n) (mail ++ inbox) (from + n) ≤ queue_room s
 
+-- these steps, and then nothing in the cycles from one on and before another
+abbrev pub idle_until : Steps → ℕ → ℕ → Steps
+idle_until steps from cycle = steps ++ replicate (cycle - from) None
+
 -- A channel issues nothing in the n cycles after these steps, if nothing arrives in them.
-abbrev pub IsIdle : Config → ℕ → List (Option Command) → List Message → ℕ → Type 0
+abbrev pub IsIdle : Config → ℕ → Steps → List Message → ℕ → Type 0
 IsIdle s channel steps mail n = (k : ℕ) → k < n → choice s channel (steps ++ replicate k None) mail ≡ None

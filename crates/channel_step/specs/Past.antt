@@ -1,4 +1,5 @@
 -- What a channel that is run alone went through, and what it keeps of it.
+--     Steps      what a channel did, cycle by cycle
 --     requests_of mail      the requests that messages carry
 --     CarriesRequest s channel m      a message carries a request for this channel, as a core of the machine sends it
 --     Differ requests      no two of them are of one entry
@@ -15,6 +16,10 @@ use Rattle.sim_base.specs.declared.command.Command.{Command}
 use Rattle.sim_base.specs.declared.command.IssuedCommand.{IssuedCommand}
 use Rattle.sim_base.specs.declared.message.Message.{Message}
 use Rattle.sim_base.specs.declared.message.Request.{Request}
+
+-- what a channel did, cycle by cycle: its command, or none
+abbrev pub Steps : Type 0
+Steps = List (Option Command)
 
 -- the requests that messages carry, in their order
 abbrev pub requests_of : List Message → List Request

@@ -4,8 +4,10 @@
 --     joined_with queue new      these requests join
 --     drain_decided queue      it is decided whether the channel drains its writes
 --     with_arrivals queue new      both
+--     kept_rows kept      the requests that are kept, if they are
 --     served_now channel cycle r hit      the request that is served in a cycle, as it is kept
-use Rattle.std.specs.Prelude.{ℕ, Bool, List, map, ◌++◌, slice_index_or}
+use Rattle.std.specs.Prelude.{ℕ, Bool, List, Vec, map, ◌++◌, slice_index_or, Option, option_map}
+use Rattle.std.specs.declared.alloc.Global.{Global}
 use Rattle.sim_base.specs.declared.message.Request.{Request}
 use Rattle.request_log.specs.declared.Arrived.{Arrived}
 use Rattle.request_log.specs.Log.{absent, waiting, arrived_now}
@@ -31,6 +33,10 @@ drain_decided queue = record queue { drain_decided = is_draining queue }
 -- these requests join, and it is decided whether the channel drains its writes
 abbrev pub with_arrivals : QueueView → List Request → QueueView
 with_arrivals queue new = drain_decided (joined_with queue new)
+
+-- the requests that are kept, if they are
+abbrev pub kept_rows : Option (Vec ServedRequest Global) → Option (List ServedRequest)
+kept_rows kept = option_map (λ rows. rows.items) kept
 
 -- the request that a channel serves in a cycle, as it is kept
 abbrev pub served_now : ℕ → ℕ → Request → Bool → ServedRequest

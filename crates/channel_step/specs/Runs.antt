@@ -2,6 +2,7 @@
 --     issued_in channel now o      the command of a cycle as a list of steps
 --     first_arrival inbox until      when the first of these messages arrives
 --     with_more kept more      what a list holds with more behind it, if one is kept
+--     with_command kept channel cycle command, IsListed c command old new      the same with the command of a cycle
 --     HasIssued c s channel steps mail command commands commands_then messages messages_then      what a command leaves that is issued
 --     HasRun c s channel steps mail inbox from now until arrived commands messages      what the cycles so far leave
 --     HasAdvanced c s channel steps mail inbox now then until arrived commands commands_then messages messages_then      what one step of the loop leaves
@@ -17,6 +18,7 @@ use Rattle.sim_base.specs.Machine.{channel_run}
 use Rattle.sim_base.specs.declared.command.Command.{Command}
 use Rattle.sim_base.specs.declared.command.IssuedCommand.{IssuedCommand}
 use Rattle.sim_base.specs.declared.message.Message.{Message}
+use Rattle.channel_step.specs.Past.{Steps}
 use Rattle.channel_step.specs.Fit.{IsFit}
 use Rattle.channel_step.specs.Channels.{StandsFor}
 use Rattle.channel_step.specs.declared.channel.Channel.{Channel}
@@ -30,6 +32,14 @@ abbrev pub with_more : {A : Type 0} → Option (List A) → List A → Option (L
 with_more None more = None
 with_more (Some rows) more = Some (rows ++ more)
 
+-- what a list holds with the command of a cycle behind it
+abbrev pub with_command : Option (List IssuedCommand) → ℕ → ℕ → Command → Option (List IssuedCommand)
+with_command kept channel cycle command = with_more kept (issued_in channel cycle (Some command))
+
+-- a command of a channel in its cycle was put behind what a list held, if one is kept
+abbrev pub IsListed : Channel → Command → Option (List IssuedCommand) → Option (List IssuedCommand) → Type 0
+IsListed c command old new = new ≡ with_command old c.number c.cycle command
+
 -- when the first of these messages arrives, and a cycle where there is none
 abbrev pub first_arrival : List Message → ℕ → ℕ
 first_arrival [] until = until
@@ -37,14 +47,14 @@ first_arrival (m ∷ ms) until = m.arrival
 
 -- A channel has issued a command in the cycle after these steps: the command, where commands are kept, and what is sent for it were put
 -- behind what two lists held.
-pub record HasIssued (c : Channel) (s : Config) (channel : ℕ) (steps : List (Option Command)) (mail : List Message) (command : Command) (commands commands_then : Option (List IssuedCommand)) (messages messages_then : List Message) : Type 0 where
+pub record HasIssued (c : Channel) (s : Config) (channel : ℕ) (steps : Steps) (mail : List Message) (command : Command) (commands commands_then : Option (List IssuedCommand)) (messages messages_then : List Message) : Type 0 where
   pub stands : StandsFor c s channel (steps ++ Some command ∷ []) mail
-  pub commands_are : commands_then ≡ with_more commands (issued_in channel (length steps) (Some command))
+  pub commands_are : commands_then ≡ with_command commands channel (length steps) command
   pub messages_are : messages_then ≡ messages ++ messages_at s channel (length steps) (Some command)
 
 -- After the cycles from one on and before another a channel stands for the steps of its run and for the messages that arrived in
 -- them; the others are fit for the rest of the span; and these commands and messages are those that were added.
-pub record HasRun (c : Channel) (s : Config) (channel : ℕ) (steps : List (Option Command)) (mail inbox : List Message) (from now until arrived : ℕ) (commands : List IssuedCommand) (messages : List Message) : Type 0 where
+pub record HasRun (c : Channel) (s : Config) (channel : ℕ) (steps : Steps) (mail inbox : List Message) (from now until arrived : ℕ) (commands : List IssuedCommand) (messages : List Message) : Type 0 where
   pub stands : StandsFor c s channel (channel_run s channel steps (mail ++ inbox) (now - from)) (mail ++ take arrived inbox)
   pub fit : IsFit s channel (channel_run s channel steps (mail ++ inbox) (now - from)) (mail ++ take arrived inbox) (drop arrived inbox) now until
   pub some : arrived ≤ length inbox
@@ -53,7 +63,7 @@ pub record HasRun (c : Channel) (s : Config) (channel : ℕ) (steps : List (Opti
 
 -- After some more cycles, from one on and before another, the same holds, and what is new was added to these commands, where they
 -- are kept, and messages.
-pub record HasAdvanced (c : Channel) (s : Config) (channel : ℕ) (steps : List (Option Command)) (mail inbox : List Message) (now then until arrived : ℕ) (commands commands_then : Option (List IssuedCommand)) (messages messages_then : List Message) : Type 0 where
+pub record HasAdvanced (c : Channel) (s : Config) (channel : ℕ) (steps : Steps) (mail inbox : List Message) (now then until arrived : ℕ) (commands commands_then : Option (List IssuedCommand)) (messages messages_then : List Message) : Type 0 where
   pub issued : List IssuedCommand
   pub sent : List Message
   pub has_run : HasRun c s channel steps mail inbox now then until arrived issued sent
@@ -62,7 +72,7 @@ pub record HasAdvanced (c : Channel) (s : Config) (channel : ℕ) (steps : List 
 
 -- After a span a channel stands for the steps of its run over it and for all messages that were sent to it. The commands, where
 -- they are kept, and the messages of the longer steps beyond those of the earlier ones were put behind what two lists held.
-pub record IsDone (c : Channel) (s : Config) (channel : ℕ) (steps : List (Option Command)) (mail inbox : List Message) (from until : ℕ) (commands commands_then : Option (List IssuedCommand)) (messages messages_then : List Message) : Type 0 where
+pub record IsDone (c : Channel) (s : Config) (channel : ℕ) (steps : Steps) (mail inbox : List Message) (from until : ℕ) (commands commands_then : Option (List IssuedCommand)) (messages messages_then : List Message) : Type 0 where
   pub issued : List IssuedCommand
   pub sent : List Message
   pub stands : StandsFor c s channel (channel_run s channel steps (mail ++ inbox) (until - from)) (mail ++ inbox)
@@ -75,7 +85,7 @@ pub record IsDone (c : Channel) (s : Config) (channel : ℕ) (steps : List (Opti
 pub record CanRun (c : Channel) (inbox : List Message) (from until : ℕ) : Type 0 where
   pub s : Config
   pub channel : ℕ
-  pub steps : List (Option Command)
+  pub steps : Steps
   pub mail : List Message
   pub stands : StandsFor c s channel steps mail
   pub at : length steps ≡ from
@@ -91,7 +101,7 @@ pub record CanStep (c : Channel) (inbox : List Message) (now : ℕ) : Type 0 whe
 pub record StandsAt (c : Channel) (from : ℕ) : Type 0 where
   pub s : Config
   pub channel : ℕ
-  pub steps : List (Option Command)
+  pub steps : Steps
   pub mail : List Message
   pub stands : StandsFor c s channel steps mail
   pub at : length steps ≡ from

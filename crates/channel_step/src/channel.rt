@@ -1,32 +1,32 @@
 //! A channel that is run alone over a span of cycles.
 
-ghost use Rattle.std.specs.Prelude.{◌≡◌, true, false, ℕ, ◌+◌, ◌-◌, ◌*◌, ◌<◌, ◌≤◌, ◌^◌, ◌==◌, take, take_while, ◌++◌, List, All, [], ◌∷◌, length, Option, Some, None, replicate, is_some, nat_le, IfSome, IfOk, OnOk};
+ghost use Rattle.std.specs.Prelude.{◌≡◌, true, false, ℕ, ◌+◌, ◌-◌, ◌*◌, ◌<◌, ◌≤◌, ◌^◌, ◌==◌, take, take_while, ◌++◌, List, [], ◌∷◌, length, Some, is_some, nat_le, IfOk, OnOk};
 ghost use Rattle.sim_base.specs.History.{issued_commands};
-ghost use Rattle.sim_base.specs.Places.{bank_in};
 ghost use Rattle.sim_base.specs.Rules.{open_row};
-ghost use Rattle.sim_base.specs.Scheduling.{choice, due, queued_requests, source_of, column_command, needed_at, needed, refresh_command};
+ghost use Rattle.sim_base.specs.Scheduling.{choice, due};
 ghost use Rattle.sim_base.specs.declared.config.Config.{Config};
 ghost use Rattle.sim_base.specs.declared.command.Command.{Command};
-ghost use Rattle.sim_base.specs.declared.command.Command.TheVariants.{Pre};
 ghost use Rattle.sim_base.specs.declared.command.IssuedCommand.{IssuedCommand};
 ghost use Rattle.sim_base.specs.declared.message.Message.{Message};
 ghost use Rattle.refresh.specs.Refreshes.{lowest_owed};
-ghost use Rattle.bank_ready.specs.Stands.{rank_count, StandsFor as BanksStandFor};
-ghost use Rattle.bank_candidates.specs.Stands.{bank_count};
-ghost use Rattle.request_log.specs.Log.{waiting, waiting_requests, all_requests};
-ghost use Rattle.queue.specs.View.{QueueView, is_draining};
-ghost use Rattle.fr_fcfs.specs.Choices.{IsFor, StandFor, choice_in, command_of};
+ghost use Rattle.bank_ready.specs.Stands.{rank_count};
+ghost use Rattle.request_log.specs.Log.{waiting_requests};
+ghost use Rattle.queue.specs.View.{QueueView, renumbered};
+ghost use Rattle.fr_fcfs.specs.Choices.{HasPlace, command_of};
 ghost use Rattle.fr_fcfs.specs.declared.choice.Choice.TheVariants as chosen;
-ghost use Rattle.fr_fcfs.specs.Requests.{IsInBanks};
+ghost use Rattle.fr_fcfs.specs.Requests.{AreInBanks, OfSameBanks};
 ghost use Rattle.fr_fcfs.specs.Cycles.{IsFirstCycle};
-ghost use Rattle.statistics.specs.Channels.{channel_stats, channel_joined, ChannelFits};
-ghost use Rattle.channel_step.specs.Counted.{cycle_with_hit};
-ghost use Rattle.channel_step.specs.Queued.{request_at};
-ghost use Rattle.channel_step.specs.declared.ahead.Ahead.TheVariants.{Unknown, Known};
-ghost use Rattle.channel_step.specs.Channels.{CandidatesStand, KeepsServed, StandsFor, IsAhead, IsAheadFor, IsFound, HasRank, HasBank, IsInCycle, IsInSomeCycle, IsNextBefore, CountsDrains, seen_of, passed};
-ghost use Rattle.channel_step.specs.Readied.{IsChosen, IsDoing, IsReadied, IsReady, seen_after};
-ghost use Rattle.channel_step.specs.Fit.{queue_room, IsFit};
-ghost use Rattle.channel_step.specs.Runs.{CanStep, CanRun, HasIssued, HasAdvanced, IsDone, StandsAt, first_arrival, issued_in, with_more};
+ghost use Rattle.statistics.specs.Channels.{channel_stats, ChannelFits};
+ghost use Rattle.channel_step.specs.declared.ahead.Ahead.TheVariants.{Known};
+ghost use Rattle.channel_step.specs.Past.{Steps};
+ghost use Rattle.channel_step.specs.Channels.{KeepsServed, StandsFor, StandForTheSame, PartsStand, HasMore, waiting_after};
+ghost use Rattle.channel_step.specs.Channels.{IsAhead, IsAheadFor, IsFound, IsQuiet, HasRank, HasBank, issues_in};
+ghost use Rattle.channel_step.specs.Channels.{IsInCycle, IsInSomeCycle, StaysInCycle, IsNextBefore};
+ghost use Rattle.channel_step.specs.Channels.{CountsDrains, seen_with, seen_of, counted, after_cycle, passed};
+ghost use Rattle.channel_step.specs.Readied.{IsChosen, IsDoing, IsReadied, IsReady, HasReadied, seen_after};
+ghost use Rattle.channel_step.specs.Readied.{opening_command, closing_command, data_command, command_needed, rank_command};
+ghost use Rattle.channel_step.specs.Fit.{queue_room, idle_until, IsFit};
+ghost use Rattle.channel_step.specs.Runs.{CanStep, CanRun, HasIssued, HasAdvanced, IsDone, StandsAt, first_arrival, IsListed};
 
 use crate::ahead::Ahead;
 use crate::arriving::admit;
@@ -98,7 +98,8 @@ impl Channel {
 
     /// Keeps the requests that the channel serves, each with what is known of it then. The channel is before its first cycle.
     pub fn keep_served(&mut self, alloc: Global)
-        ensures stands { (s : Config) (number : ℕ) → StandsFor self.old s number [] [] → StandsFor self.new s number [] [] }
+        ensures stands { (s : Config) (number : ℕ)
+            → StandsFor self.old s number [] [] → StandsFor self.new s number [] [] }
         ensures kept { is_some self.new.served ≡ true }
     {
         self.served = Some(Vec::new(alloc));
@@ -106,39 +107,43 @@ impl Channel {
 
     /// The requests that the channel served, in the order of their commands, if they were kept.
     pub fn into_served(self) -> Option<Vec<ServedRequest>>
-        ensures { (s : Config) (channel : ℕ) (steps : List (Option Command)) (mail : List Message)
-            → StandsFor self s channel steps mail → KeepsServed result (issued_commands channel steps) mail }
+        ensures { (s : Config) (channel : ℕ) (steps : Steps) (mail : List Message)
+            → StandsFor self s channel steps mail
+            → KeepsServed result (issued_commands channel steps) mail }
     {
         self.served
     }
 
     /// The statistics of the cycles so far.
     pub fn stats(&self) -> ChannelStats
-        ensures { (s : Config) (channel : ℕ) (steps : List (Option Command)) (mail : List Message)
-            → StandsFor self.now s channel steps mail → result ≡ channel_stats s channel steps mail }
+        ensures { (s : Config) (channel : ℕ) (steps : Steps) (mail : List Message)
+            → StandsFor self.now s channel steps mail
+            → result ≡ channel_stats s channel steps mail }
     {
         self.stats
     }
 
     /// The requests that wait, by age.
     pub fn requests(&self, alloc: Global) -> Result<Vec<Request>, AllocError>
-        ensures { (s : Config) (channel : ℕ) (steps : List (Option Command)) (mail : List Message)
-            → StandsFor self.now s channel steps mail → IfOk result (λ requests. requests.items ≡ queued_requests (issued_commands channel steps) mail (length steps)) }
+        ensures { (s : Config) (channel : ℕ) (steps : Steps) (mail : List Message)
+            → StandsFor self.now s channel steps mail
+            → IfOk result (λ requests. requests.items ≡ waiting_after channel steps mail) }
     {
         self.queue.waiting(alloc)
     }
 
     /// How many requests wait.
     pub fn waiting(&self) -> usize
-        ensures { (s : Config) (channel : ℕ) (steps : List (Option Command)) (mail : List Message)
-            → StandsFor self.now s channel steps mail → result ≡ length (queued_requests (issued_commands channel steps) mail (length steps)) }
+        ensures { (s : Config) (channel : ℕ) (steps : Steps) (mail : List Message)
+            → StandsFor self.now s channel steps mail
+            → result ≡ length (waiting_after channel steps mail) }
     {
         self.queue.len()
     }
 
     /// The cycle where the channel stands: how many cycles are over.
     pub fn now(&self) -> Cycle
-        ensures { (s : Config) (channel : ℕ) (steps : List (Option Command)) (mail : List Message)
+        ensures { (s : Config) (channel : ℕ) (steps : Steps) (mail : List Message)
             → StandsFor self.now s channel steps mail → result ≡ length steps }
     {
         self.cycle
@@ -147,8 +152,9 @@ impl Channel {
     /// How many refreshes of a rank of the machine are due at the cycle where the channel stands.
     pub fn due(&self, rank: u32) -> u64
         requires { HasRank self.now rank }
-        ensures { (s : Config) (channel : ℕ) (steps : List (Option Command)) (mail : List Message)
-            → StandsFor self.now s channel steps mail → result ≡ due s rank (issued_commands channel steps) (length steps) }
+        ensures { (s : Config) (channel : ℕ) (steps : Steps) (mail : List Message)
+            → StandsFor self.now s channel steps mail
+            → result ≡ due s rank (issued_commands channel steps) (length steps) }
     {
         self.refresh.due(self.cycle, rank)
     }
@@ -156,8 +162,9 @@ impl Channel {
     /// The row that is open in a bank of the machine at the cycle where the channel stands, if one is.
     pub fn open_row(&self, bank: BankId) -> Option<u32>
         requires { HasBank self.now bank }
-        ensures { (s : Config) (channel : ℕ) (steps : List (Option Command)) (mail : List Message)
-            → StandsFor self.now s channel steps mail → result ≡ open_row bank (issued_commands channel steps) }
+        ensures { (s : Config) (channel : ℕ) (steps : Steps) (mail : List Message)
+            → StandsFor self.now s channel steps mail
+            → result ≡ open_row bank (issued_commands channel steps) }
     {
         self.bank_candidates.open_row(bank)
     }
@@ -167,9 +174,9 @@ impl Channel {
     pub fn next_act(&mut self, from: Cycle) -> Option<Cycle>
         requires { StandsAt self.old from }
         ensures same { self.new ≡ self.old }
-        ensures first { (s : Config) (channel : ℕ) (steps : List (Option Command)) (mail : List Message)
+        ensures first { (s : Config) (channel : ℕ) (steps : Steps) (mail : List Message)
             → StandsFor self.old s channel steps mail → length steps ≡ from
-            → IsFirstCycle (λ cycle. is_some (choice s channel (steps ++ replicate (cycle - from) None) mail)) from result }
+            → IsFirstCycle (issues_in s channel steps mail from) from result }
     {
         match self.find(from) {
             Some((cycle, _)) => Some(cycle),
@@ -181,12 +188,14 @@ impl Channel {
     /// only if it is not known yet.
     #[inline(always)]
     fn find(&self, now: Cycle) -> Option<(Cycle, Choice)>
-        requires places { All (IsInBanks (rank_count self.now.banks)) (all_requests self.now.queue.log) }
-        requires banks { bank_count self.now.bank_candidates ≡ 16 * rank_count self.now.banks }
+        requires places { AreInBanks (rank_count self.now.banks) self.now.queue.log }
+        requires banks { OfSameBanks self.now.bank_candidates self.now.banks }
         requires ranks { self.now.refresh.ranks ≤ rank_count self.now.banks }
         requires groups { self.now.config.groups ≤ 4 }
-        ensures { (s : Config) (history : List IssuedCommand) → StandFor self.now.bank_candidates self.now.banks self.now.refresh self.now.queue self.now.config.groups s history
-            → IsAhead s history self.now.queue self.now.cycle self.now.ahead → self.now.cycle ≤ now → IsFound self.now s history now result }
+        ensures { (s : Config) (history : List IssuedCommand)
+            → PartsStand self.now s history
+            → IsAhead s history self.now.queue self.now.cycle self.now.ahead
+            → self.now.cycle ≤ now → IsFound self.now s history now result }
     {
         match self.ahead {
             Ahead::Known(None) => None,
@@ -205,8 +214,9 @@ impl Channel {
     /// Whether it is known that the channel issues nothing before a cycle, if nothing arrives.
     #[inline(always)]
     fn waits_until(&self, end: Cycle) -> bool
-        ensures { (s : Config) (history : List IssuedCommand) (queue : QueueView) (from : ℕ) → result ≡ true → IsAhead s history queue from self.now.ahead
-            → (t : ℕ) → from ≤ t → t < end → choice_in s history queue t ≡ None }
+        ensures { (s : Config) (history : List IssuedCommand) (queue : QueueView) (from : ℕ)
+            → result ≡ true → IsAhead s history queue from self.now.ahead
+            → IsQuiet s history queue from end }
     {
         match self.ahead {
             Ahead::Known(found) => is_none_before(found, end),
@@ -219,10 +229,10 @@ impl Channel {
     fn look(&mut self, now: Cycle, end: Cycle) -> Option<(Cycle, Choice)>
         requires { IsInSomeCycle self.old now }
         ensures same_queue { self.new.queue ≡ self.old.queue }
-        ensures in_cycle { (s : Config) (channel : ℕ) (steps : List (Option Command)) (mail : List Message)
-            → IsInCycle self.old s channel steps mail → IsInCycle self.new s channel steps mail }
-        ensures next { (s : Config) (channel : ℕ) (steps : List (Option Command)) (mail : List Message)
-            → IsInCycle self.old s channel steps mail → length steps ≡ now → IsNextBefore s channel steps mail self.old.queue.log end result }
+        ensures in_cycle { StaysInCycle self.old self.new }
+        ensures next { (s : Config) (channel : ℕ) (steps : Steps) (mail : List Message)
+            → IsInCycle self.old s channel steps mail → length steps ≡ now
+            → IsNextBefore s channel steps mail self.old.queue.log end result }
     {
         if self.waits_until(end) {
             return None;
@@ -239,7 +249,7 @@ impl Channel {
 
     /// What is seen of the channel before it issues a command, where it is known whether a refresh is due.
     fn seen(&self, refreshing: bool) -> Seen
-        ensures { result ≡ record { queued = length (waiting_requests self.now.queue.log); refreshing = refreshing; draining = is_draining self.now.queue } }
+        ensures { result ≡ seen_with self.now refreshing }
     {
         Seen {
             queued: self.queue.len(),
@@ -254,8 +264,8 @@ impl Channel {
     fn count(&mut self, seen: Seen, command: Command, hit: bool)
         requires cycle { self.old.cycle < 2 ^ 62 }
         requires drains { CountsDrains self.old }
-        requires fits { ChannelFits (channel_joined self.old.stats (cycle_with_hit self.old.config seen.queued seen.refreshing seen.draining (Some command) hit)) }
-        ensures { self.new ≡ record self.old { cycle = self.old.cycle + 1; ahead = Unknown; stats = channel_joined self.old.stats (cycle_with_hit self.old.config seen.queued seen.refreshing seen.draining (Some command) hit) } }
+        requires fits { ChannelFits (counted self.old seen command hit) }
+        ensures { self.new ≡ after_cycle self.old seen command hit }
     {
         self.ahead = Ahead::Unknown;
         let stats = &mut self.stats;
@@ -288,7 +298,8 @@ impl Channel {
         requires { self.now.cycle ≤ until }
         ensures from_now { self.now.cycle ≤ result }
         ensures within { result ≤ until }
-        ensures due { (cycle : ℕ) → self.now.cycle ≤ cycle → cycle < until → is_some (lowest_owed self.now.refresh cycle) ≡ nat_le result cycle }
+        ensures due { (cycle : ℕ) → self.now.cycle ≤ cycle → cycle < until
+            → is_some (lowest_owed self.now.refresh cycle) ≡ nat_le result cycle }
     {
         if !self.refresh.is_due_by(until) {
             return until;
@@ -309,7 +320,7 @@ impl Channel {
 
     /// Decides whether the channel drains its writes in the next cycle, where nothing arrives in it.
     fn decide_drain(&mut self)
-        ensures { (s : Config) (channel : ℕ) (steps : List (Option Command)) (mail : List Message)
+        ensures { (s : Config) (channel : ℕ) (steps : Steps) (mail : List Message)
             → StandsFor self.old s channel steps mail → IsInCycle self.new s channel steps mail }
     {
         self.queue.decide_drain();
@@ -323,8 +334,9 @@ impl Channel {
         requires span { self.old.cycle ≤ until }
         requires until { until ≤ 2 ^ 62 }
         ensures same_queue { self.new.queue ≡ self.old.queue }
-        ensures in_cycle { (s : Config) (channel : ℕ) (steps : List (Option Command)) (mail : List Message)
-            → IsInCycle self.old s channel steps mail → IsInCycle self.new s channel (steps ++ replicate (until - length steps) None) mail }
+        ensures in_cycle { (s : Config) (channel : ℕ) (steps : Steps) (mail : List Message)
+            → IsInCycle self.old s channel steps mail
+            → IsInCycle self.new s channel (idle_until steps (length steps) until) mail }
     {
         if self.cycle == until {
             return;
@@ -349,9 +361,11 @@ impl Channel {
     ) -> Result<(), AllocError>
         requires ready { IsReady self.old command hit seen }
         requires early { self.old.cycle < 2 ^ 62 }
-        ensures stands { (s : Config) (channel : ℕ) (steps : List (Option Command)) (mail : List Message)
-            → IsReadied self.old s channel steps mail command hit → seen ≡ seen_after s channel steps mail → StandsFor self.new s channel (steps ++ Some command ∷ []) mail }
-        ensures commands { IfOk result (λ u. commands.new ≡ with_more commands.old (issued_in self.old.number self.old.cycle (Some command))) }
+        ensures stands { (s : Config) (channel : ℕ) (steps : Steps) (mail : List Message)
+            → IsReadied self.old s channel steps mail command hit
+            → seen ≡ seen_after s channel steps mail
+            → StandsFor self.new s channel (steps ++ Some command ∷ []) mail }
+        ensures commands { IfOk result (λ u. IsListed self.old command commands.old commands.new) }
     {
         let now = self.cycle;
         self.banks.note(command, now);
@@ -364,10 +378,9 @@ impl Channel {
     #[inline(always)]
     fn ready_rank(&mut self, rank: u32) -> Command
         requires { IsChosen self.old (chosen.Refresh rank) }
-        ensures command { (s : Config) (channel : ℕ) (steps : List (Option Command)) (mail : List Message)
-            → IsInCycle self.old s channel steps mail → result ≡ refresh_command s (issued_commands channel steps) rank }
-        ensures readied { (s : Config) (channel : ℕ) (steps : List (Option Command)) (mail : List Message)
-            → IsInCycle self.old s channel steps mail → Some result ≡ choice s channel steps mail → IsReadied self.new s channel steps mail result false }
+        ensures command { (s : Config) (channel : ℕ) (steps : Steps) (mail : List Message)
+            → IsInCycle self.old s channel steps mail → result ≡ rank_command s channel steps rank }
+        ensures readied { HasReadied self.old self.new result false }
     {
         let command = refresh_command(&self.bank_candidates, rank, self.config.groups);
         if let Command::Prea { rank } = command {
@@ -385,9 +398,12 @@ impl Channel {
     ) -> Result<(), AllocError>
         requires chosen { IsChosen self.old (chosen.Refresh rank) }
         requires early { self.old.cycle < 2 ^ 62 }
-        ensures { (s : Config) (channel : ℕ) (steps : List (Option Command)) (mail : List Message) (messages : List Message)
-            → IsInCycle self.old s channel steps mail → Some (refresh_command s (issued_commands channel steps) rank) ≡ choice s channel steps mail
-            → OnOk result (HasIssued self.new s channel steps mail (refresh_command s (issued_commands channel steps) rank) commands.old commands.new messages messages) }
+        ensures { (s : Config) (channel : ℕ) (steps : Steps) (mail messages : List Message)
+            → IsInCycle self.old s channel steps mail
+            → Some (rank_command s channel steps rank) ≡ choice s channel steps mail
+            → OnOk result (HasIssued self.new s channel steps mail
+            (rank_command s channel steps rank)
+            commands.old commands.new messages messages) }
     {
         let seen = self.seen(self.refreshing());
         let command = self.ready_rank(rank);
@@ -397,10 +413,9 @@ impl Channel {
     /// Readies the channel for the ACT that the request at a place needs, in whose bank no row is open.
     #[inline(always)]
     fn open_bank(&mut self, slot: usize) -> Command
-        requires { IsDoing self.old slot (needed_at None (request_at self.old.queue.log slot)) }
-        ensures command { result ≡ needed_at None (request_at self.old.queue.log slot) }
-        ensures readied { (s : Config) (channel : ℕ) (steps : List (Option Command)) (mail : List Message)
-            → IsInCycle self.old s channel steps mail → Some result ≡ choice s channel steps mail → IsReadied self.new s channel steps mail result false }
+        requires { IsDoing self.old slot (opening_command self.old slot) }
+        ensures command { result ≡ opening_command self.old slot }
+        ensures readied { HasReadied self.old self.new result false }
     {
         let request = self.queue.log().log()[slot].request;
         let bank = request.place.bank_id();
@@ -417,10 +432,9 @@ impl Channel {
     /// Readies the channel for the PRE that the request at a place needs, in whose bank another row is open.
     #[inline(always)]
     fn close_bank(&mut self, slot: usize) -> Command
-        requires { IsDoing self.old slot (Pre (bank_in (request_at self.old.queue.log slot).place) (source_of (request_at self.old.queue.log slot))) }
-        ensures command { result ≡ Pre (bank_in (request_at self.old.queue.log slot).place) (source_of (request_at self.old.queue.log slot)) }
-        ensures readied { (s : Config) (channel : ℕ) (steps : List (Option Command)) (mail : List Message)
-            → IsInCycle self.old s channel steps mail → Some result ≡ choice s channel steps mail → IsReadied self.new s channel steps mail result false }
+        requires { IsDoing self.old slot (closing_command self.old slot) }
+        ensures command { result ≡ closing_command self.old slot }
+        ensures readied { HasReadied self.old self.new result false }
     {
         let request = self.queue.log().log()[slot].request;
         let bank = request.place.bank_id();
@@ -435,10 +449,11 @@ impl Channel {
     /// an error the request is not added to those that are kept.
     #[inline(always)]
     fn serve(&mut self, slot: usize) -> Result<bool, AllocError>
-        requires { IsDoing self.old slot (column_command (request_at self.old.queue.log slot)) }
-        ensures { (s : Config) (channel : ℕ) (steps : List (Option Command)) (mail : List Message)
-            → IsInCycle self.old s channel steps mail → Some (column_command (request_at self.old.queue.log slot)) ≡ choice s channel steps mail
-            → IfOk result (λ hit. IsReadied self.new s channel steps mail (column_command (request_at self.old.queue.log slot)) hit) }
+        requires { IsDoing self.old slot (data_command self.old slot) }
+        ensures { (s : Config) (channel : ℕ) (steps : Steps) (mail : List Message)
+            → IsInCycle self.old s channel steps mail
+            → Some (data_command self.old slot) ≡ choice s channel steps mail
+            → IfOk result (IsReadied self.new s channel steps mail (data_command self.old slot)) }
     {
         let unblocked = self.queue.serve(slot);
         self.bank_candidates
@@ -464,12 +479,14 @@ impl Channel {
         commands: &mut Option<CommandList>,
         messages: &mut Vec<Message>,
     ) -> Result<(), AllocError>
-        requires doing { IsDoing self.old slot (column_command (request_at self.old.queue.log slot)) }
+        requires doing { IsDoing self.old slot (data_command self.old slot) }
         requires seen { seen ≡ seen_of self.old self.old.cycle }
         requires early { self.old.cycle < 2 ^ 62 }
-        ensures { (s : Config) (channel : ℕ) (steps : List (Option Command)) (mail : List Message)
-            → IsInCycle self.old s channel steps mail → Some (column_command (request_at self.old.queue.log slot)) ≡ choice s channel steps mail
-            → OnOk result (HasIssued self.new s channel steps mail (column_command (request_at self.old.queue.log slot)) commands.old commands.new messages.old.items messages.new.items) }
+        ensures { (s : Config) (channel : ℕ) (steps : Steps) (mail : List Message)
+            → IsInCycle self.old s channel steps mail
+            → Some (data_command self.old slot) ≡ choice s channel steps mail
+            → OnOk result (HasIssued self.new s channel steps mail (data_command self.old slot)
+            commands.old commands.new messages.old.items messages.new.items) }
     {
         let now = self.cycle;
         let request = self.queue.log().log()[slot].request;
@@ -489,9 +506,13 @@ impl Channel {
     ) -> Result<(), AllocError>
         requires chosen { IsChosen self.old (chosen.Request slot) }
         requires early { self.old.cycle < 2 ^ 62 }
-        ensures { (s : Config) (channel : ℕ) (steps : List (Option Command)) (mail : List Message)
-            → IsInCycle self.old s channel steps mail → Some (needed (issued_commands channel steps) (request_at self.old.queue.log slot)) ≡ choice s channel steps mail
-            → OnOk result (HasIssued self.new s channel steps mail (needed (issued_commands channel steps) (request_at self.old.queue.log slot)) commands.old commands.new messages.old.items messages.new.items) }
+        ensures { (s : Config) (channel : ℕ) (steps : Steps) (mail : List Message)
+            → IsInCycle self.old s channel steps mail
+            → Some (command_needed self.old (issued_commands channel steps) slot)
+            ≡ choice s channel steps mail
+            → OnOk result (HasIssued self.new s channel steps mail
+            (command_needed self.old (issued_commands channel steps) slot)
+            commands.old commands.new messages.old.items messages.new.items) }
     {
         let seen = self.seen(self.refreshing());
         let place = self.queue.log().log()[slot].request.place;
@@ -518,9 +539,13 @@ impl Channel {
     ) -> Result<(), AllocError>
         requires chosen { IsChosen self.old found }
         requires early { self.old.cycle < 2 ^ 62 }
-        ensures { (s : Config) (channel : ℕ) (steps : List (Option Command)) (mail : List Message) (command : Command)
-            → IsInCycle self.old s channel steps mail → command_of s (issued_commands channel steps) self.old.queue.log found ≡ Some command → Some command ≡ choice s channel steps mail
-            → OnOk result (HasIssued self.new s channel steps mail command commands.old commands.new messages.old.items messages.new.items) }
+        ensures { (s : Config) (channel : ℕ) (steps : Steps) (mail : List Message)
+            (command : Command)
+            → IsInCycle self.old s channel steps mail
+            → command_of s (issued_commands channel steps) self.old.queue.log found ≡ Some command
+            → Some command ≡ choice s channel steps mail
+            → OnOk result (HasIssued self.new s channel steps mail command
+            commands.old commands.new messages.old.items messages.new.items) }
     {
         match found {
             Choice::Refresh(rank) => self.refresh_rank(rank, commands),
@@ -531,12 +556,13 @@ impl Channel {
     /// Whether what was found is known to be still the next command, now that the requests from a place on have arrived.
     #[inline(always)]
     fn keeps_found(&self, found: Option<(Cycle, Choice)>, older: usize) -> bool
-        requires places { All (IsInBanks (rank_count self.now.banks)) (all_requests self.now.queue.log) }
-        requires banks { bank_count self.now.bank_candidates ≡ 16 * rank_count self.now.banks }
-        requires found { IfSome found (λ n. IsFor (rank_count self.now.banks) self.now.queue.log n.1) }
-        ensures { (s : Config) (history : List IssuedCommand) (earlier : QueueView) → result ≡ true → BanksStandFor self.now.banks s history
-            → CandidatesStand self.now.bank_candidates self.now.queue.log history → s.write_high ≡ self.now.queue.high → earlier.log ≡ take older self.now.queue.log
-            → IsAhead s history earlier self.now.cycle (Known found) → IsAhead s history self.now.queue self.now.cycle (Known found) }
+        requires places { AreInBanks (rank_count self.now.banks) self.now.queue.log }
+        requires banks { OfSameBanks self.now.bank_candidates self.now.banks }
+        requires found { HasPlace (rank_count self.now.banks) self.now.queue.log found }
+        ensures { (s : Config) (history : List IssuedCommand) (earlier : QueueView)
+            → result ≡ true → HasMore self.now s history earlier older
+            → IsAhead s history earlier self.now.cycle (Known found)
+            → IsAhead s history self.now.queue self.now.cycle (Known found) }
     {
         match found {
             Some((cycle, choice)) => stays(
@@ -551,15 +577,16 @@ impl Channel {
         }
     }
 
-    /// The same of what is known of the next command.
+    /// Whether what is known of the next command is still so, now that the requests from a place on have arrived.
     #[inline(always)]
     fn keeps(&self, older: usize) -> bool
-        requires places { All (IsInBanks (rank_count self.now.banks)) (all_requests self.now.queue.log) }
-        requires banks { bank_count self.now.bank_candidates ≡ 16 * rank_count self.now.banks }
+        requires places { AreInBanks (rank_count self.now.banks) self.now.queue.log }
+        requires banks { OfSameBanks self.now.bank_candidates self.now.banks }
         requires ahead { IsAheadFor (rank_count self.now.banks) self.now.queue.log self.now.ahead }
-        ensures { (s : Config) (history : List IssuedCommand) (earlier : QueueView) → result ≡ true → BanksStandFor self.now.banks s history
-            → CandidatesStand self.now.bank_candidates self.now.queue.log history → s.write_high ≡ self.now.queue.high → earlier.log ≡ take older self.now.queue.log
-            → IsAhead s history earlier self.now.cycle self.now.ahead → IsAhead s history self.now.queue self.now.cycle self.now.ahead }
+        ensures { (s : Config) (history : List IssuedCommand) (earlier : QueueView)
+            → result ≡ true → HasMore self.now s history earlier older
+            → IsAhead s history earlier self.now.cycle self.now.ahead
+            → IsAhead s history self.now.queue self.now.cycle self.now.ahead }
     {
         match self.ahead {
             Ahead::Known(found) => self.keeps_found(found, older),
@@ -570,13 +597,14 @@ impl Channel {
     /// Forgets the command that was found, where one of the requests from a place on, which have arrived, may go before it.
     #[inline(always)]
     fn reconsider(&mut self, older: usize)
-        requires places { All (IsInBanks (rank_count self.old.banks)) (all_requests self.old.queue.log) }
-        requires banks { bank_count self.old.bank_candidates ≡ 16 * rank_count self.old.banks }
+        requires places { AreInBanks (rank_count self.old.banks) self.old.queue.log }
+        requires banks { OfSameBanks self.old.bank_candidates self.old.banks }
         requires ahead { IsAheadFor (rank_count self.old.banks) self.old.queue.log self.old.ahead }
         ensures rest { self.new ≡ record self.old { ahead = self.new.ahead } }
-        ensures ahead { (s : Config) (history : List IssuedCommand) (earlier : QueueView) → BanksStandFor self.old.banks s history
-            → CandidatesStand self.old.bank_candidates self.old.queue.log history → s.write_high ≡ self.old.queue.high → earlier.log ≡ take older self.old.queue.log
-            → IsAhead s history earlier self.old.cycle self.old.ahead → IsAhead s history self.old.queue self.old.cycle self.new.ahead }
+        ensures ahead { (s : Config) (history : List IssuedCommand) (earlier : QueueView)
+            → HasMore self.old s history earlier older
+            → IsAhead s history earlier self.old.cycle self.old.ahead
+            → IsAhead s history self.old.queue self.old.cycle self.new.ahead }
     {
         if !self.keeps(older) {
             self.ahead = Ahead::Unknown;
@@ -586,9 +614,8 @@ impl Channel {
     /// Looks for all candidates anew, since those that wait have moved to the front of the log, where none has its old place.
     #[inline(never)]
     fn renew(&mut self)
-        ensures stands { (c : Channel) → self.old ≡ record c { queue = record c.queue { log = waiting c.queue.log } }
-            → (s : Config) (channel : ℕ) (steps : List (Option Command)) (mail : List Message)
-            → StandsFor c s channel steps mail → StandsFor self.new s channel steps mail }
+        ensures stands { (c : Channel)
+            → self.old ≡ record c { queue = renumbered c.queue } → StandForTheSame c self.new }
         ensures queue { self.new.queue ≡ self.old.queue }
     {
         self.bank_candidates.renew(self.queue.log());
@@ -601,8 +628,7 @@ impl Channel {
         requires { length (waiting_requests self.old.queue.log) + count ≤ self.old.queue.room }
         ensures places { length self.new.queue.log + count ≤ self.new.queue.places }
         ensures room { length (waiting_requests self.new.queue.log) + count ≤ self.new.queue.room }
-        ensures stands { (s : Config) (channel : ℕ) (steps : List (Option Command)) (mail : List Message)
-            → StandsFor self.old s channel steps mail → StandsFor self.new s channel steps mail }
+        ensures stands { StandForTheSame self.old self.new }
     {
         if self.queue.make_room(count) {
             self.renew();
@@ -614,8 +640,10 @@ impl Channel {
     fn arrive(&mut self, inbox: &[Message], now: Cycle) -> usize
         requires { CanStep self.old inbox.now now }
         ensures some { result ≡ length (take_while (λ m. m.arrival == now) inbox.now) }
-        ensures in_cycle { (s : Config) (channel : ℕ) (steps : List (Option Command)) (mail : List Message) (until : ℕ)
-            → StandsFor self.old s channel steps mail → length steps ≡ now → now < until → IsFit s channel steps mail inbox.now now until
+        ensures in_cycle { (s : Config) (channel : ℕ) (steps : Steps) (mail : List Message)
+            (until : ℕ)
+            → StandsFor self.old s channel steps mail → length steps ≡ now → now < until
+            → IsFit s channel steps mail inbox.now now until
             → IsInCycle self.new s channel steps (mail ++ take result inbox.now) }
     {
         let due = due_count(inbox, now);
@@ -649,9 +677,11 @@ impl Channel {
         ensures some { IfOk result (λ advance. advance.arrived ≤ length inbox.now) }
         ensures from_now { IfOk result (λ advance. now ≤ advance.last) }
         ensures within { IfOk result (λ advance. advance.last < until) }
-        ensures done { (s : Config) (channel : ℕ) (steps : List (Option Command)) (mail : List Message)
-            → StandsFor self.old s channel steps mail → length steps ≡ now → IsFit s channel steps mail inbox.now now until
-            → IfOk result (λ advance. HasAdvanced self.new s channel steps mail inbox.now now (advance.last + 1) until advance.arrived
+        ensures done { (s : Config) (channel : ℕ) (steps : Steps) (mail : List Message)
+            → StandsFor self.old s channel steps mail → length steps ≡ now
+            → IsFit s channel steps mail inbox.now now until
+            → IfOk result (λ advance. HasAdvanced self.new s channel steps mail inbox.now
+            now (advance.last + 1) until advance.arrived
             commands.old commands.new messages.old.items messages.new.items) }
     {
         let arrived = self.arrive(inbox, now);
@@ -679,8 +709,9 @@ impl Channel {
     #[inline(never)]
     fn look_ahead(&mut self, from: Cycle)
         requires { StandsAt self.old from }
-        ensures { (s : Config) (channel : ℕ) (steps : List (Option Command)) (mail : List Message)
-            → StandsFor self.old s channel steps mail → length steps ≡ from → StandsFor self.new s channel steps mail }
+        ensures { (s : Config) (channel : ℕ) (steps : Steps) (mail : List Message)
+            → StandsFor self.old s channel steps mail → length steps ≡ from
+            → StandsFor self.new s channel steps mail }
     {
         self.ahead = Ahead::Known(self.find(from));
     }
@@ -689,8 +720,9 @@ impl Channel {
     #[inline(always)]
     fn foresee(&mut self, from: Cycle)
         requires { StandsAt self.old from }
-        ensures { (s : Config) (channel : ℕ) (steps : List (Option Command)) (mail : List Message)
-            → StandsFor self.old s channel steps mail → length steps ≡ from → StandsFor self.new s channel steps mail }
+        ensures { (s : Config) (channel : ℕ) (steps : Steps) (mail : List Message)
+            → StandsFor self.old s channel steps mail → length steps ≡ from
+            → StandsFor self.new s channel steps mail }
     {
         if let Ahead::Unknown = self.ahead {
             self.look_ahead(from);
@@ -713,9 +745,11 @@ impl Channel {
         requires can_run { CanRun self.old inbox.now from until }
         requires span { from ≤ until }
         requires until { until ≤ 2 ^ 62 }
-        ensures { (s : Config) (channel : ℕ) (steps : List (Option Command)) (mail : List Message)
-            → StandsFor self.old s channel steps mail → length steps ≡ from → IsFit s channel steps mail inbox.now from until
-            → OnOk result (IsDone self.new s channel steps mail inbox.now from until commands.old commands.new messages.old.items messages.new.items) }
+        ensures { (s : Config) (channel : ℕ) (steps : Steps) (mail : List Message)
+            → StandsFor self.old s channel steps mail → length steps ≡ from
+            → IsFit s channel steps mail inbox.now from until
+            → OnOk result (IsDone self.new s channel steps mail inbox.now from until
+            commands.old commands.new messages.old.items messages.new.items) }
     {
         let mut arrived = 0;
         let mut now = from;
@@ -749,8 +783,9 @@ fn banks_of(config: &Config) -> usize
 /// Whether what was found is issued in no cycle before a given one.
 #[inline(always)]
 fn is_none_before(found: Option<(Cycle, Choice)>, end: Cycle) -> bool
-    ensures { (s : Config) (history : List IssuedCommand) (queue : QueueView) (from : ℕ) → result ≡ true → IsAhead s history queue from (Known found)
-        → (t : ℕ) → from ≤ t → t < end → choice_in s history queue t ≡ None }
+    ensures { (s : Config) (history : List IssuedCommand) (queue : QueueView) (from : ℕ)
+        → result ≡ true → IsAhead s history queue from (Known found)
+        → IsQuiet s history queue from end }
 {
     match found {
         Some((cycle, _)) => end <= cycle,

@@ -1,12 +1,12 @@
 //! What a channel notes of a command that it issues.
 
-ghost use Rattle.std.specs.Prelude.{◌≡◌, ◌<◌, ◌^◌, ◌++◌, List, [], ◌∷◌, OnOk, option_map};
+ghost use Rattle.std.specs.Prelude.{◌≡◌, ◌<◌, ◌^◌, ◌++◌, List, [], ◌∷◌, OnOk};
 ghost use Rattle.sim_base.specs.declared.config.Config.{Config};
 ghost use Rattle.sim_base.specs.declared.command.IssuedCommand.{IssuedCommand};
 ghost use Rattle.refresh.specs.Refreshes.{StandsFor as RefreshesStandFor};
 ghost use Rattle.channel_step.specs.Owed.{RefIsOwed};
 ghost use Rattle.channel_step.specs.Runs.{with_more};
-ghost use Rattle.channel_step.specs.Queued.{served_now};
+ghost use Rattle.channel_step.specs.Queued.{kept_rows, served_now};
 
 use refresh::Refresh;
 use served_requests::ServedRequest;
@@ -21,7 +21,8 @@ pub(crate) fn note_refresh(refresh: &mut Refresh, command: Command, now: Cycle)
     requires now { now < 2 ^ 62 }
     requires due { RefIsOwed refresh.old now command }
     ensures { (s : Config) (history : List IssuedCommand) (i : IssuedCommand) → i.command ≡ command
-        → RefreshesStandFor refresh.old s history → RefreshesStandFor refresh.new s (history ++ i ∷ []) }
+        → RefreshesStandFor refresh.old s history
+        → RefreshesStandFor refresh.new s (history ++ i ∷ []) }
 {
     if let Command::Ref { rank } = command {
         refresh.note_ref(now, rank);
@@ -37,7 +38,8 @@ pub(crate) fn keep_served(
     hit: bool,
     now: Cycle,
 ) -> Result<(), AllocError>
-    ensures { OnOk result (option_map (λ rows. rows.items) kept.new ≡ with_more (option_map (λ rows. rows.items) kept.old) (served_now channel now request.now hit ∷ [])) }
+    ensures { OnOk result (kept_rows kept.new
+        ≡ with_more (kept_rows kept.old) (served_now channel now request.now hit ∷ [])) }
 {
     if let Some(rows) = kept {
         rows.push(ServedRequest {

@@ -1,10 +1,10 @@
 //! What a channel sends.
 
-ghost use Rattle.std.specs.Prelude.{◌≡◌, ◌<◌, ◌≤◌, ◌^◌, ◌++◌, IfOk, Some};
+ghost use Rattle.std.specs.Prelude.{◌≡◌, ◌<◌, ◌≤◌, ◌^◌, ◌++◌, IfOk};
 ghost use Rattle.sim_base.specs.Config.{usual_latency, latency};
 ghost use Rattle.sim_base.specs.History.{reply, credit, messages_of};
 ghost use Rattle.sim_base.specs.Scheduling.{column_command};
-ghost use Rattle.channel_step.specs.Runs.{issued_in, with_more};
+ghost use Rattle.channel_step.specs.Runs.{with_command};
 
 use command_table::list::CommandList;
 use sim_base::command::{Command, IssuedCommand, Source};
@@ -76,7 +76,8 @@ pub(crate) fn send(
     messages: &mut Vec<Message>,
 ) -> Result<(), AllocError>
     requires { now < 2 ^ 62 }
-    ensures { IfOk result (λ u. messages.new.items ≡ messages.old.items ++ messages_of config.now channel now (column_command request.now)) }
+    ensures { IfOk result (λ u. messages.new.items
+        ≡ messages.old.items ++ messages_of config.now channel now (column_command request.now)) }
 {
     let source = request.source();
     if request.write {
@@ -96,7 +97,7 @@ pub(crate) fn keep(
     command: Command,
     commands: &mut Option<CommandList>,
 ) -> Result<(), AllocError>
-    ensures { IfOk result (λ u. commands.new ≡ with_more commands.old (issued_in channel now (Some command))) }
+    ensures { IfOk result (λ u. commands.new ≡ with_command commands.old channel now command) }
 {
     if let Some(list) = commands {
         list.push(IssuedCommand {

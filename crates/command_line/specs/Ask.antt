@@ -257,8 +257,8 @@ abbrev pub IsAlone : Option (List Text) → Type 0
 IsAlone None = ⊤
 IsAlone (Some dirs) = length dirs ≤ 1
 
--- the command is a `map` of something that is not a number, a `run` whose `--share` or `--tables` says nothing that it knows, a `show` or a
--- `page` whose `--mhz` states no frequency, or a `compare` of one run
+-- the command is a `map` of something that is not a number, a `run` whose `--share` or `--tables` says nothing that it
+-- knows, a `show` or a `page` whose `--mhz` states no frequency, or a `compare` of one run
 abbrev pub HasBadWord : Option (Text × List Row) → Type 0
 HasBadWord None = ⊥
 HasBadWord (Some command) =

@@ -40,6 +40,7 @@ abbrev pub in_range : Option Reading → Option ℕ
 in_range (Some read) = if nat_lt 0 read.thousandths && nat_lt read.thousandths 1000000000 then Some read.thousandths else None
 in_range None = None
 
--- the frequency that a text states in MHz, in kHz: a decimal number with at most three places behind the point, above 0 and below a million
+-- the frequency that a text states in MHz, in kHz: a decimal number with at most three places behind the point, above 0
+-- and below a million
 unfoldable pub clock_of : List ℕ → Option ℕ
 clock_of text = in_range (fold read_on (Some (record { thousandths = 0; place = Whole })) text)

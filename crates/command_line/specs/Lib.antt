@@ -1,3 +1,4 @@
+pub mod Arguments
 pub mod Clock
 pub mod Tables
 pub mod CommandLine

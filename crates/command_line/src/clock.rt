@@ -74,7 +74,8 @@ fn read_on(read: Option<Reading>, byte: u8) -> Option<Reading>
     }
 }
 
-/// The frequency that a text states in MHz, in kHz: a decimal number with at most three places behind the point, above 0 and below a million.
+/// The frequency that a text states in MHz, in kHz: a decimal number with at most three places behind the point, above
+/// 0 and below a million.
 #[tactic(auto, unfolding(crate::specs::Clock::clock_of))]
 pub fn read_clock(text: &str) -> Option<u64>
     ensures { result ≡ clock_of text.now }

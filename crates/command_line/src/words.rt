@@ -1,9 +1,10 @@
 //! What a command line asks for.
 
-ghost use Rattle.std.specs.Prelude.{◌≡◌, ◌⊎◌, true, Some, None, Ok, IfOk, IfErr, IsOk, IsErr, map, option_map, codes};
-ghost use Rattle.clap.specs.Words.{all_of, first_of, found_of, kind_of, one_of, rows_of, subcommand_rows_of};
+ghost use Rattle.std.specs.Prelude.{◌≡◌, true, Some, None, Ok, IfOk, IfErr, IsOk, IsErr, option_map, codes};
+ghost use Rattle.clap.specs.Words.{kind_of, subcommand_rows_of};
 ghost use Rattle.sim_base.specs.TraceText.{number_of};
-ghost use Rattle.command_line.specs.Ask.{is_taken, IsCallForHelp, IsCallForVersion, IsCount, IsCountText, IsCountOr, IsNoneOrCount, IsFlag, IsShare, IsNoShare, IsTables, IsNoTables, IsBadRun, IsClock, IsNoClock, IsNoAddress, IsCommand, IsCommandOf, IsCommandFault, IsShown, IsHelpUnlessMemory, IsVersionUnlessMemory, IsNoHelp, IsAskedBy, IsAnswerTo, IsWordsFault, GivesRun, GivesCheck, GivesMap, GivesShow, GivesPage, GivesCompare, GivesAll, AreRuns, IsAlone};
+ghost use Rattle.command_line.specs.Ask.{is_taken, IsCallForHelp, IsCallForVersion, IsCount, IsCountText, IsCountOr, IsNoneOrCount, IsFlag, IsShare, IsNoShare, IsTables, IsNoTables, IsClock, IsNoClock, IsCommand, IsCommandOf, IsCommandFault, IsShown, IsHelpUnlessMemory, IsVersionUnlessMemory, IsNoHelp, IsAskedBy, IsAnswerTo, IsWordsFault, GivesRun, GivesCheck, GivesMap, GivesShow, GivesPage, GivesCompare, GivesAll, IsAlone};
+ghost use Rattle.command_line.specs.Arguments.{rows_in, word_at, one_at, all_at, texts_in, IsRefusal, IsMemoryOrRefusal, GivesWords, GivesRuns, HasNoShare, HasNoTables, HasNoAddress, HasNoClock, BarsRun, BarsCompare};
 
 use crate::clock::read_clock;
 use crate::command_line::program;
@@ -32,7 +33,8 @@ pub enum Share {
 /// What a command line asks for.
 #[derive(Debug, Drop)]
 pub enum Ask<'a> {
-    /// `run CONFIG --cycles N --workers N [--share auto|always] [--tables LIST] --out DIR TRACE...`: simulates the traces.
+    /// `run CONFIG --cycles N --workers N [--share auto|always] [--tables LIST] --out DIR TRACE...`: simulates the
+    /// traces.
     Run {
         config: &'a str,
         cycles: u64,
@@ -52,8 +54,8 @@ pub enum Ask<'a> {
         config: &'a str,
         address: u64,
     },
-    /// `show DIR [--all] [--config FILE] [--mhz N]`: tells what the run did whose tables are in a folder, with what its configuration adds, and its
-    /// clock, here in kHz.
+    /// `show DIR [--all] [--config FILE] [--mhz N]`: tells what the run did whose tables are in a folder, with what its
+    /// configuration adds, and its clock, here in kHz.
     Show {
         dir: &'a str,
         all: bool,
@@ -67,8 +69,8 @@ pub enum Ask<'a> {
         config: Option<&'a str>,
         khz: Option<u64>,
     },
-    /// `page DIR FILE [--config FILE] [--mhz N] [--from N] [--cycles N]`: draws the run whose tables are in a folder, and its commands in a window of
-    /// cycles, with what its configuration adds, and its clock, here in kHz.
+    /// `page DIR FILE [--config FILE] [--mhz N] [--from N] [--cycles N]`: draws the run whose tables are in a folder,
+    /// and its commands in a window of cycles, with what its configuration adds, and its clock, here in kHz.
     Page {
         dir: &'a str,
         file: &'a str,
@@ -77,7 +79,8 @@ pub enum Ask<'a> {
         from: u64,
         cycles: u64,
     },
-    /// `compare DIR DIR... [--csv]`: compares the runs whose tables are in folders with the first of them, as a screen or as a table.
+    /// `compare DIR DIR... [--csv]`: compares the runs whose tables are in folders with the first of them, as a screen
+    /// or as a table.
     Compare {
         dirs: Vec<&'a str>,
         csv: bool,
@@ -90,8 +93,8 @@ pub enum Ask<'a> {
 
 // The text of an argument.
 fn text_of<'a>(found: &ArgMatches<'a>, id: &str) -> Result<&'a str, Fault>
-    ensures given { IfOk result (λ s. first_of id.now (rows_of (found_of found.now)) ≡ Some s.now) }
-    ensures missing { IfErr result (λ e. (e ≡ Fault.CommandLine) × (first_of id.now (rows_of (found_of found.now)) ≡ None)) }
+    ensures given { IfOk result (λ s. word_at found.now id.now ≡ Some s.now) }
+    ensures missing { IfErr result (IsRefusal (word_at found.now id.now ≡ None)) }
 {
     match found.get_str(id) {
         Some(text) => Ok(text),
@@ -101,15 +104,15 @@ fn text_of<'a>(found: &ArgMatches<'a>, id: &str) -> Result<&'a str, Fault>
 
 // The text of an argument that may be left out.
 fn text_if_given<'a>(found: &ArgMatches<'a>, id: &str) -> Option<&'a str>
-    ensures { option_map (λ s. s.now) result ≡ first_of id.now (rows_of (found_of found.now)) }
+    ensures { option_map (λ s. s.now) result ≡ word_at found.now id.now }
 {
     found.get_str(id)
 }
 
 // The number of an argument.
 fn count_of(found: &ArgMatches<'_>, id: &str) -> Result<u64, Fault>
-    ensures given { IfOk result (IsCount (one_of id.now (rows_of (found_of found.now)))) }
-    ensures missing { IfErr result (λ e. (e ≡ Fault.CommandLine) × ¬ (IsCountText (one_of id.now (rows_of (found_of found.now))))) }
+    ensures given { IfOk result (IsCount (one_at found.now id.now)) }
+    ensures missing { IfErr result (IsRefusal (¬ (IsCountText (one_at found.now id.now)))) }
 {
     match found.get_one::<u64>(id) {
         Some(count) => Ok(count),
@@ -119,8 +122,8 @@ fn count_of(found: &ArgMatches<'_>, id: &str) -> Result<u64, Fault>
 
 // The number of an argument that may be left out.
 fn count_or(found: &ArgMatches<'_>, id: &str, absent: u64) -> Result<u64, Fault>
-    ensures given { IfOk result (IsCountOr absent (one_of id.now (rows_of (found_of found.now)))) }
-    ensures missing { IfErr result (λ e. (e ≡ Fault.CommandLine) × ¬ (IsNoneOrCount (one_of id.now (rows_of (found_of found.now))))) }
+    ensures given { IfOk result (IsCountOr absent (one_at found.now id.now)) }
+    ensures missing { IfErr result (IsRefusal (¬ (IsNoneOrCount (one_at found.now id.now)))) }
 {
     match found.get_str(id) {
         Some(_) => count_of(found, id),
@@ -130,15 +133,15 @@ fn count_or(found: &ArgMatches<'_>, id: &str, absent: u64) -> Result<u64, Fault>
 
 // Whether a flag is set.
 fn is_set(found: &ArgMatches<'_>, id: &str) -> bool
-    ensures { IsFlag (one_of id.now (rows_of (found_of found.now))) result }
+    ensures { IsFlag (one_at found.now id.now) result }
 {
     found.get_flag(id)
 }
 
 // The texts of an argument that may have several.
 fn texts_of<'a>(alloc: Global, found: &ArgMatches<'a>, id: &str) -> Result<Vec<&'a str>, Fault>
-    ensures given { IfOk result (λ v. all_of id.now (rows_of (found_of found.now)) ≡ Some (map (λ t. t.now) v.items)) }
-    ensures missing { IfErr result (λ e. (e ≡ Fault.Memory) ⊎ ((e ≡ Fault.CommandLine) × (all_of id.now (rows_of (found_of found.now)) ≡ None))) }
+    ensures given { IfOk result (GivesWords found.now id.now) }
+    ensures missing { IfErr result (IsMemoryOrRefusal (all_at found.now id.now ≡ None)) }
 {
     match found.get_strs(id) {
         Some(texts) => Ok(Vec::from_slice(alloc, texts)?),
@@ -149,7 +152,7 @@ fn texts_of<'a>(alloc: Global, found: &ArgMatches<'a>, id: &str) -> Result<Vec<&
 // When workers share a machine out, by its word.
 fn share_named(word: &str) -> Result<Share, Fault>
     ensures named { IfOk result (IsShare (Some word.now)) }
-    ensures refused { IfErr result (λ e. (e ≡ Fault.CommandLine) × IsNoShare (Some word.now)) }
+    ensures refused { IfErr result (IsRefusal (IsNoShare (Some word.now))) }
 {
     match word {
         "auto" => Ok(Share::Auto),
@@ -160,8 +163,8 @@ fn share_named(word: &str) -> Result<Share, Fault>
 
 // When workers share a machine out.
 fn share_of(found: &ArgMatches<'_>) -> Result<Share, Fault>
-    ensures given { IfOk result (IsShare (first_of (codes "share") (rows_of (found_of found.now)))) }
-    ensures refused { IfErr result (λ e. (e ≡ Fault.CommandLine) × IsNoShare (first_of (codes "share") (rows_of (found_of found.now)))) }
+    ensures given { IfOk result (IsShare (word_at found.now (codes "share"))) }
+    ensures refused { IfErr result (IsRefusal (HasNoShare found.now)) }
 {
     match found.get_str("share") {
         Some(word) => share_named(word),
@@ -172,7 +175,7 @@ fn share_of(found: &ArgMatches<'_>) -> Result<Share, Fault>
 // The tables that a word lists.
 fn tables_named(alloc: Global, word: &str) -> Result<Tables, Fault>
     ensures named { IfOk result (IsTables (Some word.now)) }
-    ensures refused { IfErr result (λ e. (e ≡ Fault.Memory) ⊎ ((e ≡ Fault.CommandLine) × IsNoTables (Some word.now))) }
+    ensures refused { IfErr result (IsMemoryOrRefusal (IsNoTables (Some word.now))) }
 {
     match read_tables(alloc, word)? {
         Some(tables) => Ok(tables),
@@ -182,8 +185,8 @@ fn tables_named(alloc: Global, word: &str) -> Result<Tables, Fault>
 
 // The tables that are asked for.
 fn tables_of(alloc: Global, found: &ArgMatches<'_>) -> Result<Tables, Fault>
-    ensures given { IfOk result (IsTables (first_of (codes "tables") (rows_of (found_of found.now)))) }
-    ensures refused { IfErr result (λ e. (e ≡ Fault.Memory) ⊎ ((e ≡ Fault.CommandLine) × IsNoTables (first_of (codes "tables") (rows_of (found_of found.now))))) }
+    ensures given { IfOk result (IsTables (word_at found.now (codes "tables"))) }
+    ensures refused { IfErr result (IsMemoryOrRefusal (HasNoTables found.now)) }
 {
     match found.get_str("tables") {
         Some(word) => tables_named(alloc, word),
@@ -192,8 +195,8 @@ fn tables_of(alloc: Global, found: &ArgMatches<'_>) -> Result<Tables, Fault>
 }
 
 fn run_ask<'a>(alloc: Global, found: &ArgMatches<'a>) -> Result<Ask<'a>, Fault>
-    ensures asked { IfOk result (IsCommand (codes "run") (rows_of (found_of found.now))) }
-    ensures refused { GivesRun (rows_of (found_of found.now)) → IfErr result (λ e. e ≡ Fault.CommandLine → IsBadRun (rows_of (found_of found.now))) }
+    ensures asked { IfOk result (IsCommand (codes "run") (rows_in found.now)) }
+    ensures refused { GivesRun (rows_in found.now) → IfErr result (BarsRun found.now) }
     ensures fault { IfErr result (λ e. IsWordsFault e) }
 {
     Ok(Ask::Run {
@@ -208,8 +211,8 @@ fn run_ask<'a>(alloc: Global, found: &ArgMatches<'a>) -> Result<Ask<'a>, Fault>
 }
 
 fn check_ask<'a>(found: &ArgMatches<'a>) -> Result<Ask<'a>, Fault>
-    ensures asked { IfOk result (IsCommand (codes "check") (rows_of (found_of found.now))) }
-    ensures refused { GivesCheck (rows_of (found_of found.now)) → IsOk result }
+    ensures asked { IfOk result (IsCommand (codes "check") (rows_in found.now)) }
+    ensures refused { GivesCheck (rows_in found.now) → IsOk result }
     ensures fault { IfErr result (λ e. e ≡ Fault.CommandLine) }
 {
     Ok(Ask::Check {
@@ -221,7 +224,7 @@ fn check_ask<'a>(found: &ArgMatches<'a>) -> Result<Ask<'a>, Fault>
 // The number that a text is, read as in a trace.
 fn address_of(text: &str) -> Result<u64, Fault>
     ensures number { IfOk result (λ a. number_of text.now ≡ Ok a) }
-    ensures refused { IfErr result (λ e. (e ≡ Fault.CommandLine) × IsErr (number_of text.now)) }
+    ensures refused { IfErr result (IsRefusal (IsErr (number_of text.now))) }
 {
     match read_number(text.as_bytes()) {
         Ok(address) => Ok(address),
@@ -230,8 +233,8 @@ fn address_of(text: &str) -> Result<u64, Fault>
 }
 
 fn map_ask<'a>(found: &ArgMatches<'a>) -> Result<Ask<'a>, Fault>
-    ensures asked { IfOk result (IsCommand (codes "map") (rows_of (found_of found.now))) }
-    ensures refused { GivesMap (rows_of (found_of found.now)) → IfErr result (λ e. IsNoAddress (first_of (codes "address") (rows_of (found_of found.now)))) }
+    ensures asked { IfOk result (IsCommand (codes "map") (rows_in found.now)) }
+    ensures refused { GivesMap (rows_in found.now) → IfErr result (λ e. HasNoAddress found.now) }
     ensures fault { IfErr result (λ e. e ≡ Fault.CommandLine) }
 {
     Ok(Ask::Map {
@@ -243,7 +246,7 @@ fn map_ask<'a>(found: &ArgMatches<'a>) -> Result<Ask<'a>, Fault>
 // The frequency of a clock, by its word.
 fn clock_named(word: &str) -> Result<Option<u64>, Fault>
     ensures named { IfOk result (IsClock (Some word.now)) }
-    ensures refused { IfErr result (λ e. (e ≡ Fault.CommandLine) × IsNoClock (Some word.now)) }
+    ensures refused { IfErr result (IsRefusal (IsNoClock (Some word.now))) }
 {
     match read_clock(word) {
         Some(khz) => Ok(Some(khz)),
@@ -253,8 +256,8 @@ fn clock_named(word: &str) -> Result<Option<u64>, Fault>
 
 // The frequency of a clock, if it is given.
 fn clock_of(found: &ArgMatches<'_>) -> Result<Option<u64>, Fault>
-    ensures given { IfOk result (IsClock (first_of (codes "mhz") (rows_of (found_of found.now)))) }
-    ensures refused { IfErr result (λ e. (e ≡ Fault.CommandLine) × IsNoClock (first_of (codes "mhz") (rows_of (found_of found.now)))) }
+    ensures given { IfOk result (IsClock (word_at found.now (codes "mhz"))) }
+    ensures refused { IfErr result (IsRefusal (HasNoClock found.now)) }
 {
     match found.get_str("mhz") {
         Some(word) => clock_named(word),
@@ -263,8 +266,8 @@ fn clock_of(found: &ArgMatches<'_>) -> Result<Option<u64>, Fault>
 }
 
 fn show_ask<'a>(found: &ArgMatches<'a>) -> Result<Ask<'a>, Fault>
-    ensures asked { IfOk result (IsCommand (codes "show") (rows_of (found_of found.now))) }
-    ensures refused { GivesShow (rows_of (found_of found.now)) → IfErr result (λ e. IsNoClock (first_of (codes "mhz") (rows_of (found_of found.now)))) }
+    ensures asked { IfOk result (IsCommand (codes "show") (rows_in found.now)) }
+    ensures refused { GivesShow (rows_in found.now) → IfErr result (λ e. HasNoClock found.now) }
     ensures fault { IfErr result (λ e. e ≡ Fault.CommandLine) }
 {
     let dir = text_of(found, "dir")?;
@@ -288,8 +291,8 @@ fn show_ask<'a>(found: &ArgMatches<'a>) -> Result<Ask<'a>, Fault>
 }
 
 fn page_ask<'a>(found: &ArgMatches<'a>) -> Result<Ask<'a>, Fault>
-    ensures asked { IfOk result (IsCommand (codes "page") (rows_of (found_of found.now))) }
-    ensures refused { GivesPage (rows_of (found_of found.now)) → IfErr result (λ e. IsNoClock (first_of (codes "mhz") (rows_of (found_of found.now)))) }
+    ensures asked { IfOk result (IsCommand (codes "page") (rows_in found.now)) }
+    ensures refused { GivesPage (rows_in found.now) → IfErr result (λ e. HasNoClock found.now) }
     ensures fault { IfErr result (λ e. e ≡ Fault.CommandLine) }
 {
     Ok(Ask::Page {
@@ -304,8 +307,8 @@ fn page_ask<'a>(found: &ArgMatches<'a>) -> Result<Ask<'a>, Fault>
 
 // The folders of two runs or more.
 fn dirs_of<'a>(alloc: Global, found: &ArgMatches<'a>) -> Result<Vec<&'a str>, Fault>
-    ensures given { IfOk result (λ v. AreRuns (all_of (codes "dir") (rows_of (found_of found.now))) (map (λ t. t.now) v.items)) }
-    ensures missing { IfErr result (λ e. (e ≡ Fault.Memory) ⊎ ((e ≡ Fault.CommandLine) × IsAlone (all_of (codes "dir") (rows_of (found_of found.now))))) }
+    ensures given { IfOk result (GivesRuns found.now) }
+    ensures missing { IfErr result (IsMemoryOrRefusal (IsAlone (all_at found.now (codes "dir")))) }
 {
     let dirs = texts_of(alloc, found, "dir")?;
     if dirs.len() < 2 {
@@ -315,8 +318,8 @@ fn dirs_of<'a>(alloc: Global, found: &ArgMatches<'a>) -> Result<Vec<&'a str>, Fa
 }
 
 fn compare_ask<'a>(alloc: Global, found: &ArgMatches<'a>) -> Result<Ask<'a>, Fault>
-    ensures asked { IfOk result (IsCommand (codes "compare") (rows_of (found_of found.now))) }
-    ensures refused { GivesCompare (rows_of (found_of found.now)) → IfErr result (λ e. e ≡ Fault.CommandLine → IsAlone (all_of (codes "dir") (rows_of (found_of found.now)))) }
+    ensures asked { IfOk result (IsCommand (codes "compare") (rows_in found.now)) }
+    ensures refused { GivesCompare (rows_in found.now) → IfErr result (BarsCompare found.now) }
     ensures fault { IfErr result (λ e. IsWordsFault e) }
 {
     Ok(Ask::Compare {
@@ -328,7 +331,8 @@ fn compare_ask<'a>(alloc: Global, found: &ArgMatches<'a>) -> Result<Ask<'a>, Fau
 // What the matches of a command line ask for.
 fn ask_of<'a>(alloc: Global, matches: &ArgMatches<'a>) -> Result<Ask<'a>, Fault>
     ensures asked { IfOk result (IsCommandOf (subcommand_rows_of matches.now)) }
-    ensures refused { GivesAll (subcommand_rows_of matches.now) → IfErr result (IsCommandFault (subcommand_rows_of matches.now)) }
+    ensures refused { let command = subcommand_rows_of matches.now in
+        GivesAll command → IfErr result (IsCommandFault command) }
     ensures fault { IfErr result (λ e. IsWordsFault e) }
 {
     match matches.subcommand() {
@@ -355,8 +359,8 @@ fn explain_run_word(alloc: Global, found: &ArgMatches<'_>) -> Result<String, All
     }
 }
 
-// What explains a word that means nothing where it stands: an address, the frequency of a clock, when workers share, which tables are asked
-// for, or a folder alone.
+// What explains a word that means nothing where it stands: an address, the frequency of a clock, when workers share,
+// which tables are asked for, or a folder alone.
 fn explain_word(alloc: Global, matches: &ArgMatches<'_>) -> Result<String, AllocError> {
     let Some((name, found)) = matches.subcommand() else {
         return Ok(String::new(alloc));
@@ -380,7 +384,8 @@ fn explain_word(alloc: Global, matches: &ArgMatches<'_>) -> Result<String, Alloc
 // What the matches of a command line ask for, or why they are refused.
 fn command_of<'a>(alloc: Global, matches: &ArgMatches<'a>) -> Result<Ask<'a>, Reason>
     ensures asked { IfOk result (IsCommandOf (subcommand_rows_of matches.now)) }
-    ensures refused { GivesAll (subcommand_rows_of matches.now) → IfErr result (IsCommandFault (subcommand_rows_of matches.now)) }
+    ensures refused { let command = subcommand_rows_of matches.now in
+        GivesAll command → IfErr result (IsCommandFault command) }
     ensures fault { IfErr result (λ e. IsWordsFault e) }
 {
     match ask_of(alloc, matches) {
@@ -393,7 +398,8 @@ fn command_of<'a>(alloc: Global, matches: &ArgMatches<'a>) -> Result<Ask<'a>, Re
     }
 }
 
-// The command that a word may be meant for: at most a third of its letters are inserted, deleted, changed, or exchanged with the next one.
+// The command that a word may be meant for: at most a third of its letters are inserted, deleted, changed, or exchanged
+// with the next one.
 fn nearest(alloc: Global, word: &str) -> Result<Option<&'static str>, AllocError> {
     let most = word.len().max(3) / 3;
     for name in COMMANDS {
@@ -404,7 +410,8 @@ fn nearest(alloc: Global, word: &str) -> Result<Option<&'static str>, AllocError
     Ok(None)
 }
 
-// What explains an error of the command line: its text, and the command that the first word may be meant for where the text has no tip.
+// What explains an error of the command line: its text, and the command that the first word may be meant for where the
+// text has no tip.
 fn explain_error(alloc: Global, error: &Error, words: &[&str]) -> Result<String, AllocError> {
     let text = error.to_string(alloc)?;
     if error.kind() != ErrorKind::InvalidSubcommand || text.as_str().contains("tip:") {
@@ -419,7 +426,7 @@ fn explain_error(alloc: Global, error: &Error, words: &[&str]) -> Result<String,
 // Why a command line refuses its words, or the text that answers a call for help or for the version.
 fn help_of<'a>(alloc: Global, error: Error, words: &[&str]) -> Result<Ask<'a>, Reason>
     ensures shown { IfOk result (λ ask. IsShown ask (kind_of error)) }
-    ensures refused { IfErr result (λ e. (e ≡ Fault.Memory) ⊎ ((e ≡ Fault.CommandLine) × IsNoHelp (kind_of error))) }
+    ensures refused { IfErr result (IsMemoryOrRefusal (IsNoHelp (kind_of error))) }
 {
     match error.kind() {
         ErrorKind::OutOfMemory => Err(Reason::from(Fault::Memory)),
@@ -433,13 +440,15 @@ fn help_of<'a>(alloc: Global, error: Error, words: &[&str]) -> Result<Ask<'a>, R
 ///
 /// # Errors
 ///
-/// `Fault::CommandLine` where the words are no command of `Ask`, the address of a `map` is no number, the word of `--share` is neither
-/// `auto` nor `always`, the one of `--tables` lists no tables, the one of `--mhz` states no frequency, or a `compare` has one folder alone, and `Fault::Memory`.
+/// `Fault::CommandLine` where the words are no command of `Ask`, the address of a `map` is no number, the word of
+/// `--share` is neither `auto` nor `always`, the one of `--tables` lists no tables, the one of `--mhz` states no
+/// frequency, or a `compare` has one folder alone, and `Fault::Memory`.
 pub fn read_words<'a>(alloc: Global, words: &'a [&'a str]) -> Result<Ask<'a>, Reason>
-    ensures asked { IfOk result (IsAskedBy (map (λ w. w.now) words.entry.now)) }
-    ensures answered { is_taken (map (λ w. w.now) words.entry.now) ≡ true → IsAnswerTo (map (λ w. w.now) words.entry.now) result }
-    ensures helped { IsCallForHelp (map (λ w. w.now) words.entry.now) → IsHelpUnlessMemory result }
-    ensures versioned { IsCallForVersion (map (λ w. w.now) words.entry.now) → IsVersionUnlessMemory result }
+    ensures asked { IfOk result (IsAskedBy (texts_in words.entry.now)) }
+    ensures answered { let asked = texts_in words.entry.now in
+        is_taken asked ≡ true → IsAnswerTo asked result }
+    ensures helped { IsCallForHelp (texts_in words.entry.now) → IsHelpUnlessMemory result }
+    ensures versioned { IsCallForVersion (texts_in words.entry.now) → IsVersionUnlessMemory result }
     ensures refused { IfErr result (λ e. IsWordsFault e) }
 {
     match program(alloc)?.try_get_matches_from(words) {

@@ -11,3 +11,6 @@ pub mod Replies
 pub mod Rests
 pub mod Steady
 pub mod Silence
+pub mod Foreseen
+pub mod Counting
+pub mod Work

@@ -1,24 +1,24 @@
 //! A core.
 
-ghost use Rattle.std.specs.Prelude.{[], IsTrue, ◌↔◌, ◌∷◌, ◌++◌, ◌/◌, ◌%◌, find, if◌then◌else◌, ◌≡◌, ◌==◌, ◌^◌, ◌+◌, ◌-◌, ◌*◌, ◌≤◌, ◌<◌, ℕ, Some, List, length, slice_get, min, OnOk, IfOk};
+ghost use Rattle.std.specs.Prelude.{[], IsTrue, ◌↔◌, ◌/◌, ◌%◌, ◌≡◌, ◌^◌, ◌+◌, ◌*◌, ◌-◌, ◌≤◌, ◌<◌, ℕ, Some, List, length, slice_get, min, OnOk, IfOk};
+ghost use Rattle.std.specs.Option.{IfSome};
 ghost use Rattle.sim_base.specs.declared.history.CoreStep.{CoreStep};
 ghost use Rattle.sim_base.specs.declared.message.Message.{Message};
 ghost use Rattle.sim_base.specs.declared.config.Config.{Config};
 ghost use Rattle.sim_base.specs.declared.trace.Entry.{Entry};
 ghost use Rattle.address_map.specs.Shifts.{IsDigits};
 ghost use Rattle.statistics.specs.declared.final_state.Credits.{Credits};
-ghost use Rattle.core_window.specs.Causes.{first_undone};
-ghost use Rattle.std.specs.Option.{IfSome};
 ghost use Rattle.core_window.specs.Ahead.{IsPlaced, IsKnown};
-ghost use Rattle.core_window.specs.OneCycle.{lacks_by, IsSeen, credits_of_kind, more_credit};
-ghost use Rattle.core_window.specs.Fit.{IsDue, MayRun, RunsOnto};
+ghost use Rattle.core_window.specs.OneCycle.{lacks_by, IsSeen};
+ghost use Rattle.core_window.specs.Fit.{MayRun, RunsOnto};
 ghost use Rattle.core_window.specs.Stands.{StandsFor};
-ghost use Rattle.core_window.specs.Inside.{IsStanding, IsReceiving, StandsAt, Advances, GoesOn, GoesQuietly, Does};
-ghost use Rattle.core_window.specs.Rests.{IsNextAct, MayRest, idle_step};
+ghost use Rattle.core_window.specs.Inside.{IsStanding, IsReceiving, GoesQuietly};
+ghost use Rattle.core_window.specs.Rests.{MayRest, idle_step};
 ghost use Rattle.core_window.specs.Silence.{IsSilentUntil};
 ghost use Rattle.core_window.specs.Steady.{steady_view, IsSteady};
 ghost use Rattle.core_window.specs.Replies.{MayTakeReply, after_reply};
 ghost use Rattle.core_window.specs.Outstanding.{IsByNumber};
+ghost use Rattle.core_window.specs.Counting.{read_of, IsCreditedAt};
 ghost use Rattle.core_window.specs.declared.outstanding.OutstandingRead.{OutstandingRead};
 
 use crate::counts::{count_cycle, count_cycles};
@@ -89,13 +89,15 @@ fn memory_issued(stats: &CoreStats) -> u64
 
 impl Core {
     ghost use Rattle.core_window.specs.CoreViews.{view_of};
+    ghost use Rattle.core_window.specs.Work.{HeadWaits, IsFull, StaysBelowFirst, StaysBelowSecond, HasMemoryAhead, DoesWork};
+    ghost use Rattle.core_window.specs.Work.{IsSteadyFlow, AdvancesBy, AdvancesTo, GoesOnTo, with_credits, TakesIn, ActsNext};
 
     /// What the core does in the next cycle, where the first entry of its full window waits: nothing.
     fn idle_work(&self) -> CycleWork
         requires stands { IsStanding (view_of self.now) }
-        requires undone { first_undone self.now.stats.issued self.now.outstanding.items ≤ self.now.stats.retired }
-        requires full { self.now.config.window ≤ self.now.stats.issued - self.now.stats.retired }
-        ensures does { Does (view_of self.now) result.core_step result.why result.memory }
+        requires undone { HeadWaits (view_of self.now) }
+        requires full { IsFull (view_of self.now) }
+        ensures does { DoesWork (view_of self.now) result }
         ensures idle { result.core_step ≡ idle_step }
     {
         let why = cause_where_full(self.trace.len(), self.stats.issued);
@@ -113,9 +115,9 @@ impl Core {
     #[inline(always)]
     fn cycle_work(&self) -> CycleWork
         requires { IsStanding (view_of self.now) }
-        ensures does { Does (view_of self.now) result.core_step result.why result.memory }
+        ensures does { DoesWork (view_of self.now) result }
         ensures entry { IfSome result.memory (λ e. e.entry ≡ self.now.found.entry) }
-        ensures within { self.now.stats.issued + result.core_step.issued ≤ self.now.found.two }
+        ensures within { StaysBelowSecond self.now result.core_step.issued }
     {
         let len = self.trace.len();
         let number = self.stats.issued;
@@ -139,12 +141,13 @@ impl Core {
     /// Goes on by one cycle, in which no further message comes, and does this work in it.
     fn step(&mut self, cycle_work: CycleWork, sent: &mut Vec<Message>) -> Result<(), AllocError>
         requires stands { IsStanding (view_of self.old) }
-        requires cycle_work { Does (view_of self.old) cycle_work.core_step cycle_work.why cycle_work.memory }
+        requires cycle_work { DoesWork (view_of self.old) cycle_work }
         requires entry { IfSome cycle_work.memory (λ e. e.entry ≡ self.old.found.entry) }
-        requires within { self.old.stats.issued + cycle_work.core_step.issued ≤ self.old.found.two }
+        requires within { StaysBelowSecond self.old cycle_work.core_step.issued }
         requires early { self.old.cycle < 2 ^ 62 }
         ensures cycle { OnOk result (self.new.cycle ≡ self.old.cycle + 1) }
-        ensures advances { OnOk result (Advances 1 (view_of self.old) sent.old.items (view_of self.new) sent.new.items) }
+        ensures advances { OnOk result
+            (AdvancesBy 1 self.old sent.old.items self.new sent.new.items) }
     {
         wait_for(&mut self.outstanding, cycle_work.memory, self.cycle)?;
         spend(&mut self.credits, &self.found.place, cycle_work.memory);
@@ -181,7 +184,7 @@ impl Core {
         requires stands { IsStanding (view_of self.old) }
         requires steady { IsSteady (view_of self.old) cycles core_step why }
         requires some { 0 < cycles }
-        requires within { self.old.stats.issued + cycles * core_step.issued ≤ self.old.found.one }
+        requires within { StaysBelowFirst self.old (cycles * core_step.issued) }
         requires early { self.old.cycle + cycles < 2 ^ 62 }
         ensures { view_of self.new ≡ steady_view (view_of self.old) core_step why cycles }
     {
@@ -194,7 +197,7 @@ impl Core {
     fn take_reply(&mut self, entry: u64)
         requires room { MayTakeReply (view_of self.old) entry }
         requires order { IsByNumber self.old.outstanding.items }
-        ensures { (read : OutstandingRead) → find (λ r. r.entry == entry) self.old.outstanding.items ≡ Some read
+        ensures { (read : OutstandingRead) → read_of entry self.old.outstanding.items ≡ Some read
             → view_of self.new ≡ after_reply (view_of self.old) read }
     {
         if let Some(read) = take_read(&mut self.outstanding, entry) {
@@ -205,12 +208,10 @@ impl Core {
     /// A credit comes.
     fn take_credit_on(&mut self, link: LinkId, write: bool)
         requires { length self.old.credits.items ≡ self.old.config.channels }
-        ensures rest { view_of self.new ≡ record (view_of self.old) { credits = self.new.credits.items } }
+        ensures rest { view_of self.new ≡ with_credits (view_of self.old) self.new.credits.items }
         ensures len { length self.new.credits.items ≡ length self.old.credits.items }
-        ensures credits { (channel : ℕ) (c : Credits) → slice_get self.old.credits.items channel ≡ Some c
-            → (link / 3 % self.old.config.channels ≡ channel → credits_of_kind write c + 1 < 2 ^ 64)
-            → slice_get self.new.credits.items channel
-            ≡ Some (if link / 3 % self.old.config.channels == channel then more_credit write c else c) }
+        ensures credits { let channel = link / 3 % self.old.config.channels in
+            IsCreditedAt channel write self.old.credits.items self.new.credits.items }
     {
         let channel = channel_of(&self.config, link);
         add_credit_at(&mut self.credits, channel as usize, write);
@@ -220,9 +221,7 @@ impl Core {
     fn receive(&mut self, message: Message)
         requires stands { IsReceiving (view_of self.old) message }
         requires early { self.old.cycle < 2 ^ 62 }
-        ensures { (s : Config) (core : ℕ) (trace : List Entry) (steps : List CoreStep) (mail : List Message)
-            → StandsAt s core trace steps mail (view_of self.old) → message.arrival ≡ length steps → IsDue s core trace steps mail message
-            → StandsAt s core trace steps (mail ++ message ∷ []) (view_of self.new) }
+        ensures { TakesIn (view_of self.old) message (view_of self.new) }
     {
         match message.load {
             Load::Reply(entry) => self.take_reply(entry),
@@ -234,8 +233,8 @@ impl Core {
     /// The cycles, at most `most` of them, in which the core issues its width of Plain entries and does the same in each.
     fn flow(&self, most: u64) -> Flow
         requires { IsStanding (view_of self.now) }
-        ensures steady { IsSteady (view_of self.now) result.cycles (record { retired = result.retired; issued = self.now.config.width }) Stop.Width }
-        ensures within { self.now.stats.issued + result.cycles * self.now.config.width ≤ self.now.found.one }
+        ensures steady { IsSteadyFlow (view_of self.now) result }
+        ensures within { StaysBelowFirst self.now (result.cycles * self.now.config.width) }
         ensures most { result.cycles ≤ most }
     {
         let issued = self.stats.issued;
@@ -261,7 +260,7 @@ impl Core {
         requires stands { IsStanding (view_of self.old) }
         requires order { self.old.cycle < until }
         requires early { until < 2 ^ 62 }
-        ensures { OnOk result (GoesOn until (view_of self.old) sent.old.items (view_of self.new) sent.new.items) }
+        ensures { OnOk result (GoesOnTo until self.old sent.old.items self.new sent.new.items) }
     {
         let cycle_work = self.cycle_work();
         if cycle_work.core_step.retired == 0 && cycle_work.core_step.issued == 0 {
@@ -275,15 +274,15 @@ impl Core {
     /// Whether its window is full.
     fn is_full(&self) -> bool
         requires { self.now.stats.retired ≤ self.now.stats.issued }
-        ensures { IsTrue result ↔ self.now.config.window ≤ self.now.stats.issued - self.now.stats.retired }
+        ensures { IsTrue result ↔ IsFull (view_of self.now) }
     {
         u64::from(self.config.window) <= self.stats.issued - self.stats.retired
     }
 
     /// Whether the first entry of its full window waits, so that the core does nothing until a message comes.
     fn is_stuck(&self) -> bool
-        ensures undone { IsTrue result → first_undone self.now.stats.issued self.now.outstanding.items ≤ self.now.stats.retired }
-        ensures full { IsTrue result → self.now.config.window ≤ self.now.stats.issued - self.now.stats.retired }
+        ensures undone { IsTrue result → HeadWaits (view_of self.now) }
+        ensures full { IsTrue result → IsFull (view_of self.now) }
     {
         is_stuck(
             self.config.window,
@@ -296,8 +295,8 @@ impl Core {
     /// Goes on up to a cycle, where the first entry of its full window waits.
     fn rest(&mut self, until: Cycle)
         requires stands { IsStanding (view_of self.old) }
-        requires undone { first_undone self.old.stats.issued self.old.outstanding.items ≤ self.old.stats.retired }
-        requires full { self.old.config.window ≤ self.old.stats.issued - self.old.stats.retired }
+        requires undone { HeadWaits (view_of self.old) }
+        requires full { IsFull (view_of self.old) }
         requires order { self.old.cycle < until }
         requires early { until < 2 ^ 62 }
         ensures goes { GoesQuietly until (view_of self.old) (view_of self.new) }
@@ -331,7 +330,7 @@ impl Core {
         requires stands { IsStanding (view_of self.old) }
         requires order { self.old.cycle < until }
         requires early { until < 2 ^ 62 }
-        ensures { OnOk result (GoesOn until (view_of self.old) sent.old.items (view_of self.new) sent.new.items) }
+        ensures { OnOk result (GoesOnTo until self.old sent.old.items self.new sent.new.items) }
     {
         self.flow_on(until);
         if self.cycle == until {
@@ -358,7 +357,8 @@ impl Core {
         requires order { self.old.cycle ≤ until }
         requires early { until < 2 ^ 62 }
         ensures cycle { OnOk result (self.new.cycle ≡ until) }
-        ensures advances { OnOk result (Advances (until - self.old.cycle) (view_of self.old) sent.old.items (view_of self.new) sent.new.items) }
+        ensures advances { OnOk result
+            (AdvancesTo until self.old sent.old.items self.new sent.new.items) }
     {
         'cycles: while self.cycle < until {
             self.go_on(until, sent)?;
@@ -374,7 +374,8 @@ impl Core {
         requires order { self.old.cycle ≤ until }
         requires early { until < 2 ^ 62 }
         ensures cycle { OnOk result (self.new.cycle ≡ until) }
-        ensures advances { OnOk result (Advances (until - self.old.cycle) (view_of self.old) sent.old.items (view_of self.new) sent.new.items) }
+        ensures advances { OnOk result
+            (AdvancesTo until self.old sent.old.items self.new sent.new.items) }
     {
         if until <= self.cycle {
             return Ok(());
@@ -442,8 +443,7 @@ impl Core {
     fn next_work(&self, from: Cycle) -> Option<Cycle>
         requires at { self.now.cycle ≡ from }
         requires stands { MayRest (view_of self.now) }
-        ensures { (s : Config) (core : ℕ) (trace : List Entry) (steps : List CoreStep) (mail : List Message)
-            → StandsFor s core trace steps mail (view_of self.now) → IsNextAct s core trace steps mail result }
+        ensures { ActsNext (view_of self.now) result }
     {
         let core_step = self.cycle_work().core_step;
         if core_step.retired == 0 && core_step.issued == 0 {
@@ -458,8 +458,7 @@ impl Core {
     fn next_act(&self, from: Cycle) -> Option<Cycle>
         requires at { self.now.cycle ≡ from }
         requires stands { MayRest (view_of self.now) }
-        ensures { (s : Config) (core : ℕ) (trace : List Entry) (steps : List CoreStep) (mail : List Message)
-            → StandsFor s core trace steps mail (view_of self.now) → IsNextAct s core trace steps mail result }
+        ensures { ActsNext (view_of self.now) result }
     {
         if is_next_done(&self.outstanding, self.stats.issued, self.stats.retired) {
             return Some(from);
@@ -472,7 +471,8 @@ impl Core {
 
     /// A number of cycles that surely pass before the core issues its next Read or Write: in each it issues at most its width of entries.
     fn plain_cycles(&self) -> u64
-        ensures { self.now.found.one < length self.now.trace → self.now.stats.issued + result * self.now.config.width ≤ self.now.found.one }
+        ensures { HasMemoryAhead self.now
+            → StaysBelowFirst self.now (result * self.now.config.width) }
     {
         if self.found.one >= self.trace.len() {
             return u64::MAX;

@@ -1,9 +1,9 @@
 //! What a core counts in a cycle.
 
 ghost use Rattle.std.specs.Prelude.{◌≡◌};
-ghost use Rattle.statistics.specs.Cores.{core_joined, core_times, CoreFits};
-ghost use Rattle.core_window.specs.Steady.{steady_counts, with_stop, with_memory};
-ghost use Rattle.core_window.specs.OneCycle.{cycle_counts};
+ghost use Rattle.statistics.specs.Cores.{CoreFits};
+ghost use Rattle.core_window.specs.Counting.{counted_cycle, counted_cycles};
+ghost use Rattle.core_window.specs.Steady.{with_stop, with_memory};
 
 use cpu_trace::entries::MemoryEntry;
 use sim_base::history::CoreStep;
@@ -42,8 +42,8 @@ fn count_memory(stats: &mut CoreStats, memory: Option<MemoryEntry>)
 
 /// Counts cycles in which a core does the same.
 pub fn count_cycles(stats: &mut CoreStats, core_step: CoreStep, why: Stop, cycles: u64)
-    requires { CoreFits (core_joined stats.old (core_times cycles (steady_counts core_step why))) }
-    ensures { stats.new ≡ core_joined stats.old (core_times cycles (steady_counts core_step why)) }
+    requires { CoreFits (counted_cycles stats.old core_step why cycles) }
+    ensures { stats.new ≡ counted_cycles stats.old core_step why cycles }
 {
     stats.issued += cycles * u64::from(core_step.issued);
     stats.retired += cycles * u64::from(core_step.retired);
@@ -59,8 +59,8 @@ pub fn count_cycle(
     len: u64,
     now: Cycle,
 )
-    requires { CoreFits (core_joined stats.old (cycle_counts core_step why memory stats.old.retired len now)) }
-    ensures { stats.new ≡ core_joined stats.old (cycle_counts core_step why memory stats.old.retired len now) }
+    requires { CoreFits (counted_cycle stats.old core_step why memory len now) }
+    ensures { stats.new ≡ counted_cycle stats.old core_step why memory len now }
 {
     let retired = stats.retired + u64::from(core_step.retired);
     if stats.retired < len && len <= retired {

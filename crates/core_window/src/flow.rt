@@ -1,7 +1,7 @@
 //! Cycles in which a core issues its width of Plain entries, one after the other.
 
 ghost use Rattle.std.specs.Prelude.{◌+◌, ◌*◌, ◌<◌, ◌≤◌};
-ghost use Rattle.core_window.specs.Steady.{IsFlow};
+ghost use Rattle.core_window.specs.Work.{IsFlowOf};
 
 use crate::outstanding::OutstandingRead;
 
@@ -42,7 +42,7 @@ pub fn flow_of(numbers: &WindowNumbers, outstanding: &[OutstandingRead], most: u
     requires positive { 0 < numbers.now.width }
     requires order { numbers.now.retired ≤ numbers.now.issued }
     requires room { numbers.now.issued ≤ numbers.now.retired + numbers.now.window }
-    ensures flow { IsFlow numbers.now.width numbers.now.window numbers.now.issued numbers.now.retired outstanding.now result.retired result.cycles }
+    ensures flow { IsFlowOf numbers.now outstanding.now result }
     ensures plain { result.cycles * numbers.now.width ≤ numbers.now.plain }
     ensures most { result.cycles ≤ most }
 {

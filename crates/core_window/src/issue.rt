@@ -1,13 +1,12 @@
 //! How many entries issue in a cycle, and why no more.
 
-ghost use Rattle.std.specs.Prelude.{◌≡◌, ℕ, ◌+◌, ◌-◌, ◌^◌, ◌≤◌, ◌<◌, List, length, slice_get, Some, min};
+ghost use Rattle.std.specs.Prelude.{◌≡◌, ℕ, ◌+◌, ◌^◌, ◌≤◌, List, length};
 ghost use Rattle.std.specs.Option.{IfSome};
-ghost use Rattle.sim_base.specs.declared.config.Config.{Config};
 ghost use Rattle.sim_base.specs.declared.trace.Entry.{Entry};
-ghost use Rattle.address_map.specs.Shifts.{IsDigits};
-ghost use Rattle.core_window.specs.OneCycle.{IsNextOrEnd, IsSeen, IsIssued};
-ghost use Rattle.core_window.specs.Ahead.{IsKnown};
+ghost use Rattle.core_window.specs.OneCycle.{IsNextOrEnd, IsIssued};
 ghost use Rattle.core_window.specs.Causes.{issue_count, cause_at};
+ghost use Rattle.core_window.specs.Foreseen.{HasEntry, IsNextBehind, IsSeenFrom, WasSeen, IsKnownBy, StaysKnown};
+ghost use Rattle.core_window.specs.Foreseen.{issue_limit, issue_count_of, cause_of};
 
 use crate::channel::place_of_entry;
 use address_map::digits::Digits;
@@ -22,7 +21,7 @@ use sim_base::trace::{Entry, Stop};
 fn next_or_end(trace: &Trace, from: u64, before: u64) -> MemoryEntry
     requires { from ≤ length trace.now }
     ensures next { IsNextOrEnd trace.now from result.number }
-    ensures entry { result.number < length trace.now → slice_get trace.now result.number ≡ Some result.entry }
+    ensures entry { HasEntry trace.now result.number result.entry }
 {
     match trace.next_memory_near(from, before) {
         Some(next) => next,
@@ -47,9 +46,9 @@ pub struct Ahead {
 /// The memory entry behind the one of this number, before which `before` of them stand; the length of the trace, where there is none.
 fn entry_behind(trace: &Trace, number: u64, before: u64) -> MemoryEntry
     requires { number ≤ length trace.now }
-    ensures inside { number < length trace.now → IsNextOrEnd trace.now (number + 1) result.number }
+    ensures inside { IsNextBehind trace.now number result.number }
     ensures none { length trace.now ≤ number → result.number ≡ length trace.now }
-    ensures entry { result.number < length trace.now → slice_get trace.now result.number ≡ Some result.entry }
+    ensures entry { HasEntry trace.now result.number result.entry }
 {
     let len = trace.len();
     if number < len {
@@ -67,9 +66,8 @@ fn entry_behind(trace: &Trace, number: u64, before: u64) -> MemoryEntry
 pub fn ahead_of(digits: &Digits, trace: &Trace, first: MemoryEntry, before: u64) -> Ahead
     requires { first.number ≤ length trace.now }
     ensures seen { (from : ℕ) → IsNextOrEnd trace.now from first.number
-        → (first.number < length trace.now → slice_get trace.now first.number ≡ Some first.entry)
-        → IsSeen trace.now from result.one result.two result.entry }
-    ensures known { (s : Config) → IsDigits s digits.now → IsKnown s trace.now result }
+        → HasEntry trace.now first.number first.entry → IsSeenFrom trace.now from result }
+    ensures known { IsKnownBy digits.now trace.now result }
 {
     let second = entry_behind(trace, first.number, before);
     Ahead {
@@ -86,9 +84,8 @@ pub fn ahead_of(digits: &Digits, trace: &Trace, first: MemoryEntry, before: u64)
 pub fn go_to_second(digits: &Digits, trace: &Trace, ahead: &mut Ahead, before: u64)
     requires { ahead.old.two ≤ length trace.now }
     ensures seen { (from : ℕ) → IsNextOrEnd trace.now from ahead.old.two
-        → (ahead.old.two < length trace.now → slice_get trace.now ahead.old.two ≡ Some ahead.old.second)
-        → IsSeen trace.now from ahead.new.one ahead.new.two ahead.new.entry }
-    ensures known { (s : Config) → IsDigits s digits.now → IsKnown s trace.now ahead.new }
+        → HasEntry trace.now ahead.old.two ahead.old.second → IsSeenFrom trace.now from ahead.new }
+    ensures known { IsKnownBy digits.now trace.now ahead.new }
 {
     let next = entry_behind(trace, ahead.two, before);
     ahead.one = ahead.two;
@@ -102,12 +99,12 @@ pub fn go_to_second(digits: &Digits, trace: &Trace, ahead: &mut Ahead, before: u
 /// second has not. `before` of them stand before that number.
 #[tactic(auto, using(crate::proofs::Foreseeing::seen_still))]
 pub fn look_ahead(digits: &Digits, trace: &Trace, ahead: &mut Ahead, number: u64, before: u64)
-    requires seen { (from : ℕ) × (from ≤ number) × IsSeen trace.now from ahead.old.one ahead.old.two ahead.old.entry }
+    requires seen { WasSeen trace.now number ahead.old }
     requires within { number ≤ ahead.old.two }
     requires room { ahead.old.two ≤ length trace.now }
-    requires second { ahead.old.two < length trace.now → slice_get trace.now ahead.old.two ≡ Some ahead.old.second }
-    ensures seen { IsSeen trace.now number ahead.new.one ahead.new.two ahead.new.entry }
-    ensures known { (s : Config) → IsDigits s digits.now → IsKnown s trace.now ahead.old → IsKnown s trace.now ahead.new }
+    requires second { HasEntry trace.now ahead.old.two ahead.old.second }
+    ensures seen { IsSeenFrom trace.now number ahead.new }
+    ensures known { StaysKnown digits.now trace.now ahead.old ahead.new }
 {
     if ahead.one < number {
         go_to_second(digits, trace, ahead, before);
@@ -117,8 +114,8 @@ pub fn look_ahead(digits: &Digits, trace: &Trace, ahead: &mut Ahead, number: u64
 /// The next two memory entries from a number on, before which `before` of them stand.
 pub fn next_two(digits: &Digits, trace: &Trace, from: u64, before: u64) -> Ahead
     requires { from ≤ length trace.now }
-    ensures seen { IsSeen trace.now from result.one result.two result.entry }
-    ensures known { (s : Config) → IsDigits s digits.now → IsKnown s trace.now result }
+    ensures seen { IsSeenFrom trace.now from result }
+    ensures known { IsKnownBy digits.now trace.now result }
 {
     ahead_of(digits, trace, next_or_end(trace, from, before), before)
 }
@@ -176,7 +173,7 @@ fn count_of(width: u16, window: u32, number: u64, gone: u64, ahead: &Ahead, lack
 /// The number up to which entries may issue by the width, the window and the end of the trace, where `gone` entries were retired.
 pub fn most_issued(config: &Config, len: u64, number: u64, gone: u64) -> u64
     requires { number ≤ 2 ^ 62 }
-    ensures { result ≡ min (number + min config.now.width (config.now.window - (number - gone))) len }
+    ensures { result ≡ issue_limit config.now number gone len }
 {
     let room = u64::from(config.window).saturating_sub(number.saturating_sub(gone));
     (number + u64::from(config.width).min(room)).min(len)
@@ -193,8 +190,8 @@ pub fn issue_of(
     lacks: bool,
 ) -> Issue
     requires { number ≤ 2 ^ 62 }
-    ensures why { result.why ≡ cause_at config.now.width config.now.window len number gone ahead.now.two result.count }
-    ensures count { result.count ≡ issue_count config.now.width config.now.window number gone ahead.now.one ahead.now.two lacks }
+    ensures why { result.why ≡ cause_of config.now len number gone ahead.now result.count }
+    ensures count { result.count ≡ issue_count_of config.now number gone ahead.now lacks }
 {
     let count = count_of(config.width, config.window, number, gone, ahead, lacks);
     let why = cause_at(
@@ -213,8 +210,8 @@ pub fn issue_of(
 #[tactic(auto, using(crate::proofs::Working::issued_seen, crate::proofs::Working::none_seen))]
 pub fn entry_issued(number: u64, ahead: &Ahead, count: u16) -> Option<MemoryEntry>
     requires { number ≤ 2 ^ 62 }
-    ensures issued { (trace : List Entry) → IsSeen trace number ahead.now.one ahead.now.two ahead.now.entry → number + count ≤ ahead.now.two
-        → number ≤ length trace → IsIssued trace number count result }
+    ensures issued { (trace : List Entry) → IsSeenFrom trace number ahead.now
+        → number + count ≤ ahead.now.two → number ≤ length trace → IsIssued trace number count result }
     ensures at { IfSome result (λ e. e.number ≡ ahead.now.one) }
     ensures entry { IfSome result (λ e. e.entry ≡ ahead.now.entry) }
 {

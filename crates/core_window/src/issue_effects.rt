@@ -1,13 +1,14 @@
 //! What an entry that issues changes.
 
-ghost use Rattle.std.specs.Prelude.{◌≡◌, ℕ, ◌%◌, ◌^◌, ◌<◌, ◌++◌, ◌==◌, length, slice_get, Some, OnOk, if◌then◌else◌};
+ghost use Rattle.std.specs.Prelude.{◌≡◌, ℕ, ◌%◌, ◌^◌, ◌<◌, ◌==◌, length, slice_get, Some, OnOk, if◌then◌else◌};
 ghost use Rattle.sim_base.specs.History.{request};
 ghost use Rattle.std.specs.Option.{IfSome};
 ghost use Rattle.sim_base.specs.Config.{latency};
 ghost use Rattle.sim_base.specs.Places.{place_of};
 ghost use Rattle.sim_base.specs.declared.config.Config.{Config};
 ghost use Rattle.core_window.specs.Ahead.{IsPlaced};
-ghost use Rattle.core_window.specs.OneCycle.{reads_issued, requests_issued, credit_after, less_credit};
+ghost use Rattle.core_window.specs.Counting.{with_reads, SendsFor};
+ghost use Rattle.core_window.specs.OneCycle.{credit_after, less_credit};
 ghost use Rattle.statistics.specs.declared.final_state.Credits.{Credits};
 
 use crate::outstanding::OutstandingRead;
@@ -26,7 +27,7 @@ pub fn wait_for(
     memory: Option<MemoryEntry>,
     now: Cycle,
 ) -> Result<(), AllocError>
-    ensures { OnOk result (outstanding.new.items ≡ outstanding.old.items ++ reads_issued memory now) }
+    ensures { OnOk result (outstanding.new.items ≡ with_reads outstanding.old.items memory now) }
 {
     if let Some(next) = memory {
         if let Entry::Read(_) = next.entry {
@@ -118,7 +119,7 @@ pub fn send(
 ) -> Result<(), AllocError>
     requires early { now < 2 ^ 62 }
     requires placed { IfSome memory (λ e. IsPlaced config.now e.entry place.now) }
-    ensures { OnOk result (sent.new.items ≡ sent.old.items ++ requests_issued config.now core now memory) }
+    ensures { OnOk result (SendsFor memory config.now core now sent.old.items sent.new.items) }
 {
     if let Some(next) = memory {
         let (write, address) = match next.entry {

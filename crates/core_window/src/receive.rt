@@ -1,10 +1,9 @@
 //! What a message changes.
 
-ghost use Rattle.std.specs.Prelude.{◌≡◌, ◌+◌, ◌-◌, ◌/◌, ◌%◌, ◌<◌, ◌^◌, ◌==◌, not, filter, find, position, length, slice_get, ℕ, Some, if◌then◌else◌};
-ghost use Rattle.core_window.specs.OneCycle.{more_credit, less_credit, credits_of_kind};
+ghost use Rattle.std.specs.Prelude.{◌≡◌, ◌+◌, ◌/◌, ◌%◌, ◌<◌, ◌^◌, ◌==◌, position, length};
+ghost use Rattle.core_window.specs.Counting.{read_of, without_read, counted_reply, HasRoom, IsCreditedAt};
+ghost use Rattle.core_window.specs.OneCycle.{more_credit, less_credit};
 ghost use Rattle.core_window.specs.Outstanding.{IsByNumber};
-ghost use Rattle.core_window.specs.declared.outstanding.OutstandingRead.{OutstandingRead};
-ghost use Rattle.statistics.specs.declared.final_state.Credits.{Credits};
 
 use crate::outstanding::OutstandingRead;
 use sim_base::config::Config;
@@ -22,8 +21,8 @@ fn place_of_read(outstanding: &[OutstandingRead], entry: u64) -> Option<usize>
 /// Takes out the Read with this number, if it waits.
 pub fn take_read(outstanding: &mut Vec<OutstandingRead>, entry: u64) -> Option<OutstandingRead>
     requires { IsByNumber outstanding.old.items }
-    ensures found { result ≡ find (λ read. read.entry == entry) outstanding.old.items }
-    ensures others { outstanding.new.items ≡ filter (λ read. not (read.entry == entry)) outstanding.old.items }
+    ensures found { result ≡ read_of entry outstanding.old.items }
+    ensures others { outstanding.new.items ≡ without_read entry outstanding.old.items }
 {
     let place = place_of_read(outstanding, entry)?;
     Some(outstanding.remove(place))
@@ -38,7 +37,7 @@ pub fn channel_of(config: &Config, link: LinkId) -> u64
 
 /// One credit more.
 pub fn add_credit(credits: &mut Credits, write: bool)
-    ensures { credits_of_kind write credits.old + 1 < 2 ^ 64 → credits.new ≡ more_credit write credits.old }
+    ensures { HasRoom write credits.old → credits.new ≡ more_credit write credits.old }
 {
     if write {
         credits.write = credits.write.saturating_add(1);
@@ -61,9 +60,7 @@ pub fn take_credit(credits: &mut Credits, write: bool)
 /// One credit more for a channel.
 pub fn add_credit_at(credits: &mut [Credits], place: usize, write: bool)
     requires { place < length credits.old }
-    ensures { (channel : ℕ) (c : Credits) → slice_get credits.old channel ≡ Some c
-        → (place ≡ channel → credits_of_kind write c + 1 < 2 ^ 64)
-        → slice_get credits.new channel ≡ Some (if place == channel then more_credit write c else c) }
+    ensures { IsCreditedAt place write credits.old credits.new }
 {
     add_credit(&mut credits[place], write);
 }
@@ -72,7 +69,7 @@ pub fn add_credit_at(credits: &mut [Credits], place: usize, write: bool)
 pub fn count_reply(stats: &mut CoreStats, waited: u64)
     requires count { stats.old.replies + 1 < 2 ^ 64 }
     requires sum { stats.old.read_latency + waited < 2 ^ 128 }
-    ensures { stats.new ≡ record stats.old { replies = stats.old.replies + 1; read_latency = stats.old.read_latency + waited } }
+    ensures { stats.new ≡ counted_reply stats.old waited }
 {
     stats.replies += 1;
     stats.read_latency += u128::from(waited);

@@ -1,17 +1,17 @@
 //! A channel of the simulator, and a memory of all channels, for programs in C: what `dramsim.h` declares.
 #![tactic(auto)]
 
-ghost use Rattle.std.specs.Prelude.{◌≡◌, ◌≢◌, ◌⊎◌, ℕ, ◌+◌, true, false, None, Some, ◌<◌, ◌++◌, if◌then◌else◌, List, drop, length, option_map, is_some};
+ghost use Rattle.std.specs.Prelude.{◌≡◌, ◌≢◌, ◌⊎◌, ℕ, ◌+◌, true, false, None, Some, ◌++◌, if◌then◌else◌, drop, length, option_map, is_some};
 ghost use Rattle.config_reader.specs.Document.{document_of};
 ghost use Rattle.channel_session.specs.Sent.{message_of};
 ghost use Rattle.channel_session.specs.Addresses.{is_place, IsAddressOf};
 ghost use Rattle.channel_session.specs.Ahead.{IsNextAct};
 ghost use Rattle.channel_session.specs.Keeps.{steps_of, waiting};
-ghost use Rattle.channel_session.specs.Sessions.{Past, IsSession, next_command_of, next_reply_of, with_sent, with_command, with_reply, refusal, end_refusal};
+ghost use Rattle.channel_session.specs.Sessions.{Past, next_command_of, next_reply_of, with_sent, with_command, with_reply, refusal, end_refusal};
 ghost use Rattle.channel_session.specs.declared.session.Session.{Session};
 ghost use Rattle.sim_base.specs.Places.{place_of};
 ghost use Rattle.statistics.specs.Channels.{channel_stats};
-ghost use Rattle.c_interface.specs.Channels.{open_refusal, IsWell, HasPast, StandsAt, IsClosed, IsOpened};
+ghost use Rattle.c_interface.specs.Channels.{open_refusal, IsWell, ForPasts, HasPast, StandsAt, IsClosed, IsOpened};
 ghost use Rattle.c_interface.specs.Rows.{sent_request, command_row, reply_row, place_row, place_in, stats_row};
 ghost use Rattle.c_interface.specs.Statuses.{IsStatus, open_status, text_status, IsJudgedAs};
 ghost use Rattle.c_interface.specs.Texts.{fault_text};
@@ -25,8 +25,8 @@ use c_interface::texts::write_fault;
 use c_interface::verdicts::check_commands;
 use std::alloc::Global;
 
-/// Opens a closed channel: the one with a number, of the machine whose configuration a text states, before its first cycle. Any other
-/// status than 0 leaves it as it was.
+/// Opens a closed channel: the one with a number, of the machine whose configuration a text states, before its first
+/// cycle. Any other status than 0 leaves it as it was.
 #[unsafe(no_mangle)]
 pub extern "C" fn dramsim_open(
     alloc: Global,
@@ -54,8 +54,8 @@ pub extern "C" fn dramsim_send(
 ) -> u32
     requires well { IsWell channel.old }
     ensures well { IsWell channel.new }
-    ensures status { (s : Session) (p : Past) → channel.old.handle.value ≡ Some s → IsSession s p
-        → IsStatus (refusal s (waiting p.s p.channel p.sent s.cycle) (sent_request request.now)) result }
+    ensures status { ForPasts channel.old (λ s p.
+        IsStatus (refusal s (waiting p.s p.channel p.sent s.cycle) (sent_request request.now)) result) }
     ensures sent { (p : Past) → HasPast channel.old p → result ≡ 0
         → HasPast channel.new (with_sent p (message_of p.s p.channel (sent_request request.now))) }
     ensures left { (p : Past) → HasPast channel.old p → result ≢ 0 → HasPast channel.new p }
@@ -65,13 +65,13 @@ pub extern "C" fn dramsim_send(
     status(channel.send(alloc, &request.to_request()))
 }
 
-/// Runs an open channel over the cycles before `until`. Status 1 (memory) closes it; any other than 0 leaves its past as it was.
+/// Runs an open channel over the cycles before `until`. Status 1 (memory) closes it; any other than 0 leaves its past
+/// as it was.
 #[unsafe(no_mangle)]
 pub extern "C" fn dramsim_run(alloc: Global, channel: &mut KeptChannel, until: u64) -> u32
     requires well { IsWell channel.old }
     ensures well { IsWell channel.new }
-    ensures status { (s : Session) (p : Past) → channel.old.handle.value ≡ Some s → IsSession s p
-        → IsStatus (end_refusal s.cycle until) result }
+    ensures status { ForPasts channel.old (λ s p. IsStatus (end_refusal s.cycle until) result) }
     ensures done { (p : Past) → HasPast channel.old p → result ≡ 0 → HasPast channel.new p }
     ensures now { result ≡ 0 → StandsAt channel.new until }
     ensures left { (p : Past) → HasPast channel.old p → result ≢ 1 → HasPast channel.new p }
@@ -83,8 +83,8 @@ pub extern "C" fn dramsim_run(alloc: Global, channel: &mut KeptChannel, until: u
     status(channel.run(alloc, until))
 }
 
-/// The next command of the cycles that are over, if there is one: the first that was not taken. It is taken then. Where there is none,
-/// or the channel is closed, the row is left as it was.
+/// The next command of the cycles that are over, if there is one: the first that was not taken. It is taken then. Where
+/// there is none, or the channel is closed, the row is left as it was.
 #[unsafe(no_mangle)]
 pub extern "C" fn dramsim_next_command(
     alloc: Global,
@@ -93,12 +93,11 @@ pub extern "C" fn dramsim_next_command(
 ) -> bool
     requires well { IsWell channel.old }
     ensures well { IsWell channel.new }
-    ensures found { (s : Session) (p : Past) → channel.old.handle.value ≡ Some s → IsSession s p
-        → result ≡ is_some (next_command_of p s.cycle) }
-    ensures row { (s : Session) (p : Past) → channel.old.handle.value ≡ Some s → IsSession s p → result ≡ true
-        → Some row.new ≡ option_map command_row (next_command_of p s.cycle) }
-    ensures taken { (s : Session) (p : Past) → channel.old.handle.value ≡ Some s → IsSession s p
-        → HasPast channel.new (with_command p (next_command_of p s.cycle)) }
+    ensures found { ForPasts channel.old (λ s p. result ≡ is_some (next_command_of p s.cycle)) }
+    ensures row { ForPasts channel.old (λ s p.
+        result ≡ true → Some row.new ≡ option_map command_row (next_command_of p s.cycle)) }
+    ensures taken { ForPasts channel.old (λ s p.
+        HasPast channel.new (with_command p (next_command_of p s.cycle))) }
     ensures now { (cycle : ℕ) → StandsAt channel.old cycle → StandsAt channel.new cycle }
     ensures none { result ≡ false → row.new ≡ row.old }
     ensures closed { IsClosed channel.old → result ≡ false }
@@ -112,8 +111,8 @@ pub extern "C" fn dramsim_next_command(
     }
 }
 
-/// The next reply or credit that was sent in the cycles that are over, if there is one: the first that was not taken. It is taken
-/// then. Where there is none, or the channel is closed, the row is left as it was.
+/// The next reply or credit that was sent in the cycles that are over, if there is one: the first that was not taken.
+/// It is taken then. Where there is none, or the channel is closed, the row is left as it was.
 #[unsafe(no_mangle)]
 pub extern "C" fn dramsim_next_reply(
     alloc: Global,
@@ -122,12 +121,11 @@ pub extern "C" fn dramsim_next_reply(
 ) -> bool
     requires well { IsWell channel.old }
     ensures well { IsWell channel.new }
-    ensures found { (s : Session) (p : Past) → channel.old.handle.value ≡ Some s → IsSession s p
-        → result ≡ is_some (next_reply_of p s.cycle) }
-    ensures row { (s : Session) (p : Past) → channel.old.handle.value ≡ Some s → IsSession s p → result ≡ true
-        → Some row.new ≡ option_map (reply_row p.s) (next_reply_of p s.cycle) }
-    ensures taken { (s : Session) (p : Past) → channel.old.handle.value ≡ Some s → IsSession s p
-        → HasPast channel.new (with_reply p (next_reply_of p s.cycle)) }
+    ensures found { ForPasts channel.old (λ s p. result ≡ is_some (next_reply_of p s.cycle)) }
+    ensures row { ForPasts channel.old (λ s p.
+        result ≡ true → Some row.new ≡ option_map (reply_row p.s) (next_reply_of p s.cycle)) }
+    ensures taken { ForPasts channel.old (λ s p.
+        HasPast channel.new (with_reply p (next_reply_of p s.cycle))) }
     ensures now { (cycle : ℕ) → StandsAt channel.old cycle → StandsAt channel.new cycle }
     ensures none { result ≡ false → row.new ≡ row.old }
     ensures closed { IsClosed channel.old → result ≡ false }
@@ -156,7 +154,8 @@ pub extern "C" fn dramsim_now(alloc: Global, channel: &mut KeptChannel) -> u64
     }
 }
 
-/// Where the line at an address lies in the memory of an open channel's machine. Where it is closed, the row is left as it was.
+/// Where the line at an address lies in the memory of an open channel's machine. Where it is closed, the row is left as
+/// it was.
 #[unsafe(no_mangle)]
 pub extern "C" fn dramsim_place(
     alloc: Global,
@@ -166,10 +165,8 @@ pub extern "C" fn dramsim_place(
 ) -> bool
     requires well { IsWell channel.old }
     ensures well { IsWell channel.new }
-    ensures row { (s : Session) (p : Past) → channel.old.handle.value ≡ Some s → IsSession s p
-        → row.new ≡ place_row (place_of p.s address) }
-    ensures found { (s : Session) (p : Past) → channel.old.handle.value ≡ Some s → IsSession s p
-        → result ≡ true }
+    ensures row { ForPasts channel.old (λ s p. row.new ≡ place_row (place_of p.s address)) }
+    ensures found { ForPasts channel.old (λ s p. result ≡ true) }
     ensures kept { channel.new.handle.value ≡ channel.old.handle.value }
     ensures none { result ≡ false → row.new ≡ row.old }
     ensures closed { IsClosed channel.old → result ≡ false }
@@ -183,9 +180,9 @@ pub extern "C" fn dramsim_place(
     }
 }
 
-/// The next cycle from now on in which an open channel acts, if nothing more is sent to it and there is one: it issues nothing before that
-/// cycle, and in it, it issues a command or a request that was sent arrives. Where there is none, or the channel is closed, the cycle is
-/// left as it was.
+/// The next cycle from now on in which an open channel acts, if nothing more is sent to it and there is one: it issues
+/// nothing before that cycle, and in it, it issues a command or a request that was sent arrives. Where there is none,
+/// or the channel is closed, the cycle is left as it was.
 #[unsafe(no_mangle)]
 pub extern "C" fn dramsim_next_act(
     alloc: Global,
@@ -194,10 +191,9 @@ pub extern "C" fn dramsim_next_act(
 ) -> bool
     requires well { IsWell channel.old }
     ensures well { IsWell channel.new }
-    ensures some { (s : Session) (p : Past) → channel.old.handle.value ≡ Some s → IsSession s p → result ≡ true
-        → IsNextAct p s.cycle (Some cycle.new) }
-    ensures never { (s : Session) (p : Past) → channel.old.handle.value ≡ Some s → IsSession s p → result ≡ false
-        → IsNextAct p s.cycle None }
+    ensures some { ForPasts channel.old (λ s p.
+        result ≡ true → IsNextAct p s.cycle (Some cycle.new)) }
+    ensures never { ForPasts channel.old (λ s p. result ≡ false → IsNextAct p s.cycle None) }
     ensures kept { channel.new.handle.value ≡ channel.old.handle.value }
     ensures none { result ≡ false → cycle.new ≡ cycle.old }
     ensures closed { IsClosed channel.old → result ≡ false }
@@ -211,8 +207,8 @@ pub extern "C" fn dramsim_next_act(
     }
 }
 
-/// The least address of the line at a place in the memory of an open channel's machine. Any other status than 0 leaves the address as it
-/// was.
+/// The least address of the line at a place in the memory of an open channel's machine. Any other status than 0 leaves
+/// the address as it was.
 #[unsafe(no_mangle)]
 pub extern "C" fn dramsim_address(
     alloc: Global,
@@ -222,10 +218,10 @@ pub extern "C" fn dramsim_address(
 ) -> u32
     requires well { IsWell channel.old }
     ensures well { IsWell channel.new }
-    ensures address { (s : Session) (p : Past) → channel.old.handle.value ≡ Some s → IsSession s p → result ≡ 0
-        → IsAddressOf p.s (place_in place.now) address.new }
-    ensures status { (s : Session) (p : Past) → channel.old.handle.value ≡ Some s → IsSession s p
-        → result ≡ (if is_place p.s (place_in place.now) then 0 else 14) }
+    ensures address { ForPasts channel.old (λ s p.
+        result ≡ 0 → IsAddressOf p.s (place_in place.now) address.new) }
+    ensures status { ForPasts channel.old (λ s p.
+        result ≡ (if is_place p.s (place_in place.now) then 0 else 14)) }
     ensures kept { channel.new.handle.value ≡ channel.old.handle.value }
     ensures same { result ≢ 0 → address.new ≡ address.old }
     ensures closed { IsClosed channel.old → result ≡ 2 }
@@ -248,8 +244,8 @@ pub extern "C" fn dramsim_stats(
 ) -> bool
     requires well { IsWell channel.old }
     ensures well { IsWell channel.new }
-    ensures row { (s : Session) (p : Past) → channel.old.handle.value ≡ Some s → IsSession s p
-        → row.new ≡ stats_row (channel_stats p.s p.channel (steps_of p.s p.channel p.sent s.cycle) p.sent) }
+    ensures row { ForPasts channel.old (λ s p.
+        row.new ≡ stats_row (channel_stats p.s p.channel (steps_of p.s p.channel p.sent s.cycle) p.sent)) }
     ensures found { (s : Session) → channel.old.handle.value ≡ Some s → result ≡ true }
     ensures kept { channel.new.handle.value ≡ channel.old.handle.value }
     ensures none { result ≡ false → row.new ≡ row.old }
@@ -274,8 +270,8 @@ pub extern "C" fn dramsim_close(alloc: Global, channel: &mut KeptChannel)
     channel.close(alloc);
 }
 
-/// Writes the line for which the program refuses a configuration, without its end, to the front of memory, and its length; 0 where the
-/// configuration is not refused. Any other status than 0 leaves the memory as it was.
+/// Writes the line for which the program refuses a configuration, without its end, to the front of memory, and its
+/// length; 0 where the configuration is not refused. Any other status than 0 leaves the memory as it was.
 #[unsafe(no_mangle)]
 pub extern "C" fn dramsim_fault_text(
     alloc: Global,
@@ -293,8 +289,8 @@ pub extern "C" fn dramsim_fault_text(
     status(write_fault(alloc, text, into, wanted))
 }
 
-/// Judges a table of commands under the configuration that a text states, as `dramsim check` does, and writes what is at fault. The
-/// statuses 1 and 4 leave the row as it was.
+/// Judges a table of commands under the configuration that a text states, as `dramsim check` does, and writes what is
+/// at fault. The statuses 1 and 4 leave the row as it was.
 #[unsafe(no_mangle)]
 pub extern "C" fn dramsim_check(
     alloc: Global,

@@ -7,19 +7,18 @@ ghost use Rattle.channel_session.specs.Sessions.{end_refusal};
 ghost use Rattle.channel_session.specs.declared.session.Session.{Session};
 ghost use Rattle.sim_base.specs.Places.{place_of};
 ghost use Rattle.sim_base.specs.declared.config.Config.{Config};
-ghost use Rattle.memory_session.specs.Memories.{Pasts, IsMemory, memory_refusal, with_request, IsNextCommand, IsNextReply, IsNextActOf, stats_of};
-ghost use Rattle.memory_session.specs.declared.memory.MemorySession.{MemorySession};
+ghost use Rattle.memory_session.specs.Memories.{Pasts, memory_refusal, with_request, IsNextCommand, IsNextReply, IsNextActOf, stats_of};
 ghost use Rattle.c_interface.specs.Rows.{sent_request, place_row, place_in, stats_row};
 ghost use Rattle.c_interface.specs.Statuses.{IsStatus, open_status};
-ghost use Rattle.c_memory.specs.Memories.{IsWell, HasPasts, StandsAt, IsOf, IsClosed, IsOpened, configuration_refusal, IsCommandRowAt, IsReplyRowAt, with_command_at, with_reply_at};
+ghost use Rattle.c_memory.specs.Memories.{IsWell, ForPasts, ForOpen, ForMemory, HasPasts, StandsAt, IsOf, IsClosed, IsOpened, configuration_refusal, IsCommandRowAt, IsReplyRowAt, with_command_at, with_reply_at};
 
 use c_interface::fault::{fault_number, status};
 use c_interface::rows::{CommandRow, PlaceRow, ReplyRow, RequestRow, StatsRow};
 use c_memory::memory::KeptMemory;
 use std::alloc::Global;
 
-/// Opens a closed memory: all channels of the machine whose configuration a text states, before their first cycle. Any other status than 0
-/// leaves it as it was.
+/// Opens a closed memory: all channels of the machine whose configuration a text states, before their first cycle. Any
+/// other status than 0 leaves it as it was.
 #[unsafe(no_mangle)]
 pub extern "C" fn dramsim_memory_open(alloc: Global, text: &[u8], memory: &mut KeptMemory) -> u32
     requires well { IsWell memory.old }
@@ -33,7 +32,8 @@ pub extern "C" fn dramsim_memory_open(alloc: Global, text: &[u8], memory: &mut K
     status(memory.open(alloc, text))
 }
 
-/// Sends a request to the channel of its address in an open memory. Any other status than 0 leaves the pasts as they were.
+/// Sends a request to the channel of its address in an open memory. Any other status than 0 leaves the pasts as they
+/// were.
 #[unsafe(no_mangle)]
 pub extern "C" fn dramsim_memory_send(
     alloc: Global,
@@ -42,11 +42,11 @@ pub extern "C" fn dramsim_memory_send(
 ) -> u32
     requires well { IsWell memory.old }
     ensures well { IsWell memory.new }
-    ensures status { (m : MemorySession) (pasts : Pasts) (other : Session) → memory.old.handle.value ≡ Some m
-        → IsMemory m pasts → IsStatus (memory_refusal m pasts other (sent_request request.now)) result }
-    ensures sent { (s : Config) (pasts : Pasts) → IsOf memory.old s → HasPasts memory.old pasts → result ≡ 0
-        → HasPasts memory.new (with_request s pasts (sent_request request.now)) }
-    ensures left { (pasts : Pasts) → HasPasts memory.old pasts → result ≢ 0 → HasPasts memory.new pasts }
+    ensures status { ForMemory memory.old (λ m pasts. (other : Session) →
+        IsStatus (memory_refusal m pasts other (sent_request request.now)) result) }
+    ensures sent { (s : Config) (pasts : Pasts) → IsOf memory.old s → HasPasts memory.old pasts
+        → result ≡ 0 → HasPasts memory.new (with_request s pasts (sent_request request.now)) }
+    ensures left { ForPasts memory.old (λ pasts. result ≢ 0 → HasPasts memory.new pasts) }
     ensures now { (cycle : ℕ) → StandsAt memory.old cycle → StandsAt memory.new cycle }
     ensures config { (s : Config) → IsOf memory.old s → IsOf memory.new s }
     ensures closed { IsClosed memory.old → result ≡ 2 }
@@ -54,17 +54,16 @@ pub extern "C" fn dramsim_memory_send(
     status(memory.send(alloc, &request.to_request()))
 }
 
-/// Runs all channels of an open memory over the cycles before `until`. Status 1 (memory) closes it; any other than 0 leaves the pasts as
-/// they were.
+/// Runs all channels of an open memory over the cycles before `until`. Status 1 (memory) closes it; any other than 0
+/// leaves the pasts as they were.
 #[unsafe(no_mangle)]
 pub extern "C" fn dramsim_memory_run(alloc: Global, memory: &mut KeptMemory, until: u64) -> u32
     requires well { IsWell memory.old }
     ensures well { IsWell memory.new }
-    ensures status { (m : MemorySession) → memory.old.handle.value ≡ Some m
-        → IsStatus (end_refusal m.cycle until) result }
-    ensures done { (pasts : Pasts) → HasPasts memory.old pasts → result ≡ 0 → HasPasts memory.new pasts }
+    ensures status { ForOpen memory.old (λ m. IsStatus (end_refusal m.cycle until) result) }
+    ensures done { ForPasts memory.old (λ pasts. result ≡ 0 → HasPasts memory.new pasts) }
     ensures now { result ≡ 0 → StandsAt memory.new until }
-    ensures left { (pasts : Pasts) → HasPasts memory.old pasts → result ≢ 1 → HasPasts memory.new pasts }
+    ensures left { ForPasts memory.old (λ pasts. result ≢ 1 → HasPasts memory.new pasts) }
     ensures stays { (cycle : ℕ) → StandsAt memory.old cycle → result ≢ 0 → result ≢ 1
         → StandsAt memory.new cycle }
     ensures config { (s : Config) → IsOf memory.old s → result ≢ 1 → IsOf memory.new s }
@@ -74,8 +73,9 @@ pub extern "C" fn dramsim_memory_run(alloc: Global, memory: &mut KeptMemory, unt
     status(memory.run(alloc, until))
 }
 
-/// The next command of the cycles that are over, if there is one, and the number of its channel: the first that was not taken, by cycle and
-/// then by channel. It is taken then. Where there is none, or the memory is closed, the number and the row are left as they were.
+/// The next command of the cycles that are over, if there is one, and the number of its channel: the first that was not
+/// taken, by cycle and then by channel. It is taken then. Where there is none, or the memory is closed, the number and
+/// the row are left as they were.
 #[unsafe(no_mangle)]
 pub extern "C" fn dramsim_memory_next_command(
     alloc: Global,
@@ -85,13 +85,13 @@ pub extern "C" fn dramsim_memory_next_command(
 ) -> bool
     requires well { IsWell memory.old }
     ensures well { IsWell memory.new }
-    ensures row { (m : MemorySession) (pasts : Pasts) → memory.old.handle.value ≡ Some m → IsMemory m pasts
-        → result ≡ true → IsCommandRowAt m.config pasts m.cycle channel.new row.new }
-    ensures never { (m : MemorySession) (pasts : Pasts) → memory.old.handle.value ≡ Some m → IsMemory m pasts
-        → result ≡ false → IsNextCommand m.config.channels pasts m.cycle None }
-    ensures taken { (m : MemorySession) (pasts : Pasts) → memory.old.handle.value ≡ Some m → IsMemory m pasts
-        → result ≡ true → HasPasts memory.new (with_command_at pasts m.cycle channel.new) }
-    ensures left { (pasts : Pasts) → HasPasts memory.old pasts → result ≡ false → HasPasts memory.new pasts }
+    ensures row { ForMemory memory.old (λ m pasts.
+        result ≡ true → IsCommandRowAt m.config pasts m.cycle channel.new row.new) }
+    ensures never { ForMemory memory.old (λ m pasts.
+        result ≡ false → IsNextCommand m.config.channels pasts m.cycle None) }
+    ensures taken { ForMemory memory.old (λ m pasts.
+        result ≡ true → HasPasts memory.new (with_command_at pasts m.cycle channel.new)) }
+    ensures left { ForPasts memory.old (λ pasts. result ≡ false → HasPasts memory.new pasts) }
     ensures now { (cycle : ℕ) → StandsAt memory.old cycle → StandsAt memory.new cycle }
     ensures config { (s : Config) → IsOf memory.old s → IsOf memory.new s }
     ensures none { result ≡ false → row.new ≡ row.old }
@@ -108,9 +108,10 @@ pub extern "C" fn dramsim_memory_next_command(
     }
 }
 
-/// The next reply or credit that was sent in the cycles that are over, if there is one, and the number of the channel that sent it: of the
-/// first of each channel that was not taken, the one that arrives first, and of these that of the lowest channel. It is taken then. Where
-/// there is none, or the memory is closed, the number and the row are left as they were.
+/// The next reply or credit that was sent in the cycles that are over, if there is one, and the number of the channel
+/// that sent it: of the first of each channel that was not taken, the one that arrives first, and of these that of the
+/// lowest channel. It is taken then. Where there is none, or the memory is closed, the number and the row are left as
+/// they were.
 #[unsafe(no_mangle)]
 pub extern "C" fn dramsim_memory_next_reply(
     alloc: Global,
@@ -120,13 +121,13 @@ pub extern "C" fn dramsim_memory_next_reply(
 ) -> bool
     requires well { IsWell memory.old }
     ensures well { IsWell memory.new }
-    ensures row { (m : MemorySession) (pasts : Pasts) → memory.old.handle.value ≡ Some m → IsMemory m pasts
-        → result ≡ true → IsReplyRowAt m.config pasts m.cycle channel.new row.new }
-    ensures never { (m : MemorySession) (pasts : Pasts) → memory.old.handle.value ≡ Some m → IsMemory m pasts
-        → result ≡ false → IsNextReply m.config.channels pasts m.cycle None }
-    ensures taken { (m : MemorySession) (pasts : Pasts) → memory.old.handle.value ≡ Some m → IsMemory m pasts
-        → result ≡ true → HasPasts memory.new (with_reply_at pasts m.cycle channel.new) }
-    ensures left { (pasts : Pasts) → HasPasts memory.old pasts → result ≡ false → HasPasts memory.new pasts }
+    ensures row { ForMemory memory.old (λ m pasts.
+        result ≡ true → IsReplyRowAt m.config pasts m.cycle channel.new row.new) }
+    ensures never { ForMemory memory.old (λ m pasts.
+        result ≡ false → IsNextReply m.config.channels pasts m.cycle None) }
+    ensures taken { ForMemory memory.old (λ m pasts.
+        result ≡ true → HasPasts memory.new (with_reply_at pasts m.cycle channel.new)) }
+    ensures left { ForPasts memory.old (λ pasts. result ≡ false → HasPasts memory.new pasts) }
     ensures now { (cycle : ℕ) → StandsAt memory.old cycle → StandsAt memory.new cycle }
     ensures config { (s : Config) → IsOf memory.old s → IsOf memory.new s }
     ensures none { result ≡ false → row.new ≡ row.old }
@@ -143,9 +144,9 @@ pub extern "C" fn dramsim_memory_next_reply(
     }
 }
 
-/// The next cycle from now on in which a channel of an open memory acts, if nothing more is sent and there is one: none issues anything
-/// before that cycle, and in it, one issues a command or a request that was sent arrives. Where there is none, or the memory is closed, the
-/// cycle is left as it was.
+/// The next cycle from now on in which a channel of an open memory acts, if nothing more is sent and there is one: none
+/// issues anything before that cycle, and in it, one issues a command or a request that was sent arrives. Where there
+/// is none, or the memory is closed, the cycle is left as it was.
 #[unsafe(no_mangle)]
 pub extern "C" fn dramsim_memory_next_act(
     alloc: Global,
@@ -154,11 +155,11 @@ pub extern "C" fn dramsim_memory_next_act(
 ) -> bool
     requires well { IsWell memory.old }
     ensures well { IsWell memory.new }
-    ensures some { (m : MemorySession) (pasts : Pasts) → memory.old.handle.value ≡ Some m → IsMemory m pasts
-        → result ≡ true → IsNextActOf m.config.channels pasts m.cycle (Some cycle.new) }
-    ensures never { (m : MemorySession) (pasts : Pasts) → memory.old.handle.value ≡ Some m → IsMemory m pasts
-        → result ≡ false → IsNextActOf m.config.channels pasts m.cycle None }
-    ensures left { (pasts : Pasts) → HasPasts memory.old pasts → HasPasts memory.new pasts }
+    ensures some { ForMemory memory.old (λ m pasts.
+        result ≡ true → IsNextActOf m.config.channels pasts m.cycle (Some cycle.new)) }
+    ensures never { ForMemory memory.old (λ m pasts.
+        result ≡ false → IsNextActOf m.config.channels pasts m.cycle None) }
+    ensures left { ForPasts memory.old (λ pasts. HasPasts memory.new pasts) }
     ensures now { (now : ℕ) → StandsAt memory.old now → StandsAt memory.new now }
     ensures config { (s : Config) → IsOf memory.old s → IsOf memory.new s }
     ensures none { result ≡ false → cycle.new ≡ cycle.old }
@@ -178,7 +179,7 @@ pub extern "C" fn dramsim_memory_next_act(
 pub extern "C" fn dramsim_memory_now(alloc: Global, memory: &mut KeptMemory) -> u64
     requires well { IsWell memory.old }
     ensures well { IsWell memory.new }
-    ensures now { (m : MemorySession) → memory.old.handle.value ≡ Some m → result ≡ m.cycle }
+    ensures now { ForOpen memory.old (λ m. result ≡ m.cycle) }
     ensures kept { memory.new.handle.value ≡ memory.old.handle.value }
     ensures closed { IsClosed memory.old → result ≡ 0 }
 {
@@ -198,9 +199,8 @@ pub extern "C" fn dramsim_memory_place(
 ) -> bool
     requires well { IsWell memory.old }
     ensures well { IsWell memory.new }
-    ensures row { (m : MemorySession) → memory.old.handle.value ≡ Some m
-        → row.new ≡ place_row (place_of m.config address) }
-    ensures found { (m : MemorySession) → memory.old.handle.value ≡ Some m → result ≡ true }
+    ensures row { ForOpen memory.old (λ m. row.new ≡ place_row (place_of m.config address)) }
+    ensures found { ForOpen memory.old (λ m. result ≡ true) }
     ensures kept { memory.new.handle.value ≡ memory.old.handle.value }
     ensures none { result ≡ false → row.new ≡ row.old }
     ensures closed { IsClosed memory.old → result ≡ false }
@@ -224,10 +224,10 @@ pub extern "C" fn dramsim_memory_address(
 ) -> u32
     requires well { IsWell memory.old }
     ensures well { IsWell memory.new }
-    ensures address { (m : MemorySession) → memory.old.handle.value ≡ Some m → result ≡ 0
-        → IsAddressOf m.config (place_in place.now) address.new }
-    ensures status { (m : MemorySession) → memory.old.handle.value ≡ Some m
-        → result ≡ (if is_place m.config (place_in place.now) then 0 else 14) }
+    ensures address { ForOpen memory.old (λ m.
+        result ≡ 0 → IsAddressOf m.config (place_in place.now) address.new) }
+    ensures status { ForOpen memory.old (λ m.
+        result ≡ (if is_place m.config (place_in place.now) then 0 else 14)) }
     ensures kept { memory.new.handle.value ≡ memory.old.handle.value }
     ensures same { result ≢ 0 → address.new ≡ address.old }
     ensures closed { IsClosed memory.old → result ≡ 2 }
@@ -241,7 +241,8 @@ pub extern "C" fn dramsim_memory_address(
     }
 }
 
-/// The statistics of the cycles of a channel of an open memory that are over. Any other status than 0 leaves the row as it was.
+/// The statistics of the cycles of a channel of an open memory that are over. Any other status than 0 leaves the row as
+/// it was.
 #[unsafe(no_mangle)]
 pub extern "C" fn dramsim_memory_stats(
     alloc: Global,
@@ -251,10 +252,10 @@ pub extern "C" fn dramsim_memory_stats(
 ) -> u32
     requires well { IsWell memory.old }
     ensures well { IsWell memory.new }
-    ensures row { (m : MemorySession) (pasts : Pasts) → memory.old.handle.value ≡ Some m → IsMemory m pasts
-        → result ≡ 0 → Some row.new ≡ option_map stats_row (stats_of m.config.channels pasts m.cycle channel) }
-    ensures status { (m : MemorySession) (pasts : Pasts) → memory.old.handle.value ≡ Some m → IsMemory m pasts
-        → result ≡ (if nat_lt channel m.config.channels then 0 else 5) }
+    ensures row { ForMemory memory.old (λ m pasts.
+        result ≡ 0 → Some row.new ≡ option_map stats_row (stats_of m.config.channels pasts m.cycle channel)) }
+    ensures status { ForMemory memory.old (λ m pasts.
+        result ≡ (if nat_lt channel m.config.channels then 0 else 5)) }
     ensures kept { memory.new.handle.value ≡ memory.old.handle.value }
     ensures same { result ≢ 0 → row.new ≡ row.old }
     ensures closed { IsClosed memory.old → result ≡ 2 }

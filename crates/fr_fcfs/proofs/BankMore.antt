@@ -36,10 +36,6 @@ use Rattle.fr_fcfs.proofs.Below.{none_is}
 use Rattle.fr_fcfs.proofs.Favoured.{within}
 use Rattle.fr_fcfs.proofs.SoFar.{IsTaken, one_more, so_far_same}
 
--- candidates of a bank that there is not
-pub nowhere : CandidatesOfBank
-nowhere = record { row = None; reads = record { oldest = None; hit = None }; writes = record { oldest = None; hit = None } }
-
 -- the candidates of a bank to write, or to read
 abbrev pub access_candidates : Bool → CandidatesOfBank → AccessCandidates
 access_candidates write h = cond write h.writes h.reads

@@ -3,17 +3,18 @@
 --     choice_in s history queue now      the command of a cycle
 --     command_of s history log choice      the command that is needed by what was chosen
 --     IsFor ranks log choice      what was chosen is a request that waits, or a rank that there is
-use Rattle.std.specs.Prelude.{◌≡◌, ℕ, ◌<◌, true, List, length, Option, Some, option_map, slice_get}
+--     HasPlace ranks log next      the same of what was chosen for a cycle, if anything was
+--     HoldsBack s history rank due now rest commands      a rank that is to be refreshed goes first
+use Rattle.std.specs.Prelude.{◌≡◌, ℕ, ◌<◌, ◌≤◌, true, List, length, Option, Some, option_map, slice_get, IfSome, if◌then◌else◌}
 use Rattle.sim_base.specs.declared.config.Config.{Config}
 use Rattle.sim_base.specs.declared.command.Command.{Command}
 use Rattle.sim_base.specs.declared.command.IssuedCommand.{IssuedCommand}
-use Rattle.sim_base.specs.Scheduling.{choice_between, lowest_due, needed, refresh_command}
+use Rattle.sim_base.specs.Scheduling.{choice_between, if_legal, lowest_due, needed, refresh_command}
 use Rattle.bank_ready.specs.declared.banks.Banks.{Banks}
 use Rattle.bank_ready.specs.Stands.{StandsFor as BanksStandFor}
-use Rattle.refresh.specs.Refreshes.{RefreshCounts, StandsFor as RefreshesStandFor}
-use Rattle.sim_base.specs.Rules.{open_row}
+use Rattle.refresh.specs.Refreshes.{RefreshCounts, is_due_at, StandsFor as RefreshesStandFor}
 use Rattle.bank_candidates.specs.declared.all_banks.BankCandidates.{BankCandidates}
-use Rattle.bank_candidates.specs.Candidates.{bank_at}
+use Rattle.bank_candidates.specs.Candidates.{rows_after}
 use Rattle.bank_candidates.specs.Stands.{StandsFor as CandidatesStandFor}
 use Rattle.request_log.specs.declared.Arrived.{Arrived}
 use Rattle.request_log.specs.Log.{all_requests, waits_at}
@@ -26,7 +27,7 @@ use Rattle.fr_fcfs.specs.declared.choice.Choice.TheVariants as chosen
 -- and the candidates for the queue and the rows that are open.
 pub record StandFor (bank_candidates : BankCandidates) (banks : Banks) (refresh : RefreshCounts) (queue : QueueView) (groups : ℕ) (s : Config) (history : List IssuedCommand) : Type 0 where
   pub banks_stand : BanksStandFor banks s history
-  pub candidates_stand : CandidatesStandFor bank_candidates queue.log (λ bank. open_row (bank_at bank) history)
+  pub candidates_stand : CandidatesStandFor bank_candidates queue.log (rows_after history)
   pub refreshes_stand : RefreshesStandFor refresh s history
   pub groups_are : s.groups ≡ groups
   pub high_is : s.write_high ≡ queue.high
@@ -44,3 +45,13 @@ command_of s history log (chosen.Refresh rank) = Some (refresh_command s history
 abbrev pub IsFor : ℕ → List Arrived → Choice → Type 0
 IsFor ranks log (chosen.Request slot) = (slot < length log) × (waits_at log slot ≡ true)
 IsFor ranks log (chosen.Refresh rank) = rank < ranks
+
+-- the same of what was chosen for a cycle, if anything was
+abbrev pub HasPlace : ℕ → List Arrived → Option (ℕ × Choice) → Type 0
+HasPlace ranks log next = IfSome next (λ n. IsFor ranks log n.1)
+
+-- Where a refresh of a rank is due, the command of a cycle is what that needs, once it may be issued, and no other
+-- one; in the other cycles from now on it is that of the rest.
+abbrev pub HoldsBack : Config → List IssuedCommand → ℕ → Option ℕ → ℕ → (ℕ → Option Command) → (ℕ → Option Command) → Type 0
+HoldsBack s history rank due now rest commands =
+    (c : ℕ) → now ≤ c → commands c ≡ (if is_due_at due c then if_legal s history c (refresh_command s history rank) else rest c)

@@ -4,10 +4,17 @@
 --     hits_in s history log accesses bank cycle      the place of the first ready row hit of a bank in a cycle
 --     rows_in s history log accesses bank cycle      the place of its first request for which an ACT or a PRE may be issued then
 --     rows_beside s history log accesses left cycle      the place of the first such request of all banks but those that are left
+--     all_hits s history log accesses cycle, all_rows s history log accesses cycle      the same of all banks
+--     no_place cycle, earlier_each a b cycle      no request, and the first of two, in each cycle
+--     oldest_of accesses bank_candidates bank      the first request of a bank
+--     hit_of accesses bank_candidates bank      its first row hit
+--     NeedsRow commands bank_candidates bank      a bank whose row these commands open or close
 --     IsBest now hits rows offer      an offer is the first from now on
 --     IsBestSoFar room now hits rows offer      the same, where one with a place after all others stands for none
+--     TakesRows log now old new more, TakesHits log now old new more      the best offer so far takes in more requests
+--     better_of a b      the one of two offers that goes first
 --     IsFirstReady s history queue now offer      an offer is what the first ready request of the queue needs
-use Rattle.std.specs.Prelude.{◌≡◌, ℕ, ◌<◌, ◌≤◌, ◌==◌, nat_lt, max, Bool, true, false, not, ◌&&◌, List, filter, Option, Some, None, option_map, slice_get, if◌then◌else◌}
+use Rattle.std.specs.Prelude.{◌≡◌, ℕ, ◌<◌, ◌≤◌, ◌==◌, nat_lt, max, Bool, true, false, not, ◌&&◌, ◌||◌, List, length, filter, Option, is_some, Some, None, option_map, slice_get, if◌then◌else◌}
 use Rattle.sim_base.specs.declared.config.Config.{Config}
 use Rattle.sim_base.specs.declared.command.Command.{Command}
 use Rattle.sim_base.specs.declared.command.IssuedCommand.{IssuedCommand}
@@ -22,9 +29,12 @@ use Rattle.request_log.specs.Log.{waiting_requests, all_requests, waits_at}
 use Rattle.request_log.specs.Columns.{bank_number}
 use Rattle.queue.specs.View.{QueueView}
 use Rattle.bank_candidates.specs.declared.entry.CandidatesOfBank.{CandidatesOfBank}
+use Rattle.bank_candidates.specs.declared.all_banks.BankCandidates.{BankCandidates}
 use Rattle.bank_candidates.specs.Candidates.{first_place}
 use Rattle.bank_candidates.specs.Moves.{earlier}
+use Rattle.bank_candidates.specs.Stands.{candidates_of_bank, row_of_bank}
 use Rattle.fr_fcfs.specs.declared.accesses.Accesses.{Accesses}
+use Rattle.fr_fcfs.specs.declared.first.RowCommands.{RowCommands}
 use Rattle.fr_fcfs.specs.declared.offers.Offer.{Offer}
 use Rattle.fr_fcfs.specs.Requests.{IsLegalFrom, candidates_of}
 
@@ -56,6 +66,13 @@ hit_candidate accesses bank_candidates = earlier (if_allowed bank_candidates.rea
 abbrev pub oldest_candidate : Accesses → CandidatesOfBank → Option ℕ
 oldest_candidate accesses bank_candidates = earlier (if_allowed bank_candidates.reads.oldest accesses.reads) (if_allowed bank_candidates.writes.oldest accesses.writes)
 
+-- the first request of a bank by its number, and its first row hit, of the accesses that go
+abbrev pub oldest_of : Accesses → BankCandidates → ℕ → Option ℕ
+oldest_of accesses bank_candidates bank = oldest_candidate accesses (candidates_of_bank bank_candidates bank)
+
+abbrev pub hit_of : Accesses → BankCandidates → ℕ → Option ℕ
+hit_of accesses bank_candidates bank = hit_candidate accesses (candidates_of_bank bank_candidates bank)
+
 -- the requests that may be served, of the accesses that go
 abbrev pub going : Accesses → List Arrived → List Request
 going accesses log = filter (is_of accesses) (first_of_lines (waiting_requests log))
@@ -75,6 +92,26 @@ hits_in s history log accesses bank cycle = first_place (λ r. (bank_number r.pl
 -- the place of its first request for which an ACT or a PRE may be issued then
 abbrev pub rows_in : Config → List IssuedCommand → List Arrived → Accesses → ℕ → ℕ → Option ℕ
 rows_in s history log accesses bank cycle = first_place (λ r. (bank_number r.place == bank) && rows_now s history log accesses cycle r) log
+
+-- the place of the first ready row hit of all banks in a cycle
+abbrev pub all_hits : Config → List IssuedCommand → List Arrived → Accesses → ℕ → Option ℕ
+all_hits s history log accesses = λ cycle. first_place (hits_now s history accesses cycle) log
+
+-- the same to write, or to read, if these requests go
+abbrev pub hits_if : Bool → Config → List IssuedCommand → List Arrived → Bool → ℕ → Option ℕ
+hits_if goes s history log write = λ cycle. first_place (λ r. goes && hits_now s history (only write) cycle r) log
+
+-- the place of the first request of all banks for which an ACT or a PRE may be issued in a cycle
+abbrev pub all_rows : Config → List IssuedCommand → List Arrived → Accesses → ℕ → Option ℕ
+all_rows s history log accesses = λ cycle. first_place (rows_now s history log accesses cycle) log
+
+-- no request in any cycle
+abbrev pub no_place : ℕ → Option ℕ
+no_place = λ cycle. None
+
+-- in each cycle the first of two places
+abbrev pub earlier_each : (ℕ → Option ℕ) → (ℕ → Option ℕ) → ℕ → Option ℕ
+earlier_each a b = λ cycle. earlier (a cycle) (b cycle)
 
 -- the place of the first such request of all banks but those that are left
 abbrev pub rows_beside : Config → List IssuedCommand → List Arrived → Accesses → (ℕ → Bool) → ℕ → Option ℕ
@@ -101,6 +138,10 @@ IsBest now hits rows (Some o) = IsBestOffer now hits rows o
 abbrev pub goes_before : Offer → Offer → Bool
 goes_before a b = if a.cycle == b.cycle then (if a.hit then (if b.hit then nat_lt a.slot b.slot else true) else (if b.hit then false else nat_lt a.slot b.slot)) else nat_lt a.cycle b.cycle
 
+-- the one of two offers that goes first
+abbrev pub better_of : Offer → Offer → Offer
+better_of a b = if goes_before a b then a else b
+
 -- what stands for no offer, where there are this many places: all offers go before it
 abbrev pub no_offer : ℕ → Offer
 no_offer room = record { cycle = 18446744073709551615; hit = false; slot = room }
@@ -113,6 +154,17 @@ if_within room o = if nat_lt o.slot room then Some o else None
 pub record IsBestSoFar (room now : ℕ) (hits rows : ℕ → Option ℕ) (o : Offer) : Type 0 where
   pub none : room ≤ o.slot → o ≡ no_offer room
   pub best : IsBest now hits rows (if_within room o)
+
+-- The best offer so far takes in further requests for which an ACT or a PRE may be issued, of which the first of each
+-- cycle has this place.
+abbrev pub TakesRows : List Arrived → ℕ → Offer → Offer → (ℕ → Option ℕ) → Type 0
+TakesRows log now old new more =
+    (hits rows : ℕ → Option ℕ) → IsBestSoFar (length log) now hits rows old → IsBestSoFar (length log) now hits (earlier_each rows more) new
+
+-- The best offer so far takes in further row hits, of which the first of each cycle has this place.
+abbrev pub TakesHits : List Arrived → ℕ → Offer → Offer → (ℕ → Option ℕ) → Type 0
+TakesHits log now old new more =
+    (hits rows : ℕ → Option ℕ) → IsBestSoFar (length log) now hits rows old → IsBestSoFar (length log) now (earlier_each hits more) rows new
 
 -- the offer of a request whose need may be issued from a cycle on
 abbrev pub offer_from : ℕ → ℕ → Bool → ℕ → Offer
@@ -127,6 +179,21 @@ IsReadyFrom s history bank kind ready =
 abbrev pub row_kind : Option ℕ → Kind
 row_kind (Some row) = kind.Pre
 row_kind None = kind.Act
+
+-- Some request of the accesses that go asks for a bank, and none for its open row. Commands of this kind close that
+-- row, or open one where none is open.
+pub record NeedsRow (commands : RowCommands) (bank_candidates : BankCandidates) (bank : ℕ) : Type 0 where
+  pub some : is_some (oldest_of commands.accesses bank_candidates bank) ≡ true
+  pub no_hit : is_some (hit_of commands.accesses bank_candidates bank) ≡ false
+  pub kind_is : commands.kind ≡ row_kind (row_of_bank bank_candidates bank)
+
+-- these banks and those that are left
+abbrev pub with_left : (ℕ → Bool) → (ℕ → Bool) → ℕ → Bool
+with_left asked left = λ bank. asked bank || left bank
+
+-- none of these banks is left
+abbrev pub AreNotLeft : (ℕ → Bool) → (ℕ → Bool) → Type 0
+AreNotLeft asked left = (bank : ℕ) → asked bank ≡ true → left bank ≡ false
 
 -- An offer is what the first ready request, from now on, needs. That request waits.
 pub record IsReadyAt (s : Config) (history : List IssuedCommand) (queue : QueueView) (now : ℕ) (o : Offer) : Type 0 where

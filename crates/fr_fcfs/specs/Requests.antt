@@ -1,21 +1,29 @@
 -- What a request needs, and which requests may be served next.
 --     IsInBanks ranks r      a request asks for a bank that exists
+--     AreInBanks ranks log      each request of a log does
+--     IsOfBank bank_candidates r      a request asks for a bank that has candidates
+--     OfSameBanks bank_candidates banks      candidates and banks are of the same ranks
 --     KnowsRows bank_candidates history      candidates that know which rows are open
+--     StandForLog bank_candidates banks s history log      they stand for a log after a list of commands
 --     IsLegalFrom s history command cycle      from which cycle on a command may be issued
 --     is_hit history r      the request waits for its data alone
 --     candidates_of s queue      the requests that may be served next
-use Rattle.std.specs.Prelude.{ℕ, ◌<◌, ◌≤◌, ◌↔◌, Bool, IsTrue, List}
+--     first_ready_in s history queue cycle      the command that the first ready one of these needs
+use Rattle.std.specs.Prelude.{◌≡◌, ℕ, ◌*◌, ◌<◌, ◌≤◌, ◌↔◌, Bool, IsTrue, List, Option, All}
 use Rattle.sim_base.specs.declared.config.Config.{Config}
 use Rattle.sim_base.specs.declared.command.Command.{Command}
 use Rattle.sim_base.specs.declared.command.IssuedCommand.{IssuedCommand}
 use Rattle.sim_base.specs.declared.message.Request.{Request}
-use Rattle.sim_base.specs.Rules.{is_legal, open_row}
-use Rattle.sim_base.specs.Scheduling.{needed, is_column_command, candidates}
+use Rattle.sim_base.specs.Places.{bank_in}
+use Rattle.sim_base.specs.Rules.{is_legal}
+use Rattle.sim_base.specs.Scheduling.{needed, is_column_command, candidates, first_ready}
 use Rattle.request_log.specs.declared.Arrived.{Arrived}
-use Rattle.request_log.specs.Log.{waiting_requests}
+use Rattle.request_log.specs.Log.{waiting_requests, all_requests}
+use Rattle.bank_ready.specs.declared.banks.Banks.{Banks}
+use Rattle.bank_ready.specs.Stands.{rank_count, StandsFor as BanksStandFor}
 use Rattle.bank_candidates.specs.declared.all_banks.BankCandidates.{BankCandidates}
-use Rattle.bank_candidates.specs.Candidates.{bank_at}
-use Rattle.bank_candidates.specs.Stands.{StandsFor as CandidatesStandFor}
+use Rattle.bank_candidates.specs.Candidates.{rows_after}
+use Rattle.bank_candidates.specs.Stands.{bank_count, IsAmong, StandsFor as CandidatesStandFor}
 use Rattle.queue.specs.View.{QueueView, is_draining}
 
 -- a request asks for a bank of this many ranks, each with at most four groups of four banks
@@ -24,10 +32,29 @@ pub record IsInBanks (ranks : ℕ) (r : Request) : Type 0 where
   pub group : r.place.group < 4
   pub bank : r.place.bank < 4
 
+-- each request of a log asks for a bank of this many ranks
+abbrev pub AreInBanks : ℕ → List Arrived → Type 0
+AreInBanks ranks log = All (IsInBanks ranks) (all_requests log)
+
+-- a request asks for a bank that has candidates
+abbrev pub IsOfBank : BankCandidates → Request → Type 0
+IsOfBank bank_candidates r = IsAmong bank_candidates (bank_in r.place)
+
+-- candidates and banks are of the same ranks, of 16 banks each
+abbrev pub OfSameBanks : BankCandidates → Banks → Type 0
+OfSameBanks bank_candidates banks = bank_count bank_candidates ≡ 16 * rank_count banks
+
 -- candidates that stand for some log, and for the rows that are open after a history
 pub record KnowsRows (bank_candidates : BankCandidates) (history : List IssuedCommand) : Type 0 where
   pub log : List Arrived
-  pub stands : CandidatesStandFor bank_candidates log (λ bank. open_row (bank_at bank) history)
+  pub stands : CandidatesStandFor bank_candidates log (rows_after history)
+
+-- After a list of commands banks and candidates are as these commands and a log make them, and each request of the
+-- log asks for one of the banks.
+pub record StandForLog (bank_candidates : BankCandidates) (banks : Banks) (s : Config) (history : List IssuedCommand) (log : List Arrived) : Type 0 where
+  pub banks_stand : BanksStandFor banks s history
+  pub candidates_stand : CandidatesStandFor bank_candidates log (rows_after history)
+  pub in_banks : AreInBanks (rank_count banks) log
 
 -- from this cycle on, and not before, a command may be issued after a history
 abbrev pub IsLegalFrom : Config → List IssuedCommand → Command → ℕ → Type 0
@@ -40,3 +67,7 @@ is_hit history r = is_column_command (needed history r)
 -- the requests that may be served next
 abbrev pub candidates_of : Config → QueueView → List Request
 candidates_of s queue = candidates s (is_draining queue) (waiting_requests queue.log)
+
+-- the command that the first ready request of a queue needs in a cycle, if one is ready then
+abbrev pub first_ready_in : Config → List IssuedCommand → QueueView → ℕ → Option Command
+first_ready_in s history queue = λ cycle. first_ready s history cycle (candidates_of s queue)

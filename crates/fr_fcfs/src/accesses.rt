@@ -36,7 +36,9 @@ pub(crate) const WRITES: Accesses = Accesses {
 /// one, where there is a request of it.
 pub(crate) fn access_that_goes(queue: &Queue, bank_candidates: &BankCandidates) -> bool
     requires { 0 < queue.now.high }
-    ensures { (s : Config) (open_rows : ℕ → Option ℕ) → s.write_high ≡ queue.now.high → CandidatesStandFor bank_candidates.now queue.now.log open_rows
+    ensures { (s : Config) (open_rows : ℕ → Option ℕ)
+        → s.write_high ≡ queue.now.high
+        → CandidatesStandFor bank_candidates.now queue.now.log open_rows
         → candidates_of s queue.now ≡ going (only result) queue.now.log }
 {
     let writes = queue.draining();

@@ -1,8 +1,7 @@
 //! Whether the next command stays the same when requests arrive.
 
-ghost use Rattle.std.specs.Prelude.{◌≡◌, ◌*◌, ◌<◌, ℕ, true, List, length, Some, All, IsTrue, take};
-ghost use Rattle.sim_base.specs.Places.{bank_in};
-ghost use Rattle.sim_base.specs.Rules.{kind_of, open_row};
+ghost use Rattle.std.specs.Prelude.{◌≡◌, ◌<◌, ℕ, true, List, length, Some, All, IsTrue, take};
+ghost use Rattle.sim_base.specs.Rules.{kind_of};
 ghost use Rattle.sim_base.specs.Scheduling.{needed_at, is_column_command};
 ghost use Rattle.sim_base.specs.declared.config.Config.{Config};
 ghost use Rattle.sim_base.specs.declared.command.Command.{Command};
@@ -12,12 +11,12 @@ ghost use Rattle.bank_ready.specs.Words.{names_bank};
 ghost use Rattle.bank_ready.specs.Stands.{rank_count, StandsFor as BanksStandFor};
 ghost use Rattle.queue.specs.View.{QueueView};
 ghost use Rattle.request_log.specs.Log.{all_requests};
-ghost use Rattle.bank_candidates.specs.Candidates.{bank_at};
-ghost use Rattle.bank_candidates.specs.Stands.{bank_count, IsAmong, StandsFor as CandidatesStandFor};
+ghost use Rattle.bank_candidates.specs.Candidates.{rows_after};
+ghost use Rattle.bank_candidates.specs.Stands.{StandsFor as CandidatesStandFor};
 ghost use Rattle.fr_fcfs.specs.declared.choice.Choice.TheVariants as chosen;
 ghost use Rattle.fr_fcfs.specs.Arrivals.{ComesAfter, KeepsNext};
 ghost use Rattle.fr_fcfs.specs.Choices.{choice_in, command_of, IsFor};
-ghost use Rattle.fr_fcfs.specs.Requests.{IsInBanks, KnowsRows, is_hit};
+ghost use Rattle.fr_fcfs.specs.Requests.{IsInBanks, IsOfBank, AreInBanks, OfSameBanks, KnowsRows, is_hit};
 
 use crate::choice::Choice;
 use crate::offers::ready;
@@ -32,7 +31,8 @@ use sim_base::message::{Cycle, Request};
 /// The kind of command that a request for a row needs, given the open row of its bank.
 #[inline(always)]
 fn kind_needed(open_row: Option<u32>, row: u32, write: bool) -> Kind
-    ensures kind { (r : Request) → r.place.row ≡ row → r.write ≡ write → result ≡ kind_of (needed_at open_row r) }
+    ensures kind { (r : Request)
+        → r.place.row ≡ row → r.write ≡ write → result ≡ kind_of (needed_at open_row r) }
     ensures bank { IsTrue (names_bank result) }
 {
     match open_row {
@@ -61,8 +61,9 @@ fn comes_after(
     hit: bool,
 ) -> bool
     requires place { IsInBanks (rank_count banks.now) request.now }
-    requires banks { bank_count bank_candidates.now ≡ 16 * rank_count banks.now }
-    ensures { (s : Config) (history : List IssuedCommand) → result ≡ true → BanksStandFor banks.now s history → KnowsRows bank_candidates.now history
+    requires banks { OfSameBanks bank_candidates.now banks.now }
+    ensures { (s : Config) (history : List IssuedCommand)
+        → result ≡ true → BanksStandFor banks.now s history → KnowsRows bank_candidates.now history
         → ComesAfter s history cycle hit request.now }
 {
     let open_row = bank_candidates.open_row(request.place.bank_id());
@@ -74,8 +75,9 @@ fn comes_after(
 /// Whether a request asks for the row that is open in its bank.
 #[inline(always)]
 fn is_hit(bank_candidates: &BankCandidates, request: &Request) -> bool
-    requires { IsAmong bank_candidates.now (bank_in request.now.place) }
-    ensures { (history : List IssuedCommand) → KnowsRows bank_candidates.now history → result ≡ is_hit history request.now }
+    requires { IsOfBank bank_candidates.now request.now }
+    ensures { (history : List IssuedCommand)
+        → KnowsRows bank_candidates.now history → result ≡ is_hit history request.now }
 {
     match bank_candidates.open_row(request.place.bank_id()) {
         Some(row) => row == request.place.row,
@@ -86,9 +88,10 @@ fn is_hit(bank_candidates: &BankCandidates, request: &Request) -> bool
 /// Whether what was chosen moves data.
 #[inline(always)]
 fn chosen_moves_data(bank_candidates: &BankCandidates, log: &[Arrived], choice: Choice) -> bool
-    requires places { All (λ r. IsAmong bank_candidates.now (bank_in r.place)) (all_requests log.now) }
+    requires places { All (IsOfBank bank_candidates.now) (all_requests log.now) }
     requires within { (slot : ℕ) → choice ≡ chosen.Request slot → slot < length log.now }
-    ensures { (s : Config) (history : List IssuedCommand) (command : Command) → KnowsRows bank_candidates.now history
+    ensures { (s : Config) (history : List IssuedCommand) (command : Command)
+        → KnowsRows bank_candidates.now history
         → command_of s history log.now choice ≡ Some command → result ≡ is_column_command command }
 {
     match choice {
@@ -108,12 +111,14 @@ pub fn stays(
     cycle: Cycle,
     choice: Choice,
 ) -> bool
-    requires places { All (IsInBanks (rank_count banks.now)) (all_requests queue.now.log) }
-    requires banks { bank_count bank_candidates.now ≡ 16 * rank_count banks.now }
+    requires places { AreInBanks (rank_count banks.now) queue.now.log }
+    requires banks { OfSameBanks bank_candidates.now banks.now }
     requires choice { IsFor (rank_count banks.now) queue.now.log choice }
-    ensures { (s : Config) (history : List IssuedCommand) (earlier : QueueView) (command : Command) → result ≡ true → BanksStandFor banks.now s history
-        → CandidatesStandFor bank_candidates.now queue.now.log (λ bank. open_row (bank_at bank) history) → s.write_high ≡ queue.now.high
-        → earlier.log ≡ take from queue.now.log → command_of s history queue.now.log choice ≡ Some command
+    ensures { (s : Config) (history : List IssuedCommand) (earlier : QueueView) (command : Command)
+        → result ≡ true → BanksStandFor banks.now s history
+        → CandidatesStandFor bank_candidates.now queue.now.log (rows_after history)
+        → s.write_high ≡ queue.now.high → earlier.log ≡ take from queue.now.log
+        → command_of s history queue.now.log choice ≡ Some command
         → KeepsNext (choice_in s history earlier) (choice_in s history queue.now) cycle command }
 {
     if queue.high() != 0 {

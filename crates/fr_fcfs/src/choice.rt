@@ -1,20 +1,16 @@
 //! What needs the command of the next cycle, and the first cycle with one.
 
-ghost use Rattle.std.specs.Prelude.{◌≡◌, ◌<◌, ◌≤◌, ◌*◌, ℕ, List, Option, All, if◌then◌else◌, IfSome};
-ghost use Rattle.sim_base.specs.Rules.{open_row};
-ghost use Rattle.sim_base.specs.Scheduling.{first_ready, if_legal, refresh_command};
+ghost use Rattle.std.specs.Prelude.{◌≡◌, ◌<◌, ◌≤◌, ℕ, List, Option, IfSome};
 ghost use Rattle.sim_base.specs.declared.config.Config.{Config};
 ghost use Rattle.sim_base.specs.declared.command.Command.{Command};
 ghost use Rattle.sim_base.specs.declared.command.IssuedCommand.{IssuedCommand};
 ghost use Rattle.bank_ready.specs.Stands.{rank_count, StandsFor as BanksStandFor};
-ghost use Rattle.refresh.specs.Refreshes.{is_due_at};
 ghost use Rattle.request_log.specs.declared.Arrived.{Arrived};
-ghost use Rattle.request_log.specs.Log.{all_requests};
-ghost use Rattle.bank_candidates.specs.Candidates.{bank_at};
-ghost use Rattle.bank_candidates.specs.Stands.{bank_count, StandsFor as CandidatesStandFor};
-ghost use Rattle.fr_fcfs.specs.Requests.{IsInBanks, KnowsRows, candidates_of};
+ghost use Rattle.bank_candidates.specs.Candidates.{rows_after};
+ghost use Rattle.bank_candidates.specs.Stands.{StandsFor as CandidatesStandFor};
+ghost use Rattle.fr_fcfs.specs.Requests.{AreInBanks, OfSameBanks, KnowsRows, first_ready_in};
 ghost use Rattle.fr_fcfs.specs.Cycles.{IsNext};
-ghost use Rattle.fr_fcfs.specs.Choices.{StandFor, choice_in, command_of, IsFor};
+ghost use Rattle.fr_fcfs.specs.Choices.{StandFor, choice_in, command_of, HasPlace, HoldsBack};
 
 use crate::needs::refresh_ready;
 use crate::offers::first_offer;
@@ -41,14 +37,19 @@ fn next_of_requests(
     banks: &Banks,
     now: Cycle,
 ) -> Option<(Cycle, Choice)>
-    requires places { All (IsInBanks (rank_count banks.now)) (all_requests queue.now.log) }
-    requires banks { bank_count bank_candidates.now ≡ 16 * rank_count banks.now }
-    ensures next { (s : Config) (history : List IssuedCommand) → BanksStandFor banks.now s history
-        → CandidatesStandFor bank_candidates.now queue.now.log (λ bank. open_row (bank_at bank) history) → s.write_high ≡ queue.now.high
-        → IsNext (λ cycle. first_ready s history cycle (candidates_of s queue.now)) (command_of s history queue.now.log) now result }
-    ensures place { (s : Config) (history : List IssuedCommand) → BanksStandFor banks.now s history
-        → CandidatesStandFor bank_candidates.now queue.now.log (λ bank. open_row (bank_at bank) history) → s.write_high ≡ queue.now.high
-        → IfSome result (λ next. IsFor (rank_count banks.now) queue.now.log next.1) }
+    requires places { AreInBanks (rank_count banks.now) queue.now.log }
+    requires banks { OfSameBanks bank_candidates.now banks.now }
+    ensures next { (s : Config) (history : List IssuedCommand)
+        → BanksStandFor banks.now s history
+        → CandidatesStandFor bank_candidates.now queue.now.log (rows_after history)
+        → s.write_high ≡ queue.now.high
+        → IsNext (first_ready_in s history queue.now)
+        (command_of s history queue.now.log) now result }
+    ensures place { (s : Config) (history : List IssuedCommand)
+        → BanksStandFor banks.now s history
+        → CandidatesStandFor bank_candidates.now queue.now.log (rows_after history)
+        → s.write_high ≡ queue.now.high
+        → HasPlace (rank_count banks.now) queue.now.log result }
 {
     match first_offer(queue, bank_candidates, banks, now) {
         Some(offer) => Some((offer.cycle, Choice::Request(offer.slot as u32))),
@@ -68,15 +69,19 @@ fn with_refresh(
     groups: u32,
 )
     requires rank { rank < rank_count banks.now }
-    requires banks { bank_count bank_candidates.now ≡ 16 * rank_count banks.now }
+    requires banks { OfSameBanks bank_candidates.now banks.now }
     requires groups { groups ≤ 4 }
-    ensures next { (s : Config) (history : List IssuedCommand) (log : List Arrived) (commands rest : ℕ → Option Command) (now : ℕ)
-        → BanksStandFor banks.now s history → KnowsRows bank_candidates.now history → s.groups ≡ groups
+    ensures next { (s : Config) (history : List IssuedCommand) (log : List Arrived)
+        (commands rest : ℕ → Option Command) (now : ℕ)
+        → BanksStandFor banks.now s history → KnowsRows bank_candidates.now history
+        → s.groups ≡ groups
         → IfSome due (λ cycle. now ≤ cycle)
-        → ((c : ℕ) → now ≤ c → commands c ≡ (if is_due_at due c then if_legal s history c (refresh_command s history rank) else rest c))
-        → IsNext rest (command_of s history log) now next.old → IsNext commands (command_of s history log) now next.new }
-    ensures place { (log : List Arrived) → IfSome next.old (λ n. IsFor (rank_count banks.now) log n.1)
-        → IfSome next.new (λ n. IsFor (rank_count banks.now) log n.1) }
+        → HoldsBack s history rank due now rest commands
+        → IsNext rest (command_of s history log) now next.old
+        → IsNext commands (command_of s history log) now next.new }
+    ensures place { (log : List Arrived)
+        → HasPlace (rank_count banks.now) log next.old
+        → HasPlace (rank_count banks.now) log next.new }
 {
     let Some(due) = due else {
         return;
@@ -102,14 +107,16 @@ pub fn next(
     groups: u32,
     now: Cycle,
 ) -> Option<(Cycle, Choice)>
-    requires places { All (IsInBanks (rank_count banks.now)) (all_requests queue.now.log) }
-    requires banks { bank_count bank_candidates.now ≡ 16 * rank_count banks.now }
+    requires places { AreInBanks (rank_count banks.now) queue.now.log }
+    requires banks { OfSameBanks bank_candidates.now banks.now }
     requires ranks { refresh.now.ranks ≤ rank_count banks.now }
     requires groups { groups ≤ 4 }
-    ensures next { (s : Config) (history : List IssuedCommand) → StandFor bank_candidates.now banks.now refresh.now queue.now groups s history
+    ensures next { (s : Config) (history : List IssuedCommand)
+        → StandFor bank_candidates.now banks.now refresh.now queue.now groups s history
         → IsNext (choice_in s history queue.now) (command_of s history queue.now.log) now result }
-    ensures place { (s : Config) (history : List IssuedCommand) → StandFor bank_candidates.now banks.now refresh.now queue.now groups s history
-        → IfSome result (λ next. IsFor (rank_count banks.now) queue.now.log next.1) }
+    ensures place { (s : Config) (history : List IssuedCommand)
+        → StandFor bank_candidates.now banks.now refresh.now queue.now groups s history
+        → HasPlace (rank_count banks.now) queue.now.log result }
 {
     let mut next = next_of_requests(queue, bank_candidates, banks, now);
     if let Some((cycle, _)) = next {

@@ -1,20 +1,19 @@
 //! The offer that goes first of all banks.
 
-ghost use Rattle.std.specs.Prelude.{◌≡◌, ◌<◌, ◌*◌, ◌-◌, ◌^◌, ℕ, Bool, true, false, ◌&&◌, ◌||◌, List, Option, Some, None, All, IsTrue, length, is_some, IfSome};
-ghost use Rattle.sim_base.specs.Rules.{open_row};
+ghost use Rattle.std.specs.Prelude.{◌≡◌, ◌<◌, ◌*◌, ◌-◌, ◌^◌, ℕ, Bool, true, ◌&&◌, List, Option, Some, IsTrue, length, is_some, IfSome};
 ghost use Rattle.sim_base.specs.declared.config.Config.{Config};
 ghost use Rattle.sim_base.specs.declared.command.IssuedCommand.{IssuedCommand};
 ghost use Rattle.bank_ready.specs.Words.{names_bank, moves_data};
 ghost use Rattle.bank_ready.specs.Stands.{rank_count, StandsFor as BanksStandFor};
 ghost use Rattle.request_log.specs.declared.Arrived.{Arrived};
-ghost use Rattle.request_log.specs.Log.{all_requests};
-ghost use Rattle.bank_candidates.specs.declared.entry.CandidatesOfBank.{CandidatesOfBank};
-ghost use Rattle.bank_candidates.specs.Candidates.{bank_at, first_place};
+ghost use Rattle.bank_candidates.specs.Candidates.{rows_after};
 ghost use Rattle.bank_candidates.specs.Moves.{earlier};
 ghost use Rattle.bank_candidates.specs.Sets.{is_in};
-ghost use Rattle.bank_candidates.specs.Stands.{bank_count, candidates_of_bank, StandsFor as CandidatesStandFor};
-ghost use Rattle.fr_fcfs.specs.Requests.{IsInBanks, candidates_of};
-ghost use Rattle.fr_fcfs.specs.Offers.{only, going, column_kind, if_allowed, hit_candidate, oldest_candidate, hits_now, rows_now, hits_in, rows_in, rows_beside, row_kind, IsBestSoFar, IsFirstReady};
+ghost use Rattle.bank_candidates.specs.Stands.{bank_count, StandsFor as CandidatesStandFor};
+ghost use Rattle.fr_fcfs.specs.Requests.{AreInBanks, OfSameBanks, StandForLog, candidates_of};
+ghost use Rattle.fr_fcfs.specs.Offers.{only, going, column_kind, if_allowed, oldest_of, hit_of, NeedsRow};
+ghost use Rattle.fr_fcfs.specs.Offers.{hits_in, all_hits, hits_if, rows_in, all_rows, rows_beside, no_place};
+ghost use Rattle.fr_fcfs.specs.Offers.{with_left, AreNotLeft, IsBestSoFar, TakesHits, TakesRows, IsFirstReady};
 
 use crate::accesses::Accesses;
 use crate::offers::{Offer, improve, ready};
@@ -66,8 +65,8 @@ fn banks_if(banks: BankSet, allowed: bool) -> BankSet
 #[inline(always)]
 fn oldest(bank_candidates: &BankCandidates, bank: usize, accesses: Accesses) -> usize
     requires bank { bank < bank_count bank_candidates.now }
-    requires some { (d : CandidatesOfBank) → is_some (oldest_candidate accesses (candidates_of_bank bank_candidates.now bank d)) ≡ true }
-    ensures { (d : CandidatesOfBank) → Some result ≡ oldest_candidate accesses (candidates_of_bank bank_candidates.now bank d) }
+    requires some { is_some (oldest_of accesses bank_candidates.now bank) ≡ true }
+    ensures { Some result ≡ oldest_of accesses bank_candidates.now bank }
 {
     if accesses.reads && accesses.writes {
         return bank_candidates.first(bank);
@@ -89,8 +88,9 @@ fn oldest(bank_candidates: &BankCandidates, bank: usize, accesses: Accesses) -> 
 /// The banks for which a request of the accesses that go may be served.
 #[inline(always)]
 fn banks_with_candidate(bank_candidates: &BankCandidates, accesses: Accesses) -> BankSet
-    ensures within { (k : ℕ) → is_in result k ≡ true → k < bank_count bank_candidates.now }
-    ensures each { (k : ℕ) (d : CandidatesOfBank) → k < bank_count bank_candidates.now → is_in result k ≡ is_some (oldest_candidate accesses (candidates_of_bank bank_candidates.now k d)) }
+    ensures within { (bank : ℕ) → is_in result bank ≡ true → bank < bank_count bank_candidates.now }
+    ensures each { (bank : ℕ) → bank < bank_count bank_candidates.now
+        → is_in result bank ≡ is_some (oldest_of accesses bank_candidates.now bank) }
 {
     let reads = banks_if(bank_candidates.banks_with_candidate(false), accesses.reads);
     let writes = banks_if(bank_candidates.banks_with_candidate(true), accesses.writes);
@@ -100,7 +100,8 @@ fn banks_with_candidate(bank_candidates: &BankCandidates, accesses: Accesses) ->
 /// The banks whose open row a request of the accesses that go asks for.
 #[inline(always)]
 fn hit(bank_candidates: &BankCandidates, accesses: Accesses) -> BankSet
-    ensures { (k : ℕ) (d : CandidatesOfBank) → k < bank_count bank_candidates.now → is_in result k ≡ is_some (hit_candidate accesses (candidates_of_bank bank_candidates.now k d)) }
+    ensures { (bank : ℕ) → bank < bank_count bank_candidates.now
+        → is_in result bank ≡ is_some (hit_of accesses bank_candidates.now bank) }
 {
     let reads = banks_if(bank_candidates.hit(false), accesses.reads);
     let writes = banks_if(bank_candidates.hit(true), accesses.writes);
@@ -127,14 +128,11 @@ fn with_row(
 )
     requires bank_candidates { bank < bank_count bank_candidates.now }
     requires banks { bank < 16 * rank_count banks.now }
-    requires some { (d : CandidatesOfBank) → is_some (oldest_candidate commands.accesses (candidates_of_bank bank_candidates.now bank d)) ≡ true }
-    requires no_hit { (d : CandidatesOfBank) → is_some (hit_candidate commands.accesses (candidates_of_bank bank_candidates.now bank d)) ≡ false }
-    requires kind { (d : CandidatesOfBank) → commands.kind ≡ row_kind (candidates_of_bank bank_candidates.now bank d).row }
+    requires needed { NeedsRow commands bank_candidates.now bank }
     requires names_bank { IsTrue (names_bank commands.kind) }
-    ensures { (s : Config) (history : List IssuedCommand) (log : List Arrived) (hits rows : ℕ → Option ℕ) → BanksStandFor banks.now s history
-        → CandidatesStandFor bank_candidates.now log (λ bank. open_row (bank_at bank) history) → All (IsInBanks (rank_count banks.now)) (all_requests log)
-        → IsBestSoFar (length log) now hits rows best.old
-        → IsBestSoFar (length log) now hits (λ cycle. earlier (rows cycle) (rows_in s history log commands.accesses bank cycle)) best.new }
+    ensures { (s : Config) (history : List IssuedCommand) (log : List Arrived)
+        → StandForLog bank_candidates.now banks.now s history log
+        → TakesRows log now best.old best.new (rows_in s history log commands.accesses bank) }
 {
     let ready = ready(banks, bank, commands.kind);
     if best.cycle < ready {
@@ -156,10 +154,9 @@ fn with_hit(
 )
     requires bank_candidates { bank < bank_count bank_candidates.now }
     requires banks { bank < 16 * rank_count banks.now }
-    ensures { (s : Config) (history : List IssuedCommand) (log : List Arrived) (hits rows : ℕ → Option ℕ) → BanksStandFor banks.now s history
-        → CandidatesStandFor bank_candidates.now log (λ bank. open_row (bank_at bank) history) → All (IsInBanks (rank_count banks.now)) (all_requests log)
-        → IsBestSoFar (length log) now hits rows best.old
-        → IsBestSoFar (length log) now (λ cycle. earlier (hits cycle) (hits_in s history log (only write) bank cycle)) rows best.new }
+    ensures { (s : Config) (history : List IssuedCommand) (log : List Arrived)
+        → StandForLog bank_candidates.now banks.now s history log
+        → TakesHits log now best.old best.new (hits_in s history log (only write) bank) }
 {
     let ready = ready(banks, bank, column_kind(write));
     if best.cycle < ready {
@@ -181,17 +178,19 @@ fn with_rows_of(
     banks: &Banks,
     now: Cycle,
 )
-    requires same_banks { bank_count bank_candidates.now ≡ 16 * rank_count banks.now }
-    requires within { (k : ℕ) → is_in asked k ≡ true → k < bank_count bank_candidates.now }
-    requires some { (k : ℕ) (d : CandidatesOfBank) → is_in asked k ≡ true → is_some (oldest_candidate commands.accesses (candidates_of_bank bank_candidates.now k d)) ≡ true }
-    requires no_hit { (k : ℕ) (d : CandidatesOfBank) → is_in asked k ≡ true → is_some (hit_candidate commands.accesses (candidates_of_bank bank_candidates.now k d)) ≡ false }
-    requires kind { (k : ℕ) (d : CandidatesOfBank) → is_in asked k ≡ true → commands.kind ≡ row_kind (candidates_of_bank bank_candidates.now k d).row }
+    requires same_banks { OfSameBanks bank_candidates.now banks.now }
+    requires within { (bank : ℕ) → is_in asked bank ≡ true → bank < bank_count bank_candidates.now }
+    requires needed { (bank : ℕ) → is_in asked bank ≡ true
+        → NeedsRow commands bank_candidates.now bank }
     requires names_bank { IsTrue (names_bank commands.kind) }
-    ensures { (s : Config) (history : List IssuedCommand) (log : List Arrived) (hits : ℕ → Option ℕ) (left : ℕ → Bool) → BanksStandFor banks.now s history
-        → CandidatesStandFor bank_candidates.now log (λ bank. open_row (bank_at bank) history) → All (IsInBanks (rank_count banks.now)) (all_requests log)
-        → ((k : ℕ) → is_in asked k ≡ true → left k ≡ false)
-        → IsBestSoFar (length log) now hits (rows_beside s history log commands.accesses (λ k. is_in asked k || left k)) best.old
-        → IsBestSoFar (length log) now hits (rows_beside s history log commands.accesses left) best.new }
+    ensures { (s : Config) (history : List IssuedCommand) (log : List Arrived)
+        (hits : ℕ → Option ℕ) (left : ℕ → Bool)
+        → StandForLog bank_candidates.now banks.now s history log
+        → AreNotLeft (is_in asked) left
+        → IsBestSoFar (length log) now hits
+        (rows_beside s history log commands.accesses (with_left (is_in asked) left)) best.old
+        → IsBestSoFar (length log) now hits
+        (rows_beside s history log commands.accesses left) best.new }
 {
     let mut rest = asked;
     while let Some(bank) = rest.first() {
@@ -210,11 +209,11 @@ fn with_rows(
     banks: &Banks,
     now: Cycle,
 )
-    requires { bank_count bank_candidates.now ≡ 16 * rank_count banks.now }
-    ensures { (s : Config) (history : List IssuedCommand) (log : List Arrived) (hits : ℕ → Option ℕ) → BanksStandFor banks.now s history
-        → CandidatesStandFor bank_candidates.now log (λ bank. open_row (bank_at bank) history) → All (IsInBanks (rank_count banks.now)) (all_requests log)
-        → IsBestSoFar (length log) now hits (λ cycle. None) best.old
-        → IsBestSoFar (length log) now hits (λ cycle. first_place (rows_now s history log accesses cycle) log) best.new }
+    requires { OfSameBanks bank_candidates.now banks.now }
+    ensures { (s : Config) (history : List IssuedCommand) (log : List Arrived) (hits : ℕ → Option ℕ)
+        → StandForLog bank_candidates.now banks.now s history log
+        → IsBestSoFar (length log) now hits no_place best.old
+        → IsBestSoFar (length log) now hits (all_rows s history log accesses) best.new }
 {
     let asked = banks_with_candidate(bank_candidates, accesses).minus(hit(
         bank_candidates,
@@ -243,11 +242,10 @@ fn with_all_hits(
     banks: &Banks,
     now: Cycle,
 )
-    requires { bank_count bank_candidates.now ≡ 16 * rank_count banks.now }
-    ensures { (s : Config) (history : List IssuedCommand) (log : List Arrived) (hits rows : ℕ → Option ℕ) → BanksStandFor banks.now s history
-        → CandidatesStandFor bank_candidates.now log (λ bank. open_row (bank_at bank) history) → All (IsInBanks (rank_count banks.now)) (all_requests log)
-        → IsBestSoFar (length log) now hits rows best.old
-        → IsBestSoFar (length log) now (λ cycle. earlier (hits cycle) (first_place (hits_now s history (only write) cycle) log)) rows best.new }
+    requires { OfSameBanks bank_candidates.now banks.now }
+    ensures { (s : Config) (history : List IssuedCommand) (log : List Arrived)
+        → StandForLog bank_candidates.now banks.now s history log
+        → TakesHits log now best.old best.new (all_hits s history log (only write)) }
 {
     let mut rest = bank_candidates.hit(write);
     while let Some(bank) = rest.first() {
@@ -267,11 +265,10 @@ fn with_hits(
     banks: &Banks,
     now: Cycle,
 )
-    requires { bank_count bank_candidates.now ≡ 16 * rank_count banks.now }
-    ensures { (s : Config) (history : List IssuedCommand) (log : List Arrived) (hits rows : ℕ → Option ℕ) → BanksStandFor banks.now s history
-        → CandidatesStandFor bank_candidates.now log (λ bank. open_row (bank_at bank) history) → All (IsInBanks (rank_count banks.now)) (all_requests log)
-        → IsBestSoFar (length log) now hits rows best.old
-        → IsBestSoFar (length log) now (λ cycle. earlier (hits cycle) (first_place (λ r. goes && hits_now s history (only write) cycle r) log)) rows best.new }
+    requires { OfSameBanks bank_candidates.now banks.now }
+    ensures { (s : Config) (history : List IssuedCommand) (log : List Arrived)
+        → StandForLog bank_candidates.now banks.now s history log
+        → TakesHits log now best.old best.new (hits_if goes s history log write) }
 {
     if !goes {
         return;
@@ -291,12 +288,12 @@ fn with_banks(
     banks: &Banks,
     now: Cycle,
 )
-    requires { bank_count bank_candidates.now ≡ 16 * rank_count banks.now }
-    ensures { (s : Config) (history : List IssuedCommand) (log : List Arrived) → BanksStandFor banks.now s history
-        → CandidatesStandFor bank_candidates.now log (λ bank. open_row (bank_at bank) history) → All (IsInBanks (rank_count banks.now)) (all_requests log)
-        → IsBestSoFar (length log) now (λ cycle. None) (λ cycle. None) best.old
-        → IsBestSoFar (length log) now (λ cycle. first_place (hits_now s history accesses cycle) log)
-        (λ cycle. first_place (rows_now s history log accesses cycle) log) best.new }
+    requires { OfSameBanks bank_candidates.now banks.now }
+    ensures { (s : Config) (history : List IssuedCommand) (log : List Arrived)
+        → StandForLog bank_candidates.now banks.now s history log
+        → IsBestSoFar (length log) now no_place no_place best.old
+        → IsBestSoFar (length log) now
+        (all_hits s history log accesses) (all_rows s history log accesses) best.new }
 {
     with_rows(best, bank_candidates, accesses, banks, now);
     with_hits(best, bank_candidates, false, accesses.reads, banks, now);
@@ -312,12 +309,14 @@ pub(crate) fn first_of(
     banks: &Banks,
     now: Cycle,
 ) -> Option<Offer>
-    requires places { All (IsInBanks (rank_count banks.now)) (all_requests queue.now.log) }
-    requires banks { bank_count bank_candidates.now ≡ 16 * rank_count banks.now }
+    requires places { AreInBanks (rank_count banks.now) queue.now.log }
+    requires banks { OfSameBanks bank_candidates.now banks.now }
     ensures within { IfSome result (λ o. o.slot < length queue.now.log) }
     ensures short { IfSome result (λ o. o.slot < 2 ^ 16 - 1) }
-    ensures first { (s : Config) (history : List IssuedCommand) → BanksStandFor banks.now s history
-        → CandidatesStandFor bank_candidates.now queue.now.log (λ bank. open_row (bank_at bank) history) → candidates_of s queue.now ≡ going accesses queue.now.log
+    ensures first { (s : Config) (history : List IssuedCommand)
+        → BanksStandFor banks.now s history
+        → CandidatesStandFor bank_candidates.now queue.now.log (rows_after history)
+        → candidates_of s queue.now ≡ going accesses queue.now.log
         → IsFirstReady s history queue.now now result }
 {
     let room = queue.log().len();

@@ -7,7 +7,7 @@ ghost use Rattle.sim_base.specs.declared.config.Config.{Config};
 ghost use Rattle.sim_base.specs.declared.command.IssuedCommand.{IssuedCommand};
 ghost use Rattle.bank_ready.specs.Stands.{rank_count, StandsFor};
 ghost use Rattle.bank_candidates.specs.Stands.{bank_count};
-ghost use Rattle.fr_fcfs.specs.Requests.{KnowsRows, IsLegalFrom};
+ghost use Rattle.fr_fcfs.specs.Requests.{OfSameBanks, KnowsRows, IsLegalFrom};
 
 use bank_candidates::BankCandidates;
 use bank_ready::banks::Banks;
@@ -77,7 +77,7 @@ pub(crate) fn refresh_ready(
     groups: u32,
 ) -> Cycle
     requires rank { rank < rank_count banks.now }
-    requires banks { bank_count bank_candidates.now ≡ 16 * rank_count banks.now }
+    requires banks { OfSameBanks bank_candidates.now banks.now }
     requires groups { groups ≤ 4 }
     ensures { (s : Config) (history : List IssuedCommand) → StandsFor banks.now s history
         → KnowsRows bank_candidates.now history → s.groups ≡ groups

@@ -1,16 +1,14 @@
 //! What requests offer: from which cycle on what they need may be issued.
 
-ghost use Rattle.std.specs.Prelude.{◌≡◌, ◌<◌, ◌*◌, ◌-◌, ◌^◌, List, All, IsTrue, length, IfSome, if◌then◌else◌};
-ghost use Rattle.sim_base.specs.Rules.{open_row};
+ghost use Rattle.std.specs.Prelude.{◌≡◌, ◌<◌, ◌*◌, ◌-◌, ◌^◌, List, IsTrue, length, IfSome};
 ghost use Rattle.sim_base.specs.declared.config.Config.{Config};
 ghost use Rattle.sim_base.specs.declared.command.IssuedCommand.{IssuedCommand};
 ghost use Rattle.bank_ready.specs.Words.{names_bank};
 ghost use Rattle.bank_ready.specs.Stands.{rank_count, StandsFor as BanksStandFor};
-ghost use Rattle.request_log.specs.Log.{all_requests};
-ghost use Rattle.bank_candidates.specs.Candidates.{bank_at};
-ghost use Rattle.bank_candidates.specs.Stands.{bank_count, StandsFor as CandidatesStandFor};
-ghost use Rattle.fr_fcfs.specs.Requests.{IsInBanks};
-ghost use Rattle.fr_fcfs.specs.Offers.{goes_before, offer_from, IsReadyFrom, IsFirstReady};
+ghost use Rattle.bank_candidates.specs.Candidates.{bank_at, rows_after};
+ghost use Rattle.bank_candidates.specs.Stands.{StandsFor as CandidatesStandFor};
+ghost use Rattle.fr_fcfs.specs.Requests.{AreInBanks, OfSameBanks};
+ghost use Rattle.fr_fcfs.specs.Offers.{goes_before, better_of, offer_from, IsReadyFrom, IsFirstReady};
 
 use crate::accesses::{ALL_ACCESSES, READS, WRITES, access_that_goes};
 use crate::first::first_of;
@@ -49,7 +47,7 @@ fn goes_before(a: Offer, b: Offer) -> bool
 /// one by one, and only then, so that nothing is copied for a bank that does not improve it.
 #[inline(always)]
 pub(crate) fn improve(best: &mut Offer, ready: Cycle, hit: bool, slot: usize, now: Cycle)
-    ensures { best.new ≡ (if goes_before (offer_from now ready hit slot) best.old then offer_from now ready hit slot else best.old) }
+    ensures { best.new ≡ better_of (offer_from now ready hit slot) best.old }
 {
     if best.cycle < ready {
         return;
@@ -67,7 +65,8 @@ pub(crate) fn improve(best: &mut Offer, ready: Cycle, hit: bool, slot: usize, no
 pub(crate) fn ready(banks: &Banks, bank: usize, kind: Kind) -> Cycle
     requires kind { IsTrue (names_bank kind) }
     requires bank { bank < 16 * rank_count banks.now }
-    ensures { (s : Config) (history : List IssuedCommand) → BanksStandFor banks.now s history → IsReadyFrom s history (bank_at bank) kind result }
+    ensures { (s : Config) (history : List IssuedCommand)
+        → BanksStandFor banks.now s history → IsReadyFrom s history (bank_at bank) kind result }
 {
     banks.earliest_in(kind, bank)
 }
@@ -81,13 +80,15 @@ fn first_of_one_access(
     banks: &Banks,
     now: Cycle,
 ) -> Option<Offer>
-    requires places { All (IsInBanks (rank_count banks.now)) (all_requests queue.now.log) }
-    requires banks { bank_count bank_candidates.now ≡ 16 * rank_count banks.now }
+    requires places { AreInBanks (rank_count banks.now) queue.now.log }
+    requires banks { OfSameBanks bank_candidates.now banks.now }
     requires drains { 0 < queue.now.high }
     ensures within { IfSome result (λ o. o.slot < length queue.now.log) }
     ensures short { IfSome result (λ o. o.slot < 2 ^ 16 - 1) }
-    ensures first { (s : Config) (history : List IssuedCommand) → BanksStandFor banks.now s history
-        → CandidatesStandFor bank_candidates.now queue.now.log (λ bank. open_row (bank_at bank) history) → s.write_high ≡ queue.now.high
+    ensures first { (s : Config) (history : List IssuedCommand)
+        → BanksStandFor banks.now s history
+        → CandidatesStandFor bank_candidates.now queue.now.log (rows_after history)
+        → s.write_high ≡ queue.now.high
         → IsFirstReady s history queue.now now result }
 {
     if access_that_goes(queue, bank_candidates) {
@@ -106,12 +107,14 @@ pub(crate) fn first_offer(
     banks: &Banks,
     now: Cycle,
 ) -> Option<Offer>
-    requires places { All (IsInBanks (rank_count banks.now)) (all_requests queue.now.log) }
-    requires banks { bank_count bank_candidates.now ≡ 16 * rank_count banks.now }
+    requires places { AreInBanks (rank_count banks.now) queue.now.log }
+    requires banks { OfSameBanks bank_candidates.now banks.now }
     ensures within { IfSome result (λ o. o.slot < length queue.now.log) }
     ensures short { IfSome result (λ o. o.slot < 2 ^ 16 - 1) }
-    ensures first { (s : Config) (history : List IssuedCommand) → BanksStandFor banks.now s history
-        → CandidatesStandFor bank_candidates.now queue.now.log (λ bank. open_row (bank_at bank) history) → s.write_high ≡ queue.now.high
+    ensures first { (s : Config) (history : List IssuedCommand)
+        → BanksStandFor banks.now s history
+        → CandidatesStandFor bank_candidates.now queue.now.log (rows_after history)
+        → s.write_high ≡ queue.now.high
         → IsFirstReady s history queue.now now result }
 {
     if queue.high() == 0 {

@@ -1,4 +1,5 @@
--- A machine whose cores and channels go on in turns, each unit with a wake word: only those that wake before the end of a turn are run.
+-- A machine whose cores and channels go on in turns, each unit with a wake word: only those that wake before the end
+-- of a turn are run.
 --     own_cycle a b unit, other_cycle a b unit      where the units of its kind stand, and those of the other kind
 --     Waits s traces a b unit at wake      a unit stands at a cycle, and may be left alone up to its word
 --     IsInTurns s traces a b at wake flight      the cores stand at cycle a, the channels at cycle b, and this is in flight
@@ -38,16 +39,16 @@ abbrev pub other_cycle : ℕ → ℕ → MachineUnit → ℕ
 other_cycle a b (Core core) = b
 other_cycle a b (Channel channel) = a
 
--- A unit stands at a cycle that is not past its kind's, and may be left alone up to its word: it would send nothing, and of what the other
--- kind has sent so far nothing arrives at it.
+-- A unit stands at a cycle that is not past its kind's, and may be left alone up to its word: it would send nothing,
+-- and of what the other kind has sent so far nothing arrives at it.
 pub record Waits (s : Config) (traces : List (List Entry)) (a b : ℕ) (unit : MachineUnit) (at wake : ℕ) : Type 0 where
   pub behind : at ≤ own_cycle a b unit
   pub ahead : own_cycle a b unit ≤ wake
   pub silent : IsSilent s traces at wake unit
   pub none : mail_in s traces (other_cycle a b unit) unit at wake ≡ []
 
--- The cores stand at cycle a and the channels at cycle b, neither further ahead than what they send takes; each unit waits, and exactly what is
--- in flight is held.
+-- The cores stand at cycle a and the channels at cycle b, neither further ahead than what they send takes; each unit
+-- waits, and exactly what is in flight is held.
 pub record IsInTurns (s : Config) (traces : List (List Entry)) (a b : ℕ) (at wake : MachineUnit → ℕ) (flight : List Message) : Type 0 where
   pub channels_near : RequestsTravelFor s (b - a)
   pub cores_near : AnswersTakeFor s (a - b)
@@ -61,8 +62,8 @@ pub record IsLeft (until at wake at_then wake_then : ℕ) (sent : List Message) 
   pub same_wake : wake_then ≡ wake
   pub sends_none : sent ≡ []
 
--- Another is run from where it stands up to the end of the turn. Its new word is not past what it sends next, if nothing arrives, nor past
--- what is in flight to it.
+-- Another is run from where it stands up to the end of the turn. Its new word is not past what it sends next, if
+-- nothing arrives, nor past what is in flight to it.
 pub record IsRun (s : Config) (traces : List (List Entry)) (unit : MachineUnit) (until at at_then wake_then : ℕ) (flight sent : List Message) : Type 0 where
   pub stands : at_then ≡ until
   pub since : until ≤ wake_then
@@ -70,7 +71,8 @@ pub record IsRun (s : Config) (traces : List (List Entry)) (unit : MachineUnit) 
   pub none_due : filter (is_due s.channels unit until wake_then) flight ≡ []
   pub sends : sent_of s traces until unit ≡ sent_of s traces at unit ++ sent
 
--- In a turn of the other kind a unit stays where it stands, and its word is lowered to the arrivals of what is sent to it, and no further.
+-- In a turn of the other kind a unit stays where it stands, and its word is lowered to the arrivals of what is sent
+-- to it, and no further.
 pub record IsLowered (s : Config) (unit : MachineUnit) (at wake at_then wake_then : ℕ) (sent : List Message) : Type 0 where
   pub stays : at_then ≡ at
   pub less : wake_then ≤ wake
@@ -97,8 +99,8 @@ pub record CoresTake (s : Config) (traces : List (List Entry)) (until : ℕ) (at
       → IsLowered s (Channel channel) (at (Channel channel)) (wake (Channel channel)) (at_then (Channel channel)) (wake_then (Channel channel)) (flat_map sent (below s.cores))
   pub flight_is : flight_then ≡ fold insert_by_age (left_by_cores until flight) (flat_map sent (below s.cores))
 
--- what is due at a channel in a turn, even after other units have taken theirs, is what arrives at it in the run from the cycle where it
--- stands, so that it may be run from there
+-- what is due at a channel in a turn, even after other units have taken theirs, is what arrives at it in the run from
+-- the cycle where it stands, so that it may be run from there
 abbrev pub ChannelsAreReady : Config → List (List Entry) → ℕ → ℕ → ℕ → Type 0
 ChannelsAreReady s traces a b until =
     (at wake : MachineUnit → ℕ) (flight : List Message) (units : List MachineUnit) (channel : ℕ) → b ≤ until → RequestsTravelFor s (until - a) → channel < s.channels
@@ -128,7 +130,8 @@ CoresTurn s traces a b until =
     → IsInTurns s traces a b at wake flight → CoresTake s traces until at wake at_then wake_then flight flight_then
     → IsInTurns s traces until b at_then wake_then flight_then
 
--- where all units stand at one cycle, each ready to wake at once, and what is in flight in the run is held, the machine is in turns
+-- where all units stand at one cycle, each ready to wake at once, and what is in flight in the run is held, the
+-- machine is in turns
 abbrev pub TurnsBegin : Config → List (List Entry) → ℕ → Type 0
 TurnsBegin s traces now = IsInTurns s traces now now (λ unit. now) (λ unit. now) (in_flight s traces (run s traces now))
 
@@ -146,13 +149,15 @@ CoresIdle s traces a b until =
     → ((core : ℕ) → core < s.cores → until ≤ wake (Core core))
     → IsInTurns s traces a b at wake flight → IsInTurns s traces until b at wake flight
 
--- up to a cycle that no word is before, and neither kind is past, all units may be left alone at once, however long that is
+-- up to a cycle that no word is before, and neither kind is past, all units may be left alone at once, however long
+-- that is
 abbrev pub TurnsJump : Config → List (List Entry) → ℕ → ℕ → ℕ → Type 0
 TurnsJump s traces a b until =
     (at wake : MachineUnit → ℕ) (flight : List Message) → a ≤ until → b ≤ until → ((unit : MachineUnit) → Exists s unit → until ≤ wake unit)
     → IsInTurns s traces a b at wake flight → IsInTurns s traces until until at wake flight
 
--- A channel in a turn of its kind waits again, and what it sent has grown by what it sends. What is in flight to it alone has to be held.
+-- A channel in a turn of its kind waits again, and what it sent has grown by what it sends. What is in flight to it
+-- alone has to be held.
 abbrev pub ChannelGoes : Config → List (List Entry) → ℕ → ℕ → ℕ → Type 0
 ChannelGoes s traces a b until =
     (channel at wake at_then wake_then : ℕ) (sent : List Message) → channel < s.channels → b ≤ until → RequestsTravelFor s (b - a) → RequestsTravelFor s (until - a)

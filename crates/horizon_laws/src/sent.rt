@@ -1,14 +1,14 @@
 //! How long what is sent takes at least.
 
-ghost use Rattle.std.specs.Prelude.{ℕ, List};
 ghost use Rattle.sim_base.specs.declared.config.Config.{Config};
-ghost use Rattle.sim_base.specs.declared.trace.Entry.{Entry};
+ghost use Rattle.span_laws.specs.Everywhere.{InEachSpan};
 ghost use Rattle.horizon_laws.specs.Sent.{PhasesAreTurns, RequestsAreLate, AnswersAreLate};
 
-/// What a core sends from a cycle on arrives no sooner than the least latency of a request after it; what a channel sends, no sooner than
-/// the least time that a credit or a reply takes. Neither is less than the shortest latency of all links.
+/// What a core sends from a cycle on arrives no sooner than the least latency of a request after it; what a channel
+/// sends, no sooner than the least time that a credit or a reply takes. Neither is less than the shortest latency of
+/// all links.
 pub fn sent_is_late()
     ensures phases { (s : Config) → PhasesAreTurns s }
-    ensures requests { (s : Config) (traces : List (List Entry)) (from until : ℕ) → RequestsAreLate s traces from until }
-    ensures answers { (s : Config) (traces : List (List Entry)) (from until : ℕ) → AnswersAreLate s traces from until }
+    ensures requests { InEachSpan RequestsAreLate }
+    ensures answers { InEachSpan AnswersAreLate }
 {}

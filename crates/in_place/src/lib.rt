@@ -1,5 +1,5 @@
-//! A machine run in place, by the caller alone. Cores and channels go on in turns, and only units that wake are touched. It does what the one-clock
-//! machine does.
+//! A machine run in place, by the caller alone. Cores and channels go on in turns, and only units that wake are
+//! touched. It does what the one-clock machine does.
 #![tactic(auto)]
 
 pub mod rested;

@@ -15,7 +15,8 @@ use units::sim::Sim;
 use wake_words::slot::Slot;
 use wake_words::waking::{bring_up, slots_of};
 
-/// A simulator whose units stand at cycles of their own, each with its wake word: a phase touches only those that wake in it.
+/// A simulator whose units stand at cycles of their own, each with its wake word: a phase touches only those that
+/// wake in it.
 #[derive(Drop)]
 pub(crate) struct Rested {
     pub(crate) machine: Arc<Machine>,
@@ -40,13 +41,14 @@ impl Model for Rested {
 
     ghost use Rattle.in_place.specs.Rests.{IsRested};
 
-    ghost view = { λ m. record { machine = (arc_value m.machine).config; traces = (arc_value m.machine).traces.items; now = m.now; phase = m.phase } };
+    ghost view = { λ m. record { machine = arc_value m.machine; now = m.now; phase = m.phase } };
 
-    ghost invariant = { λ m. IsRested (arc_value m.machine).config (arc_value m.machine).traces.items m.now m.phase m.slots.items m.words.items m.links };
+    ghost invariant = { λ m. IsRested (arc_value m.machine) m.now m.phase m.slots m.words m.links };
 }
 
 impl Rested {
-    /// The same simulator, whose units may stand at cycles of their own. The only error is out of memory; the simulator is then gone.
+    /// The same simulator, whose units may stand at cycles of their own. The only error is out of memory; the
+    /// simulator is then gone.
     fn of(sim: Sim, alloc: Global) -> Result<Rested, AllocError>
         ensures { IfOk result (λ rested. rested ≡ sim) }
     {
@@ -71,7 +73,8 @@ impl Rested {
         })
     }
 
-    /// The same simulator, with all units where the machine stands. The only error is out of memory; the simulator is then gone.
+    /// The same simulator, with all units where the machine stands. The only error is out of memory; the simulator is
+    /// then gone.
     fn brought_up(self, alloc: Global) -> Result<Sim, AllocError>
         ensures { IfOk result (λ sim. sim ≡ self) }
     {
@@ -125,8 +128,8 @@ impl Rested {
     }
 }
 
-/// The simulator at a limit, at most 10^12 cycles, run by the caller alone. Units stay where they are, and only those that have
-/// something to do in a phase are touched. The only error is out of memory; the simulator is then gone.
+/// The simulator at a limit, at most 10^12 cycles, run by the caller alone. Units stay where they are, and only those
+/// that have something to do in a phase are touched. The only error is out of memory; the simulator is then gone.
 pub fn run_alone(sim: Sim, alloc: Global, limit: Cycle) -> Result<Sim, AllocError>
     requires not_past { sim.now ≤ limit }
     requires early { limit ≤ 10 ^ 12 }

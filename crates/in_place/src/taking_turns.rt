@@ -1,14 +1,13 @@
 //! A machine that is run in place, by the caller alone, its cores and channels in turns.
 
 ghost use Rattle.std.specs.Prelude.{◌≡◌, ◌<◌, ◌≤◌, ◌^◌, ◌-◌, ℕ, List, length, OnOk, All};
-ghost use Rattle.sim_base.specs.declared.config.Config.{Config};
-ghost use Rattle.sim_base.specs.declared.trace.Entry.{Entry};
 ghost use Rattle.links.specs.InFlight.{InFlight};
 ghost use Rattle.horizon_laws.specs.Sent.{RequestsTravelFor, AnswersTakeFor};
 ghost use Rattle.units.specs.Units.{unit_count};
+ghost use Rattle.units.specs.declared.machine.Machine.{Machine};
 ghost use Rattle.wake_words.specs.Wakes.{IsAsleep};
 ghost use Rattle.wake_words.specs.declared.slot.Slot.{Slot};
-ghost use Rattle.in_place.specs.Turns.{AreInTurns};
+ghost use Rattle.in_place.specs.Turns.{InTurnsAt, channels_to, cores_to};
 
 use horizon_laws::latencies::{least_request_latency, least_way_back};
 use lane_scan::least;
@@ -38,11 +37,12 @@ fn channels_turn(
     at: Standing,
     until: Cycle,
 ) -> Result<(), AllocError>
-    requires turns { AreInTurns machine.now.config machine.now.traces.items at.cores_at at.channels_at slots.old words.old links.old }
+    requires turns { InTurnsAt machine.now at slots.old words.old links.old }
     requires order { at.channels_at ≤ until }
     requires early { until ≤ 10 ^ 12 }
     requires travels { RequestsTravelFor machine.now.config (until - at.cores_at) }
-    ensures turns { OnOk result (AreInTurns machine.now.config machine.now.traces.items at.cores_at until slots.new words.new links.new) }
+    ensures turns { OnOk result (
+        InTurnsAt machine.now (channels_to until at) slots.new words.new links.new) }
     ensures count { length slots.new ≡ length slots.old }
 {
     let cores = usize::from(machine.config.cores);
@@ -78,11 +78,12 @@ fn cores_turn(
     at: Standing,
     until: Cycle,
 ) -> Result<(), AllocError>
-    requires turns { AreInTurns machine.now.config machine.now.traces.items at.cores_at at.channels_at slots.old words.old links.old }
+    requires turns { InTurnsAt machine.now at slots.old words.old links.old }
     requires order { at.cores_at ≤ until }
     requires early { until ≤ 10 ^ 12 }
     requires takes { AnswersTakeFor machine.now.config (until - at.channels_at) }
-    ensures turns { OnOk result (AreInTurns machine.now.config machine.now.traces.items until at.channels_at slots.new words.new links.new) }
+    ensures turns { OnOk result (
+        InTurnsAt machine.now (cores_to until at) slots.new words.new links.new) }
     ensures count { length slots.new ≡ length slots.old }
 {
     let cores = usize::from(machine.config.cores);
@@ -104,7 +105,8 @@ fn cores_turn(
 fn next_wake(words: &[Cycle], limit: Cycle) -> Cycle
     ensures within { result ≤ limit }
     ensures sleep { All (λ word. result ≤ word) words.now }
-    ensures since { (cycle : ℕ) → cycle ≤ limit → All (λ word. cycle ≤ word) words.now → cycle ≤ result }
+    ensures since { (cycle : ℕ) → cycle ≤ limit
+        → All (λ word. cycle ≤ word) words.now → cycle ≤ result }
 {
     least(words).min(limit)
 }
@@ -113,8 +115,8 @@ fn next_wake(words: &[Cycle], limit: Cycle) -> Cycle
 fn later(words: &[Cycle], at: Standing, limit: Cycle) -> Standing
     requires order { at.channels_at ≤ at.cores_at }
     requires within { at.cores_at ≤ limit }
-    ensures turns { (s : Config) (traces : List (List Entry)) (slots : List Slot) (links : InFlight) → AreInTurns s traces at.cores_at at.channels_at slots words.now links
-        → AreInTurns s traces result.cores_at result.channels_at slots words.now links }
+    ensures turns { (machine : Machine) (slots : List Slot) (links : InFlight)
+        → InTurnsAt machine at slots words.now links → InTurnsAt machine result slots words.now links }
     ensures order { result.channels_at ≤ result.cores_at }
     ensures within { result.cores_at ≤ limit }
     ensures since { at.channels_at ≤ result.channels_at }
@@ -129,8 +131,8 @@ fn later(words: &[Cycle], at: Standing, limit: Cycle) -> Standing
     }
 }
 
-/// A machine up to a limit, in turns: the channels go on as far as what the cores may still send allows, and then the cores as far as
-/// what the channels may.
+/// A machine up to a limit, in turns: the channels go on as far as what the cores may still send allows, and then the
+/// cores as far as what the channels may.
 pub(crate) fn run_to(
     machine: &Machine,
     links: &mut Links,
@@ -140,11 +142,11 @@ pub(crate) fn run_to(
     from: Cycle,
     limit: Cycle,
 ) -> Result<(), AllocError>
-    requires asleep { IsAsleep machine.now.config machine.now.traces.items 0 from slots.old words.old links.old }
+    requires asleep { IsAsleep machine.now 0 from slots.old words.old links.old }
     requires whole { length slots.old ≡ unit_count machine.now.config }
     requires order { from ≤ limit }
     requires early { limit ≤ 10 ^ 12 }
-    ensures asleep { OnOk result (IsAsleep machine.now.config machine.now.traces.items 0 limit slots.new words.new links.new) }
+    ensures asleep { OnOk result (IsAsleep machine.now 0 limit slots.new words.new links.new) }
     ensures count { length slots.new ≡ length slots.old }
 {
     let request = least_request_latency(&machine.config);

@@ -2,7 +2,7 @@
 use Rattle.std.proofs.Common.{ℕ, suc, zero, ◌+◌, ◌<◌, ◌≤◌, ◌≡◌, Bool, true, false, ◌&&◌, ltb, eqb, cond, get_or, length, take, drop, List, [], ◌∷◌, ◌++◌, append-nil, refl, sym, ap, ap₂, ◌∙◌, subst, inl, inr, ◌⊎◌, arith}
 use Rattle.std.specs.Prelude.{filter, fold, slice_get}
 use Rattle.std.specs.Option.{option_map_or}
-use Rattle.std.specs.List.{take_while, prefix_len, AllByRecursion as Each}
+use Rattle.std.specs.List.{prefix_len, AllByRecursion as Each}
 use Rattle.std.proofs.lemmas.Bool.{lt-ltb, eqb-true}
 use Rattle.std.proofs.lemmas.List.{take-append-le}
 use Rattle.std.proofs.lemmas.List.Folds.{prefix_len-append}
@@ -12,14 +12,10 @@ use Rattle.sim_base.specs.History.{is_before, insert_by_age, by_age}
 use Rattle.sim_base.specs.declared.message.Message.{Message}
 use Rattle.sim_base.proofs.Ordered.{Sorted}
 use Rattle.links.specs.InFlight.{arrives_before}
-use Rattle.links.specs.Rings.{arrives_later}
+use Rattle.links.specs.Rings.{arrives_later, head_of}
 use Rattle.links.proofs.Ages.{in_order-Sorted, by_age-same}
 use Rattle.links.proofs.Merging.{Merges, Merges-second, Merges-first, Merges-end, one_less, append_one, drop_past}
 use Rattle.links.proofs.Steps.{head_true, head_false, head_due}
-
--- what stands before the first message that does not arrive before a cycle
-abbrev pub head_of : ℕ → List Message → List Message
-head_of until ms = take_while (arrives_before until) ms
 
 too_late : (a b : ℕ) → b ≤ a → ltb a b ≡ false
 too_late a b l = grind (arith, nat_tests)

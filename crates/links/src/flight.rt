@@ -1,12 +1,10 @@
 //! The messages in flight.
 
-ghost use Rattle.std.specs.Prelude.{◌≡◌, ℕ, if◌then◌else◌, slice_index_or, ◌+◌, ◌<◌, ◌^◌, ◌≤◌, [], length, filter, fold, List, not, ◌==◌, slice_get, true, false, All, Any, ◌↔◌, IsTrue, IsNone, IfSome, IfOk, OnOk, OnErr, IsOkAnd};
+ghost use Rattle.std.specs.Prelude.{◌≡◌, ◌+◌, ◌<◌, ◌^◌, ◌≤◌, [], ◌∷◌, length, fold, ◌==◌, true, false, ◌↔◌, IsTrue, IsNone, IfSome, IfOk, OnOk, OnErr, IsOkAnd};
 ghost use Rattle.std.specs.List.{list_all};
 ghost use Rattle.std.specs.List.Sorted.{IsPermutation};
-ghost use Rattle.std.specs.Option.{option_map};
-ghost use Rattle.sim_base.specs.History.{is_unit, insert_by_age, by_age};
-ghost use Rattle.links.specs.InFlight.{receiver_of, arrives_before, is_due_before};
-ghost use Rattle.links.specs.Rings.{ring_of, ring_if_any, contents, joined, ring_at, sooner_of, lesser_of, due_of_both, without_due, without_due_of_both, AreRings, HasRoom, HaveRoom, AreNumbers, count_to, CanTakeUp, Grows};
+ghost use Rattle.links.specs.InFlight.{nothing_in_flight, with_sent, due_before, without_due, in_flight_to, first_arrival, NoneBefore, SomeAt};
+ghost use Rattle.links.specs.Rings.{ring_of, ring_if_any, contents, messages_in, messages_at, IsByAge, sooner_of, lesser_of, due_in, due_in_both, left_in, left_both, AreRings, HasRoom, HaveRoomForAll, AreNumbers, AreCounts, IsOneMore, HaveCountedRoom, CanTakeUp, HoldSame, HaveGained, JoinAlike, Grows};
 
 use crate::merge::{copy_heads, messages_of};
 use crate::rings::{Ring, drop_first, first_arrival, make_room, put_by_age, take_before};
@@ -16,7 +14,8 @@ use sim_base::message::{Cycle, LinkId, Message, Unit};
 use std::alloc::{AllocError, Global};
 use std::marker::Model;
 
-/// Up to this many messages are put into their rings one after the other; more are worth a sort, and a count of those that go to each ring.
+/// Up to this many messages are put into their rings one after the other; more are worth a sort, and a count of those
+/// that go to each ring.
 const FEW_MESSAGES: usize = 64;
 
 /// The numbers of the rings are kept for at most this many links.
@@ -32,22 +31,21 @@ pub struct Links {
     channels: u16,
     /// The number of the ring of each of the first links: to look it up takes less time than to compute it.
     numbers: Vec<usize>,
-    /// A ring for each channel and then two for each core, of replies and of credits, as far as messages have been sent to them. A core's
-    /// credits overtake replies in flight; in rings of their own nearly every message joins at the back.
+    /// A ring for each channel and then two for each core, of replies and of credits, as far as messages have been
+    /// sent to them. A core's credits overtake replies in flight; in rings of their own nearly every message joins at
+    /// the back.
     rings: Vec<Ring>,
 }
 
 impl Model for Links {
-    ghost use Rattle.std.specs.Prelude.{◌<◌};
-    ghost use Rattle.sim_base.specs.History.{by_age};
     ghost use Rattle.links.specs.InFlight.{InFlight};
-    ghost use Rattle.links.specs.Rings.{contents, joined, AreRings, AreNumbers};
+    ghost use Rattle.links.specs.Rings.{messages_in, AreInRings};
 
     ghost Value = { InFlight };
 
-    ghost view = { λ l. record { channels = l.channels; messages = by_age (joined (contents l.rings.items)) } };
+    ghost view = { λ l. record { channels = l.channels; messages = messages_in l.rings.items } };
 
-    ghost invariant = { λ l. (0 < l.channels) × AreRings l.channels 0 (contents l.rings.items) × AreNumbers l.channels l.numbers.items };
+    ghost invariant = { λ l. AreInRings l.channels l.numbers.items l.rings.items };
 }
 
 /// The number of the ring of a link's messages.
@@ -166,7 +164,7 @@ fn make_room_at(
 fn is_room_for(rings: &[Ring], numbers: &[usize], channels: u16, messages: &[Message]) -> bool
     requires channels { 0 < channels }
     requires numbers { AreNumbers channels numbers.now }
-    ensures { IsTrue result → HaveRoom channels rings.now (length messages.now) messages.now }
+    ensures { IsTrue result → HaveRoomForAll channels rings.now messages.now }
 {
     for message in messages {
         let number = number_of(numbers, channels, message.link);
@@ -190,7 +188,7 @@ fn make_room_for_all(
     requires channels { 0 < channels }
     requires numbers { AreNumbers channels numbers.now }
     ensures grows { Grows rings.old.items rings.new.items }
-    ensures room { OnOk result (HaveRoom channels rings.new.items (length messages.now) messages.now) }
+    ensures room { OnOk result (HaveRoomForAll channels rings.new.items messages.now) }
 {
     for message in messages {
         let number = number_of(numbers, channels, message.link);
@@ -202,7 +200,7 @@ fn make_room_for_all(
 /// Adds one to the count at a number. Counts that do not exist yet are 0.
 fn count_one(counts: &mut Vec<usize>, number: usize) -> Result<(), AllocError>
     requires { number + 1 < 2 ^ 64 }
-    ensures { OnOk result ((n : ℕ) → slice_index_or counts.new.items n 0 ≡ slice_index_or counts.old.items n 0 + (if number == n then 1 else 0)) }
+    ensures { OnOk result (IsOneMore number counts.old.items counts.new.items) }
 {
     while counts.len() <= number {
         counts.push(0)?;
@@ -220,7 +218,7 @@ fn count_by_ring(
 ) -> Result<Vec<usize>, AllocError>
     requires channels { 0 < channels }
     requires numbers { AreNumbers channels numbers.now }
-    ensures { IfOk result (λ counts. (number : ℕ) → slice_index_or counts.items number 0 ≡ count_to channels number messages.now) }
+    ensures { IfOk result (λ counts. AreCounts channels messages.now counts.items) }
 {
     let mut counts = Vec::new(alloc);
     for message in messages {
@@ -236,7 +234,7 @@ fn make_counted_room(
     counts: &[usize],
 ) -> Result<(), AllocError>
     ensures grows { Grows rings.old.items rings.new.items }
-    ensures room { OnOk result ((number : ℕ) → number < length counts.now → HasRoom rings.new.items number (slice_index_or counts.now number 0)) }
+    ensures room { OnOk result (HaveCountedRoom rings.new.items counts.now) }
 {
     for number in 0..counts.len() {
         make_room_at(alloc, rings, number, counts[number])?;
@@ -244,8 +242,8 @@ fn make_counted_room(
     Ok(())
 }
 
-/// Makes room for messages in the rings that they go to: for a few, each ring gets room for all of them, which is quickly checked; for many,
-/// each gets room for its own.
+/// Makes room for messages in the rings that they go to: for a few, each ring gets room for all of them, which is
+/// quickly checked; for many, each gets room for its own.
 fn make_room_for(
     alloc: Global,
     rings: &mut Vec<Ring>,
@@ -269,8 +267,8 @@ fn make_room_for(
     Ok(())
 }
 
-/// Puts a message into the ring that it goes to, for which room is made. Where memory is refused, the same messages stand in the
-/// rings as before.
+/// Puts a message into the ring that it goes to, for which room is made. Where memory is refused, the same messages
+/// stand in the rings as before.
 fn put_one(
     alloc: Global,
     rings: &mut Vec<Ring>,
@@ -282,8 +280,8 @@ fn put_one(
     requires numbers { AreNumbers channels numbers.now }
     requires rings { AreRings channels 0 (contents rings.old.items) }
     ensures rings { AreRings channels 0 (contents rings.new.items) }
-    ensures ok { OnOk result (by_age (joined (contents rings.new.items)) ≡ insert_by_age (by_age (joined (contents rings.old.items))) message.now) }
-    ensures err { OnErr result (joined (contents rings.new.items) ≡ joined (contents rings.old.items)) }
+    ensures ok { OnOk result (HaveGained rings.old.items rings.new.items (message.now ∷ [])) }
+    ensures err { OnErr result (HoldSame rings.old.items rings.new.items) }
 {
     let number = number_of(numbers, channels, message.link);
     make_room_at(alloc, rings, number, 1)?;
@@ -298,7 +296,7 @@ fn put_all(rings: &mut Vec<Ring>, numbers: &[usize], channels: u16, messages: &[
     requires rings { AreRings channels 0 (contents rings.old.items) }
     requires room { CanTakeUp channels rings.old.items messages.now }
     ensures rings { AreRings channels 0 (contents rings.new.items) }
-    ensures messages { by_age (joined (contents rings.new.items)) ≡ fold insert_by_age (by_age (joined (contents rings.old.items))) messages.now }
+    ensures messages { HaveGained rings.old.items rings.new.items messages.now }
 {
     for message in messages {
         let number = number_of(numbers, channels, message.link);
@@ -306,16 +304,17 @@ fn put_all(rings: &mut Vec<Ring>, numbers: &[usize], channels: u16, messages: &[
     }
 }
 
-/// Puts messages in order of arrival, in which nearly every one joins its ring at the back. Those that arrive together stay in order, so
-/// that all end up in the rings where they would have been.
+/// Puts messages in order of arrival, in which nearly every one joins its ring at the back. Those that arrive
+/// together stay in order, so that all end up in the rings where they would have been.
 fn sort_by_arrival(alloc: Global, messages: &mut [Message]) -> Result<(), AllocError>
     ensures same { IsPermutation messages.old messages.new }
-    ensures puts { (ms : List Message) → fold insert_by_age ms messages.new ≡ fold insert_by_age ms messages.old }
+    ensures puts { JoinAlike messages.old messages.new }
 {
     messages.sort_by_key(alloc, |message| message.arrival)
 }
 
-/// Takes what arrives before a cycle out of a ring, into an empty list. Where memory is refused, the rings stay as they were.
+/// Takes what arrives before a cycle out of a ring, into an empty list. Where memory is refused, the rings stay as
+/// they were.
 #[inline(always)]
 fn take_from(
     rings: &mut Vec<Ring>,
@@ -324,9 +323,9 @@ fn take_from(
     inbox: &mut Vec<Message>,
 ) -> Result<(), AllocError>
     requires empty { inbox.old.items ≡ [] }
-    requires in_order { by_age (ring_at (contents rings.old.items) number) ≡ ring_at (contents rings.old.items) number }
-    ensures taken { OnOk result (inbox.new.items ≡ filter (arrives_before until) (ring_at (contents rings.old.items) number)) }
-    ensures rest { OnOk result (contents rings.new.items ≡ without_due until (contents rings.old.items) number) }
+    requires in_order { IsByAge (messages_at rings.old.items number) }
+    ensures taken { OnOk result (inbox.new.items ≡ due_in until rings.old.items number) }
+    ensures rest { OnOk result (contents rings.new.items ≡ left_in until rings.old.items number) }
     ensures err { OnErr result (contents rings.new.items ≡ contents rings.old.items) }
 {
     if number >= rings.len() {
@@ -336,8 +335,8 @@ fn take_from(
     Ok(())
 }
 
-/// Takes what arrives before a cycle out of two rings that stand one behind the other, into an empty list, by age. Where memory is
-/// refused, the rings stay as they were.
+/// Takes what arrives before a cycle out of two rings that stand one behind the other, into an empty list, by age.
+/// Where memory is refused, the rings stay as they were.
 fn take_heads(
     rings: &mut Vec<Ring>,
     number: usize,
@@ -347,10 +346,10 @@ fn take_heads(
     requires small { number + 1 < 2 ^ 64 }
     requires exist { number + 1 < length rings.old.items }
     requires empty { inbox.old.items ≡ [] }
-    requires first { by_age (ring_at (contents rings.old.items) number) ≡ ring_at (contents rings.old.items) number }
-    requires second { by_age (ring_at (contents rings.old.items) (number + 1)) ≡ ring_at (contents rings.old.items) (number + 1) }
-    ensures taken { OnOk result (inbox.new.items ≡ due_of_both until (contents rings.old.items) number) }
-    ensures rest { OnOk result (contents rings.new.items ≡ without_due_of_both until (contents rings.old.items) number) }
+    requires first { IsByAge (messages_at rings.old.items number) }
+    requires second { IsByAge (messages_at rings.old.items (number + 1)) }
+    ensures taken { OnOk result (inbox.new.items ≡ due_in_both until rings.old.items number) }
+    ensures rest { OnOk result (contents rings.new.items ≡ left_both until rings.old.items number) }
     ensures err { OnErr result (contents rings.new.items ≡ contents rings.old.items) }
 {
     let (first, second) = copy_heads(&rings[number], &rings[number + 1], until, inbox)?;
@@ -359,8 +358,8 @@ fn take_heads(
     Ok(())
 }
 
-/// Takes what arrives before a cycle out of a ring and the one behind it, where they exist, into an empty list, by age. Where memory is
-/// refused, the rings stay as they were.
+/// Takes what arrives before a cycle out of a ring and the one behind it, where they exist, into an empty list, by
+/// age. Where memory is refused, the rings stay as they were.
 fn take_from_both(
     rings: &mut Vec<Ring>,
     number: usize,
@@ -369,10 +368,10 @@ fn take_from_both(
 ) -> Result<(), AllocError>
     requires small { number + 1 < 2 ^ 64 }
     requires empty { inbox.old.items ≡ [] }
-    requires first { by_age (ring_at (contents rings.old.items) number) ≡ ring_at (contents rings.old.items) number }
-    requires second { by_age (ring_at (contents rings.old.items) (number + 1)) ≡ ring_at (contents rings.old.items) (number + 1) }
-    ensures taken { OnOk result (inbox.new.items ≡ due_of_both until (contents rings.old.items) number) }
-    ensures rest { OnOk result (contents rings.new.items ≡ without_due_of_both until (contents rings.old.items) number) }
+    requires first { IsByAge (messages_at rings.old.items number) }
+    requires second { IsByAge (messages_at rings.old.items (number + 1)) }
+    ensures taken { OnOk result (inbox.new.items ≡ due_in_both until rings.old.items number) }
+    ensures rest { OnOk result (contents rings.new.items ≡ left_both until rings.old.items number) }
     ensures err { OnErr result (contents rings.new.items ≡ contents rings.old.items) }
 {
     if number + 1 >= rings.len() {
@@ -383,7 +382,7 @@ fn take_from_both(
 
 /// When the first message in a ring arrives; none, where there is no such ring.
 fn first_arrival_in(rings: &[Ring], number: usize) -> Option<Cycle>
-    ensures { result ≡ option_map (λ m. m.arrival) (slice_get (ring_at (contents rings.now) number) 0) }
+    ensures { result ≡ first_arrival (messages_at rings.now number) }
 {
     first_arrival(rings.get(number)?)
 }
@@ -426,7 +425,7 @@ impl Links {
     #[tactic(auto, unfolding(sim_base::specs::History::by_age))]
     /// No messages in flight, on the links of this configuration.
     pub fn start(alloc: Global, config: &Config) -> Result<Links, AllocError>
-        ensures { IsOkAnd result (λ links. links ≡ record { channels = config.now.channels; messages = [] }) }
+        ensures { IsOkAnd result (λ links. links ≡ nothing_in_flight config.now) }
     {
         let links = u64::from(config.cores).saturating_mul(3 * u64::from(config.channels));
         let numbers = numbers_of(alloc, config.channels, links.min(MOST_NUMBERS));
@@ -441,7 +440,7 @@ impl Links {
     /// Takes messages up; they may change places. Where memory is refused, the links stay as they were.
     pub fn accept(&mut self, messages: &mut [Message]) -> Result<(), AllocError>
         ensures same { IsPermutation messages.old messages.new }
-        ensures ok { OnOk result (self.new ≡ record self.old { messages = fold insert_by_age self.old.messages messages.old }) }
+        ensures ok { OnOk result (self.new ≡ with_sent self.old messages.old) }
         ensures err { OnErr result (self.new ≡ self.old) }
     {
         if let [message] = messages {
@@ -468,9 +467,9 @@ impl Links {
         Ok(())
     }
 
-    /// Takes out the messages to a unit that arrive before the cycle `until`, by age, into an empty list. Nothing in flight is overdue, so
-    /// for a unit that is taken from `now` to `until` they are those that arrive in this span. The only error is out of memory, and
-    /// the links then stay as they were.
+    /// Takes out the messages to a unit that arrive before the cycle `until`, by age, into an empty list. Nothing in
+    /// flight is overdue, so for a unit that is taken from `now` to `until` they are those that arrive in this span.
+    /// The only error is out of memory, and the links then stay as they were.
     pub fn take_due_into(
         &mut self,
         unit: Unit,
@@ -478,9 +477,9 @@ impl Links {
         inbox: &mut Vec<Message>,
     ) -> Result<(), AllocError>
         requires { inbox.old.items ≡ [] }
-        ensures ok { OnOk result (inbox.new.items ≡ filter (is_due_before self.old.channels unit until) self.old.messages) }
-        ensures by_age { OnOk result (by_age inbox.new.items ≡ inbox.new.items) }
-        ensures rest { OnOk result (self.new ≡ record self.old { messages = filter (λ m. not (is_due_before self.old.channels unit until m)) self.old.messages }) }
+        ensures ok { OnOk result (inbox.new.items ≡ due_before self.old unit until) }
+        ensures by_age { OnOk result (IsByAge inbox.new.items) }
+        ensures rest { OnOk result (self.new ≡ without_due self.old unit until) }
         ensures err { OnErr result (self.new ≡ self.old) }
     {
         let Some(number) = ring_of_unit(self.channels, unit) else {
@@ -514,8 +513,8 @@ impl Links {
 
     /// When the first message in flight to a unit arrives; none, where none is in flight to it.
     pub fn next_arrival_at(&self, unit: Unit) -> Option<Cycle>
-        ensures first { result ≡ option_map (λ m. m.arrival) (slice_get (filter (λ m. is_unit (receiver_of self.now.channels m.link) unit) self.now.messages) 0) }
-        ensures least { IfSome result (λ cycle. All (λ m. cycle ≤ m.arrival) (filter (λ m. is_unit (receiver_of self.now.channels m.link) unit) self.now.messages)) }
+        ensures first { result ≡ first_arrival (in_flight_to self.now unit) }
+        ensures least { IfSome result (λ cycle. NoneBefore cycle (in_flight_to self.now unit)) }
     {
         let Some(number) = ring_of_unit(self.channels, unit) else {
             return None;
@@ -530,8 +529,8 @@ impl Links {
     /// The least arrival of a message in flight; none, where none is in flight.
     pub fn next_arrival(&self) -> Option<Cycle>
         ensures none { IsNone result ↔ (self.now.messages ≡ []) }
-        ensures least { IfSome result (λ cycle. All (λ m. cycle ≤ m.arrival) self.now.messages) }
-        ensures attained { IfSome result (λ cycle. Any (λ m. m.arrival ≡ cycle) self.now.messages) }
+        ensures least { IfSome result (λ cycle. NoneBefore cycle self.now.messages) }
+        ensures attained { IfSome result (λ cycle. SomeAt cycle self.now.messages) }
     {
         soonest(&self.rings)
     }

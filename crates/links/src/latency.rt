@@ -1,9 +1,8 @@
 //! How soon a message can arrive.
 
-ghost use Rattle.std.specs.Prelude.{◌≡◌, ℕ, ◌*◌, ◌<◌, ◌≤◌};
-ghost use Rattle.sim_base.specs.Config.{latency};
+ghost use Rattle.std.specs.Prelude.{◌≡◌, ◌≤◌};
 ghost use Rattle.sim_base.specs.Locality.{TravelsFor};
-ghost use Rattle.links.specs.Latencies.{has_usual, usual_or_longest, least_own};
+ghost use Rattle.links.specs.Latencies.{has_usual, usual_or_longest, least_own, SomeLinkTakes};
 
 use sim_base::config::Config;
 
@@ -48,7 +47,7 @@ fn least_own(config: &Config) -> u32
 /// The least latency over all links, in cycles, those that have one of their own included: from 1 to 1,000,000.
 pub fn shortest(config: &Config) -> u64
     ensures meets { TravelsFor config.now result }
-    ensures attained { (link : ℕ) × (link < 3 * config.now.cores * config.now.channels) × (latency config.now link ≡ result) }
+    ensures attained { SomeLinkTakes config.now result }
     ensures positive { 1 ≤ result }
 {
     let least = least_own(config)

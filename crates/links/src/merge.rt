@@ -1,10 +1,9 @@
 //! Messages of several rings, merged by age.
 
-ghost use Rattle.std.specs.Prelude.{◌≡◌, ◌&&◌, nat_lt, [], length, filter, fold, IfOk, OnOk};
+ghost use Rattle.std.specs.Prelude.{◌≡◌, ◌&&◌, nat_lt, [], length, fold, IfOk, OnOk};
 ghost use Rattle.std.specs.List.{AllByRecursion};
-ghost use Rattle.sim_base.specs.History.{insert_by_age, by_age};
-ghost use Rattle.links.specs.InFlight.{arrives_before};
-ghost use Rattle.links.specs.Rings.{contents, joined};
+ghost use Rattle.sim_base.specs.History.{insert_by_age};
+ghost use Rattle.links.specs.Rings.{contents, messages_in, IsByAge, due_of, merged_due};
 
 use crate::rings::{Ring, append_all, copy_both_before, head_before};
 use sim_base::message::{Cycle, Message};
@@ -17,7 +16,8 @@ fn are_left(first: &[Message], i: usize, second: &[Message], j: usize) -> bool
     i < first.len() && j < second.len()
 }
 
-/// Copies two lists by age into an empty one as one; of two messages of the same age the one of the first list goes first.
+/// Copies two lists by age into an empty one as one; of two messages of the same age the one of the first list goes
+/// first.
 #[inline(always)]
 fn merge_into(
     inbox: &mut Vec<Message>,
@@ -25,7 +25,7 @@ fn merge_into(
     second: &[Message],
 ) -> Result<(), AllocError>
     requires empty { inbox.old.items ≡ [] }
-    requires in_order { by_age second.now ≡ second.now }
+    requires in_order { IsByAge second.now }
     ensures { OnOk result (inbox.new.items ≡ fold insert_by_age first.now second.now) }
 {
     inbox.reserve(first.len() + second.len())?;
@@ -51,7 +51,7 @@ pub fn merged(
     first: &[Message],
     second: &[Message],
 ) -> Result<Vec<Message>, AllocError>
-    requires { by_age second.now ≡ second.now }
+    requires { IsByAge second.now }
     ensures { IfOk result (λ v. v.items ≡ fold insert_by_age first.now second.now) }
 {
     let mut all = Vec::new(alloc);
@@ -59,8 +59,8 @@ pub fn merged(
     Ok(all)
 }
 
-/// Copies what arrives before a cycle out of two rings into an empty list, by age, also where it goes on at the beginning of a ring's
-/// block, and says how many messages they are of each ring.
+/// Copies what arrives before a cycle out of two rings into an empty list, by age, also where it goes on at the
+/// beginning of a ring's block, and says how many messages they are of each ring.
 #[cold]
 #[inline(never)]
 fn copy_wrapped(
@@ -70,18 +70,18 @@ fn copy_wrapped(
     inbox: &mut Vec<Message>,
 ) -> Result<(usize, usize), AllocError>
     requires empty { inbox.old.items ≡ [] }
-    requires first { by_age first.now.items ≡ first.now.items }
-    requires second { by_age second.now.items ≡ second.now.items }
-    ensures first { IfOk result (λ counts. counts.0 ≡ length (filter (arrives_before until) first.now.items)) }
-    ensures second { IfOk result (λ counts. counts.1 ≡ length (filter (arrives_before until) second.now.items)) }
-    ensures copied { OnOk result (inbox.new.items ≡ fold insert_by_age (filter (arrives_before until) first.now.items) (filter (arrives_before until) second.now.items)) }
+    requires first { IsByAge first.now.items }
+    requires second { IsByAge second.now.items }
+    ensures first { IfOk result (λ counts. counts.0 ≡ length (due_of until first.now.items)) }
+    ensures second { IfOk result (λ counts. counts.1 ≡ length (due_of until second.now.items)) }
+    ensures copied { OnOk result (inbox.new.items ≡ merged_due until first.now second.now) }
 {
     inbox.reserve(first.len() + second.len())?;
     Ok(copy_both_before(first, second, until, inbox))
 }
 
-/// Copies what arrives before a cycle out of two rings into an empty list, by age, and says how many messages they are of each ring, all
-/// at its head.
+/// Copies what arrives before a cycle out of two rings into an empty list, by age, and says how many messages they
+/// are of each ring, all at its head.
 pub fn copy_heads(
     first: &Ring,
     second: &Ring,
@@ -89,11 +89,11 @@ pub fn copy_heads(
     inbox: &mut Vec<Message>,
 ) -> Result<(usize, usize), AllocError>
     requires empty { inbox.old.items ≡ [] }
-    requires first { by_age first.now.items ≡ first.now.items }
-    requires second { by_age second.now.items ≡ second.now.items }
-    ensures first { IfOk result (λ counts. counts.0 ≡ length (filter (arrives_before until) first.now.items)) }
-    ensures second { IfOk result (λ counts. counts.1 ≡ length (filter (arrives_before until) second.now.items)) }
-    ensures copied { OnOk result (inbox.new.items ≡ fold insert_by_age (filter (arrives_before until) first.now.items) (filter (arrives_before until) second.now.items)) }
+    requires first { IsByAge first.now.items }
+    requires second { IsByAge second.now.items }
+    ensures first { IfOk result (λ counts. counts.0 ≡ length (due_of until first.now.items)) }
+    ensures second { IfOk result (λ counts. counts.1 ≡ length (due_of until second.now.items)) }
+    ensures copied { OnOk result (inbox.new.items ≡ merged_due until first.now second.now) }
 {
     let Some(a) = head_before(first, until) else {
         return copy_wrapped(first, second, until, inbox);
@@ -107,8 +107,8 @@ pub fn copy_heads(
 
 /// What stands in several rings, by age.
 pub fn messages_of(alloc: Global, rings: &[Ring]) -> Result<Vec<Message>, AllocError>
-    requires { AllByRecursion (λ ms. by_age ms ≡ ms) (contents rings.now) }
-    ensures { IfOk result (λ v. v.items ≡ by_age (joined (contents rings.now))) }
+    requires { AllByRecursion IsByAge (contents rings.now) }
+    ensures { IfOk result (λ v. v.items ≡ messages_in rings.now) }
 {
     match rings {
         [] => Ok(Vec::new(alloc)),

@@ -1,12 +1,11 @@
 //! Rings of messages, each by age.
 
-ghost use Rattle.std.specs.Prelude.{◌≡◌, ◌+◌, ◌<◌, ◌≤◌, [], ◌++◌, length, fold, take_while, drop, filter, slice_get, slice_index_or, slice_set, ◌-◌, ◌^◌, true, false, IfSome, IsNone, OnOk, OnErr, ◌∷◌, vec_len, vec_capacity};
+ghost use Rattle.std.specs.Prelude.{◌≡◌, ◌+◌, ◌<◌, ◌≤◌, [], ◌++◌, length, fold, drop, slice_get, slice_set, ◌-◌, ◌^◌, true, false, IfSome, IsNone, OnOk, OnErr, ◌∷◌, vec_len, vec_capacity};
 ghost use Rattle.std.specs.List.{prefix_len};
-ghost use Rattle.std.specs.Option.{option_map, option_map_or};
-ghost use Rattle.sim_base.specs.History.{is_before, insert_by_age, by_age};
-ghost use Rattle.sim_base.specs.declared.message.Message.{Message};
-ghost use Rattle.links.specs.InFlight.{arrives_before};
-ghost use Rattle.links.specs.Rings.{arrives_later};
+ghost use Rattle.std.specs.Option.{option_map_or};
+ghost use Rattle.sim_base.specs.History.{insert_by_age};
+ghost use Rattle.links.specs.InFlight.{arrives_before, first_arrival};
+ghost use Rattle.links.specs.Rings.{IsByAge, due_of, later_of, head_of, head_from, behind_head, merged_heads, HasSpace, IsYoungerBefore, NoneYoungerBefore, is_younger_last, HasArrived, HasNotArrived};
 
 use circular_buffer::HeapCircularBuffer;
 use sim_base::message::{Cycle, Message};
@@ -45,8 +44,8 @@ fn put_into(ring: &mut Ring, place: usize, message: &Message)
 
 /// The message before a place, where it is younger than this one.
 fn younger_before(ring: &Ring, place: usize, message: &Message) -> Option<Message>
-    ensures some { IfSome result (λ y. (0 < place) × (place ≤ length ring.now.items) × (slice_index_or ring.now.items (place - 1) y ≡ y) × (is_before message.now y ≡ true)) }
-    ensures none { IsNone result → 0 < place → place ≤ length ring.now.items → is_before message.now (slice_index_or ring.now.items (place - 1) message.now) ≡ false }
+    ensures some { IfSome result (IsYoungerBefore ring.now.items place message.now) }
+    ensures none { IsNone result → NoneYoungerBefore ring.now.items place message.now }
 {
     let before = place.checked_sub(1)?;
     let last = ring.get(before)?;
@@ -57,14 +56,14 @@ fn younger_before(ring: &Ring, place: usize, message: &Message) -> Option<Messag
     }
 }
 
-/// Puts a message that goes before the last one into its place by age, which is searched for from the back: each younger one moves
-/// back by one place.
+/// Puts a message that goes before the last one into its place by age, which is searched for from the back: each
+/// younger one moves back by one place.
 #[cold]
 #[inline(never)]
 fn put_among(ring: &mut Ring, message: &Message)
     requires room { length ring.old.items < ring.old.capacity }
-    requires in_order { by_age ring.old.items ≡ ring.old.items }
-    requires younger { option_map_or (is_before message.now) (slice_get ring.old.items (length ring.old.items - 1)) false ≡ true }
+    requires in_order { IsByAge ring.old.items }
+    requires younger { is_younger_last message.now ring.old.items ≡ true }
     ensures items { ring.new.items ≡ insert_by_age ring.old.items message.now }
     ensures capacity { ring.new.capacity ≡ ring.old.capacity }
 {
@@ -83,7 +82,7 @@ fn put_among(ring: &mut Ring, message: &Message)
 
 /// Whether a message goes before the last one of a ring.
 fn is_before_last(ring: &Ring, message: &Message) -> bool
-    ensures { result ≡ option_map_or (is_before message.now) (slice_get ring.now.items (length ring.now.items - 1)) false }
+    ensures { result ≡ is_younger_last message.now ring.now.items }
 {
     ring.nth_back(0).is_some_and(|last| message.is_before(last))
 }
@@ -91,7 +90,7 @@ fn is_before_last(ring: &Ring, message: &Message) -> bool
 /// Puts a message into its place by age, which is the back of the ring unless a younger one stands there.
 pub fn put_by_age(ring: &mut Ring, message: &Message)
     requires room { length ring.old.items < ring.old.capacity }
-    requires in_order { by_age ring.old.items ≡ ring.old.items }
+    requires in_order { IsByAge ring.old.items }
     ensures items { ring.new.items ≡ insert_by_age ring.old.items message.now }
     ensures capacity { ring.new.capacity ≡ ring.old.capacity }
 {
@@ -105,15 +104,15 @@ pub fn put_by_age(ring: &mut Ring, message: &Message)
 
 /// When the first message arrives.
 pub fn first_arrival(ring: &Ring) -> Option<Cycle>
-    ensures { result ≡ option_map (λ m. m.arrival) (slice_get ring.now.items 0) }
+    ensures { result ≡ first_arrival ring.now.items }
 {
     ring.front().map(|message| message.arrival)
 }
 
 /// The message in a place, where it arrives before a cycle.
 fn arrived_at(ring: &Ring, place: usize, until: Cycle) -> Option<&Message>
-    ensures some { IfSome result (λ m. (place < length ring.now.items) × (slice_index_or ring.now.items place m.now ≡ m.now) × (m.now.arrival < until)) }
-    ensures none { IsNone result → (d : Message) → place < length ring.now.items → until ≤ (slice_index_or ring.now.items place d).arrival }
+    ensures some { IfSome result (λ m. HasArrived ring.now.items place until m.now) }
+    ensures none { IsNone result → HasNotArrived ring.now.items place until }
     ensures small { IfSome result (λ _. place + 1 < 2 ^ 64) }
 {
     if place >= ring.len() {
@@ -127,8 +126,8 @@ fn arrived_at(ring: &Ring, place: usize, until: Cycle) -> Option<&Message>
     }
 }
 
-/// Puts a message at the end of a list, which has room for it. With the test, which always passes, the compiler sees that the list need
-/// not grow.
+/// Puts a message at the end of a list, which has room for it. With the test, which always passes, the compiler sees
+/// that the list need not grow.
 fn append(list: &mut Vec<Message>, message: &Message)
     requires { vec_len list.old < vec_capacity list.old }
     ensures items { list.new.items ≡ list.old.items ++ message.now ∷ [] }
@@ -141,13 +140,13 @@ fn append(list: &mut Vec<Message>, message: &Message)
     }
 }
 
-/// Copies the messages of a ring from a place on that arrive before a cycle to the end of a list, which has room for all of them, and
-/// says how many arrive before it in all.
+/// Copies the messages of a ring from a place on that arrive before a cycle to the end of a list, which has room for
+/// all of them, and says how many arrive before it in all.
 fn copy_before(ring: &Ring, start: usize, until: Cycle, inbox: &mut Vec<Message>) -> usize
-    requires within { start ≤ length (take_while (arrives_before until) ring.now.items) }
-    requires room { vec_len inbox.old + (length ring.now.items - start) ≤ vec_capacity inbox.old }
-    ensures count { result ≡ length (take_while (arrives_before until) ring.now.items) }
-    ensures copied { inbox.new.items ≡ inbox.old.items ++ drop start (take_while (arrives_before until) ring.now.items) }
+    requires within { start ≤ length (head_of until ring.now.items) }
+    requires room { HasSpace inbox.old (length ring.now.items - start) }
+    ensures count { result ≡ length (head_of until ring.now.items) }
+    ensures copied { inbox.new.items ≡ inbox.old.items ++ head_from until start ring.now.items }
     ensures len { vec_len inbox.new + start ≤ vec_len inbox.old + length ring.now.items }
     ensures capacity { vec_capacity inbox.old ≤ vec_capacity inbox.new }
 {
@@ -187,10 +186,10 @@ fn begins_before(messages: &[Message], until: Cycle) -> bool
         .is_some_and(|message| message.arrival < until)
 }
 
-/// The messages at the head of a ring that arrive before a cycle, where they lie side by side; none, where they go on at the
-/// beginning of its block.
+/// The messages at the head of a ring that arrive before a cycle, where they lie side by side; none, where they go on
+/// at the beginning of its block.
 pub fn head_before(ring: &Ring, until: Cycle) -> Option<&[Message]>
-    ensures { IfSome result (λ head. head.now ≡ take_while (arrives_before until) ring.now.items) }
+    ensures { IfSome result (λ head. head.now ≡ head_of until ring.now.items) }
 {
     let (front, back) = ring.as_slices();
     let count = count_before(front, until);
@@ -202,7 +201,7 @@ pub fn head_before(ring: &Ring, until: Cycle) -> Option<&[Message]>
 
 /// Puts messages at the end of a list, which has room for them.
 pub fn append_all(list: &mut Vec<Message>, messages: &[Message])
-    requires { vec_len list.old + length messages.now ≤ vec_capacity list.old }
+    requires { HasSpace list.old (length messages.now) }
     ensures items { list.new.items ≡ list.old.items ++ messages.now }
     ensures len { vec_len list.new ≡ vec_len list.old + length messages.now }
     ensures capacity { vec_capacity list.new ≡ vec_capacity list.old }
@@ -212,14 +211,14 @@ pub fn append_all(list: &mut Vec<Message>, messages: &[Message])
     }
 }
 
-/// Takes out the messages at the head of a ring that arrive before a cycle, into an empty list, also where they go on at the beginning of
-/// its block. Where memory is refused, the ring stays as it was.
+/// Takes out the messages at the head of a ring that arrive before a cycle, into an empty list, also where they go on
+/// at the beginning of its block. Where memory is refused, the ring stays as it was.
 #[cold]
 #[inline(never)]
 fn take_wrapped(ring: &mut Ring, until: Cycle, inbox: &mut Vec<Message>) -> Result<(), AllocError>
     requires { inbox.old.items ≡ [] }
-    ensures taken { OnOk result (inbox.new.items ≡ take_while (arrives_before until) ring.old.items) }
-    ensures rest { OnOk result (ring.new.items ≡ drop (length (take_while (arrives_before until) ring.old.items)) ring.old.items) }
+    ensures taken { OnOk result (inbox.new.items ≡ head_of until ring.old.items) }
+    ensures rest { OnOk result (ring.new.items ≡ behind_head until ring.old.items) }
     ensures err { OnErr result (ring.new.items ≡ ring.old.items) }
 {
     inbox.reserve(ring.len())?;
@@ -235,9 +234,9 @@ pub fn take_before(
     inbox: &mut Vec<Message>,
 ) -> Result<(), AllocError>
     requires empty { inbox.old.items ≡ [] }
-    requires in_order { by_age ring.old.items ≡ ring.old.items }
-    ensures taken { OnOk result (inbox.new.items ≡ filter (arrives_before until) ring.old.items) }
-    ensures rest { OnOk result (ring.new.items ≡ filter (arrives_later until) ring.old.items) }
+    requires in_order { IsByAge ring.old.items }
+    ensures taken { OnOk result (inbox.new.items ≡ due_of until ring.old.items) }
+    ensures rest { OnOk result (ring.new.items ≡ later_of until ring.old.items) }
     ensures err { OnErr result (ring.new.items ≡ ring.old.items) }
 {
     let Some(head) = head_before(ring, until) else {
@@ -250,8 +249,8 @@ pub fn take_before(
     Ok(())
 }
 
-/// Copies the messages at the heads of two rings that arrive before a cycle into an empty list, which has room for both rings, by age,
-/// and says how many they are of each ring.
+/// Copies the messages at the heads of two rings that arrive before a cycle into an empty list, which has room for
+/// both rings, by age, and says how many they are of each ring.
 pub fn copy_both_before(
     first: &Ring,
     second: &Ring,
@@ -259,11 +258,11 @@ pub fn copy_both_before(
     inbox: &mut Vec<Message>,
 ) -> (usize, usize)
     requires empty { inbox.old.items ≡ [] }
-    requires room { vec_len inbox.old + (length first.now.items + length second.now.items) ≤ vec_capacity inbox.old }
-    requires in_order { by_age second.now.items ≡ second.now.items }
-    ensures first { result.0 ≡ length (take_while (arrives_before until) first.now.items) }
-    ensures second { result.1 ≡ length (take_while (arrives_before until) second.now.items) }
-    ensures copied { inbox.new.items ≡ fold insert_by_age (take_while (arrives_before until) first.now.items) (take_while (arrives_before until) second.now.items) }
+    requires room { HasSpace inbox.old (length first.now.items + length second.now.items) }
+    requires in_order { IsByAge second.now.items }
+    ensures first { result.0 ≡ length (head_of until first.now.items) }
+    ensures second { result.1 ≡ length (head_of until second.now.items) }
+    ensures copied { inbox.new.items ≡ merged_heads until first.now second.now }
 {
     let (mut i, mut j) = (0, 0);
     while let (Some(a), Some(b)) = (arrived_at(first, i, until), arrived_at(second, j, until)) {

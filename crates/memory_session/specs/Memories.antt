@@ -2,6 +2,7 @@
 --     IsChannelOf s now past number session      a session is the channel with a number of a memory, and has this past
 --     Pasts      the past of each channel, by number
 --     IsMemory memory pasts      the channels of a memory have these pasts, by number
+--     ForPasts memory fact      a fact of the pasts that its channels may have
 --     IsOpenMemory memory      they have some
 --     no_pasts s      nothing was sent to a memory, and nothing was taken from it
 --     number_of s request      the channel that a request goes to: that of its address
@@ -11,9 +12,12 @@
 --     command_cycles pasts now, reply_arrivals pasts now      the cycles of the first command and reply of each channel that was not taken
 --     IsNextCommand channels pasts now next, IsNextReply channels pasts now next      the first of all, if there is one
 --     IsNextActOf channels pasts now next      the next cycle in which a channel acts, if there is one
---     MayRun until session, HasRunTo until old new      a session may run up to a cycle, and has
+--     TakesCommand old new taken, TakesReply old new taken      what was given was taken
+--     AreNewChannels s sessions      the channels of a machine before their first cycle
+--     EachMayRun until sessions, MayRun until session, HasRunTo until old new      a session may run up to a cycle, and has
 --     stats_of channels pasts now number      the statistics of a channel, if there is that channel
-use Rattle.std.specs.Prelude.{◌≡◌, ◌⊎◌, ℕ, ◌<◌, ◌≤◌, ◌^◌, ◌==◌, nat_lt, true, if◌then◌else◌, length, slice_index_or, is_some, option_map, Option, Some, None}
+use Rattle.std.specs.Prelude.{◌≡◌, ◌⊎◌, ℕ, ◌<◌, ◌≤◌, ◌^◌, ◌==◌, nat_lt, true, if◌then◌else◌, List, length, slice_index_or, is_some, option_map, Option, Some, None, Vec}
+use Rattle.std.specs.declared.alloc.Global.{Global}
 use Rattle.sim_base.specs.Places.{place_of}
 use Rattle.sim_base.specs.declared.config.Config.{Config}
 use Rattle.sim_base.specs.declared.command.IssuedCommand.{IssuedCommand}
@@ -47,6 +51,10 @@ pub record IsMemory (memory : MemorySession) (pasts : Pasts) : Type 0 where
   pub each : (k : ℕ) (other : Session) → k < length memory.sessions.items
       → IsChannelOf memory.config memory.cycle (pasts.past k) k (slice_index_or memory.sessions.items k other)
 
+-- this is so of the pasts that the channels of a memory may have
+abbrev pub ForPasts : MemorySession → (Pasts → Type 0) → Type 0
+ForPasts memory fact = (pasts : Pasts) → IsMemory memory pasts → fact pasts
+
 -- they have some
 pub record IsOpenMemory (memory : MemorySession) : Type 0 where
   pub pasts : Pasts
@@ -55,6 +63,12 @@ pub record IsOpenMemory (memory : MemorySession) : Type 0 where
 -- nothing was sent to a memory, and nothing was taken from it
 abbrev pub no_pasts : Config → Pasts
 no_pasts s = record { past = λ number. no_past s number }
+
+-- sessions are the channels of a machine before their first cycle, by number
+abbrev pub AreNewChannels : Config → Vec Session Global → Type 0
+AreNewChannels s sessions =
+    (k : ℕ) (other : Session) → k < length sessions.items
+    → IsChannelOf s 0 ((no_pasts s).past k) k (slice_index_or sessions.items k other)
 
 -- the channel that a request goes to: that of its address
 abbrev pub number_of : Config → SentRequest → ℕ
@@ -97,6 +111,14 @@ command_cycles pasts now k = option_map (λ (c : IssuedCommand). c.cycle) (next_
 abbrev pub reply_arrivals : Pasts → ℕ → ℕ → Option ℕ
 reply_arrivals pasts now k = option_map (λ (m : Message). m.arrival) (next_reply_of (pasts.past k) now)
 
+-- what a call gave was taken from a memory, if it gave a command
+abbrev pub TakesCommand : MemorySession → MemorySession → Option (ℕ × IssuedCommand) → Type 0
+TakesCommand old new taken = ForPasts old (λ pasts. IsMemory new (with_command_of pasts taken))
+
+-- the same of a reply
+abbrev pub TakesReply : MemorySession → MemorySession → Option (ℕ × Message) → Type 0
+TakesReply old new taken = ForPasts old (λ pasts. IsMemory new (with_reply_of pasts taken))
+
 -- A command of a channel is the first that was not taken, of all channels: by cycle and then by channel.
 pub record IsNextCommandAt (channels : ℕ) (pasts : Pasts) (now number : ℕ) (command : IssuedCommand) : Type 0 where
   pub command_is : next_command_of (pasts.past number) now ≡ Some command
@@ -107,7 +129,8 @@ abbrev pub IsNextCommand : ℕ → Pasts → ℕ → Option (ℕ × IssuedComman
 IsNextCommand channels pasts now (Some next) = IsNextCommandAt channels pasts now next.0 next.1
 IsNextCommand channels pasts now None = (k : ℕ) → k < channels → next_command_of (pasts.past k) now ≡ None
 
--- A reply of a channel is the first that was not taken, of all channels: by arrival, among the first of each channel, and then by channel.
+-- A reply of a channel is the first that was not taken, of all channels: by arrival, among the first of each channel,
+-- and then by channel.
 pub record IsNextReplyAt (channels : ℕ) (pasts : Pasts) (now number : ℕ) (reply : Message) : Type 0 where
   pub reply_is : next_reply_of (pasts.past number) now ≡ Some reply
   pub is_first : IsEarliestAt (reply_arrivals pasts now) channels number reply.arrival
@@ -123,8 +146,8 @@ pub record ActsIn (channels : ℕ) (pasts : Pasts) (now cycle : ℕ) : Type 0 wh
   pub is_below : number < channels
   pub acts : (is_some (command_then (pasts.past number) now cycle) ≡ true) ⊎ (arrives_then (pasts.past number) cycle ≡ true)
 
--- A channel acts in a cycle, and none from now on and before that, if nothing more is sent: none issues a command before that cycle, and
--- in it, one does or a request that was sent arrives.
+-- A channel acts in a cycle, and none from now on and before that, if nothing more is sent: none issues a command
+-- before that cycle, and in it, one does or a request that was sent arrives.
 pub record IsNextActAt (channels : ℕ) (pasts : Pasts) (now cycle : ℕ) : Type 0 where
   pub from_now : now ≤ cycle
   pub idle : (k t : ℕ) → k < channels → now ≤ t → t < cycle → command_then (pasts.past k) now t ≡ None
@@ -146,6 +169,10 @@ pub record MayRun (until : ℕ) (session : Session) : Type 0 where
   pub is_open : IsOpen session
   pub span : session.cycle ≤ until
   pub in_time : until ≤ 2 ^ 62
+
+-- each of several sessions may run up to a cycle
+abbrev pub EachMayRun : ℕ → List Session → Type 0
+EachMayRun until sessions = (k : ℕ) (other : Session) → k < length sessions → MayRun until (slice_index_or sessions k other)
 
 -- a session has run up to a cycle
 pub record HasRunTo (until : ℕ) (old new : Session) : Type 0 where

@@ -1,13 +1,13 @@
 //! All channels of a machine as a session.
 
-ghost use Rattle.std.specs.Prelude.{◌≡◌, ◌≢◌, ℕ, ◌<◌, ◌≤◌, ◌^◌, length, slice_index_or, option_map, None, IfOk, IfErr, OnOk, OnErr};
+ghost use Rattle.std.specs.Prelude.{◌≡◌, ◌≢◌, ℕ, ◌<◌, ◌^◌, length, slice_index_or, option_map, None, IfOk, IfErr, OnOk, OnErr};
 ghost use Rattle.sim_base.specs.Places.{place_of};
 ghost use Rattle.channel_session.specs.Addresses.{IsAddress};
-ghost use Rattle.channel_session.specs.Sessions.{core_of, IsOpen, end_refusal, IsAnswer, next_command_of, next_reply_of};
+ghost use Rattle.channel_session.specs.Sessions.{core_of, end_refusal, IsAnswer, next_command_of, next_reply_of};
 ghost use Rattle.channel_session.specs.declared.fault.SessionFault.TheVariants.{Memory};
 ghost use Rattle.channel_session.specs.declared.session.Session.{Session};
 ghost use Rattle.memory_session.specs.Earliest.{IsEarliest};
-ghost use Rattle.memory_session.specs.Memories.{Pasts, IsChannelOf, IsMemory, IsOpenMemory, no_pasts, memory_refusal, with_request, with_command_of, with_reply_of, command_cycles, reply_arrivals, IsNextCommand, IsNextReply, IsNextActOf, stats_of, MayRun, HasRunTo};
+ghost use Rattle.memory_session.specs.Memories.{Pasts, IsMemory, ForPasts, IsOpenMemory, no_pasts, AreNewChannels, memory_refusal, with_request, TakesCommand, TakesReply, command_cycles, reply_arrivals, IsNextCommand, IsNextReply, IsNextActOf, stats_of, EachMayRun, HasRunTo};
 
 use crate::cycles::{earlier, sooner};
 use channel_session::fault::SessionFault;
@@ -24,8 +24,8 @@ use std::alloc::Global;
 /// The last cycle at which a memory may stand: 2^62.
 const LAST_CYCLE: Cycle = 1 << 62;
 
-/// All channels of a machine, each of which is sent the requests for its addresses. Its contracts are about every past that each channel may
-/// have.
+/// All channels of a machine, each of which is sent the requests for its addresses. Its contracts are about every past
+/// that each channel may have.
 #[derive(Drop)]
 pub struct MemorySession {
     config: Config,
@@ -38,8 +38,7 @@ pub struct MemorySession {
 /// The channels of a machine with this configuration, before their first cycle. The only error is out of memory.
 fn opened(alloc: Global, config: &Config) -> Result<Vec<Session>, SessionFault>
     ensures count { IfOk result (λ sessions. length sessions.items ≡ config.now.channels) }
-    ensures each { IfOk result (λ sessions. (k : ℕ) (other : Session) → k < length sessions.items
-        → IsChannelOf config.now 0 ((no_pasts config.now).past k) k (slice_index_or sessions.items k other)) }
+    ensures each { IfOk result (AreNewChannels config.now) }
     ensures memory { IfErr result (λ e. e ≡ Memory) }
 {
     let mut sessions = Vec::new(alloc);
@@ -51,7 +50,7 @@ fn opened(alloc: Global, config: &Config) -> Result<Vec<Session>, SessionFault>
 
 /// Runs channels up to a cycle that is not over, and no later than 2^62. The only error is out of memory.
 fn run_all(alloc: Global, sessions: &mut [Session], until: Cycle) -> Result<(), SessionFault>
-    requires may { (k : ℕ) (other : Session) → k < length sessions.old → MayRun until (slice_index_or sessions.old k other) }
+    requires may { EachMayRun until sessions.old }
     ensures count { length sessions.new ≡ length sessions.old }
     ensures done { OnOk result ((k : ℕ) (other : Session) → k < length sessions.old
         → HasRunTo until (slice_index_or sessions.old k other) (slice_index_or sessions.new k other)) }
@@ -100,15 +99,15 @@ impl MemorySession {
         address_of(&self.config, place)
     }
 
-    /// Sends a request to the channel of its address, and nothing to another one. It is refused as that channel refuses it, which leaves
-    /// the memory with the pasts that it had.
+    /// Sends a request to the channel of its address, and nothing to another one. It is refused as that channel refuses
+    /// it, which leaves the memory with the pasts that it had.
     pub fn send(&mut self, request: &SentRequest) -> Result<(), SessionFault>
         requires open { IsOpenMemory self.old }
         ensures answer { (pasts : Pasts) (other : Session) → IsMemory self.old pasts
             → IsAnswer (memory_refusal self.old pasts other request.now) result }
-        ensures sent { (pasts : Pasts) → IsMemory self.old pasts
-            → OnOk result (IsMemory self.new (with_request self.old.config pasts request.now)) }
-        ensures left { (pasts : Pasts) → IsMemory self.old pasts → OnErr result (IsMemory self.new pasts) }
+        ensures sent { ForPasts self.old (λ pasts.
+            OnOk result (IsMemory self.new (with_request self.old.config pasts request.now))) }
+        ensures left { ForPasts self.old (λ pasts. OnErr result (IsMemory self.new pasts)) }
         ensures open { IsOpenMemory self.new }
         ensures now { self.new.cycle ≡ self.old.cycle }
         ensures config { self.new.config ≡ self.old.config }
@@ -134,7 +133,7 @@ impl MemorySession {
     fn advance(&mut self, alloc: Global, until: Cycle) -> Result<(), SessionFault>
         requires open { IsOpenMemory self.old }
         requires passed { end_refusal self.old.cycle until ≡ None }
-        ensures done { (pasts : Pasts) → IsMemory self.old pasts → OnOk result (IsMemory self.new pasts) }
+        ensures done { ForPasts self.old (λ pasts. OnOk result (IsMemory self.new pasts)) }
         ensures now { OnOk result (self.new.cycle ≡ until) }
         ensures memory { IfErr result (λ e. e ≡ Memory) }
         ensures config { self.new.config ≡ self.old.config }
@@ -144,12 +143,13 @@ impl MemorySession {
         Ok(())
     }
 
-    /// Runs all channels over the cycles before `until`. It is refused where that cycle is over or after 2^62, which leaves the memory as it
-    /// was. Where memory is refused to one of them, what they hold is not known, and they can only be closed.
+    /// Runs all channels over the cycles before `until`. It is refused where that cycle is over or after 2^62, which
+    /// leaves the memory as it was. Where memory is refused to one of them, what they hold is not known, and they can
+    /// only be closed.
     pub fn run(&mut self, alloc: Global, until: Cycle) -> Result<(), SessionFault>
         requires open { IsOpenMemory self.old }
         ensures answer { IsAnswer (end_refusal self.old.cycle until) result }
-        ensures done { (pasts : Pasts) → IsMemory self.old pasts → OnOk result (IsMemory self.new pasts) }
+        ensures done { ForPasts self.old (λ pasts. OnOk result (IsMemory self.new pasts)) }
         ensures now { OnOk result (self.new.cycle ≡ until) }
         ensures same { IfErr result (λ e. e ≢ Memory → self.new ≡ self.old) }
         ensures open { OnOk result (IsOpenMemory self.new) }
@@ -189,9 +189,9 @@ impl MemorySession {
     fn take_command(&mut self, number: usize) -> Option<(ChannelId, IssuedCommand)>
         requires open { IsOpenMemory self.old }
         requires inside { number < length self.old.sessions.items }
-        ensures next { (pasts : Pasts) → IsMemory self.old pasts
-            → result ≡ option_map (λ command. (number, command)) (next_command_of (pasts.past number) self.old.cycle) }
-        ensures taken { (pasts : Pasts) → IsMemory self.old pasts → IsMemory self.new (with_command_of pasts result) }
+        ensures next { ForPasts self.old (λ pasts. result
+            ≡ option_map (λ command. (number, command)) (next_command_of (pasts.past number) self.old.cycle)) }
+        ensures taken { TakesCommand self.old self.new result }
         ensures open { IsOpenMemory self.new }
         ensures now { self.new.cycle ≡ self.old.cycle }
         ensures config { self.new.config ≡ self.old.config }
@@ -202,13 +202,13 @@ impl MemorySession {
         }
     }
 
-    /// The next command of the cycles that are over, if there is one, with the number of its channel: the first that was not taken, by
-    /// cycle and then by channel. It is taken then.
+    /// The next command of the cycles that are over, if there is one, with the number of its channel: the first that
+    /// was not taken, by cycle and then by channel. It is taken then.
     pub fn next_command(&mut self) -> Option<(ChannelId, IssuedCommand)>
         requires open { IsOpenMemory self.old }
-        ensures next { (pasts : Pasts) → IsMemory self.old pasts
-            → IsNextCommand self.old.config.channels pasts self.old.cycle result }
-        ensures taken { (pasts : Pasts) → IsMemory self.old pasts → IsMemory self.new (with_command_of pasts result) }
+        ensures next { ForPasts self.old (λ pasts.
+            IsNextCommand self.old.config.channels pasts self.old.cycle result) }
+        ensures taken { TakesCommand self.old self.new result }
         ensures open { IsOpenMemory self.new }
         ensures now { self.new.cycle ≡ self.old.cycle }
         ensures config { self.new.config ≡ self.old.config }
@@ -223,9 +223,9 @@ impl MemorySession {
     fn take_reply(&mut self, number: usize) -> Option<(ChannelId, Message)>
         requires open { IsOpenMemory self.old }
         requires inside { number < length self.old.sessions.items }
-        ensures next { (pasts : Pasts) → IsMemory self.old pasts
-            → result ≡ option_map (λ reply. (number, reply)) (next_reply_of (pasts.past number) self.old.cycle) }
-        ensures taken { (pasts : Pasts) → IsMemory self.old pasts → IsMemory self.new (with_reply_of pasts result) }
+        ensures next { ForPasts self.old (λ pasts. result
+            ≡ option_map (λ reply. (number, reply)) (next_reply_of (pasts.past number) self.old.cycle)) }
+        ensures taken { TakesReply self.old self.new result }
         ensures open { IsOpenMemory self.new }
         ensures now { self.new.cycle ≡ self.old.cycle }
         ensures config { self.new.config ≡ self.old.config }
@@ -236,14 +236,14 @@ impl MemorySession {
         }
     }
 
-    /// The next reply or credit that was sent in the cycles that are over, if there is one, with the number of the channel that sent it:
-    /// of the first of each channel that was not taken, the one that arrives first, and of these that of the lowest channel. It is taken
-    /// then.
+    /// The next reply or credit that was sent in the cycles that are over, if there is one, with the number of the
+    /// channel that sent it: of the first of each channel that was not taken, the one that arrives first, and of these
+    /// that of the lowest channel. It is taken then.
     pub fn next_reply(&mut self) -> Option<(ChannelId, Message)>
         requires open { IsOpenMemory self.old }
-        ensures next { (pasts : Pasts) → IsMemory self.old pasts
-            → IsNextReply self.old.config.channels pasts self.old.cycle result }
-        ensures taken { (pasts : Pasts) → IsMemory self.old pasts → IsMemory self.new (with_reply_of pasts result) }
+        ensures next { ForPasts self.old (λ pasts.
+            IsNextReply self.old.config.channels pasts self.old.cycle result) }
+        ensures taken { TakesReply self.old self.new result }
         ensures open { IsOpenMemory self.new }
         ensures now { self.new.cycle ≡ self.old.cycle }
         ensures config { self.new.config ≡ self.old.config }
@@ -261,13 +261,13 @@ impl MemorySession {
         reply.link / 3 / u64::from(self.config.channels)
     }
 
-    /// The next cycle from now on in which a channel acts, if nothing more is sent and there is one: none issues anything before that cycle,
-    /// and in it, one issues a command or a request that was sent arrives.
+    /// The next cycle from now on in which a channel acts, if nothing more is sent and there is one: none issues
+    /// anything before that cycle, and in it, one issues a command or a request that was sent arrives.
     pub fn next_act(&mut self) -> Option<Cycle>
         requires open { IsOpenMemory self.old }
-        ensures next { (pasts : Pasts) → IsMemory self.old pasts
-            → IsNextActOf self.old.config.channels pasts self.old.cycle result }
-        ensures left { (pasts : Pasts) → IsMemory self.old pasts → IsMemory self.new pasts }
+        ensures next { ForPasts self.old (λ pasts.
+            IsNextActOf self.old.config.channels pasts self.old.cycle result) }
+        ensures left { ForPasts self.old (λ pasts. IsMemory self.new pasts) }
         ensures open { IsOpenMemory self.new }
         ensures now { self.new.cycle ≡ self.old.cycle }
         ensures config { self.new.config ≡ self.old.config }
@@ -281,8 +281,8 @@ impl MemorySession {
 
     /// The statistics of the cycles of a channel that are over, if there is that channel.
     pub fn stats(&self, number: ChannelId) -> Option<ChannelStats>
-        ensures { (pasts : Pasts) → IsMemory self.now pasts
-            → result ≡ stats_of self.now.config.channels pasts self.now.cycle number }
+        ensures { ForPasts self.now (λ pasts.
+            result ≡ stats_of self.now.config.channels pasts self.now.cycle number) }
     {
         match self.sessions.get(number as usize) {
             Some(session) => Some(session.stats()),

@@ -30,12 +30,13 @@ use Rattle.statistics.proofs.ReplyBounds.{replies-le}
 use Rattle.statistics.proofs.RunSteps.{inbox-next, stats_of_core-next, stats_of_channel-next}
 use Rattle.plain_steps.specs.declared.scheduling.ChannelStep.{ChannelStep}
 use Rattle.plain_steps.specs.Plain.{CoreView, core_view, ChannelView, channel_view, channel_step_of, queue_of}
+use Rattle.one_clock.specs.Counts.{no_channel_counts}
 use Rattle.one_clock.specs.Steps.{core_step_of}
 use Rattle.one_clock.proofs.Next.{length-steps_of_core, length-steps_of_channel, queue_is, no_mail, run_none}
 
 -- before the first cycle nothing is counted
 
-pub no_core_stats : (s : Config) (traces : List (List Entry)) (core : ℕ) → stats_of_core s traces (run s traces 0) core ≡ core_none
+no_core_stats : (s : Config) (traces : List (List Entry)) (core : ℕ) → stats_of_core s traces (run s traces 0) core ≡ core_none
 unfolding stats_of_core core_stats steps_of_core issued_before retired_before reads writes replies read_latency stopped_by stops finish retire_cycle
 no_core_stats s traces core =
     ap (λ h. stats_of_core s traces h core) (run_none s traces)
@@ -61,9 +62,16 @@ no_core_stats s traces core =
     by true = refl
     by false = refl
 
-pub no_channel_stats : (s : Config) (traces : List (List Entry)) (channel : ℕ) → stats_of_channel s traces (run s traces 0) channel ≡ record channel_none { draining = draining_of s 0 }
+no_channel_stats : (s : Config) (traces : List (List Entry)) (channel : ℕ) → stats_of_channel s traces (run s traces 0) channel ≡ record channel_none { draining = draining_of s 0 }
 unfolding stats_of_channel channel_stats steps_of_channel issued_commands issued_of_kind hits queue_lengths queued queued_max idle refreshing draining
 no_channel_stats s traces channel = ap (λ h. stats_of_channel s traces h channel) (run_none s traces)
+
+pub core_stats_none : (s : Config) (traces : List (List Entry)) (n core : ℕ) → n ≡ 0 → core_none ≡ stats_of_core s traces (run s traces n) core
+core_stats_none s traces n core e = sym (ap (λ i. stats_of_core s traces (run s traces i) core) e ∙ no_core_stats s traces core)
+
+pub channel_stats_none : (s : Config) (traces : List (List Entry)) (n channel : ℕ) → n ≡ 0
+    → no_channel_counts s ≡ stats_of_channel s traces (run s traces n) channel
+channel_stats_none s traces n channel e = sym (ap (λ i. stats_of_channel s traces (run s traces i) channel) e ∙ no_channel_stats s traces channel)
 
 -- a core, one cycle more
 
@@ -83,6 +91,16 @@ unfolding stats_of_core core_stats
 core_stats_within s traces n core counts l f =
     let keeps = KeepsToTrace-run s traces core l n in
     subst (λ (c : CoreStats). c.issued ≤ length (trace_of traces core)) (sym f) keeps.issued
+
+-- what a cycle counts, by a trace, steps and replies that are known to be those of the core
+pub core_cycle_by : (t trace : List Entry) (r steps : List CoreStep) (m mail arrived : List Message) (step : CoreStep × Stop) (more : CoreStats)
+    → t ≡ trace → r ≡ steps → m ≡ mail → arrived ≡ replies_in (length r) m → more ≡ core_cycle_with t r step.0 step.1 arrived
+    → more ≡ core_cycle_with trace steps step.0 step.1 (replies_in (length steps) mail)
+core_cycle_by t trace r steps m mail arrived step more e f g a h =
+    h
+    ∙ ap (core_cycle_with t r step.0 step.1) a
+    ∙ ap₂ (λ t r. core_cycle_with t r step.0 step.1 (replies_in (length r) m)) e f
+    ∙ ap (λ m. core_cycle_with trace steps step.0 step.1 (replies_in (length steps) m)) g
 
 pub core_stats_next : (s : Config) (traces : List (List Entry)) (n core : ℕ) (view : CoreView) (step : CoreStep × Stop) (counts more : CoreStats)
     → core < s.cores

@@ -30,7 +30,7 @@ use Rattle.sim_base.specs.declared.message.Request.{Request}
 use Rattle.sim_base.specs.declared.message.Unit.{Unit as MachineUnit}
 use Rattle.sim_base.specs.declared.message.Unit.TheVariants.{Core, Channel}
 use Rattle.sim_base.specs.declared.trace.Entry.{Entry}
-use Rattle.sim_base.specs.declared.trace.Stop.{Stop}
+use Rattle.one_clock.specs.Pasts.{no_core_past, no_channel_past}
 use Rattle.one_clock.specs.Steps.{core_step_of}
 use Rattle.sim_base.proofs.Below.{flat_map_below_more as flat_map_below_suc}
 use Rattle.sim_base.proofs.Arrived.{put, puts, by_age-puts, fold-puts}
@@ -450,25 +450,30 @@ pub run_none : (s : Config) (traces : List (List Entry)) → run s traces 0 ≡ 
 unfolding run
 run_none s traces = refl
 
-pub core_view_none : (s : Config) (traces : List (List Entry)) (c : ℕ) → core_view s traces (run s traces 0) c ≡ record { past_steps = []; sent = []; inbox = [] }
+pub core_view_none : (s : Config) (traces : List (List Entry)) (n c : ℕ) → n ≡ 0 → no_core_past ≡ core_view s traces (run s traces n) c
 unfolding steps_of_core
-core_view_none s traces c =
-    ap (λ h. core_view s traces h c) (run_none s traces)
-    ∙ core_view_same (core_view s traces [] c) (record { past_steps = []; sent = []; inbox = [] }) refl (no_core_messages s traces c) (no_mail s traces (Core c))
+core_view_none s traces n c e =
+    sym (ap (λ i. core_view s traces (run s traces i) c) e
+    ∙ ap (λ h. core_view s traces h c) (run_none s traces)
+    ∙ core_view_same (core_view s traces [] c) no_core_past refl (no_core_messages s traces c) (no_mail s traces (Core c)))
 
-pub channel_view_none : (s : Config) (traces : List (List Entry)) (k : ℕ) → channel_view s traces (run s traces 0) k ≡ record { commands = []; pending = []; draining = false }
+pub channel_view_none : (s : Config) (traces : List (List Entry)) (n k : ℕ) → n ≡ 0 → no_channel_past ≡ channel_view s traces (run s traces n) k
 unfolding steps_of_channel issued_commands drains_before
-channel_view_none s traces k =
-    ap (λ h. channel_view s traces h k) (run_none s traces)
-    ∙ view_same (channel_view s traces [] k) (record { commands = []; pending = []; draining = false }) refl (ap (filter (is_left [])) (no_mail s traces (Channel k))) refl
+channel_view_none s traces n k e =
+    sym (ap (λ i. channel_view s traces (run s traces i) k) e
+    ∙ ap (λ h. channel_view s traces h k) (run_none s traces)
+    ∙ view_same (channel_view s traces [] k) no_channel_past refl (ap (filter (is_left [])) (no_mail s traces (Channel k))) refl)
 
-pub commands_none : (s : Config) (traces : List (List Entry)) → commands (run s traces 0) ≡ []
+pub commands_none : (s : Config) (traces : List (List Entry)) (n : ℕ) → n ≡ 0 → commands (run s traces n) ≡ []
 unfolding commands
-commands_none s traces = ap commands (run_none s traces)
+commands_none s traces n e = ap (λ i. commands (run s traces i)) e ∙ ap commands (run_none s traces)
 
-pub flight_none : (s : Config) (traces : List (List Entry)) → in_flight s traces (run s traces 0) ≡ []
+pub flight_none : (s : Config) (traces : List (List Entry)) (n : ℕ) → n ≡ 0 → in_flight s traces (run s traces n) ≡ []
 unfolding in_flight by_age
-flight_none s traces = ap (in_flight s traces) (run_none s traces) ∙ ap (λ ms. by_age (filter (is_in_flight []) ms)) (no_messages s traces)
+flight_none s traces n e =
+    ap (λ i. in_flight s traces (run s traces i)) e
+    ∙ ap (in_flight s traces) (run_none s traces)
+    ∙ ap (λ ms. by_age (filter (is_in_flight []) ms)) (no_messages s traces)
 
 -- nothing is in flight exactly where each message has arrived
 
@@ -510,12 +515,7 @@ delivered_is s traces history =
     none-late (λ m. ltb m.arrival (length history)) (messages s traces history)
     ∙ ap (λ n. eqb n 0) (sym (length-by_age (filter (is_in_flight history) (messages s traces history))))
 
-map-steps : {X Y Z : Type 0} (g : Y → Z) (f : X → Y) (xs : List X) → map g (map f xs) ≡ map (λ x. g (f x)) xs
-map-steps g f [] = refl
-map-steps g f (x ∷ xs) = ap (λ l. g (f x) ∷ l) (map-steps g f xs)
-
--- what the cores do, without why they stop
-pub steps_alone : (s : Config) (traces : List (List Entry)) (n : ℕ)
-    → map (λ (x : CoreStep × Stop). x.0) (map (core_step_of s traces (run s traces n)) (below s.cores)) ≡ map (next_core_step s traces (run s traces n)) (below s.cores)
+-- what a core does, without why it stops
+pub step_alone : (s : Config) (traces : List (List Entry)) (n core : ℕ) → (core_step_of s traces (run s traces n) core).0 ≡ next_core_step s traces (run s traces n) core
 unfolding core_step_of next_core_step
-steps_alone s traces n = map-steps (λ (x : CoreStep × Stop). x.0) (core_step_of s traces (run s traces n)) (below s.cores)
+step_alone s traces n core = refl

@@ -1,15 +1,14 @@
 //! What a cycle of one core and of one channel adds to their statistics.
 
-ghost use Rattle.std.specs.Prelude.{◌≡◌, ◌+◌, ◌<◌, ◌≤◌, ◌^◌, length, count_by, slice_get, is_some, Some, None, nat_lt, nat_le, ◌&&◌, if◌then◌else◌, IfOk};
+ghost use Rattle.std.specs.Prelude.{◌≡◌, ◌+◌, ◌<◌, ◌≤◌, ◌^◌, length, count_by, slice_get, IfOk};
 ghost use Rattle.std.specs.List.{list_any};
 ghost use Rattle.sim_base.specs.Counts.{replied_entry, issue_cycle, wait_of, is_stop, is_act_for, is_hit_of, is_hit};
 ghost use Rattle.sim_base.specs.History.{below, retired_before, issued_before};
-ghost use Rattle.sim_base.specs.Scheduling.{lowest_due};
 ghost use Rattle.statistics.specs.Counts.{one_if};
 ghost use Rattle.statistics.specs.Cores.{is_reply_in, replies_in, waited, core_cycle_with};
-ghost use Rattle.statistics.specs.Channels.{channel_none, draining_of, issues, moves_hit, channel_cycle_with};
-ghost use Rattle.plain_steps.specs.Plain.{queue_of};
+ghost use Rattle.statistics.specs.Channels.{draining_of, issues, moves_hit};
 ghost use Rattle.one_clock.specs.Steps.{is_read_in, is_write_in};
+ghost use Rattle.one_clock.specs.Counts.{finishing_cycle, channel_counts, no_channel_counts};
 
 use cpu_trace::trace::Trace;
 use plain_steps::cores::entry_of;
@@ -17,7 +16,7 @@ use plain_steps::scheduling::{self, ChannelStep};
 use sim_base::command::{Command, IssuedCommand, Kind, Source};
 use sim_base::config::Config;
 use sim_base::history::CoreStep;
-use sim_base::message::{Load, Message};
+use sim_base::message::{Load, Message, Request};
 use sim_base::trace::{Entry, Stop};
 use statistics::channels::ChannelStats;
 use statistics::cores::CoreStats;
@@ -84,8 +83,9 @@ fn is_reply_now(now: u64, m: Message) -> bool
 
 /// The replies that arrive in a cycle.
 #[tactic(auto, unfolding(statistics::specs::Cores::replies_in))]
-fn replies_now(alloc: Global, now: u64, inbox: &[Message]) -> Result<Vec<Message>, AllocError>
-    ensures { IfOk result (λ v. v.items ≡ replies_in now inbox.now) }
+pub fn replies_now(alloc: Global, now: u64, inbox: &[Message]) -> Result<Vec<Message>, AllocError>
+    ensures value { IfOk result (λ v. v.items ≡ replies_in now inbox.now) }
+    ensures inbox_fits { length inbox.now < 2 ^ 64 }
 {
     inbox
         .iter()
@@ -138,7 +138,7 @@ fn total_wait(past_steps: &[CoreStep], arrived: &[Message]) -> u128
 
 /// The cycle, if the last of `entries` entries retires in it.
 fn finish_now(entries: u64, now: u64, gone: u64, retired: u16) -> Option<u64>
-    ensures { result ≡ (if nat_lt gone entries && nat_le entries (gone + retired) then Some now else None) }
+    ensures { result ≡ finishing_cycle entries now gone retired }
 {
     if gone < entries && entries - gone <= u64::from(retired) {
         Some(now)
@@ -160,44 +160,40 @@ fn is_same_stop(a: Stop, b: Stop) -> bool
     }
 }
 
-/// The statistics of the cycle after these steps, in which a core that has issued and retired this much does this and
-/// stops for this cause.
+/// The statistics of the cycle after these steps, in which these replies arrive, and a core with these counts does
+/// this and stops for this cause.
 #[tactic(auto, unfolding(statistics::specs::Cores::core_cycle_with, statistics::specs::Cores::finish_in), using(crate::proofs::Counted::reads_are, crate::proofs::Counted::writes_are))]
 pub fn core_cycle_stats(
-    alloc: Global,
     trace: &Trace,
     past_steps: &[CoreStep],
-    inbox: &[Message],
-    issued: u64,
-    retired: u64,
+    arrived: &[Message],
+    counts: &CoreStats,
     step: (CoreStep, Stop),
-) -> Result<CoreStats, AllocError>
+) -> CoreStats
     requires few { length past_steps.now < 2 ^ 40 }
-    requires issued { issued ≡ issued_before past_steps.now }
-    requires retired { retired ≡ retired_before past_steps.now }
-    requires within { issued ≤ length trace.now }
-    ensures value { IfOk result (λ c. c ≡ core_cycle_with trace.now past_steps.now step.0 step.1 (replies_in (length past_steps.now) inbox.now)) }
+    requires issued { counts.now.issued ≡ issued_before past_steps.now }
+    requires retired { counts.now.retired ≡ retired_before past_steps.now }
+    requires within { counts.now.issued ≤ length trace.now }
+    ensures value { result ≡ core_cycle_with trace.now past_steps.now step.0 step.1 arrived.now }
     ensures trace_fits { length trace.now ≤ 2 ^ 62 }
-    ensures inbox_fits { length inbox.now < 2 ^ 64 }
 {
-    let (row, why) = step;
+    let (done, why) = step;
     let now = past_steps.len() as u64;
     let entries = trace.len();
-    let arrived = replies_now(alloc, now, inbox)?;
-    Ok(CoreStats {
-        issued: u64::from(row.issued),
-        retired: u64::from(row.retired),
-        reads: read_count(trace, issued, row.issued) as u64,
-        writes: write_count(trace, issued, row.issued) as u64,
+    CoreStats {
+        issued: u64::from(done.issued),
+        retired: u64::from(done.retired),
+        reads: read_count(trace, counts.issued, done.issued) as u64,
+        writes: write_count(trace, counts.issued, done.issued) as u64,
         replies: arrived.len() as u64,
-        read_latency: total_wait(past_steps, &arrived),
+        read_latency: total_wait(past_steps, arrived),
         stop_end: one_where(is_same_stop(Stop::End, why)),
         stop_width: one_where(is_same_stop(Stop::Width, why)),
         stop_window: one_where(is_same_stop(Stop::Window, why)),
         stop_memory: one_where(is_same_stop(Stop::Memory, why)),
         stop_credit: one_where(is_same_stop(Stop::Credit, why)),
-        finish: finish_now(entries, now, retired, row.retired),
-    })
+        finish: finish_now(entries, now, counts.retired, done.retired),
+    }
 }
 
 fn does_issue(kind: Kind, command: Option<Command>) -> bool
@@ -263,7 +259,7 @@ fn draining_count(s: &Config, draining: bool) -> Option<u64>
 
 /// The statistics of a channel in no cycle.
 pub fn no_channel_stats(s: &Config) -> ChannelStats
-    ensures { result ≡ record channel_none { draining = draining_of s.now 0 } }
+    ensures { result ≡ no_channel_counts s.now }
 {
     let draining = if 0 < s.write_high { Some(0) } else { None };
     ChannelStats {
@@ -272,23 +268,23 @@ pub fn no_channel_stats(s: &Config) -> ChannelStats
     }
 }
 
-/// The statistics of the cycle `now`, after these commands and with these messages pending, in which a channel does this.
+/// The statistics of the cycle `now`, after these commands and with these requests queued, in which a channel does
+/// this.
 #[tactic(auto, unfolding(statistics::specs::Channels::channel_cycle_with))]
 pub fn channel_cycle_stats(
-    alloc: Global,
     s: &Config,
     history: &[IssuedCommand],
-    pending: &[Message],
     now: u64,
+    queue: &[Request],
     step: ChannelStep,
-) -> Result<ChannelStats, AllocError>
+) -> ChannelStats
     requires early { now < 2 ^ 41 }
-    ensures value { IfOk result (λ c. c ≡ channel_cycle_with s.now history.now (length (queue_of pending.now (now + 1))) (is_some (lowest_due s.now history.now now)) step.draining step.command) }
-    ensures queue_fits { IfOk result (λ c. c.queued_max < 2 ^ 64) }
+    ensures value { result ≡ channel_counts s.now history.now now (length queue.now) step }
+    ensures queue_fits { result.queued_max < 2 ^ 64 }
 {
-    let queued = scheduling::queue(alloc, pending, now + 1)?.len();
+    let queued = queue.len();
     let due = scheduling::lowest_rank_due(s, history, now);
-    Ok(ChannelStats {
+    ChannelStats {
         act: one_where(does_issue(Kind::Act, step.command)),
         rd: one_where(does_issue(Kind::Rd, step.command)),
         wr: one_where(does_issue(Kind::Wr, step.command)),
@@ -301,5 +297,5 @@ pub fn channel_cycle_stats(
         idle: one_where(queued == 0),
         refreshing: one_where(due.is_some()),
         draining: draining_count(s, step.draining),
-    })
+    }
 }

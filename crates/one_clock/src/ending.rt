@@ -1,38 +1,31 @@
 //! The state in which a run ends.
 
-ghost use Rattle.std.specs.Prelude.{◌≡◌, ◌≤◌, ◌^◌, true, false, map, filter_map, IfOk};
-ghost use Rattle.sim_base.specs.History.{below};
+ghost use Rattle.std.specs.Prelude.{◌≡◌, filter_map, IfOk};
 ghost use Rattle.sim_base.specs.Final.{banks, banks_of_group, banks_of_rank};
-ghost use Rattle.sim_base.specs.Machine.{run};
-ghost use Rattle.sim_base.specs.Scheduling.{due};
-ghost use Rattle.sim_base.specs.Windows.{held};
-ghost use Rattle.statistics.specs.Runs.{row_of_bank, last_of_core, last_of_channel};
-ghost use Rattle.plain_steps.specs.Plain.{core_view, channel_view};
+ghost use Rattle.statistics.specs.Runs.{row_of_bank};
+ghost use Rattle.one_clock.specs.Cycles.{core_before, channel_before, cores_before, channels_before};
+ghost use Rattle.one_clock.specs.Cycles.{core_left_before, channel_left_before, cores_left_before, channels_left_before};
+ghost use Rattle.one_clock.specs.Ends.{credits_kept, all_credits_kept, refreshes_due};
 
+use crate::run_cycle::RunCycle;
 use crate::state::{ChannelPast, CorePast};
-use cpu_trace::trace::Trace;
 use plain_steps::{cores, rules, scheduling};
 use sim_base::command::IssuedCommand;
 use sim_base::config::Config;
-use sim_base::message::{ChannelId, CoreId, Message};
+use sim_base::message::{ChannelId, CoreId};
 use sim_base::place::BankId;
 use statistics::final_state::{ChannelState, CoreState, Credits, OpenRow};
 use std::alloc::{AllocError, Global};
 
-/// The credits that a core holds for a channel, counting those that arrived before a cycle.
-fn credits_held(
-    s: &Config,
-    core: CoreId,
-    inbox: &[Message],
-    sent: &[Message],
-    channel: ChannelId,
-    until: usize,
-) -> Credits
-    ensures { result ≡ record { read = held s.now core inbox.now sent.now channel false until; write = held s.now core inbox.now sent.now channel true until } }
+/// The credits that a core with this past holds for a channel.
+fn credits_held(s: &Config, core: CoreId, past: &CorePast, channel: ChannelId) -> Credits
+    ensures { result ≡ credits_kept s.now core past.now channel }
 {
+    let until = past.past_steps().len();
+    let mail = past.mail(core);
     Credits {
-        read: cores::held_count(s, core, inbox, sent, channel, false, until) as u64,
-        write: cores::held_count(s, core, inbox, sent, channel, true, until) as u64,
+        read: cores::held_count(s, &mail, channel, false, until) as u64,
+        write: cores::held_count(s, &mail, channel, true, until) as u64,
     }
 }
 
@@ -40,36 +33,30 @@ fn all_credits_held(
     alloc: Global,
     s: &Config,
     core: CoreId,
-    inbox: &[Message],
-    sent: &[Message],
-    until: usize,
+    past: &CorePast,
 ) -> Result<Vec<Credits>, AllocError>
-    ensures { IfOk result (λ v. v.items ≡ map (λ channel. record { read = held s.now core inbox.now sent.now channel false until; write = held s.now core inbox.now sent.now channel true until }) (below s.now.channels)) }
+    ensures { IfOk result (λ v. v.items ≡ all_credits_kept s.now core past.now) }
 {
     (0..u32::from(s.channels))
-        .map(|channel| credits_held(s, core, inbox, sent, channel, until))
+        .map(|channel| credits_held(s, core, past, channel))
         .collect(alloc)
 }
 
-/// The state in which a core is left after this many cycles.
+/// The state in which a core is left, if the run ends before this cycle.
 #[tactic(auto, unfolding(statistics::specs::Runs::last_of_core, statistics::specs::Runs::core_last, statistics::specs::Runs::credits_of, sim_base::specs::Final::credits_left, sim_base::specs::History::messages_of_core), using(crate::proofs::Next::length_steps))]
 pub fn core_left(
-    alloc: Global,
-    s: &Config,
-    traces: &[Trace],
-    cycle: u64,
+    cycle: &RunCycle<'_>,
     core: CoreId,
     past: &CorePast,
 ) -> Result<CoreState, AllocError>
-    requires early { cycle ≤ 10 ^ 12 }
-    requires past { past.now ≡ core_view s.now traces.now (run s.now traces.now cycle) core }
-    ensures { IfOk result (λ c. c ≡ last_of_core s.now traces.now (run s.now traces.now cycle) core) }
+    requires past { past.now ≡ core_before cycle.now core }
+    ensures { IfOk result (λ state. state ≡ core_left_before cycle.now core) }
 {
     let past_steps = past.past_steps();
     Ok(CoreState {
         issued: cores::issued_count(past_steps),
         retired: cores::retired_count(past_steps),
-        credits: all_credits_held(alloc, s, core, past.inbox(), past.sent(), past_steps.len())?,
+        credits: all_credits_held(cycle.alloc, cycle.config, core, past)?,
     })
 }
 
@@ -79,7 +66,7 @@ fn all_due(
     history: &[IssuedCommand],
     now: u64,
 ) -> Result<Vec<u64>, AllocError>
-    ensures { IfOk result (λ v. v.items ≡ map (λ rank. due s.now rank history.now now) (below s.now.ranks)) }
+    ensures { IfOk result (λ v. v.items ≡ refreshes_due s.now history.now now) }
 {
     (0..s.ranks)
         .map(|rank| scheduling::due_count(s, rank, history, now))
@@ -138,65 +125,49 @@ fn open_rows_of(
         .collect(alloc)
 }
 
-/// The state in which a channel is left after this many cycles.
+/// The state in which a channel is left, if the run ends before this cycle.
 #[tactic(auto, using(crate::proofs::Ended::channel_left_is))]
 pub fn channel_left(
-    alloc: Global,
-    s: &Config,
-    traces: &[Trace],
-    cycle: u64,
+    cycle: &RunCycle<'_>,
     channel: ChannelId,
     past: &ChannelPast,
 ) -> Result<ChannelState, AllocError>
-    requires early { cycle ≤ 10 ^ 12 }
-    requires past { past.now ≡ channel_view s.now traces.now (run s.now traces.now cycle) channel }
-    ensures { IfOk result (λ c. c ≡ last_of_channel s.now traces.now (run s.now traces.now cycle) channel) }
+    requires past { past.now ≡ channel_before cycle.now channel }
+    ensures { IfOk result (λ state. state ≡ channel_left_before cycle.now channel) }
 {
+    let alloc = cycle.alloc;
     let history = past.commands();
-    let banks = all_banks(alloc, s)?;
+    let banks = all_banks(alloc, cycle.config)?;
     Ok(ChannelState {
-        due: all_due(alloc, s, history, cycle)?,
+        due: all_due(alloc, cycle.config, history, cycle.number)?,
         open_rows: open_rows_of(alloc, history, &banks)?,
-        queue: scheduling::queue(alloc, past.pending(), cycle)?,
+        queue: scheduling::queue(alloc, past.pending(), cycle.number)?,
     })
 }
 
-/// The state in which each core is left, by number.
-pub fn cores_left(
-    alloc: Global,
-    s: &Config,
-    traces: &[Trace],
-    cycle: u64,
-    cores: &[CorePast],
-) -> Result<Vec<CoreState>, AllocError>
-    requires early { cycle ≤ 10 ^ 12 }
-    requires cores { cores.now ≡ map (core_view s.now traces.now (run s.now traces.now cycle)) (below s.now.cores) }
-    ensures { IfOk result (λ v. v.items ≡ map (last_of_core s.now traces.now (run s.now traces.now cycle)) (below s.now.cores)) }
+/// The state in which each core is left, by number, if the run ends before this cycle.
+pub fn cores_left(cycle: &RunCycle<'_>, cores: &[CorePast]) -> Result<Vec<CoreState>, AllocError>
+    requires cores { cores.now ≡ cores_before cycle.now }
+    ensures { IfOk result (λ v. v.items ≡ cores_left_before cycle.now) }
 {
-    let mut left = Vec::new(alloc);
-    for core in 0..s.cores {
-        let past = &cores[core as usize];
-        left.push(core_left(alloc, s, traces, cycle, core, past)?)?;
+    let mut left = Vec::new(cycle.alloc);
+    for core in 0..cycle.config.cores {
+        left.push(core_left(cycle, core, &cores[core as usize])?)?;
     }
     Ok(left)
 }
 
-/// The state in which each channel is left, by number.
+/// The state in which each channel is left, by number, if the run ends before this cycle.
 pub fn channels_left(
-    alloc: Global,
-    s: &Config,
-    traces: &[Trace],
-    cycle: u64,
+    cycle: &RunCycle<'_>,
     channels: &[ChannelPast],
 ) -> Result<Vec<ChannelState>, AllocError>
-    requires early { cycle ≤ 10 ^ 12 }
-    requires channels { channels.now ≡ map (channel_view s.now traces.now (run s.now traces.now cycle)) (below s.now.channels) }
-    ensures { IfOk result (λ v. v.items ≡ map (last_of_channel s.now traces.now (run s.now traces.now cycle)) (below s.now.channels)) }
+    requires channels { channels.now ≡ channels_before cycle.now }
+    ensures { IfOk result (λ v. v.items ≡ channels_left_before cycle.now) }
 {
-    let mut left = Vec::new(alloc);
-    for channel in 0..u32::from(s.channels) {
-        let past = &channels[channel as usize];
-        left.push(channel_left(alloc, s, traces, cycle, channel, past)?)?;
+    let mut left = Vec::new(cycle.alloc);
+    for channel in 0..u32::from(cycle.config.channels) {
+        left.push(channel_left(cycle, channel, &channels[channel as usize])?)?;
     }
     Ok(left)
 }

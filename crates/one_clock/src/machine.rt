@@ -1,23 +1,26 @@
 //! The one-clock machine: every core, link and channel, one cycle at a time.
 
-ghost use Rattle.std.specs.Prelude.{◌≡◌, ◌+◌, ◌<◌, ◌≤◌, ◌^◌, ◌&&◌, length, map, filter, IfOk, OnOk};
-ghost use Rattle.std.specs.List.{list_all};
-ghost use Rattle.sim_base.specs.History.{below, commands};
-ghost use Rattle.sim_base.specs.Machine.{next_core_step, next_step, run, is_retired, has_served, is_delivered, is_over, cycles_run};
-ghost use Rattle.sim_base.specs.Sends.{sends};
-ghost use Rattle.sim_base.specs.Counts.{in_flight};
-ghost use Rattle.plain_steps.specs.Plain.{core_view, channel_view, channel_step_of, is_late};
-ghost use Rattle.statistics.specs.Runs.{stats_of_core, stats_of_channel, last_of_core, last_of_channel};
-ghost use Rattle.run_outcome.specs.Outcomes.{if_asked, outcome_of};
+ghost use Rattle.std.specs.Prelude.{◌≡◌, ◌<◌, ◌≤◌, ◌^◌, length, filter, IfOk, OnOk};
+ghost use Rattle.plain_steps.specs.Plain.{is_late};
+ghost use Rattle.run_outcome.specs.Outcomes.{if_asked};
 ghost use Rattle.command_table.specs.Tables.{IsRising};
-ghost use Rattle.one_clock.specs.Steps.{core_step_of};
-ghost use Rattle.one_clock.specs.Held.{HoldsRun, IsCycleOf};
+ghost use Rattle.one_clock.specs.Cycles.{core_before, core_after, cores_before, cores_after};
+ghost use Rattle.one_clock.specs.Cycles.{channel_before, channel_after, channels_before, channels_after};
+ghost use Rattle.one_clock.specs.Cycles.{core_step_in, core_stop_in, core_stops_in, channel_step_in, channel_steps_in};
+ghost use Rattle.one_clock.specs.Cycles.{sent_in, flight_before, flight_after, commands_before, commands_after};
+ghost use Rattle.one_clock.specs.Cycles.{cores_left_before, channels_left_before};
+ghost use Rattle.one_clock.specs.Ends.{is_core_retired_before, are_cores_retired_before};
+ghost use Rattle.one_clock.specs.Ends.{has_channel_served_before, have_channels_served_before};
+ghost use Rattle.one_clock.specs.Ends.{is_all_delivered_before, is_over_before, ends_before, outcome_before, outcome_within};
+ghost use Rattle.one_clock.specs.Held.{HoldsBefore, HoldsAfter, IsCycleOf};
 
+use crate::run_cycle::RunCycle;
 use crate::sending::{self, trace_of_core};
 use crate::state::{ChannelPast, CorePast, issued_command, push_command};
 use crate::{ending, tally};
 use command_table::table::CommandTable;
 use cpu_trace::trace::Trace;
+use plain_steps::channel_cycle::ChannelCycle;
 use plain_steps::scheduling::ChannelStep;
 use plain_steps::{cores, mail, scheduling};
 use run_outcome::outcome::Outcome;
@@ -45,263 +48,146 @@ pub struct Machine {
     pub flight: Vec<Message>,
 }
 
-/// What all units do in one cycle: each core, both with and without why it stops, and each channel; and the messages that they send.
+/// What all units do in one cycle: each core, and why it stops, and each channel; and the messages that they send.
 #[derive(Clone, Copy)]
 struct MachineCycle<'a> {
-    core_steps: &'a [(CoreStep, Stop)],
-    past_steps: &'a [CoreStep],
+    core_stops: &'a [(CoreStep, Stop)],
     channel_steps: &'a [ChannelStep],
-    fresh: &'a [Message],
+    sent: &'a [Message],
 }
 
 #[tactic(auto, unfolding(crate::specs::Steps::core_step_of, sim_base::specs::History::messages_of_core), using(crate::proofs::Next::length_steps))]
-fn next_step_of_core(
-    s: &Config,
-    traces: &[Trace],
-    cycle: u64,
-    core: CoreId,
-    past: &CorePast,
-) -> (CoreStep, Stop)
-    requires core_in { core < s.now.cores }
-    requires traces { length traces.now ≡ s.now.cores }
-    requires early { cycle ≤ 10 ^ 12 }
-    requires past { past.now ≡ core_view s.now traces.now (run s.now traces.now cycle) core }
-    ensures { result ≡ core_step_of s.now traces.now (run s.now traces.now cycle) core }
+fn next_step_of_core(cycle: &RunCycle<'_>, core: CoreId, past: &CorePast) -> (CoreStep, Stop)
+    requires core_in { core < cycle.now.config.now.cores }
+    requires past { past.now ≡ core_before cycle.now core }
+    ensures { result ≡ core_stop_in cycle.now core }
 {
-    let trace = trace_of_core(traces, core);
-    cores::core_step(s, core, trace, past.past_steps(), past.sent(), past.inbox())
+    let trace = trace_of_core(cycle.traces, core);
+    cores::core_step(cycle.config, trace, past.past_steps(), &past.mail(core))
 }
 
 fn next_steps_of_cores(
-    alloc: Global,
-    s: &Config,
-    traces: &[Trace],
-    cycle: u64,
+    cycle: &RunCycle<'_>,
     cores: &[CorePast],
 ) -> Result<Vec<(CoreStep, Stop)>, AllocError>
-    requires traces { length traces.now ≡ s.now.cores }
-    requires early { cycle ≤ 10 ^ 12 }
-    requires cores { cores.now ≡ map (core_view s.now traces.now (run s.now traces.now cycle)) (below s.now.cores) }
-    ensures { IfOk result (λ v. v.items ≡ map (core_step_of s.now traces.now (run s.now traces.now cycle)) (below s.now.cores)) }
+    requires cores { cores.now ≡ cores_before cycle.now }
+    ensures { IfOk result (λ v. v.items ≡ core_stops_in cycle.now) }
 {
-    let mut steps = Vec::new(alloc);
-    for core in 0..s.cores {
-        let step = next_step_of_core(s, traces, cycle, core, &cores[core as usize]);
-        steps.push(step)?;
+    let mut steps = Vec::new(cycle.alloc);
+    for core in 0..cycle.config.cores {
+        steps.push(next_step_of_core(cycle, core, &cores[core as usize]))?;
     }
     Ok(steps)
-}
-
-fn steps_alone(alloc: Global, steps: &[(CoreStep, Stop)]) -> Result<Vec<CoreStep>, AllocError>
-    ensures { IfOk result (λ v. v.items ≡ map (λ step. step.0) steps.now) }
-{
-    steps.iter().map(|step| step.0).collect(alloc)
-}
-
-/// What each core does, without why it stops.
-#[tactic(auto, using(crate::proofs::Next::steps_alone))]
-fn steps_of_cores(
-    alloc: Global,
-    s: &Config,
-    traces: &[Trace],
-    cycle: u64,
-    steps: &[(CoreStep, Stop)],
-) -> Result<Vec<CoreStep>, AllocError>
-    requires { steps.now ≡ map (core_step_of s.now traces.now (run s.now traces.now cycle)) (below s.now.cores) }
-    ensures { IfOk result (λ v. v.items ≡ map (next_core_step s.now traces.now (run s.now traces.now cycle)) (below s.now.cores)) }
-{
-    steps_alone(alloc, steps)
 }
 
 #[tactic(auto, using(crate::proofs::Next::step_is))]
 fn next_step_of_channel(
-    alloc: Global,
-    s: &Config,
+    cycle: &RunCycle<'_>,
     gaps: &GapTable,
-    traces: &[Trace],
-    cycle: u64,
     channel: ChannelId,
     past: &ChannelPast,
 ) -> Result<ChannelStep, AllocError>
-    requires gaps { gaps.now ≡ s.now.timing }
-    requires early { cycle ≤ 10 ^ 12 }
-    requires past { past.now ≡ channel_view s.now traces.now (run s.now traces.now cycle) channel }
-    ensures { IfOk result (λ step. step ≡ channel_step_of s.now traces.now (run s.now traces.now cycle) channel) }
+    requires gaps { gaps.now ≡ cycle.now.config.now.timing }
+    requires past { past.now ≡ channel_before cycle.now channel }
+    ensures { IfOk result (λ step. step ≡ channel_step_in cycle.now channel) }
 {
-    scheduling::channel_step(
-        alloc,
-        s,
+    let now = ChannelCycle {
+        config: cycle.config,
         gaps,
-        cycle,
-        past.commands(),
-        past.pending(),
-        past.is_draining(),
-    )
+        history: past.commands(),
+        number: cycle.number,
+    };
+    scheduling::channel_step(cycle.alloc, &now, past.pending(), past.is_draining())
 }
 
 fn next_steps_of_channels(
-    alloc: Global,
-    s: &Config,
+    cycle: &RunCycle<'_>,
     gaps: &GapTable,
-    traces: &[Trace],
-    cycle: u64,
     channels: &[ChannelPast],
 ) -> Result<Vec<ChannelStep>, AllocError>
-    requires gaps { gaps.now ≡ s.now.timing }
-    requires early { cycle ≤ 10 ^ 12 }
-    requires channels { channels.now ≡ map (channel_view s.now traces.now (run s.now traces.now cycle)) (below s.now.channels) }
-    ensures { IfOk result (λ v. v.items ≡ map (channel_step_of s.now traces.now (run s.now traces.now cycle)) (below s.now.channels)) }
+    requires gaps { gaps.now ≡ cycle.now.config.now.timing }
+    requires channels { channels.now ≡ channels_before cycle.now }
+    ensures { IfOk result (λ v. v.items ≡ channel_steps_in cycle.now) }
 {
-    let mut steps = Vec::new(alloc);
-    for channel in 0..u32::from(s.channels) {
+    let mut steps = Vec::new(cycle.alloc);
+    for channel in 0..u32::from(cycle.config.channels) {
         let past = &channels[channel as usize];
-        steps.push(next_step_of_channel(alloc, s, gaps, traces, cycle, channel, past)?)?;
+        steps.push(next_step_of_channel(cycle, gaps, channel, past)?)?;
     }
     Ok(steps)
 }
 
-fn count_cores(
-    alloc: Global,
-    s: &Config,
-    traces: &[Trace],
-    cycle: u64,
-    cores: &[CorePast],
-    steps: &[(CoreStep, Stop)],
-    counts: &mut Vec<CoreStats>,
-) -> Result<(), AllocError>
-    requires traces { length traces.now ≡ s.now.cores }
-    requires early { cycle ≤ 10 ^ 12 }
-    requires cores { cores.now ≡ map (core_view s.now traces.now (run s.now traces.now cycle)) (below s.now.cores) }
-    requires steps { steps.now ≡ map (core_step_of s.now traces.now (run s.now traces.now cycle)) (below s.now.cores) }
-    requires counts { counts.old.items ≡ map (stats_of_core s.now traces.now (run s.now traces.now cycle)) (below s.now.cores) }
-    ensures { OnOk result (counts.new.items ≡ map (stats_of_core s.now traces.now (run s.now traces.now (cycle + 1))) (below s.now.cores)) }
-{
-    *counts = tally::core_counts(alloc, s, traces, cycle, cores, steps, counts)?;
-    Ok(())
-}
-
-fn count_channels(
-    alloc: Global,
-    s: &Config,
-    traces: &[Trace],
-    cycle: u64,
-    channels: &[ChannelPast],
-    steps: &[ChannelStep],
-    counts: &mut Vec<ChannelStats>,
-) -> Result<(), AllocError>
-    requires early { cycle ≤ 10 ^ 12 }
-    requires channels { channels.now ≡ map (channel_view s.now traces.now (run s.now traces.now cycle)) (below s.now.channels) }
-    requires steps { steps.now ≡ map (channel_step_of s.now traces.now (run s.now traces.now cycle)) (below s.now.channels) }
-    requires counts { counts.old.items ≡ map (stats_of_channel s.now traces.now (run s.now traces.now cycle)) (below s.now.channels) }
-    ensures { OnOk result (counts.new.items ≡ map (stats_of_channel s.now traces.now (run s.now traces.now (cycle + 1))) (below s.now.channels)) }
-{
-    *counts = tally::channel_counts(alloc, s, traces, cycle, channels, steps, counts)?;
-    Ok(())
-}
-
+/// Takes in what a core does in a cycle, and what is sent to it.
 #[tactic(auto, using(crate::proofs::Next::core_view_next))]
 fn note_core(
-    alloc: Global,
-    s: &Config,
-    traces: &[Trace],
-    cycle: u64,
+    cycle: &RunCycle<'_>,
     core: CoreId,
-    row: CoreStep,
-    fresh: &[Message],
+    step: CoreStep,
+    sent: &[Message],
     past: &mut CorePast,
 ) -> Result<(), AllocError>
-    requires core_in { core < s.now.cores }
-    requires traces { length traces.now ≡ s.now.cores }
-    requires early { cycle ≤ 10 ^ 12 }
-    requires row { row ≡ next_core_step s.now traces.now (run s.now traces.now cycle) core }
-    requires fresh { fresh.now ≡ sends s.now traces.now (run s.now traces.now cycle) (next_step s.now traces.now (run s.now traces.now cycle)) }
-    requires past { past.old ≡ core_view s.now traces.now (run s.now traces.now cycle) core }
-    ensures { OnOk result (past.new ≡ core_view s.now traces.now (run s.now traces.now (cycle + 1)) core) }
+    requires core_in { core < cycle.now.config.now.cores }
+    requires step { step ≡ core_step_in cycle.now core }
+    requires sent { sent.now ≡ sent_in cycle.now }
+    requires past { past.old ≡ core_before cycle.now core }
+    ensures { OnOk result (past.new ≡ core_after cycle.now core) }
 {
-    let requests = sending::requests_of_core(alloc, s, traces, cycle, core, past, row)?;
-    let arrivals = mail::messages_to(alloc, s, Unit::Core(core), fresh)?;
-    past.note(row, &requests, &arrivals)
+    let requests = sending::requests_of_core(cycle, core, past, step)?;
+    let arrivals = mail::messages_to(cycle.alloc, cycle.config, Unit::Core(core), sent)?;
+    past.note(step, &requests, &arrivals)
 }
 
 fn note_cores(
-    alloc: Global,
-    s: &Config,
-    traces: &[Trace],
-    cycle: u64,
-    past_steps: &[CoreStep],
-    fresh: &[Message],
+    cycle: &RunCycle<'_>,
+    steps: &[(CoreStep, Stop)],
+    sent: &[Message],
     cores: &mut Vec<CorePast>,
 ) -> Result<(), AllocError>
-    requires traces { length traces.now ≡ s.now.cores }
-    requires early { cycle ≤ 10 ^ 12 }
-    requires past_steps { past_steps.now ≡ map (next_core_step s.now traces.now (run s.now traces.now cycle)) (below s.now.cores) }
-    requires fresh { fresh.now ≡ sends s.now traces.now (run s.now traces.now cycle) (next_step s.now traces.now (run s.now traces.now cycle)) }
-    requires cores { cores.old.items ≡ map (core_view s.now traces.now (run s.now traces.now cycle)) (below s.now.cores) }
-    ensures { OnOk result (cores.new.items ≡ map (core_view s.now traces.now (run s.now traces.now (cycle + 1))) (below s.now.cores)) }
+    requires steps { steps.now ≡ core_stops_in cycle.now }
+    requires sent { sent.now ≡ sent_in cycle.now }
+    requires cores { cores.old.items ≡ cores_before cycle.now }
+    ensures { OnOk result (cores.new.items ≡ cores_after cycle.now) }
 {
-    for core in 0..s.cores {
+    for core in 0..cycle.config.cores {
         let i = core as usize;
-        note_core(
-            alloc,
-            s,
-            traces,
-            cycle,
-            core,
-            past_steps[i],
-            fresh,
-            &mut cores[i],
-        )?;
+        note_core(cycle, core, steps[i].0, sent, &mut cores[i])?;
     }
     Ok(())
 }
 
+/// Takes in what a channel does in a cycle, and what is sent to it.
 #[tactic(auto, using(crate::proofs::Next::channel_view_next))]
 fn note_channel(
-    alloc: Global,
-    s: &Config,
-    traces: &[Trace],
-    cycle: u64,
+    cycle: &RunCycle<'_>,
     channel: ChannelId,
     step: ChannelStep,
-    fresh: &[Message],
+    sent: &[Message],
     past: &mut ChannelPast,
 ) -> Result<(), AllocError>
-    requires channel_in { channel < s.now.channels }
-    requires step { step ≡ channel_step_of s.now traces.now (run s.now traces.now cycle) channel }
-    requires fresh { fresh.now ≡ sends s.now traces.now (run s.now traces.now cycle) (next_step s.now traces.now (run s.now traces.now cycle)) }
-    requires past { past.old ≡ channel_view s.now traces.now (run s.now traces.now cycle) channel }
-    ensures { OnOk result (past.new ≡ channel_view s.now traces.now (run s.now traces.now (cycle + 1)) channel) }
+    requires channel_in { channel < cycle.now.config.now.channels }
+    requires step { step ≡ channel_step_in cycle.now channel }
+    requires sent { sent.now ≡ sent_in cycle.now }
+    requires past { past.old ≡ channel_before cycle.now channel }
+    ensures { OnOk result (past.new ≡ channel_after cycle.now channel) }
 {
-    let arrivals = mail::messages_to(alloc, s, Unit::Channel(channel), fresh)?;
-    past.note(alloc, channel, cycle, step, &arrivals)
+    let arrivals = mail::messages_to(cycle.alloc, cycle.config, Unit::Channel(channel), sent)?;
+    past.note(cycle, channel, step, &arrivals)
 }
 
 fn note_channels(
-    alloc: Global,
-    s: &Config,
-    traces: &[Trace],
-    cycle: u64,
+    cycle: &RunCycle<'_>,
     steps: &[ChannelStep],
-    fresh: &[Message],
+    sent: &[Message],
     channels: &mut Vec<ChannelPast>,
 ) -> Result<(), AllocError>
-    requires steps { steps.now ≡ map (channel_step_of s.now traces.now (run s.now traces.now cycle)) (below s.now.channels) }
-    requires fresh { fresh.now ≡ sends s.now traces.now (run s.now traces.now cycle) (next_step s.now traces.now (run s.now traces.now cycle)) }
-    requires channels { channels.old.items ≡ map (channel_view s.now traces.now (run s.now traces.now cycle)) (below s.now.channels) }
-    ensures { OnOk result (channels.new.items ≡ map (channel_view s.now traces.now (run s.now traces.now (cycle + 1))) (below s.now.channels)) }
+    requires steps { steps.now ≡ channel_steps_in cycle.now }
+    requires sent { sent.now ≡ sent_in cycle.now }
+    requires channels { channels.old.items ≡ channels_before cycle.now }
+    ensures { OnOk result (channels.new.items ≡ channels_after cycle.now) }
 {
-    for channel in 0..u32::from(s.channels) {
+    for channel in 0..u32::from(cycle.config.channels) {
         let i = channel as usize;
-        note_channel(
-            alloc,
-            s,
-            traces,
-            cycle,
-            channel,
-            steps[i],
-            fresh,
-            &mut channels[i],
-        )?;
+        note_channel(cycle, channel, steps[i], sent, &mut channels[i])?;
     }
     Ok(())
 }
@@ -319,20 +205,16 @@ fn late_messages(alloc: Global, messages: &[Message], now: u64) -> Result<Vec<Me
 /// The messages in flight, one cycle later.
 #[tactic(auto, using(crate::proofs::Next::flight_next))]
 fn note_flight(
-    alloc: Global,
-    s: &Config,
-    traces: &[Trace],
-    cycle: u64,
-    fresh: &[Message],
+    cycle: &RunCycle<'_>,
+    sent: &[Message],
     flight: &mut Vec<Message>,
 ) -> Result<(), AllocError>
-    requires early { cycle ≤ 10 ^ 12 }
-    requires fresh { fresh.now ≡ sends s.now traces.now (run s.now traces.now cycle) (next_step s.now traces.now (run s.now traces.now cycle)) }
-    requires flight { flight.old.items ≡ in_flight s.now traces.now (run s.now traces.now cycle) }
-    ensures { OnOk result (flight.new.items ≡ in_flight s.now traces.now (run s.now traces.now (cycle + 1))) }
+    requires sent { sent.now ≡ sent_in cycle.now }
+    requires flight { flight.old.items ≡ flight_before cycle.now }
+    ensures { OnOk result (flight.new.items ≡ flight_after cycle.now) }
 {
-    let mut left = late_messages(alloc, flight, cycle + 1)?;
-    let more = late_messages(alloc, fresh, cycle + 1)?;
+    let mut left = late_messages(cycle.alloc, flight, cycle.number + 1)?;
+    let more = late_messages(cycle.alloc, sent, cycle.number + 1)?;
     mail::insert_all(&mut left, &more)?;
     *flight = left;
     Ok(())
@@ -340,43 +222,37 @@ fn note_flight(
 
 /// The commands of all channels, one cycle later.
 fn note_commands(
-    s: &Config,
-    traces: &[Trace],
-    cycle: u64,
+    cycle: &RunCycle<'_>,
     steps: &[ChannelStep],
     issued: &mut Vec<IssuedCommand>,
 ) -> Result<(), AllocError>
-    requires steps { steps.now ≡ map (channel_step_of s.now traces.now (run s.now traces.now cycle)) (below s.now.channels) }
-    requires issued { issued.old.items ≡ commands (run s.now traces.now cycle) }
-    ensures { OnOk result (issued.new.items ≡ commands (run s.now traces.now (cycle + 1))) }
+    requires steps { steps.now ≡ channel_steps_in cycle.now }
+    requires issued { issued.old.items ≡ commands_before cycle.now }
+    ensures { OnOk result (issued.new.items ≡ commands_after cycle.now) }
 {
-    for channel in 0..u32::from(s.channels) {
+    for channel in 0..u32::from(cycle.config.channels) {
         let step = steps[channel as usize];
-        push_command(issued, issued_command(channel, cycle, step.command))?;
+        push_command(issued, issued_command(channel, cycle.number, step.command))?;
     }
     Ok(())
 }
 
 #[tactic(auto, unfolding(sim_base::specs::Machine::is_retired), using(crate::proofs::Next::length_steps))]
-fn is_core_retired(s: &Config, traces: &[Trace], cycle: u64, core: CoreId, past: &CorePast) -> bool
-    requires core_in { core < s.now.cores }
-    requires traces { length traces.now ≡ s.now.cores }
-    requires early { cycle ≤ 10 ^ 12 }
-    requires past { past.now ≡ core_view s.now traces.now (run s.now traces.now cycle) core }
-    ensures { result ≡ is_retired traces.now (run s.now traces.now cycle) core }
+fn is_core_retired(cycle: &RunCycle<'_>, core: CoreId, past: &CorePast) -> bool
+    requires core_in { core < cycle.now.config.now.cores }
+    requires past { past.now ≡ core_before cycle.now core }
+    ensures { result ≡ is_core_retired_before cycle.now core }
 {
-    cores::retired_count(past.past_steps()) == trace_of_core(traces, core).len()
+    cores::retired_count(past.past_steps()) == trace_of_core(cycle.traces, core).len()
 }
 
-fn are_cores_retired(s: &Config, traces: &[Trace], cycle: u64, cores: &[CorePast]) -> bool
-    requires traces { length traces.now ≡ s.now.cores }
-    requires early { cycle ≤ 10 ^ 12 }
-    requires cores { cores.now ≡ map (core_view s.now traces.now (run s.now traces.now cycle)) (below s.now.cores) }
-    ensures { result ≡ list_all (is_retired traces.now (run s.now traces.now cycle)) (below s.now.cores) }
+fn are_cores_retired(cycle: &RunCycle<'_>, cores: &[CorePast]) -> bool
+    requires cores { cores.now ≡ cores_before cycle.now }
+    ensures { result ≡ are_cores_retired_before cycle.now }
 {
     let mut all = true;
-    for core in 0..s.cores {
-        let retired = is_core_retired(s, traces, cycle, core, &cores[core as usize]);
+    for core in 0..cycle.config.cores {
+        let retired = is_core_retired(cycle, core, &cores[core as usize]);
         all = all && retired;
     }
     all
@@ -384,260 +260,180 @@ fn are_cores_retired(s: &Config, traces: &[Trace], cycle: u64, cores: &[CorePast
 
 #[tactic(auto, unfolding(sim_base::specs::Machine::has_served), using(crate::proofs::Next::waiting_is, crate::proofs::Next::length_run))]
 fn has_channel_served(
-    alloc: Global,
-    s: &Config,
-    traces: &[Trace],
-    cycle: u64,
+    cycle: &RunCycle<'_>,
     channel: ChannelId,
     past: &ChannelPast,
 ) -> Result<bool, AllocError>
-    requires past { past.now ≡ channel_view s.now traces.now (run s.now traces.now cycle) channel }
-    ensures { IfOk result (λ b. b ≡ has_served s.now traces.now (run s.now traces.now cycle) channel) }
+    requires past { past.now ≡ channel_before cycle.now channel }
+    ensures { IfOk result (λ served. served ≡ has_channel_served_before cycle.now channel) }
 {
-    let queued_requests = scheduling::queue(alloc, past.pending(), cycle)?;
+    let queued_requests = scheduling::queue(cycle.alloc, past.pending(), cycle.number)?;
     Ok(queued_requests.len() == 0)
 }
 
-fn have_channels_served(
-    alloc: Global,
-    s: &Config,
-    traces: &[Trace],
-    cycle: u64,
-    channels: &[ChannelPast],
-) -> Result<bool, AllocError>
-    requires channels { channels.now ≡ map (channel_view s.now traces.now (run s.now traces.now cycle)) (below s.now.channels) }
-    ensures { IfOk result (λ b. b ≡ list_all (has_served s.now traces.now (run s.now traces.now cycle)) (below s.now.channels)) }
+fn have_channels_served(cycle: &RunCycle<'_>, channels: &[ChannelPast]) -> Result<bool, AllocError>
+    requires channels { channels.now ≡ channels_before cycle.now }
+    ensures { IfOk result (λ served. served ≡ have_channels_served_before cycle.now) }
 {
     let mut all = true;
-    for channel in 0..u32::from(s.channels) {
-        let past = &channels[channel as usize];
-        let served = has_channel_served(alloc, s, traces, cycle, channel, past)?;
+    for channel in 0..u32::from(cycle.config.channels) {
+        let served = has_channel_served(cycle, channel, &channels[channel as usize])?;
         all = all && served;
     }
     Ok(all)
 }
 
 #[tactic(auto, using(crate::proofs::Next::delivered_is))]
-fn is_all_delivered(s: &Config, traces: &[Trace], cycle: u64, flight: &[Message]) -> bool
-    requires { flight.now ≡ in_flight s.now traces.now (run s.now traces.now cycle) }
-    ensures { result ≡ is_delivered s.now traces.now (run s.now traces.now cycle) }
+fn is_all_delivered(cycle: &RunCycle<'_>, flight: &[Message]) -> bool
+    requires { flight.now ≡ flight_before cycle.now }
+    ensures { result ≡ is_all_delivered_before cycle.now }
 {
     flight.len() == 0
 }
 
 /// Whether each trace is retired, each message has arrived, and each request is served.
 #[tactic(auto, unfolding(sim_base::specs::Machine::is_over))]
-fn is_run_over(
-    alloc: Global,
-    s: &Config,
-    traces: &[Trace],
-    cycle: u64,
-    machine: &Machine,
-) -> Result<bool, AllocError>
-    requires traces { length traces.now ≡ s.now.cores }
-    requires early { cycle ≤ 10 ^ 12 }
-    requires machine { HoldsRun s.now traces.now cycle machine.now }
-    ensures { IfOk result (λ b. b ≡ is_over s.now traces.now (run s.now traces.now cycle)) }
+fn is_run_over(cycle: &RunCycle<'_>, machine: &Machine) -> Result<bool, AllocError>
+    requires machine { HoldsBefore cycle.now machine.now }
+    ensures { IfOk result (λ over. over ≡ is_over_before cycle.now) }
 {
-    let retired = are_cores_retired(s, traces, cycle, &machine.cores);
-    let delivered = is_all_delivered(s, traces, cycle, &machine.flight);
-    let served = have_channels_served(alloc, s, traces, cycle, &machine.channels)?;
+    let retired = are_cores_retired(cycle, &machine.cores);
+    let delivered = is_all_delivered(cycle, &machine.flight);
+    let served = have_channels_served(cycle, &machine.channels)?;
     Ok(retired && delivered && served)
 }
 
-/// Whether the run ends before the next cycle.
-fn ends_here(
-    alloc: Global,
-    s: &Config,
-    traces: &[Trace],
-    cycle: u64,
-    machine: &Machine,
-) -> Result<bool, AllocError>
-    requires traces { length traces.now ≡ s.now.cores }
-    requires early { cycle ≤ 10 ^ 12 }
-    requires machine { HoldsRun s.now traces.now cycle machine.now }
-    ensures { IfOk result (λ b. b ≡ (s.now.ends_drained && is_over s.now traces.now (run s.now traces.now cycle))) }
+/// Whether the run ends before this cycle.
+fn ends_here(cycle: &RunCycle<'_>, machine: &Machine) -> Result<bool, AllocError>
+    requires machine { HoldsBefore cycle.now machine.now }
+    ensures { IfOk result (λ ends. ends ≡ ends_before cycle.now) }
 {
-    if s.ends_drained {
-        is_run_over(alloc, s, traces, cycle, machine)
+    if cycle.config.ends_drained {
+        is_run_over(cycle, machine)
     } else {
         Ok(false)
     }
 }
 
-fn start_cores(alloc: Global, s: &Config, traces: &[Trace]) -> Result<Vec<CorePast>, AllocError>
-    ensures { IfOk result (λ v. v.items ≡ map (core_view s.now traces.now (run s.now traces.now 0)) (below s.now.cores)) }
+fn start_cores(cycle: &RunCycle<'_>) -> Result<Vec<CorePast>, AllocError>
+    requires { cycle.now.number ≡ 0 }
+    ensures { IfOk result (λ v. v.items ≡ cores_before cycle.now) }
 {
-    let mut cores = Vec::new(alloc);
-    for core in 0..s.cores {
-        cores.push(CorePast::new(alloc))?;
+    let mut cores = Vec::new(cycle.alloc);
+    for core in 0..cycle.config.cores {
+        cores.push(CorePast::new(cycle.alloc))?;
     }
     Ok(cores)
 }
 
-fn start_channels(
-    alloc: Global,
-    s: &Config,
-    traces: &[Trace],
-) -> Result<Vec<ChannelPast>, AllocError>
-    ensures { IfOk result (λ v. v.items ≡ map (channel_view s.now traces.now (run s.now traces.now 0)) (below s.now.channels)) }
+fn start_channels(cycle: &RunCycle<'_>) -> Result<Vec<ChannelPast>, AllocError>
+    requires { cycle.now.number ≡ 0 }
+    ensures { IfOk result (λ v. v.items ≡ channels_before cycle.now) }
 {
-    let mut channels = Vec::new(alloc);
-    for channel in 0..u32::from(s.channels) {
-        channels.push(ChannelPast::new(alloc))?;
+    let mut channels = Vec::new(cycle.alloc);
+    for channel in 0..u32::from(cycle.config.channels) {
+        channels.push(ChannelPast::new(cycle.alloc))?;
     }
     Ok(channels)
 }
 
-/// What is left of each core and of each channel after this many cycles.
+/// What is left of each core and of each channel, if the run ends before this cycle.
 fn units_left(
-    alloc: Global,
-    s: &Config,
-    traces: &[Trace],
-    cycle: u64,
+    cycle: &RunCycle<'_>,
     machine: &Machine,
 ) -> Result<(Vec<CoreState>, Vec<ChannelState>), AllocError>
-    requires early { cycle ≤ 10 ^ 12 }
-    requires machine { HoldsRun s.now traces.now cycle machine.now }
-    ensures cores { IfOk result (λ left. left.0.items ≡ map (last_of_core s.now traces.now (run s.now traces.now cycle)) (below s.now.cores)) }
-    ensures channels { IfOk result (λ left. left.1.items ≡ map (last_of_channel s.now traces.now (run s.now traces.now cycle)) (below s.now.channels)) }
+    requires machine { HoldsBefore cycle.now machine.now }
+    ensures cores { IfOk result (λ left. left.0.items ≡ cores_left_before cycle.now) }
+    ensures channels { IfOk result (λ left. left.1.items ≡ channels_left_before cycle.now) }
 {
-    let cores = ending::cores_left(alloc, s, traces, cycle, &machine.cores)?;
-    let channels = ending::channels_left(alloc, s, traces, cycle, &machine.channels)?;
+    let cores = ending::cores_left(cycle, &machine.cores)?;
+    let channels = ending::channels_left(cycle, &machine.channels)?;
     Ok((cores, channels))
 }
 
 impl Machine {
     /// The machine before its first cycle.
     #[tactic(auto, using(crate::proofs::Next::commands_none, crate::proofs::Next::flight_none))]
-    fn start(alloc: Global, s: &Config, traces: &[Trace]) -> Result<Machine, AllocError>
-        ensures { IfOk result (HoldsRun s.now traces.now 0) }
+    fn start(cycle: &RunCycle<'_>) -> Result<Machine, AllocError>
+        requires { cycle.now.number ≡ 0 }
+        ensures { IfOk result (HoldsBefore cycle.now) }
     {
         Ok(Machine {
-            cores: start_cores(alloc, s, traces)?,
-            channels: start_channels(alloc, s, traces)?,
-            core_counts: tally::no_core_counts(alloc, s, traces)?,
-            channel_counts: tally::no_channel_counts(alloc, s, traces)?,
-            commands: Vec::new(alloc),
-            flight: Vec::new(alloc),
+            cores: start_cores(cycle)?,
+            channels: start_channels(cycle)?,
+            core_counts: tally::no_core_counts(cycle)?,
+            channel_counts: tally::no_channel_counts(cycle)?,
+            commands: Vec::new(cycle.alloc),
+            flight: Vec::new(cycle.alloc),
         })
     }
 
-    /// Takes in what all units do and send in one cycle.
-    fn note(
-        &mut self,
-        alloc: Global,
-        s: &Config,
-        traces: &[Trace],
-        cycle: u64,
-        all: &MachineCycle<'_>,
-    ) -> Result<(), AllocError>
-        requires traces { length traces.now ≡ s.now.cores }
-        requires early { cycle ≤ 10 ^ 12 }
-        requires all { IsCycleOf s.now traces.now cycle all.now }
-        requires machine { HoldsRun s.now traces.now cycle self.old }
-        ensures { OnOk result (HoldsRun s.now traces.now (cycle + 1) self.new) }
+    /// Takes in what all units do and send in a cycle.
+    fn note(&mut self, cycle: &RunCycle<'_>, all: &MachineCycle<'_>) -> Result<(), AllocError>
+        requires all { IsCycleOf cycle.now all.now }
+        requires machine { HoldsBefore cycle.now self.old }
+        ensures { OnOk result (HoldsAfter cycle.now self.new) }
     {
         let MachineCycle {
-            core_steps,
-            past_steps,
+            core_stops,
             channel_steps,
-            fresh,
+            sent,
         } = *all;
-        count_cores(
-            alloc,
-            s,
-            traces,
-            cycle,
-            &self.cores,
-            core_steps,
-            &mut self.core_counts,
-        )?;
-        count_channels(
-            alloc,
-            s,
-            traces,
+        tally::count_cores(cycle, &self.cores, core_stops, &mut self.core_counts)?;
+        tally::count_channels(
             cycle,
             &self.channels,
             channel_steps,
             &mut self.channel_counts,
         )?;
-        note_cores(alloc, s, traces, cycle, past_steps, fresh, &mut self.cores)?;
-        note_channels(
-            alloc,
-            s,
-            traces,
-            cycle,
-            channel_steps,
-            fresh,
-            &mut self.channels,
-        )?;
-        note_commands(s, traces, cycle, channel_steps, &mut self.commands)?;
-        note_flight(alloc, s, traces, cycle, fresh, &mut self.flight)
+        note_cores(cycle, core_stops, sent, &mut self.cores)?;
+        note_channels(cycle, channel_steps, sent, &mut self.channels)?;
+        note_commands(cycle, channel_steps, &mut self.commands)?;
+        note_flight(cycle, sent, &mut self.flight)
     }
 
-    /// Runs one cycle.
-    fn advance(
-        &mut self,
-        alloc: Global,
-        s: &Config,
-        gaps: &GapTable,
-        traces: &[Trace],
-        cycle: u64,
-    ) -> Result<(), AllocError>
-        requires gaps { gaps.now ≡ s.now.timing }
-        requires traces { length traces.now ≡ s.now.cores }
-        requires early { cycle ≤ 10 ^ 12 }
-        requires machine { HoldsRun s.now traces.now cycle self.old }
-        ensures { OnOk result (HoldsRun s.now traces.now (cycle + 1) self.new) }
+    /// Runs a cycle.
+    fn advance(&mut self, cycle: &RunCycle<'_>, gaps: &GapTable) -> Result<(), AllocError>
+        requires gaps { gaps.now ≡ cycle.now.config.now.timing }
+        requires machine { HoldsBefore cycle.now self.old }
+        ensures { OnOk result (HoldsAfter cycle.now self.new) }
     {
-        let core_steps = next_steps_of_cores(alloc, s, traces, cycle, &self.cores)?;
-        let past_steps = steps_of_cores(alloc, s, traces, cycle, &core_steps)?;
-        let steps = next_steps_of_channels(alloc, s, gaps, traces, cycle, &self.channels)?;
-        let fresh = sending::all_sends(alloc, s, traces, cycle, &self.cores, &past_steps, &steps)?;
+        let core_stops = next_steps_of_cores(cycle, &self.cores)?;
+        let channel_steps = next_steps_of_channels(cycle, gaps, &self.channels)?;
+        let sent = sending::all_sends(cycle, &self.cores, &core_stops, &channel_steps)?;
         let all = MachineCycle {
-            core_steps: &core_steps,
-            past_steps: &past_steps,
-            channel_steps: &steps,
-            fresh: &fresh,
+            core_stops: &core_stops,
+            channel_steps: &channel_steps,
+            sent: &sent,
         };
-        self.note(alloc, s, traces, cycle, &all)
+        self.note(cycle, &all)
     }
 
-    /// What the run leaves if it ends after this many cycles, where these tables are asked for.
+    /// What the run leaves if it ends before this cycle, where these tables are asked for.
     #[tactic(auto, unfolding(run_outcome::specs::Outcomes::outcome_of, run_outcome::specs::Outcomes::outcome_after, statistics::specs::Runs::stats_of, statistics::specs::Runs::final_of), using(crate::proofs::Next::length_run))]
-    fn outcome(
-        self,
-        alloc: Global,
-        s: &Config,
-        traces: &[Trace],
-        tables: Tables,
-        cycle: u64,
-    ) -> Result<Outcome, AllocError>
-        requires traces { length traces.now ≡ s.now.cores }
-        requires early { cycle ≤ 10 ^ 12 }
-        requires machine { HoldsRun s.now traces.now cycle self }
-        ensures { IfOk result (λ o. o ≡ outcome_of tables s.now traces.now cycle) }
+    fn outcome(self, cycle: &RunCycle<'_>, tables: Tables) -> Result<Outcome, AllocError>
+        requires machine { HoldsBefore cycle.now self }
+        ensures { IfOk result (λ outcome. outcome ≡ outcome_before tables cycle.now) }
     {
-        let requests = self.requests_if_asked(alloc, s, traces, cycle, tables.requests)?;
-        let (cores, channels) = units_left(alloc, s, traces, cycle, &self)?;
+        let requests = self.requests_if_asked(cycle, tables.requests)?;
+        let (cores, channels) = units_left(cycle, &self)?;
         let last = FinalState {
             cores,
             channels,
             in_flight: self.flight,
         };
         let stats = Stats {
-            cycles: cycle,
+            cycles: cycle.number,
             cores: self.core_counts,
             channels: self.channel_counts,
         };
         Ok(Outcome {
             tables,
-            commands: table_if_asked(alloc, &self.commands, tables.commands)?,
+            commands: table_if_asked(cycle.alloc, &self.commands, tables.commands)?,
             requests,
             stats,
             last,
-            ranks: s.ranks,
+            ranks: cycle.config.ranks,
         })
     }
 }
@@ -658,10 +454,11 @@ fn table_if_asked(
     }
 }
 
-/// Runs the one-clock machine, cycle by cycle, and gives the commands that all channels issue, by cycle and then by channel, if their table
-/// is asked for, the statistics of the run and the state in which it ends. The run has as many cycles as the limit, or, where the
-/// configuration ends it drained, as many as it takes until all is retired, served and delivered. There is one trace for each
-/// core, and the limit is at most 10^12 cycles. The only error is out of memory.
+/// Runs the one-clock machine, cycle by cycle, and gives the commands that all channels issue, by cycle and then by
+/// channel, if their table is asked for, the statistics of the run and the state in which it ends. The run has as
+/// many cycles as the limit, or, where the configuration ends it drained, as many as it takes until all is retired,
+/// served and delivered. There is one trace for each core, and the limit is at most 10^12 cycles. The only error is
+/// out of memory.
 pub fn run_plain(
     alloc: Global,
     s: &Config,
@@ -671,15 +468,33 @@ pub fn run_plain(
 ) -> Result<Outcome, AllocError>
     requires one_trace_a_core { length traces.now ≡ s.now.cores }
     requires limit { cycles ≤ 10 ^ 12 }
-    ensures outcome { IfOk result (λ o. o ≡ outcome_of tables s.now traces.now (cycles_run s.now traces.now cycles)) }
+    ensures outcome { IfOk result (λ o. o ≡ outcome_within tables s.now traces.now cycles) }
 {
     let gaps = GapTable::of(s);
-    let mut machine = Machine::start(alloc, s, traces)?;
-    for cycle in 0..cycles {
-        if ends_here(alloc, s, traces, cycle, &machine)? {
-            return machine.outcome(alloc, s, traces, tables, cycle);
+    let first = RunCycle {
+        alloc,
+        config: s,
+        traces,
+        number: 0,
+    };
+    let mut machine = Machine::start(&first)?;
+    for number in 0..cycles {
+        let cycle = RunCycle {
+            alloc,
+            config: s,
+            traces,
+            number,
+        };
+        if ends_here(&cycle, &machine)? {
+            return machine.outcome(&cycle, tables);
         }
-        machine.advance(alloc, s, &gaps, traces, cycle)?;
+        machine.advance(&cycle, &gaps)?;
     }
-    machine.outcome(alloc, s, traces, tables, cycles)
+    let end = RunCycle {
+        alloc,
+        config: s,
+        traces,
+        number: cycles,
+    };
+    machine.outcome(&end, tables)
 }

@@ -1,19 +1,21 @@
 //! What is sent in a cycle.
 
-ghost use Rattle.std.specs.Prelude.{◌≡◌, ◌<◌, ◌≤◌, ◌^◌, length, map, flat_map, IfOk};
-ghost use Rattle.sim_base.specs.History.{below, reply, credit, messages_of, messages_at, trace_of};
-ghost use Rattle.sim_base.specs.Machine.{next_core_step, next_step, run};
-ghost use Rattle.sim_base.specs.Sends.{core_sends, channel_sends, sends};
-ghost use Rattle.plain_steps.specs.Plain.{core_view, channel_step_of};
+ghost use Rattle.std.specs.Prelude.{◌≡◌, ◌<◌, ◌^◌, length, IfOk};
+ghost use Rattle.sim_base.specs.History.{reply, credit, messages_of, messages_at, trace_of};
+ghost use Rattle.one_clock.specs.Cycles.{core_before, cores_before, core_step_in, core_stops_in, channel_steps_in};
+ghost use Rattle.one_clock.specs.Cycles.{sent_by, sent_by_cores, sent_by_channels, sent_in};
 
+use crate::run_cycle::RunCycle;
 use crate::state::CorePast;
 use cpu_trace::trace::Trace;
+use plain_steps::core_cycle::IssuedEntries;
 use plain_steps::cores;
 use plain_steps::scheduling::ChannelStep;
 use sim_base::command::{Command, Source};
 use sim_base::config::Config;
 use sim_base::history::CoreStep;
 use sim_base::message::{ChannelId, CoreId, Load, Message};
+use sim_base::trace::Stop;
 use std::alloc::{AllocError, Global};
 
 /// The trace of a core.
@@ -27,51 +29,39 @@ pub fn trace_of_core(traces: &[Trace], core: CoreId) -> &Trace
 /// The requests that a core sends in a cycle in which it does this.
 #[tactic(auto, unfolding(sim_base::specs::Sends::core_sends), using(crate::proofs::Next::core_step_is, crate::proofs::Next::length_run))]
 pub fn requests_of_core(
-    alloc: Global,
-    s: &Config,
-    traces: &[Trace],
-    cycle: u64,
+    cycle: &RunCycle<'_>,
     core: CoreId,
     past: &CorePast,
-    row: CoreStep,
+    step: CoreStep,
 ) -> Result<Vec<Message>, AllocError>
-    requires core_in { core < s.now.cores }
-    requires traces { length traces.now ≡ s.now.cores }
-    requires early { cycle ≤ 10 ^ 12 }
-    requires past { past.now ≡ core_view s.now traces.now (run s.now traces.now cycle) core }
-    requires row { row ≡ next_core_step s.now traces.now (run s.now traces.now cycle) core }
-    ensures { IfOk result (λ v. v.items ≡ core_sends s.now traces.now (run s.now traces.now cycle) (next_step s.now traces.now (run s.now traces.now cycle)) core) }
+    requires core_in { core < cycle.now.config.now.cores }
+    requires past { past.now ≡ core_before cycle.now core }
+    requires step { step ≡ core_step_in cycle.now core }
+    ensures { IfOk result (λ v. v.items ≡ sent_by cycle.now core) }
 {
     let first = cores::issued_count(past.past_steps());
-    cores::requests_of_entries(
-        alloc,
-        s,
-        core,
-        trace_of_core(traces, core),
-        cycle as usize,
+    let issued = IssuedEntries {
+        cycle: cycle.number as usize,
         first,
-        row.issued,
-    )
+        count: step.issued,
+    };
+    let trace = trace_of_core(cycle.traces, core);
+    cores::requests_of_entries(cycle.alloc, cycle.config, core, trace, &issued)
 }
 
 fn requests_of_cores(
-    alloc: Global,
-    s: &Config,
-    traces: &[Trace],
-    cycle: u64,
+    cycle: &RunCycle<'_>,
     cores: &[CorePast],
-    past_steps: &[CoreStep],
+    steps: &[(CoreStep, Stop)],
 ) -> Result<Vec<Message>, AllocError>
-    requires traces { length traces.now ≡ s.now.cores }
-    requires early { cycle ≤ 10 ^ 12 }
-    requires cores { cores.now ≡ map (core_view s.now traces.now (run s.now traces.now cycle)) (below s.now.cores) }
-    requires past_steps { past_steps.now ≡ map (next_core_step s.now traces.now (run s.now traces.now cycle)) (below s.now.cores) }
-    ensures { IfOk result (λ v. v.items ≡ flat_map (core_sends s.now traces.now (run s.now traces.now cycle) (next_step s.now traces.now (run s.now traces.now cycle))) (below s.now.cores)) }
+    requires cores { cores.now ≡ cores_before cycle.now }
+    requires steps { steps.now ≡ core_stops_in cycle.now }
+    ensures { IfOk result (λ v. v.items ≡ sent_by_cores cycle.now) }
 {
-    let mut sent = Vec::new(alloc);
-    for core in 0..s.cores {
+    let mut sent = Vec::new(cycle.alloc);
+    for core in 0..cycle.config.cores {
         let i = core as usize;
-        let more = requests_of_core(alloc, s, traces, cycle, core, &cores[i], past_steps[i])?;
+        let more = requests_of_core(cycle, core, &cores[i], steps[i].0)?;
         sent.extend_from_slice(&more)?;
     }
     Ok(sent)
@@ -156,45 +146,36 @@ fn messages_of_choice(
 }
 
 fn messages_of_channels(
-    alloc: Global,
-    s: &Config,
-    traces: &[Trace],
-    cycle: u64,
+    cycle: &RunCycle<'_>,
     steps: &[ChannelStep],
 ) -> Result<Vec<Message>, AllocError>
-    requires early { cycle ≤ 10 ^ 12 }
-    requires steps { steps.now ≡ map (channel_step_of s.now traces.now (run s.now traces.now cycle)) (below s.now.channels) }
-    ensures { IfOk result (λ v. v.items ≡ flat_map (channel_sends s.now (run s.now traces.now cycle) (next_step s.now traces.now (run s.now traces.now cycle))) (below s.now.channels)) }
+    requires steps { steps.now ≡ channel_steps_in cycle.now }
+    ensures { IfOk result (λ v. v.items ≡ sent_by_channels cycle.now) }
 {
-    let mut sent = Vec::new(alloc);
-    for channel in 0..u32::from(s.channels) {
-        let step = steps[channel as usize];
-        let more = messages_of_choice(alloc, s, channel, cycle, step.command)?;
+    let mut sent = Vec::new(cycle.alloc);
+    for channel in 0..u32::from(cycle.config.channels) {
+        let command = steps[channel as usize].command;
+        let more = messages_of_choice(cycle.alloc, cycle.config, channel, cycle.number, command)?;
         sent.extend_from_slice(&more)?;
     }
     Ok(sent)
 }
 
-/// Everything that is sent in a cycle, by core and then by channel.
+/// Everything that is sent in a cycle in which the units do this, by core and then by channel.
 #[tactic(auto, unfolding(sim_base::specs::Sends::sends))]
 pub fn all_sends(
-    alloc: Global,
-    s: &Config,
-    traces: &[Trace],
-    cycle: u64,
+    cycle: &RunCycle<'_>,
     cores: &[CorePast],
-    past_steps: &[CoreStep],
-    steps: &[ChannelStep],
+    core_stops: &[(CoreStep, Stop)],
+    channel_steps: &[ChannelStep],
 ) -> Result<Vec<Message>, AllocError>
-    requires traces { length traces.now ≡ s.now.cores }
-    requires early { cycle ≤ 10 ^ 12 }
-    requires cores { cores.now ≡ map (core_view s.now traces.now (run s.now traces.now cycle)) (below s.now.cores) }
-    requires past_steps { past_steps.now ≡ map (next_core_step s.now traces.now (run s.now traces.now cycle)) (below s.now.cores) }
-    requires steps { steps.now ≡ map (channel_step_of s.now traces.now (run s.now traces.now cycle)) (below s.now.channels) }
-    ensures { IfOk result (λ v. v.items ≡ sends s.now traces.now (run s.now traces.now cycle) (next_step s.now traces.now (run s.now traces.now cycle))) }
+    requires cores { cores.now ≡ cores_before cycle.now }
+    requires core_stops { core_stops.now ≡ core_stops_in cycle.now }
+    requires channel_steps { channel_steps.now ≡ channel_steps_in cycle.now }
+    ensures { IfOk result (λ v. v.items ≡ sent_in cycle.now) }
 {
-    let mut sent = requests_of_cores(alloc, s, traces, cycle, cores, past_steps)?;
-    let more = messages_of_channels(alloc, s, traces, cycle, steps)?;
+    let mut sent = requests_of_cores(cycle, cores, core_stops)?;
+    let more = messages_of_channels(cycle, channel_steps)?;
     sent.extend_from_slice(&more)?;
     Ok(sent)
 }

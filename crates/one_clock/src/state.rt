@@ -1,15 +1,19 @@
 //! What is kept of each core and of each channel.
 
-ghost use Rattle.std.specs.Prelude.{◌≡◌, ◌++◌, ◌∷◌, [], filter, fold, false, IfOk, OnOk};
+ghost use Rattle.std.specs.Prelude.{◌≡◌, ◌++◌, filter, IfOk, OnOk};
 ghost use Rattle.std.specs.Option.{option_to_list};
-ghost use Rattle.sim_base.specs.History.{insert_by_age, issued_at};
-ghost use Rattle.plain_steps.specs.Plain.{is_left, is_passed_over, is_left_by};
+ghost use Rattle.sim_base.specs.History.{issued_at};
+ghost use Rattle.plain_steps.specs.Plain.{is_passed_over, is_left_by};
+ghost use Rattle.one_clock.specs.Pasts.{no_core_past, no_channel_past};
+ghost use Rattle.one_clock.specs.Pasts.{core_past_after, channel_past_after, pending_after};
 
+use crate::run_cycle::RunCycle;
+use plain_steps::core_cycle::CoreMail;
 use plain_steps::scheduling::ChannelStep;
 use plain_steps::{mail, scheduling};
 use sim_base::command::{Command, IssuedCommand};
 use sim_base::history::CoreStep;
-use sim_base::message::{ChannelId, Message, Request};
+use sim_base::message::{ChannelId, CoreId, Message, Request};
 use std::alloc::{AllocError, Global};
 use std::marker::Model;
 
@@ -23,16 +27,17 @@ pub struct CorePast {
 
 impl Model for CorePast {
     ghost use Rattle.plain_steps.specs.Plain.{CoreView};
+    ghost use Rattle.one_clock.specs.Pasts.{core_past};
 
     ghost Value = { CoreView };
 
-    ghost view = { λ p. record { past_steps = p.past_steps.items; sent = p.sent.items; inbox = p.inbox.items } };
+    ghost view = { λ p. core_past p.past_steps.items p.sent.items p.inbox.items };
 }
 
 impl CorePast {
     /// The past of no cycle.
     pub fn new(alloc: Global) -> Self
-        ensures { result ≡ record { past_steps = []; sent = []; inbox = [] } }
+        ensures { result ≡ no_core_past }
     {
         CorePast {
             past_steps: Vec::new(alloc),
@@ -47,34 +52,42 @@ impl CorePast {
         &self.past_steps
     }
 
-    pub fn sent(&self) -> &[Message]
-        ensures { result.now ≡ self.now.sent }
-    {
-        &self.sent
-    }
-
     pub fn inbox(&self) -> &[Message]
         ensures { result.now ≡ self.now.inbox }
     {
         &self.inbox
     }
 
+    /// The messages of the core, which has this number.
+    pub fn mail(&self, core: CoreId) -> CoreMail<'_>
+        ensures core { result.core ≡ core }
+        ensures inbox { result.inbox.now ≡ self.now.inbox }
+        ensures sent { result.sent.now ≡ self.now.sent }
+    {
+        CoreMail {
+            core,
+            inbox: &self.inbox,
+            sent: &self.sent,
+        }
+    }
+
     /// Adds a cycle: what the core did and sent in it, and what was sent to it.
     pub fn note(
         &mut self,
-        row: CoreStep,
+        step: CoreStep,
         requests: &[Message],
         arrivals: &[Message],
     ) -> Result<(), AllocError>
-        ensures { OnOk result (self.new ≡ record { past_steps = self.old.past_steps ++ row ∷ []; sent = self.old.sent ++ requests.now; inbox = fold insert_by_age self.old.inbox arrivals.now }) }
+        ensures { OnOk result (self.new ≡ core_past_after self.old step requests.now arrivals.now) }
     {
-        self.past_steps.push(row)?;
+        self.past_steps.push(step)?;
         self.sent.extend_from_slice(requests)?;
         mail::insert_all(&mut self.inbox, arrivals)
     }
 }
 
-/// The past of a channel: its commands, the requests that it is still to serve, by age, and whether it drained its writes in the last cycle.
+/// The past of a channel: its commands, the requests that it is still to serve, by age, and whether it drained its
+/// writes in the last cycle.
 #[derive(Drop)]
 pub struct ChannelPast {
     commands: Vec<IssuedCommand>,
@@ -84,16 +97,17 @@ pub struct ChannelPast {
 
 impl Model for ChannelPast {
     ghost use Rattle.plain_steps.specs.Plain.{ChannelView};
+    ghost use Rattle.one_clock.specs.Pasts.{channel_past};
 
     ghost Value = { ChannelView };
 
-    ghost view = { λ p. record { commands = p.commands.items; pending = p.pending.items; draining = p.draining } };
+    ghost view = { λ p. channel_past p.commands.items p.pending.items p.draining };
 }
 
 impl ChannelPast {
     /// The past of no cycle.
     pub fn new(alloc: Global) -> Self
-        ensures { result ≡ record { commands = []; pending = []; draining = false } }
+        ensures { result ≡ no_channel_past }
     {
         ChannelPast {
             commands: Vec::new(alloc),
@@ -123,19 +137,26 @@ impl ChannelPast {
     /// Adds a cycle: what the channel did in it, and what was sent to it.
     pub fn note(
         &mut self,
-        alloc: Global,
+        cycle: &RunCycle<'_>,
         channel: ChannelId,
-        now: u64,
         step: ChannelStep,
         arrivals: &[Message],
     ) -> Result<(), AllocError>
-        ensures { OnOk result (self.new ≡ (let issued = self.old.commands ++ option_to_list (issued_at channel now step.command) in record { commands = issued; pending = fold insert_by_age (filter (is_left_by step.command) self.old.pending) (filter (is_left issued) arrivals.now); draining = step.draining })) }
+        ensures { let now = cycle.now.number in
+            OnOk result (self.new ≡ channel_past_after self.old channel now step arrivals.now) }
     {
+        let command = step.command;
         push_command(
             &mut self.commands,
-            issued_command(channel, now, step.command),
+            issued_command(channel, cycle.number, command),
         )?;
-        self.pending = pending_next(alloc, step.command, &self.pending, &self.commands, arrivals)?;
+        self.pending = pending_next(
+            cycle.alloc,
+            command,
+            &self.pending,
+            &self.commands,
+            arrivals,
+        )?;
         self.draining = step.draining;
         Ok(())
     }
@@ -159,13 +180,13 @@ pub fn issued_command(
 }
 
 pub fn push_command(
-    past_steps: &mut Vec<IssuedCommand>,
+    commands: &mut Vec<IssuedCommand>,
     row: Option<IssuedCommand>,
 ) -> Result<(), AllocError>
-    ensures { OnOk result (past_steps.new.items ≡ past_steps.old.items ++ option_to_list row) }
+    ensures { OnOk result (commands.new.items ≡ commands.old.items ++ option_to_list row) }
 {
     if let Some(row) = row {
-        past_steps.push(row)?;
+        commands.push(row)?;
     }
     Ok(())
 }
@@ -205,12 +226,12 @@ fn pending_next(
     command: Option<Command>,
     pending: &[Message],
     commands: &[IssuedCommand],
-    arrivals: &[Message],
+    came: &[Message],
 ) -> Result<Vec<Message>, AllocError>
-    ensures { IfOk result (λ v. v.items ≡ fold insert_by_age (filter (is_left_by command) pending.now) (filter (is_left commands.now) arrivals.now)) }
+    ensures { IfOk result (λ v. v.items ≡ pending_after command pending.now commands.now came.now) }
 {
     let mut left = messages_left(alloc, command, pending)?;
-    let more = scheduling::unserved(alloc, commands, arrivals)?;
+    let more = scheduling::unserved(alloc, commands, came)?;
     mail::insert_all(&mut left, &more)?;
     Ok(left)
 }

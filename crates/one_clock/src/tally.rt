@@ -1,171 +1,128 @@
 //! The statistics of each unit, one cycle more.
 
-ghost use Rattle.std.specs.Prelude.{◌≡◌, ◌+◌, ◌<◌, ◌≤◌, ◌^◌, length, map, IfOk};
-ghost use Rattle.sim_base.specs.History.{below};
-ghost use Rattle.sim_base.specs.Machine.{run};
-ghost use Rattle.statistics.specs.Runs.{stats_of_core, stats_of_channel};
-ghost use Rattle.plain_steps.specs.Plain.{core_view, channel_view, channel_step_of};
-ghost use Rattle.one_clock.specs.Steps.{core_step_of};
+ghost use Rattle.std.specs.Prelude.{◌≡◌, ◌<◌, IfOk, OnOk};
+ghost use Rattle.one_clock.specs.Cycles.{core_before, cores_before, core_stop_in, core_stops_in};
+ghost use Rattle.one_clock.specs.Cycles.{core_stats_before, core_stats_after, all_core_stats_before, all_core_stats_after};
+ghost use Rattle.one_clock.specs.Cycles.{channel_before, channels_before, channel_step_in, channel_steps_in};
+ghost use Rattle.one_clock.specs.Cycles.{channel_stats_before, channel_stats_after, all_channel_stats_before, all_channel_stats_after};
 
-use crate::counting::{channel_cycle_stats, core_cycle_stats, no_channel_stats};
+use crate::counting::{channel_cycle_stats, core_cycle_stats, no_channel_stats, replies_now};
+use crate::run_cycle::RunCycle;
 use crate::sending::trace_of_core;
 use crate::state::{ChannelPast, CorePast};
-use cpu_trace::trace::Trace;
-use plain_steps::scheduling::ChannelStep;
-use sim_base::config::Config;
+use plain_steps::scheduling::{self, ChannelStep};
 use sim_base::history::CoreStep;
 use sim_base::message::{ChannelId, CoreId};
 use sim_base::trace::Stop;
 use statistics::channels::ChannelStats;
 use statistics::cores::CoreStats;
-use std::alloc::{AllocError, Global};
+use std::alloc::AllocError;
 
 /// The statistics of each core before the first cycle.
-pub fn no_core_counts(
-    alloc: Global,
-    s: &Config,
-    traces: &[Trace],
-) -> Result<Vec<CoreStats>, AllocError>
-    ensures { IfOk result (λ v. v.items ≡ map (stats_of_core s.now traces.now (run s.now traces.now 0)) (below s.now.cores)) }
+pub fn no_core_counts(cycle: &RunCycle<'_>) -> Result<Vec<CoreStats>, AllocError>
+    requires { cycle.now.number ≡ 0 }
+    ensures { IfOk result (λ v. v.items ≡ all_core_stats_before cycle.now) }
 {
-    let mut counts = Vec::new(alloc);
-    for core in 0..s.cores {
+    let mut counts = Vec::new(cycle.alloc);
+    for core in 0..cycle.config.cores {
         counts.push(CoreStats::new())?;
     }
     Ok(counts)
 }
 
 /// The statistics of each channel before the first cycle.
-pub fn no_channel_counts(
-    alloc: Global,
-    s: &Config,
-    traces: &[Trace],
-) -> Result<Vec<ChannelStats>, AllocError>
-    ensures { IfOk result (λ v. v.items ≡ map (stats_of_channel s.now traces.now (run s.now traces.now 0)) (below s.now.channels)) }
+pub fn no_channel_counts(cycle: &RunCycle<'_>) -> Result<Vec<ChannelStats>, AllocError>
+    requires { cycle.now.number ≡ 0 }
+    ensures { IfOk result (λ v. v.items ≡ all_channel_stats_before cycle.now) }
 {
-    let mut counts = Vec::new(alloc);
-    for channel in 0..u32::from(s.channels) {
-        counts.push(no_channel_stats(s))?;
+    let mut counts = Vec::new(cycle.alloc);
+    for channel in 0..u32::from(cycle.config.channels) {
+        counts.push(no_channel_stats(cycle.config))?;
     }
     Ok(counts)
 }
 
+/// Adds a cycle to the statistics of a core, in which it does this.
 #[tactic(auto, using(crate::proofs::Joined::core_stats_next, crate::proofs::Next::length_steps))]
 fn count_core(
-    alloc: Global,
-    s: &Config,
-    traces: &[Trace],
-    cycle: u64,
+    cycle: &RunCycle<'_>,
     core: CoreId,
     past: &CorePast,
     step: (CoreStep, Stop),
-    counts: CoreStats,
-) -> Result<CoreStats, AllocError>
-    requires core_in { core < s.now.cores }
-    requires traces { length traces.now ≡ s.now.cores }
-    requires early { cycle ≤ 10 ^ 12 }
-    requires past { past.now ≡ core_view s.now traces.now (run s.now traces.now cycle) core }
-    requires step { step ≡ core_step_of s.now traces.now (run s.now traces.now cycle) core }
-    requires counts { counts ≡ stats_of_core s.now traces.now (run s.now traces.now cycle) core }
-    ensures { IfOk result (λ c. c ≡ stats_of_core s.now traces.now (run s.now traces.now (cycle + 1)) core) }
+    counts: &mut CoreStats,
+) -> Result<(), AllocError>
+    requires core_in { core < cycle.now.config.now.cores }
+    requires past { past.now ≡ core_before cycle.now core }
+    requires step { step ≡ core_stop_in cycle.now core }
+    requires counts { counts.old ≡ core_stats_before cycle.now core }
+    ensures { OnOk result (counts.new ≡ core_stats_after cycle.now core) }
 {
-    let trace = trace_of_core(traces, core);
+    let trace = trace_of_core(cycle.traces, core);
     let past_steps = past.past_steps();
     let inbox = past.inbox();
-    let more = core_cycle_stats(
-        alloc,
-        trace,
-        past_steps,
-        inbox,
-        counts.issued,
-        counts.retired,
-        step,
-    )?;
-    Ok(counts.joined(more))
+    let arrived = replies_now(cycle.alloc, past_steps.len() as u64, inbox)?;
+    let more = core_cycle_stats(trace, past_steps, &arrived, counts, step);
+    *counts = counts.joined(more);
+    Ok(())
 }
 
-/// The statistics of each core, one cycle later.
-pub fn core_counts(
-    alloc: Global,
-    s: &Config,
-    traces: &[Trace],
-    cycle: u64,
+/// Adds a cycle to the statistics of each core.
+pub fn count_cores(
+    cycle: &RunCycle<'_>,
     cores: &[CorePast],
     steps: &[(CoreStep, Stop)],
-    counts: &[CoreStats],
-) -> Result<Vec<CoreStats>, AllocError>
-    requires traces { length traces.now ≡ s.now.cores }
-    requires early { cycle ≤ 10 ^ 12 }
-    requires cores { cores.now ≡ map (core_view s.now traces.now (run s.now traces.now cycle)) (below s.now.cores) }
-    requires steps { steps.now ≡ map (core_step_of s.now traces.now (run s.now traces.now cycle)) (below s.now.cores) }
-    requires counts { counts.now ≡ map (stats_of_core s.now traces.now (run s.now traces.now cycle)) (below s.now.cores) }
-    ensures { IfOk result (λ v. v.items ≡ map (stats_of_core s.now traces.now (run s.now traces.now (cycle + 1))) (below s.now.cores)) }
+    counts: &mut Vec<CoreStats>,
+) -> Result<(), AllocError>
+    requires cores { cores.now ≡ cores_before cycle.now }
+    requires steps { steps.now ≡ core_stops_in cycle.now }
+    requires counts { counts.old.items ≡ all_core_stats_before cycle.now }
+    ensures { OnOk result (counts.new.items ≡ all_core_stats_after cycle.now) }
 {
-    let mut later = Vec::new(alloc);
-    for core in 0..s.cores {
+    for core in 0..cycle.config.cores {
         let i = core as usize;
-        let more = count_core(
-            alloc, s, traces, cycle, core, &cores[i], steps[i], counts[i],
-        )?;
-        later.push(more)?;
+        count_core(cycle, core, &cores[i], steps[i], &mut counts[i])?;
     }
-    Ok(later)
+    Ok(())
 }
 
+/// Adds a cycle to the statistics of a channel, in which it does this.
 #[tactic(auto, using(crate::proofs::Joined::channel_stats_next))]
 fn count_channel(
-    alloc: Global,
-    s: &Config,
-    traces: &[Trace],
-    cycle: u64,
+    cycle: &RunCycle<'_>,
     channel: ChannelId,
     past: &ChannelPast,
     step: ChannelStep,
-    counts: ChannelStats,
-) -> Result<ChannelStats, AllocError>
-    requires channel_in { channel < s.now.channels }
-    requires early { cycle ≤ 10 ^ 12 }
-    requires past { past.now ≡ channel_view s.now traces.now (run s.now traces.now cycle) channel }
-    requires step { step ≡ channel_step_of s.now traces.now (run s.now traces.now cycle) channel }
-    requires counts { counts ≡ stats_of_channel s.now traces.now (run s.now traces.now cycle) channel }
-    ensures { IfOk result (λ c. c ≡ stats_of_channel s.now traces.now (run s.now traces.now (cycle + 1)) channel) }
+    counts: &mut ChannelStats,
+) -> Result<(), AllocError>
+    requires channel_in { channel < cycle.now.config.now.channels }
+    requires past { past.now ≡ channel_before cycle.now channel }
+    requires step { step ≡ channel_step_in cycle.now channel }
+    requires counts { counts.old ≡ channel_stats_before cycle.now channel }
+    ensures { OnOk result (counts.new ≡ channel_stats_after cycle.now channel) }
 {
     let longest = counts.queued_max;
-    let more = channel_cycle_stats(alloc, s, past.commands(), past.pending(), cycle, step)?;
+    let queue = scheduling::queue(cycle.alloc, past.pending(), cycle.number + 1)?;
+    let more = channel_cycle_stats(cycle.config, past.commands(), cycle.number, &queue, step);
     prove!(longest <= u64::MAX);
-    Ok(counts.joined(more))
+    *counts = counts.joined(more);
+    Ok(())
 }
 
-/// The statistics of each channel, one cycle later.
-pub fn channel_counts(
-    alloc: Global,
-    s: &Config,
-    traces: &[Trace],
-    cycle: u64,
+/// Adds a cycle to the statistics of each channel.
+pub fn count_channels(
+    cycle: &RunCycle<'_>,
     channels: &[ChannelPast],
     steps: &[ChannelStep],
-    counts: &[ChannelStats],
-) -> Result<Vec<ChannelStats>, AllocError>
-    requires early { cycle ≤ 10 ^ 12 }
-    requires channels { channels.now ≡ map (channel_view s.now traces.now (run s.now traces.now cycle)) (below s.now.channels) }
-    requires steps { steps.now ≡ map (channel_step_of s.now traces.now (run s.now traces.now cycle)) (below s.now.channels) }
-    requires counts { counts.now ≡ map (stats_of_channel s.now traces.now (run s.now traces.now cycle)) (below s.now.channels) }
-    ensures { IfOk result (λ v. v.items ≡ map (stats_of_channel s.now traces.now (run s.now traces.now (cycle + 1))) (below s.now.channels)) }
+    counts: &mut Vec<ChannelStats>,
+) -> Result<(), AllocError>
+    requires channels { channels.now ≡ channels_before cycle.now }
+    requires steps { steps.now ≡ channel_steps_in cycle.now }
+    requires counts { counts.old.items ≡ all_channel_stats_before cycle.now }
+    ensures { OnOk result (counts.new.items ≡ all_channel_stats_after cycle.now) }
 {
-    let mut later = Vec::new(alloc);
-    for channel in 0..u32::from(s.channels) {
+    for channel in 0..u32::from(cycle.config.channels) {
         let i = channel as usize;
-        let more = count_channel(
-            alloc,
-            s,
-            traces,
-            cycle,
-            channel,
-            &channels[i],
-            steps[i],
-            counts[i],
-        )?;
-        later.push(more)?;
+        count_channel(cycle, channel, &channels[i], steps[i], &mut counts[i])?;
     }
-    Ok(later)
+    Ok(())
 }

@@ -7,13 +7,12 @@ use Rattle.shards.specs.Phases.{IsPhaseOf, PhaseView, ended, sim_of}
 use Rattle.ordered.specs.Runs.{AreFitted, Fits, HasCome, IsAsFar, IsMisfit, IsNext, IsWhyStopped, StopsAtMisfit, after}
 
 far-same : (sim : SimView) → IsAsFar sim sim
-far-same sim = record { machine_is = refl; traces_are = refl; phase_is = refl; since = omega arith }
+far-same sim = record { machine_is = refl; phase_is = refl; since = omega arith }
 
 far-on : (sim at later : SimView) → IsAsFar sim at → IsAsFar at later → IsAsFar sim later
 far-on sim at later h k =
     record {
       machine_is = k.machine_is ∙ h.machine_is;
-      traces_are = k.traces_are ∙ h.traces_are;
       phase_is = k.phase_is ∙ h.phase_is;
       since = omega (arith, h.since, k.since);
     }
@@ -23,7 +22,6 @@ phase-from : (sim later : SimView) (stop limit : ℕ) (phase : PhaseView) → Is
 phase-from sim later stop limit phase far l h =
     record {
       machine_is = h.machine_is ∙ far.machine_is;
-      traces_are = h.traces_are ∙ far.traces_are;
       number_is = h.number_is ∙ far.phase_is;
       since = omega (arith, h.since, far.since);
       order = h.order;
@@ -58,10 +56,10 @@ after-append sim [] more = refl
 after-append sim (phase ∷ phases) more = after-append (sim_of (ended phase)) phases more
 
 -- a run that stands where it began has come there by no phases, and so has one that stands later
-pub come-later : (may_give : ℕ → List JobView → List JobView → Type 0) (shards : ℕ) (sim : SimView) (limit : ℕ) (later : SimView) → later.machine ≡ sim.machine → later.traces ≡ sim.traces → later.phase ≡ sim.phase
+pub come-later : (may_give : ℕ → List JobView → List JobView → Type 0) (shards : ℕ) (sim : SimView) (limit : ℕ) (later : SimView) → later.machine ≡ sim.machine → later.phase ≡ sim.phase
     → sim.now ≤ later.now → HasCome may_give shards sim limit later
 unfolding after AreFitted
-come-later may_give shards sim limit later m t p l = record { phases = []; fitted = tt; far = record { machine_is = m; traces_are = t; phase_is = p; since = l } }
+come-later may_give shards sim limit later m p l = record { phases = []; fitted = tt; far = record { machine_is = m; phase_is = p; since = l } }
 
 pub come-none : (may_give : ℕ → List JobView → List JobView → Type 0) (shards : ℕ) (sim : SimView) (limit : ℕ) → HasCome may_give shards sim limit sim
 unfolding after AreFitted

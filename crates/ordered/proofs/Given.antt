@@ -10,12 +10,12 @@ use Rattle.shards.specs.Phases.{PhaseView, shard_count, job_of, jobs_of}
 use Rattle.shards.proofs.Placing.{among-place}
 
 -- what is among the jobs of a phase is of its machine
-own : (p : PhaseView) (d : JobView) → Any (λ r. r ≡ d) (jobs_of p) → (d.machine ≡ p.machine) × (d.traces ≡ p.traces) × (d.bounds ≡ p.bounds)
+own : (p : PhaseView) (d : JobView) → Any (λ r. r ≡ d) (jobs_of p) → (d.machine ≡ p.machine) × (d.bounds ≡ p.bounds)
 own p d h =
     let l : h.0 < shard_count p = subst (λ n. h.0 < n) (length-places (job_of p) (shard_count p)) h.2 in
     let is : h.1 ≡ job_of p h.0 = sym h.3 ∙ get_or-map-range_with_len (job_of p) 0 (shard_count p) h.0 h.0 h.1 l (zero-add h.0) in
     let e = sym h.4 ∙ is in
-    (ap (λ (x : JobView). x.machine) e, ap (λ (x : JobView). x.traces) e, ap (λ (x : JobView). x.bounds) e)
+    (ap (λ (x : JobView). x.machine) e, ap (λ (x : JobView). x.bounds) e)
 
 -- a name of a job of a phase is that of one of its jobs
 named : (p : PhaseView) (d : JobView) → is_among (names_of p) d.name ≡ true → Any (λ r. r.name ≡ d.name) (jobs_of p)

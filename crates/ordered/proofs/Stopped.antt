@@ -1,12 +1,12 @@
 -- Why a run stops before its limit.
-use Rattle.std.proofs.Common.{◌≡◌, ◌≢◌, ℕ, List, map, Some, None, ◌⊎◌, inl, inr, refl, sym, ◌∙◌}
+use Rattle.std.proofs.Common.{◌≡◌, ◌≢◌, ℕ, List, Some, None, ◌⊎◌, inl, inr, refl, sym, ◌∙◌}
 use Rattle.sim_base.specs.declared.fault.Fault.{Fault}
 use Rattle.sim_base.specs.declared.fault.Fault.TheVariants.{Memory, Merge}
 use Rattle.sim_base.specs.declared.fault.MergeFault.{MergeFault}
 use Rattle.sim_base.specs.declared.fault.MergeFault.TheVariants as merging
 use Rattle.units.specs.Views.{SimView}
 use Rattle.shards.specs.Jobs.{JobView}
-use Rattle.shards.specs.Merging.{merge_fault}
+use Rattle.shards.specs.Merging.{fault_in}
 use Rattle.shards.specs.Phases.{PhaseView, jobs_of}
 use Rattle.shards.proofs.Whole.{whole-fits}
 use Rattle.ordered.specs.Runs.{IsMisfit, IsWhyStopped, OnlyPermutes, run_fault}
@@ -26,7 +26,7 @@ stranger_index index e = cc
 
 -- what is wrong with the results of a phase is what the run says
 pub misfits : (may_give : ℕ → List JobView → List JobView → Type 0) (phase : PhaseView) (arranged : List JobView) (cause : MergeFault) → may_give phase.number (jobs_of phase) arranged
-    → (cause ≡ merging.Memory) ⊎ (merge_fault phase (map (λ (d : JobView). d.name) arranged) ≡ Some cause) → IsMisfit may_give phase (run_fault cause)
+    → (cause ≡ merging.Memory) ⊎ (fault_in phase arranged ≡ Some cause) → IsMisfit may_give phase (run_fault cause)
 misfits may_give phase arranged merging.Memory given e = inl refl
 misfits may_give phase arranged (merging.Missing shard) given e =
     inr (record { cause = merging.Missing shard; misfit = record { arranged = arranged; given = given; fault_is = second (missing_shard shard) e }; fault_is = refl })

@@ -86,11 +86,12 @@ fn run_phases<O: Order>(
     }
 }
 
-/// Runs a simulator up to a limit, at most 10^12 cycles, or, where the configuration ends it drained, up to the first cycle before which
-/// all is done, with its units shared out in `shards` shards. The results of each phase are put together in the order that is given, and
-/// the simulator that comes back does not depend on it. What the order gives for the results of a phase may not be one of each job: the
-/// run then stops at this phase, and fault 16 says what is wrong, as `merge` finds it. The only other fault is refused memory (fault 10),
-/// and that is the only one with an order that leaves no result out, repeats none and brings none in.
+/// Runs a simulator up to a limit, at most 10^12 cycles, or, where the configuration ends it drained, up to the first
+/// cycle before which all is done, with its units shared out in `shards` shards. The results of each phase are put
+/// together in the order that is given, and the simulator that comes back does not depend on it. What the order gives
+/// for the results of a phase may not be one of each job: the run then stops at this phase, and fault 16 says what is
+/// wrong, as `merge` finds it. The only other fault is refused memory (fault 10), and that is the only one with an
+/// order that leaves no result out, repeats none and brings none in.
 pub fn run_in_order<O: Order>(
     sim: Sim,
     alloc: Global,

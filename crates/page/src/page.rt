@@ -12,20 +12,21 @@ use statistics::stats::Stats;
 use std::alloc::Global;
 use std::io::{ErrorKind, Write};
 
-/// Writes the page of a run: its statistics, what its channels did over the whole run, and what they did in a window, one command
-/// after the other. The commands are taken in the order of the list, which is to be that of their cycles. Where the configuration is given,
-/// the page also has its keys with their values and the share of the cycles that refreshes take, and draws a REF for as long as it takes.
-/// Where the clock is given, it also has the cycles, the finish and the mean read latency of each core in ns, and the data rate of each channel
-/// in GB/s. Where the requests are given, which are to be of the run, it also has a histogram of the read latency of each core, the median and
-/// 99th percentile of all over the run, and where the time of the reads of each channel went.
+/// Writes the page of a run: its statistics, what its channels did over the whole run, and what they did in a window,
+/// one command after the other. The commands are taken in the order of the list, which is to be that of their cycles.
+/// Where the configuration is given, the page also has its keys with their values and the share of the cycles that
+/// refreshes take, and draws a REF for as long as it takes. Where the clock is given, it also has the cycles, the
+/// finish and the mean read latency of each core in ns, and the data rate of each channel in GB/s. Where the requests
+/// are given, which are to be of the run, it also has a histogram of the read latency of each core, the median and 99th
+/// percentile of all over the run, and where the time of the reads of each channel went.
 ///
-/// The page is made in memory before it is written. It grows with the channels, the banks that the run uses and the commands of the window,
-/// but not with the length of the run.
+/// The page is made in memory before it is written. It grows with the channels, the banks that the run uses and the
+/// commands of the window, but not with the length of the run.
 ///
 /// # Errors
 ///
-/// `PageFault::Command` where a command is not of the run; nothing is then written. `PageFault::Memory` where memory is refused, and
-/// `PageFault::Write` where the writer fails or takes no byte; how much went out before that is not known.
+/// `PageFault::Command` where a command is not of the run; nothing is then written. `PageFault::Memory` where memory is
+/// refused, and `PageFault::Write` where the writer fails or takes no byte; how much went out before that is not known.
 pub fn write_page<W: Write>(
     alloc: Global,
     stats: &Stats,

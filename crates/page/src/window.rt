@@ -6,14 +6,14 @@ use request_table::times::RequestTimes;
 use sim_base::config::Config;
 
 /// A number of cycles, from a cycle on.
-#[derive(Clone, Copy, PartialEq, Eq, Debug)]
+#[derive(Clone, Copy)]
 pub struct Window {
     pub from: u64,
     pub cycles: u64,
 }
 
 /// The window of the timeline, and the clock in kHz, where times are shown too.
-#[derive(Clone, Copy, PartialEq, Eq, Debug)]
+#[derive(Clone, Copy)]
 pub struct View {
     pub window: Window,
     pub khz: Option<u64>,

@@ -4,14 +4,18 @@
 --     channel_step_of s traces history channel      what a channel does in the cycle after a history
 --     queue_of pending until      the requests among these that arrived before a cycle
 --     is_late now m      a message that is still to arrive at a cycle
-use Rattle.std.specs.Prelude.{ℕ, nat_lt, Bool, true, not, List, length, filter, filter_map, Option, Some, None}
+--     counts_in_window t rank now i      an ACT that counts in the four-activate window of its rank
+use Rattle.std.specs.Prelude.{ℕ, ◌+◌, ◌==◌, ◌&&◌, nat_lt, Bool, true, not, List, length, filter, filter_map, Option, Some, None}
 use Rattle.sim_base.specs.declared.config.Config.{Config}
 use Rattle.sim_base.specs.MachineStep.{MachineStep}
 use Rattle.sim_base.specs.History.{steps_of_core, steps_of_channel, issued_commands, messages_of_core, inbox}
 use Rattle.sim_base.specs.Machine.{next_command}
+use Rattle.sim_base.specs.Rules.{is_kind, kind_of, rank_of}
 use Rattle.sim_base.specs.Scheduling.{request_in, serves, is_served, drains, drains_before}
 use Rattle.sim_base.specs.declared.command.Command.{Command}
 use Rattle.sim_base.specs.declared.command.IssuedCommand.{IssuedCommand}
+use Rattle.sim_base.specs.declared.command.Kind.TheVariants as kind
+use Rattle.sim_base.specs.declared.timing.Timing.{Timing}
 use Rattle.sim_base.specs.declared.history.CoreStep.{CoreStep}
 use Rattle.sim_base.specs.declared.message.Message.{Message}
 use Rattle.sim_base.specs.declared.message.Request.{Request}
@@ -30,7 +34,8 @@ abbrev pub core_view : Config → List (List Entry) → List MachineStep → ℕ
 core_view s traces history core =
     record { past_steps = steps_of_core core history; sent = messages_of_core s traces history core; inbox = inbox s traces history (Core core) }
 
--- the commands that a channel issued, the requests sent to it that are not served, by age, and whether it drained its writes in the last cycle
+-- the commands that a channel issued, the requests sent to it that are not served, by age, and whether it drained its
+-- writes in the last cycle
 pub record ChannelView : Type 0 where
   pub commands : List IssuedCommand
   pub pending : List Message
@@ -81,3 +86,7 @@ queue_of pending until = filter (λ r. nat_lt r.arrival until) (filter_map (λ m
 -- a message that is still to arrive at a cycle
 abbrev pub is_late : ℕ → Message → Bool
 is_late now m = not (nat_lt m.arrival now)
+
+-- an ACT to a rank, less than tFAW cycles before this one: it counts in the four-activate window (JESD79-4, tFAW)
+abbrev pub counts_in_window : Timing → ℕ → ℕ → IssuedCommand → Bool
+counts_in_window t of_rank now i = is_kind (kind_of i.command) kind.Act && (rank_of i.command == of_rank) && nat_lt now (i.cycle + t.n_faw)

@@ -1,14 +1,18 @@
 //! What a core does in a cycle.
 
-ghost use Rattle.std.specs.Prelude.{◌≡◌, ◌+◌, ◌<◌, ◌≤◌, ◌^◌, length, count_by, find, slice_get, option_and_then, ◌++◌, IfOk, OnOk};
+ghost use Rattle.std.specs.Prelude.{◌≡◌, ◌+◌, ◌<◌, ◌≤◌, ◌^◌, length, count_by, slice_get, ◌++◌, IfOk, OnOk};
 ghost use Rattle.std.specs.Option.{option_to_list};
-ghost use Rattle.std.specs.List.{list_any};
-ghost use Rattle.sim_base.specs.History.{below, request, request_of, retired_before, issued_before, requests_between, core_messages};
-ghost use Rattle.sim_base.specs.Windows.{is_reply_to, is_replied, is_done, done_from, retires, is_request_for, is_credit, credit_cap, is_credit_on, held, lacks_credit};
-ghost use Rattle.sim_base.specs.Windows.{is_memory, is_memory_in, has_memory, meets_memory, stop_after, has_cause, first_stop, step_with, step};
+ghost use Rattle.sim_base.specs.History.{request, request_of, retired_before, issued_before};
+ghost use Rattle.sim_base.specs.Windows.{is_reply_to, is_replied, is_done, done_from, retires, is_request_for, is_credit};
+ghost use Rattle.sim_base.specs.Windows.{credit_cap, is_credit_on, is_memory, is_memory_in, has_memory, meets_memory, step_with};
+ghost use Rattle.plain_steps.specs.Issues.{request_of_entry, requests_issued, credits_held, is_memory_among};
+ghost use Rattle.plain_steps.specs.Issues.{lacks_credit_for, cause_to_stop, stops_after, first_cause_to_stop, issue_count_of};
+ghost use Rattle.plain_steps.specs.Issues.{HasSent, next_step_of};
 
+use crate::core_cycle::{CoreMail, IssueStage, IssuedEntries};
 use address_map::place_of;
 use cpu_trace::trace::Trace;
+use sim_base::command::Source;
 use sim_base::config::Config;
 use sim_base::history::CoreStep;
 use sim_base::message::{CoreId, Load, Message, Request};
@@ -16,17 +20,11 @@ use sim_base::trace::{Entry, Stop};
 use std::alloc::{AllocError, Global};
 
 #[tactic(auto, unfolding(sim_base::specs::History::request))]
-fn request_message(
-    s: &Config,
-    core: CoreId,
-    cycle: usize,
-    entry: u64,
-    write: bool,
-    address: u64,
-) -> Message
+fn request_message(s: &Config, cycle: usize, source: Source, write: bool, address: u64) -> Message
     requires early { cycle < 2 ^ 41 }
-    ensures { result ≡ request s.now core cycle entry write address }
+    ensures { result ≡ request s.now source.core cycle source.entry write address }
 {
+    let Source { core, entry } = source;
     let place = place_of(s, address);
     let link = s.request_link(core, place.channel);
     let arrival = cycle as u64 + u64::from(s.latency(link));
@@ -50,10 +48,14 @@ fn request_for(s: &Config, core: CoreId, cycle: usize, number: u64, entry: Entry
     requires early { cycle < 2 ^ 41 }
     ensures { result ≡ request_of s.now core cycle number entry }
 {
+    let source = Source {
+        core,
+        entry: number,
+    };
     match entry {
         Entry::Plain => None,
-        Entry::Read(address) => Some(request_message(s, core, cycle, number, false, address)),
-        Entry::Write(address) => Some(request_message(s, core, cycle, number, true, address)),
+        Entry::Read(address) => Some(request_message(s, cycle, source, false, address)),
+        Entry::Write(address) => Some(request_message(s, cycle, source, true, address)),
     }
 }
 
@@ -104,7 +106,7 @@ fn request_of_number(
     number: u64,
 ) -> Option<Message>
     requires early { cycle < 2 ^ 41 }
-    ensures { result ≡ option_and_then (request_of s.now core cycle number) (slice_get trace.now number) }
+    ensures { result ≡ request_of_entry s.now core cycle trace.now number }
 {
     match entry_of(trace, number) {
         Some(entry) => request_for(s, core, cycle, number, entry),
@@ -121,26 +123,23 @@ fn push_some(sent: &mut Vec<Message>, message: Option<Message>) -> Result<(), Al
     Ok(())
 }
 
-/// The requests among `count` entries from `first` on.
+/// The requests among entries that a core issues. The only error is out of memory.
 #[tactic(auto, using(crate::proofs::Entries::requests_between_none))]
 pub fn requests_of_entries(
     alloc: Global,
     s: &Config,
     core: CoreId,
     trace: &Trace,
-    cycle: usize,
-    first: u64,
-    count: u16,
+    issued: &IssuedEntries,
 ) -> Result<Vec<Message>, AllocError>
-    requires early { cycle < 2 ^ 41 }
-    requires fits { first < 2 ^ 63 }
-    ensures { IfOk result (λ v. v.items ≡ requests_between s.now core trace.now cycle first (first + count)) }
+    ensures { IfOk result (λ v. v.items ≡ requests_issued s.now core trace.now issued.now) }
 {
     let mut sent = Vec::new(alloc);
-    for k in 0..count {
+    for k in 0..issued.count {
+        let number = issued.first + u64::from(k);
         push_some(
             &mut sent,
-            request_of_number(s, core, trace, cycle, first + u64::from(k)),
+            request_of_number(s, core, trace, issued.cycle, number),
         )?;
     }
     Ok(sent)
@@ -250,47 +249,14 @@ fn request_count(sent: &[Message], channel: u32, write: bool) -> usize
         .count()
 }
 
-/// Credits that a core holds for a channel.
+/// The credits that a core holds for a channel, to read or to write, those counted that arrived before a cycle.
 #[tactic(auto, unfolding(sim_base::specs::Windows::held))]
-pub fn held_count(
-    s: &Config,
-    core: CoreId,
-    inbox: &[Message],
-    sent: &[Message],
-    channel: u32,
-    write: bool,
-    until: usize,
-) -> usize
-    ensures { result ≡ held s.now core inbox.now sent.now channel write until }
+pub fn held_count(s: &Config, mail: &CoreMail<'_>, channel: u32, write: bool, until: usize) -> usize
+    ensures { result ≡ credits_held s.now mail.now channel write until }
 {
-    let link = s.credit_link(core, channel);
-    let received = cap(s, write) as usize + credits_received(inbox, link, write, until);
-    received.saturating_sub(request_count(sent, channel, write))
-}
-
-#[tactic(auto, unfolding(sim_base::specs::Windows::lacks_credit))]
-fn is_out_of_credit(
-    s: &Config,
-    core: CoreId,
-    inbox: &[Message],
-    sent: &[Message],
-    now: usize,
-    entry: Option<Entry>,
-) -> bool
-    requires early { now < 2 ^ 41 }
-    ensures { result ≡ lacks_credit s.now core inbox.now sent.now now entry }
-{
-    match entry {
-        Some(Entry::Read(address)) => {
-            let channel = place_of(s, address).channel;
-            held_count(s, core, inbox, sent, channel, false, now + 1) == 0
-        }
-        Some(Entry::Write(address)) => {
-            let channel = place_of(s, address).channel;
-            held_count(s, core, inbox, sent, channel, true, now + 1) == 0
-        }
-        Some(Entry::Plain) | None => false,
-    }
+    let link = s.credit_link(mail.core, channel);
+    let received = cap(s, write) as usize + credits_received(mail.inbox, link, write, until);
+    received.saturating_sub(request_count(mail.sent, channel, write))
 }
 
 fn is_memory_entry(entry: Entry) -> bool
@@ -319,7 +285,7 @@ fn is_memory_number(trace: &Trace, number: u64) -> bool
 
 fn has_memory_number(trace: &Trace, first: u64, m: u16) -> bool
     requires { first + m < 2 ^ 64 }
-    ensures { result ≡ list_any (λ k. is_memory_in (slice_get trace.now (first + k))) (below m) }
+    ensures { result ≡ is_memory_among trace.now first m }
 {
     (0..m).any(|k| is_memory_number(trace, first + u64::from(k)))
 }
@@ -340,27 +306,29 @@ fn meets_memory_entry(trace: &Trace, first: u64, m: u16) -> bool
     is_memory_number(trace, first + u64::from(m)) && has_memory_entry(trace, first, m)
 }
 
-/// What a core issues from in a cycle: its trace, of which `first` entries were issued before the cycle and `gone` are retired by
-/// its end, the messages that were sent to it, and the requests that it sent.
-#[derive(Clone, Copy)]
-struct IssueStage<'a> {
-    config: &'a Config,
-    core: CoreId,
-    trace: &'a Trace,
-    inbox: &'a [Message],
-    sent: &'a [Message],
-    cycle: usize,
-    first: u64,
-    gone: u64,
-    ghost early: { cycle < 2 ^ 41 },
-    ghost first_fits: { first < 2 ^ 63 },
-}
-
 impl IssueStage<'_> {
+    /// Whether an entry needs a credit that the core does not hold.
+    #[tactic(auto, unfolding(sim_base::specs::Windows::lacks_credit))]
+    fn is_out_of_credit(&self, entry: Option<Entry>) -> bool
+        ensures { result ≡ lacks_credit_for self.now entry }
+    {
+        match entry {
+            Some(Entry::Read(address)) => {
+                let channel = place_of(self.config, address).channel;
+                held_count(self.config, self.mail, channel, false, self.cycle + 1) == 0
+            }
+            Some(Entry::Write(address)) => {
+                let channel = place_of(self.config, address).channel;
+                held_count(self.config, self.mail, channel, true, self.cycle + 1) == 0
+            }
+            Some(Entry::Plain) | None => false,
+        }
+    }
+
     /// Why the core issues no further entry after m in this cycle.
     #[tactic(auto, unfolding(sim_base::specs::Windows::stop_after))]
     fn stop_cause(&self, m: u16) -> Option<Stop>
-        ensures { let i = self.now in result ≡ stop_after i.config.now i.core i.trace.now i.inbox.now i.sent.now i.cycle i.first i.gone m }
+        ensures { result ≡ cause_to_stop self.now m }
     {
         let next = self.first + u64::from(m);
         let entry = entry_of(self.trace, next);
@@ -372,14 +340,7 @@ impl IssueStage<'_> {
             Some(Stop::Window)
         } else if meets_memory_entry(self.trace, self.first, m) {
             Some(Stop::Memory)
-        } else if is_out_of_credit(
-            self.config,
-            self.core,
-            self.inbox,
-            self.sent,
-            self.cycle,
-            entry,
-        ) {
+        } else if self.is_out_of_credit(entry) {
             Some(Stop::Credit)
         } else {
             None
@@ -388,13 +349,13 @@ impl IssueStage<'_> {
 
     #[tactic(auto, unfolding(sim_base::specs::Windows::has_cause))]
     fn has_stop_cause(&self, m: u16) -> bool
-        ensures { let i = self.now in result ≡ has_cause i.config.now i.core i.trace.now i.inbox.now i.sent.now i.cycle i.first i.gone m }
+        ensures { result ≡ stops_after self.now m }
     {
         self.stop_cause(m).is_some()
     }
 
     fn first_cause(&self) -> Option<u16>
-        ensures { let i = self.now in result ≡ find (has_cause i.config.now i.core i.trace.now i.inbox.now i.sent.now i.cycle i.first i.gone) (below (i.config.now.width + 1)) }
+        ensures { result ≡ first_cause_to_stop self.now }
     {
         (0..self.config.width + 1).find(|m| self.has_stop_cause(*m))
     }
@@ -402,7 +363,7 @@ impl IssueStage<'_> {
     /// The least number of entries after which there is a cause to stop.
     #[tactic(auto, unfolding(sim_base::specs::Windows::first_stop))]
     fn issue_count(&self) -> u16
-        ensures { let i = self.now in result ≡ first_stop i.config.now i.core i.trace.now i.inbox.now i.sent.now i.cycle i.first i.gone }
+        ensures { result ≡ issue_count_of self.now }
     {
         self.first_cause().unwrap_or(self.config.width)
     }
@@ -414,27 +375,23 @@ fn step_from(retired: u16, m: u16, why: Option<Stop>) -> (CoreStep, Stop)
     (CoreStep { retired, issued: m }, why.unwrap_or(Stop::Width))
 }
 
-/// What a core does in the next cycle, and why it stops.
+/// What a core does in the cycle after these steps, in which it sent and was sent these messages, and why it stops.
 #[tactic(auto, unfolding(sim_base::specs::Windows::step))]
 pub fn core_step(
     s: &Config,
-    core: CoreId,
     trace: &Trace,
     past_steps: &[CoreStep],
-    sent: &[Message],
-    inbox: &[Message],
+    mail: &CoreMail<'_>,
 ) -> (CoreStep, Stop)
     requires few { length past_steps.now < 2 ^ 40 }
-    requires sent { sent.now ≡ core_messages s.now core trace.now past_steps.now }
-    ensures { result ≡ step s.now core trace.now past_steps.now inbox.now }
+    requires sent { HasSent s.now trace.now past_steps.now mail.now }
+    ensures { result ≡ next_step_of s.now trace.now past_steps.now mail.now }
 {
-    let retired = retire_count(s, trace, past_steps, inbox);
+    let retired = retire_count(s, trace, past_steps, mail.inbox);
     let stage = IssueStage {
         config: s,
-        core,
         trace,
-        inbox,
-        sent,
+        mail,
         cycle: past_steps.len(),
         first: issued_count(past_steps),
         gone: retired_count(past_steps) + u64::from(retired),

@@ -1,8 +1,9 @@
 //! When a command keeps the timing rules, over the whole past of its channel.
 
-ghost use Rattle.std.specs.Prelude.{◌≡◌, ◌+◌, ◌==◌, ◌&&◌, nat_le, nat_lt};
-ghost use Rattle.sim_base.specs.Rules.{is_kind, kind_of, rank_of};
-ghost use Rattle.sim_base.specs.Rules.{open_row, recent_acts, is_past_gap, is_allowed, keeps_distances, is_open, has_open_bank_in_group, has_open_bank, finds_its_banks, is_legal};
+ghost use Rattle.std.specs.Prelude.{◌≡◌, ◌+◌, nat_le, nat_lt};
+ghost use Rattle.sim_base.specs.Rules.{open_row, recent_acts, is_past_gap, is_allowed, keeps_distances};
+ghost use Rattle.sim_base.specs.Rules.{is_open, has_open_bank_in_group, has_open_bank, finds_its_banks, is_legal};
+ghost use Rattle.plain_steps.specs.Plain.{counts_in_window};
 
 use sim_base::command::{Command, IssuedCommand, Kind};
 use sim_base::config::Config;
@@ -34,7 +35,7 @@ fn is_ahead(cycle: u64, distance: u64, now: u64) -> bool
 }
 
 fn is_recent_act(t: Timing, of_rank: u32, now: u64, i: IssuedCommand) -> bool
-    ensures { result ≡ (is_kind (kind_of i.command) Kind.Act && (rank_of i.command == of_rank) && nat_lt now (i.cycle + t.n_faw)) }
+    ensures { result ≡ counts_in_window t of_rank now i }
 {
     i.command.kind().is_kind(Kind::Act)
         && i.command.rank() == of_rank

@@ -1,17 +1,20 @@
 //! First-ready first-come-first-served scheduling of one channel.
 
-ghost use Rattle.std.specs.Prelude.{◌≡◌, ◌+◌, ◌<◌, ◌^◌, find, filter, count_by, take, IfOk};
-ghost use Rattle.sim_base.specs.Scheduling.{request_in, is_source, serves, is_served, drains_with};
-ghost use Rattle.sim_base.specs.Scheduling.{asks_for_line, first_of_lines, is_favoured, candidates, needed, is_row_hit, has_hit, is_withheld, ready_hit, ready_row, first_ready, refreshes, due, lowest_due, refresh_command, if_legal, choice_between};
+ghost use Rattle.std.specs.Prelude.{◌≡◌, ◌<◌, ◌^◌, find, filter, count_by, take, IfOk};
+ghost use Rattle.sim_base.specs.Scheduling.{request_in, is_source, serves, is_served, drains_with, asks_for_line};
+ghost use Rattle.sim_base.specs.Scheduling.{first_of_lines, is_favoured, candidates, needed, is_row_hit, has_hit, is_withheld};
+ghost use Rattle.sim_base.specs.Scheduling.{refreshes, due, lowest_due, refresh_command};
 ghost use Rattle.plain_steps.specs.Plain.{queue_of, is_request_left, is_left};
+ghost use Rattle.plain_steps.specs.Choices.{is_legal_in, ready_hit_in, ready_row_in, first_ready_in, if_legal_in, choice_in};
+ghost use Rattle.plain_steps.specs.Choices.{drains_in, command_in};
 
+use crate::channel_cycle::ChannelCycle;
 use crate::rules;
 use sim_base::command::{Command, IssuedCommand, Kind, Source};
 use sim_base::config::Config;
 use sim_base::message::{Load, Message, Request};
 use sim_base::place::{BankId, Place, is_row};
 use std::alloc::{AllocError, Global};
-use timing::gap_table::GapTable;
 
 pub fn request_of_load(load: Load) -> Option<Request>
     ensures { result ≡ request_in load }
@@ -191,92 +194,6 @@ fn is_command_withheld(history: &[IssuedCommand], requests: &[Request], command:
     }
 }
 
-#[tactic(auto, unfolding(sim_base::specs::Scheduling::ready_hit))]
-fn is_ready_hit(
-    s: &Config,
-    gaps: &GapTable,
-    history: &[IssuedCommand],
-    now: u64,
-    r: Request,
-) -> bool
-    requires { gaps.now ≡ s.now.timing }
-    ensures { result ≡ ready_hit s.now history.now now r }
-{
-    let command = needed_command(history, r);
-    command.is_column() && rules::is_legal_now(s, gaps, history, now, command)
-}
-
-#[tactic(auto, unfolding(sim_base::specs::Scheduling::ready_row))]
-fn is_ready_row(
-    s: &Config,
-    gaps: &GapTable,
-    history: &[IssuedCommand],
-    now: u64,
-    requests: &[Request],
-    r: Request,
-) -> bool
-    requires { gaps.now ≡ s.now.timing }
-    ensures { result ≡ ready_row s.now history.now now requests.now r }
-{
-    let command = needed_command(history, r);
-    !command.is_column()
-        && rules::is_legal_now(s, gaps, history, now, command)
-        && !is_command_withheld(history, requests, command)
-}
-
-fn first_hit(
-    s: &Config,
-    gaps: &GapTable,
-    history: &[IssuedCommand],
-    now: u64,
-    requests: &[Request],
-) -> Option<Request>
-    requires { gaps.now ≡ s.now.timing }
-    ensures { result ≡ find (ready_hit s.now history.now now) requests.now }
-{
-    requests
-        .iter()
-        .copied()
-        .find(|r| is_ready_hit(s, gaps, history, now, *r))
-}
-
-fn first_row(
-    s: &Config,
-    gaps: &GapTable,
-    history: &[IssuedCommand],
-    now: u64,
-    requests: &[Request],
-) -> Option<Request>
-    requires { gaps.now ≡ s.now.timing }
-    ensures { result ≡ find (ready_row s.now history.now now requests.now) requests.now }
-{
-    requests
-        .iter()
-        .copied()
-        .find(|r| is_ready_row(s, gaps, history, now, requests, *r))
-}
-
-/// The command of the first request that is ready: row hits first.
-#[tactic(auto, unfolding(sim_base::specs::Scheduling::first_ready))]
-fn first_ready_command(
-    s: &Config,
-    gaps: &GapTable,
-    history: &[IssuedCommand],
-    now: u64,
-    requests: &[Request],
-) -> Option<Command>
-    requires { gaps.now ≡ s.now.timing }
-    ensures { result ≡ first_ready s.now history.now now requests.now }
-{
-    match first_hit(s, gaps, history, now, requests) {
-        Some(r) => Some(needed_command(history, r)),
-        None => match first_row(s, gaps, history, now, requests) {
-            Some(r) => Some(needed_command(history, r)),
-            None => None,
-        },
-    }
-}
-
 fn is_refresh_of(rank: u32, command: Command) -> bool
     ensures { result ≡ refreshes rank command }
 {
@@ -323,42 +240,6 @@ fn refresh_command_of(s: &Config, history: &[IssuedCommand], rank: u32) -> Comma
     }
 }
 
-#[tactic(auto, unfolding(sim_base::specs::Scheduling::if_legal))]
-fn command_if_legal(
-    s: &Config,
-    gaps: &GapTable,
-    history: &[IssuedCommand],
-    now: u64,
-    command: Command,
-) -> Option<Command>
-    requires { gaps.now ≡ s.now.timing }
-    ensures { result ≡ if_legal s.now history.now now command }
-{
-    if rules::is_legal_now(s, gaps, history, now, command) {
-        Some(command)
-    } else {
-        None
-    }
-}
-
-#[tactic(auto, unfolding(sim_base::specs::Scheduling::choice_between))]
-fn choice_of(
-    s: &Config,
-    gaps: &GapTable,
-    history: &[IssuedCommand],
-    now: u64,
-    requests: &[Request],
-    due: Option<u32>,
-) -> Option<Command>
-    requires { gaps.now ≡ s.now.timing }
-    ensures { result ≡ choice_between s.now history.now now requests.now due }
-{
-    match due {
-        Some(rank) => command_if_legal(s, gaps, history, now, refresh_command_of(s, history, rank)),
-        None => first_ready_command(s, gaps, history, now, requests),
-    }
-}
-
 /// What a channel does in a cycle: its command, if there is one, and whether it drains its writes.
 #[derive(Clone, Copy, PartialEq, Eq, Debug)]
 pub struct ChannelStep {
@@ -366,26 +247,102 @@ pub struct ChannelStep {
     pub draining: bool,
 }
 
-/// What a channel does in the cycle `now`, after these commands, with these messages still pending, given whether it
-/// drained its writes in the cycle before.
+impl ChannelCycle<'_> {
+    fn is_legal(&self, command: Command) -> bool
+        ensures { result ≡ is_legal_in self.now command }
+    {
+        rules::is_legal_now(self.config, self.gaps, self.history, self.number, command)
+    }
+
+    /// Whether a row hit may be served now.
+    #[tactic(auto, unfolding(sim_base::specs::Scheduling::ready_hit))]
+    fn is_ready_hit(&self, r: Request) -> bool
+        ensures { result ≡ ready_hit_in self.now r }
+    {
+        let command = needed_command(self.history, r);
+        command.is_column() && self.is_legal(command)
+    }
+
+    /// Whether a row may be opened or closed for a request now.
+    #[tactic(auto, unfolding(sim_base::specs::Scheduling::ready_row))]
+    fn is_ready_row(&self, requests: &[Request], r: Request) -> bool
+        ensures { result ≡ ready_row_in self.now requests.now r }
+    {
+        let command = needed_command(self.history, r);
+        !command.is_column()
+            && self.is_legal(command)
+            && !is_command_withheld(self.history, requests, command)
+    }
+
+    fn first_hit(&self, requests: &[Request]) -> Option<Request>
+        ensures { result ≡ find (ready_hit_in self.now) requests.now }
+    {
+        requests.iter().copied().find(|r| self.is_ready_hit(*r))
+    }
+
+    fn first_row(&self, requests: &[Request]) -> Option<Request>
+        ensures { result ≡ find (ready_row_in self.now requests.now) requests.now }
+    {
+        requests
+            .iter()
+            .copied()
+            .find(|r| self.is_ready_row(requests, *r))
+    }
+
+    /// The command of the first request that is ready: row hits first.
+    #[tactic(auto, unfolding(sim_base::specs::Scheduling::first_ready))]
+    fn first_ready_command(&self, requests: &[Request]) -> Option<Command>
+        ensures { result ≡ first_ready_in self.now requests.now }
+    {
+        match self.first_hit(requests) {
+            Some(r) => Some(needed_command(self.history, r)),
+            None => match self.first_row(requests) {
+                Some(r) => Some(needed_command(self.history, r)),
+                None => None,
+            },
+        }
+    }
+
+    #[tactic(auto, unfolding(sim_base::specs::Scheduling::if_legal))]
+    fn command_if_legal(&self, command: Command) -> Option<Command>
+        ensures { result ≡ if_legal_in self.now command }
+    {
+        if self.is_legal(command) {
+            Some(command)
+        } else {
+            None
+        }
+    }
+
+    /// The command that the channel issues: a refresh where one is due, and otherwise for one of these requests.
+    #[tactic(auto, unfolding(sim_base::specs::Scheduling::choice_between))]
+    fn choice_of(&self, requests: &[Request], due: Option<u32>) -> Option<Command>
+        ensures { result ≡ choice_in self.now requests.now due }
+    {
+        match due {
+            Some(rank) => {
+                self.command_if_legal(refresh_command_of(self.config, self.history, rank))
+            }
+            None => self.first_ready_command(requests),
+        }
+    }
+}
+
+/// What a channel does in a cycle, with these messages still pending, given whether it drained its writes in the
+/// cycle before.
 pub fn channel_step(
     alloc: Global,
-    s: &Config,
-    gaps: &GapTable,
-    now: u64,
-    history: &[IssuedCommand],
+    cycle: &ChannelCycle<'_>,
     pending: &[Message],
     drained: bool,
 ) -> Result<ChannelStep, AllocError>
-    requires gaps { gaps.now ≡ s.now.timing }
-    requires early { now < 2 ^ 41 }
-    ensures draining { IfOk result (λ step. step.draining ≡ drains_with s.now drained (count_by (λ r. r.write) (queue_of pending.now (now + 1)))) }
-    ensures command { IfOk result (λ step. step.command ≡ choice_between s.now history.now now (candidates s.now step.draining (queue_of pending.now (now + 1))) (lowest_due s.now history.now now)) }
+    ensures draining { IfOk result (λ x. x.draining ≡ drains_in cycle.now drained pending.now) }
+    ensures command { IfOk result (λ x. x.command ≡ command_in cycle.now x.draining pending.now) }
 {
-    let queue = queue(alloc, pending, now + 1)?;
-    let draining = drains_at(s, drained, write_count(&queue));
-    let requests = candidate_requests(alloc, s, draining, &queue)?;
-    let due = lowest_rank_due(s, history, now);
-    let command = choice_of(s, gaps, history, now, &requests, due);
+    let queue = queue(alloc, pending, cycle.number + 1)?;
+    let draining = drains_at(cycle.config, drained, write_count(&queue));
+    let requests = candidate_requests(alloc, cycle.config, draining, &queue)?;
+    let due = lowest_rank_due(cycle.config, cycle.history, cycle.number);
+    let command = cycle.choice_of(&requests, due);
     Ok(ChannelStep { command, draining })
 }

@@ -34,7 +34,8 @@ use Rattle.refusal.specs.declared.refusal.Refusal.{Refusal}
 use Rattle.command_line.specs.declared.words.Ask.{Ask}
 use Rattle.command_line.specs.declared.words.Ask.TheVariants.{Run, Check, Map, Show, ShowBanks, Page, Compare, Help, Version}
 
--- what the paths hold, where folders stand, which paths were opened to be written, and what the stream of answers holds, where that is told
+-- what the paths hold, where folders stand, which paths were opened to be written, and what the stream of answers
+-- holds, where that is told
 pub record Seen : Type 0 where
   pub held : Held
   pub has_folder : List ℕ → Bool
@@ -52,8 +53,8 @@ pub record IsInputOf (config : List ℕ) (cycles workers : ℕ) (traces : List (
   pub traces_are : map held traces ≡ map Some texts
   pub input : IsInput document texts cycles workers machine entries
 
--- The files that are named hold a configuration and traces, this is the outcome of the one-clock machine that they describe, with the tables
--- that are asked for, and `check` says of the table of its commands that it is legal.
+-- The files that are named hold a configuration and traces, this is the outcome of the one-clock machine that they
+-- describe, with the tables that are asked for, and `check` says of the table of its commands that it is legal.
 pub record IsOutcome (config : List ℕ) (cycles workers : ℕ) (tables : Tables) (traces : List (List ℕ)) (held : Held) (run : RunOutcome) : Type 0 where
   pub document : List ℕ
   pub texts : List (List ℕ)
@@ -62,7 +63,8 @@ pub record IsOutcome (config : List ℕ) (cycles workers : ℕ) (tables : Tables
   pub run_is : IsRunOf document texts cycles workers tables run
   pub legal : IsJudgedLegal document texts cycles workers tables run
 
--- the tables of the outcome that are asked for are in the folder and no others, just these were opened, and nothing else has changed
+-- the tables of the outcome that are asked for are in the folder and no others, just these were opened, and nothing
+-- else has changed
 pub record IsRunDone (config : List ℕ) (cycles workers : ℕ) (tables : Tables) (out : List ℕ) (traces : List (List ℕ)) (old new : Held) (before after : List (List ℕ)) : Type 0 where
   pub run : RunOutcome
   pub outcome : IsOutcome config cycles workers tables traces old run
@@ -76,13 +78,15 @@ pub record IsRunLeft (refusal : Refusal) (config : List ℕ) (cycles workers : �
   pub outcome : IsOutcome config cycles workers tables traces old run
   pub unplaced : IsUnplaced refusal out run old new
 
--- What is left of a run that is refused: it had no outcome, as where its folder was not there, or memory was refused, and no file has
--- changed and none was opened to be written; or its folder was there, it had an outcome, and is left undone after that.
+-- What is left of a run that is refused: it had no outcome, as where its folder was not there, or memory was refused,
+-- and no file has changed and none was opened to be written; or its folder was there, it had an outcome, and is left
+-- undone after that.
 abbrev pub IsUnfinished : Refusal → List ℕ → ℕ → ℕ → Tables → List ℕ → List (List ℕ) → Bool → Held → Held → List (List ℕ) → List (List ℕ) → Type 0
 IsUnfinished refusal config cycles workers tables out traces has_folder old new before after =
     LeavesAll refusal old new before after ⊎ IsRunLeft refusal config cycles workers tables out traces has_folder old new
 
--- a run has been done: its folder was there before it began, it prints nothing, and opens just the tables that are asked for
+-- a run has been done: its folder was there before it began, it prints nothing, and opens just the tables that are
+-- asked for
 pub record IsRunAnswer (config : List ℕ) (cycles workers : ℕ) (tables : Tables) (out : List ℕ) (traces : List (List ℕ)) (status : ℕ) (old new : Seen) : Type 0 where
   pub status_is : status ≡ 0
   pub folder : old.has_folder out ≡ true
@@ -91,25 +95,25 @@ pub record IsRunAnswer (config : List ℕ) (cycles workers : ℕ) (tables : Tabl
 
 -- a table has been checked
 pub record IsCheckAnswer (config commands : List ℕ) (status : ℕ) (old new : Seen) : Type 0 where
-  pub checked : IsChecked config commands status old.held old.printed new.printed
+  pub checked : IsChecked config commands status old.held (Appends old.printed new.printed)
   pub untouched : IsUntouched old.held new.held old.opened new.opened
 
 -- an address has been mapped
 pub record IsMapAnswer (config : List ℕ) (address status : ℕ) (old new : Seen) : Type 0 where
   pub status_is : status ≡ 0
-  pub mapped : IsMapped config address old.held old.printed new.printed
+  pub mapped : IsMapped config address old.held (Appends old.printed new.printed)
   pub untouched : IsUntouched old.held new.held old.opened new.opened
 
 -- a run has been shown
 pub record IsShowAnswer (dir : List ℕ) (config : Option (List ℕ)) (status : ℕ) (old new : Seen) : Type 0 where
   pub status_is : status ≡ 0
-  pub shown : IsShown dir config old.held old.printed new.printed
+  pub shown : IsShown dir config old.held (Appends old.printed new.printed)
   pub untouched : IsUntouched old.held new.held old.opened new.opened
 
 -- a run has been shown with its banks
 pub record IsBanksAnswer (dir : List ℕ) (config : Option (List ℕ)) (status : ℕ) (old new : Seen) : Type 0 where
   pub status_is : status ≡ 0
-  pub shown : IsShownWithBanks dir config old.held old.printed new.printed
+  pub shown : IsShownWithBanks dir config old.held (Appends old.printed new.printed)
   pub untouched : IsUntouched old.held new.held old.opened new.opened
 
 -- a page has been made: it prints nothing, and opens just one file
@@ -131,7 +135,7 @@ layout_of csv = if csv then Csv else Screen
 -- runs have been compared
 pub record IsCompareAnswer (dirs : List (List ℕ)) (csv : Bool) (status : ℕ) (old new : Seen) : Type 0 where
   pub status_is : status ≡ 0
-  pub compared : IsCompared dirs (layout_of csv) old.held old.printed new.printed
+  pub compared : IsCompared dirs (layout_of csv) old.held (Appends old.printed new.printed)
   pub untouched : IsUntouched old.held new.held old.opened new.opened
 
 -- help has been given, or the version
@@ -163,7 +167,8 @@ abbrev pub IsQuiet : Ask → Option LargePage → Type 0
 IsQuiet (Page dir file config khz from cycles) warning = ⊤
 IsQuiet _ warning = warning ≡ None
 
--- what is left where it has not been done: nothing was touched, or a run is left undone after its outcome was there, or a page
+-- what is left where it has not been done: nothing was touched, or a run is left undone after its outcome was there, or
+-- a page
 abbrev pub IsLeft : Refusal → Ask → Seen → Seen → Type 0
 IsLeft refusal (Run config cycles workers share tables out traces) old new =
     IsUnfinished refusal config.now cycles workers tables out.now (map (λ t. t.now) traces.items) (old.has_folder out.now) old.held new.held old.opened new.opened
@@ -176,8 +181,8 @@ pub record IsDone (words : List (List ℕ)) (done : Done) (old new : Seen) : Typ
   pub asked : IsAskedBy words ask
   pub answer : IsAnswer ask done old new
 
--- what the words ask for has been done with this status; and the stream of errors took the line that warns of a page of more than 50 MB, or a
--- beginning of it where it has refused, and nothing where there is no such page
+-- what the words ask for has been done with this status; and the stream of errors took the line that warns of a page of
+-- more than 50 MB, or a beginning of it where it has refused, and nothing where there is no such page
 pub record IsAnswered (words : List (List ℕ)) (status : ℕ) (old new : Seen) (has_refused : Bool) (before after : Option (List ℕ)) : Type 0 where
   pub done : Done
   pub status_is : status ≡ done.status
@@ -196,7 +201,8 @@ pub record IsUndone (refusal : Refusal) (words : List (List ℕ)) (old new : See
   pub asked : IsAskedBy words ask
   pub left : IsLeft refusal ask old new
 
--- the words are none that the program knows, or memory was refused, and nothing was touched; or what they ask for has not been done
+-- the words are none that the program knows, or memory was refused, and nothing was touched; or what they ask for has
+-- not been done
 abbrev pub IsRefusedBy : Refusal → List (List ℕ) → Seen → Seen → Type 0
 IsRefusedBy refusal words old new =
     LeavesAll refusal old.held new.held old.opened new.opened ⊎ IsUndone refusal words old new

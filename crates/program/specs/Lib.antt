@@ -1,3 +1,4 @@
 pub mod Answered
 pub mod Refused
 pub mod Told
+pub mod Runs

@@ -1,5 +1,6 @@
--- Why what the words ask for is refused. What is tested comes in this order: the words; whether each file that they name can be
--- read; what these files hold, the configuration before all else; and last, whether the answer can be written.
+-- Why what the words ask for is refused. What is tested comes in this order: the words; whether each file that they
+-- name can be read; what these files hold, the configuration before all else; and last, whether the answer can be
+-- written.
 --     HasNoAsk words      the words ask for nothing
 --     named ask      the files that are read
 --     IsRunFault cycles workers texts fault, IsRightRun cycles workers texts      what is wrong with the texts of a run, and that nothing is
@@ -40,7 +41,8 @@ named (Compare dirs csv) = map (λ d. stats_path d.now) dirs.items
 named (Help text) = []
 named (Version text) = []
 
--- what is wrong with the configuration and the traces of a run: the first fault in the order of their tests, or a worker's start
+-- what is wrong with the configuration and the traces of a run: the first fault in the order of their tests, or a
+-- worker's start
 abbrev pub IsRunFault : ℕ → ℕ → List (List ℕ) → Fault → Type 0
 IsRunFault cycles workers (document ∷ texts) fault = IsRefusal document texts cycles workers fault
 IsRunFault cycles workers _ fault = ⊥

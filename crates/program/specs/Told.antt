@@ -7,8 +7,8 @@ use Rattle.refusal.specs.declared.refusal.Refusal.{Refusal}
 use Rattle.program.specs.Answered.{Seen, IsRefusedBy}
 use Rattle.program.specs.Refused.{IsFaultOf}
 
--- The words are refused for this fault, and leave this; and the stream of errors took the lines of the refusal and what explains
--- them, or a beginning of that where it has refused.
+-- The words are refused for this fault, and leave this; and the stream of errors took the lines of the refusal and what
+-- explains them, or a beginning of that where it has refused.
 pub record IsTold (tells : Type 0) (words : List (List ℕ)) (old new : Seen) (has_refused : Bool) (before after : Option (List ℕ)) : Type 0 where
   pub refusal : Refusal
   pub why : IsFaultOf tells old.held words (fault_of refusal)

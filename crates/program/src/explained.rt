@@ -1,35 +1,31 @@
 //! The input and the outcome of a run, with a refusal that is explained.
 
-ghost use Rattle.std.specs.Prelude.{◌≡◌, ◌≤◌, ◌^◌, map, length, vec_len, IsOk, IfOk, IfErr, OnOk};
-ghost use Rattle.program.specs.Refused.{IsRunRefusal};
-ghost use Rattle.simulation.specs.Runs.{HoldsOfInput, IsInput, IsJudgedLegal, IsRunOf};
+ghost use Rattle.std.specs.Prelude.{◌≡◌, ◌≤◌, ◌^◌, length, vec_len, IsOk, IfOk, IfErr, OnOk};
+ghost use Rattle.program.specs.Runs.{HasWorkers, IsInputIn, IsInputRefusal, EndsInput, EndsLegally};
 ghost use Rattle.workers.specs.Runs.{IsRefusedTo};
 
+use crate::asked::RunAsk;
 use crate::host::Host;
 use config_reader::read_config;
 use cpu_trace::trace::Trace;
 use explain::{of_config, of_host, of_numbers, of_traces};
 use refusal::reason::Reason;
 use run_outcome::outcome::Outcome;
-use run_outcome::tables::Tables;
 use sim_base::config::Config;
 use sim_base::fault::Fault;
-use sim_base::message::Cycle;
 use simulation::input::read_input;
 use simulation::runs::run_input;
 use std::alloc::{AllocError, Global};
 use std::sync::Wait;
 use std::thread::Threads;
 use workers::gate::Open;
-use workers::sharing::Workers;
 use workers::watch::Watch;
 
-/// The files of a run, and what they hold.
+/// A run, and what its files hold: that of its configuration, and those of its traces.
 #[derive(Clone, Copy)]
 pub(crate) struct Input<'a> {
-    pub(crate) config: &'a str,
+    pub(crate) asked: &'a RunAsk<'a>,
     pub(crate) document: &'a [u8],
-    pub(crate) traces: &'a [&'a str],
     pub(crate) texts: &'a [&'a [u8]],
 }
 
@@ -42,57 +38,57 @@ fn cores_in(alloc: Global, document: &[u8]) -> Option<u16> {
 }
 
 // What explains why a run is refused.
-fn explain_run(
-    alloc: Global,
-    fault: Fault,
-    input: &Input<'_>,
-    cycles: Cycle,
-    workers: u64,
-) -> Result<String, AllocError> {
+fn explain_run(alloc: Global, fault: Fault, input: &Input<'_>) -> Result<String, AllocError> {
+    let asked = input.asked;
     match fault {
         Fault::TraceLine { .. } | Fault::TraceTooLong { .. } => {
-            of_traces(alloc, fault, input.traces, input.texts)
+            of_traces(alloc, fault, asked.traces, input.texts)
         }
         Fault::TraceCount | Fault::Workers | Fault::Cycles => {
             let cores = cores_in(alloc, input.document);
-            of_numbers(alloc, fault, cores, input.traces.len(), cycles, workers)
+            let count = asked.traces.len();
+            of_numbers(
+                alloc,
+                fault,
+                cores,
+                count,
+                asked.cycles,
+                asked.workers.count,
+            )
         }
         Fault::Memory | Fault::WorkerStart => of_host(alloc, fault),
-        _ => of_config(alloc, fault, input.config, input.document),
+        _ => of_config(alloc, fault, asked.config, input.document),
     }
 }
 
-/// The configuration and the traces of a run, read and tested. Where its folder is refused, the run is refused once its input has passed all tests.
+/// The configuration and the traces of a run, read and tested. Where its folder is refused, the run is refused once its
+/// input has passed all tests.
 pub(crate) fn tested_input<R: Threads + Sync>(
     threads: &R,
     alloc: Global,
     folder: Result<(), Reason>,
     input: &Input<'_>,
-    cycles: Cycle,
-    workers: u64,
 ) -> Result<(Config, Vec<Trace>), Reason>
     requires folder { IfErr folder (λ e. e ≡ Fault.Write) }
-    ensures read { IfOk result (λ r. IsInput input.now.document.now (map (λ t. t.now) input.now.texts.now) cycles workers r.0 r.1.items) }
+    ensures read { IfOk result (IsInputIn input.now) }
     ensures count { IfOk result (λ r. vec_len r.1 ≡ r.0.cores) }
-    ensures workers { IfOk result (λ _. (1 ≤ workers) × (workers ≤ 64)) }
-    ensures cycles { IfOk result (λ _. cycles ≤ 10 ^ 12) }
+    ensures workers { OnOk result (HasWorkers input.now.asked.now) }
+    ensures cycles { OnOk result (input.now.asked.now.cycles ≤ 10 ^ 12) }
     ensures folder { OnOk result (IsOk folder) }
-    ensures refused { IfErr result (IsRunRefusal input.now.document.now (map (λ t. t.now) input.now.texts.now) cycles workers) }
+    ensures refused { IfErr result (IsInputRefusal input.now) }
 {
     let Input {
+        asked,
         document,
         texts,
-        ..
     } = *input;
+    let (cycles, workers) = (asked.cycles, asked.workers.count);
     match read_input(threads, alloc, document, texts, cycles, workers) {
         Ok(read) => {
             folder?;
             Ok(read)
         }
-        Err(fault) => Err(Reason::explained(
-            fault,
-            explain_run(alloc, fault, input, cycles, workers),
-        )),
+        Err(fault) => Err(Reason::explained(fault, explain_run(alloc, fault, input))),
     }
 }
 
@@ -102,19 +98,17 @@ pub(crate) fn outcome_of<R: Threads + Wait + Sync, W: Watch>(
     alloc: Global,
     machine: &Config,
     traces: Vec<Trace>,
-    cycles: Cycle,
-    workers: Workers,
-    tables: Tables,
+    asked: &RunAsk<'_>,
 ) -> Result<Outcome, Reason>
     requires one_trace_a_core { length traces.items ≡ machine.now.cores }
-    requires some { 1 ≤ workers.count }
-    requires few { workers.count ≤ 64 }
-    requires limit { cycles ≤ 10 ^ 12 }
-    ensures run { IfOk result (HoldsOfInput cycles workers.count machine.now traces.items (λ config texts. IsRunOf config texts cycles workers.count tables)) }
-    ensures legal { IfOk result (HoldsOfInput cycles workers.count machine.now traces.items (λ config texts. IsJudgedLegal config texts cycles workers.count tables)) }
-    ensures refused { IfErr result (IsRefusedTo workers.count) }
+    requires workers { HasWorkers asked.now }
+    requires limit { asked.now.cycles ≤ 10 ^ 12 }
+    ensures run { IfOk result (EndsInput asked.now machine.now traces.items) }
+    ensures legal { IfOk result (EndsLegally asked.now machine.now traces.items) }
+    ensures refused { IfErr result (IsRefusedTo asked.now.workers.count) }
 {
     let (threads, watch) = (host.threads, &mut *host.watch);
+    let (cycles, workers, tables) = (asked.cycles, asked.workers, asked.tables);
     match run_input(
         threads, alloc, &Open, watch, machine, traces, cycles, workers, tables,
     ) {

@@ -1,6 +1,7 @@
 //! The program over words, files and streams that are handed in.
 #![tactic(auto)]
 
+mod asked;
 mod done;
 mod explained;
 pub mod host;

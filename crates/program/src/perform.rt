@@ -1,17 +1,16 @@
 //! What the program does, over files and streams that are handed in.
 
-ghost use Rattle.std.specs.Prelude.{◌≡◌, ◌≢◌, ◌⊎◌, ◌≤◌, None, map, IfOk, IfErr};
-ghost use Rattle.program.specs.Answered.{seen, layout_of, AskForPage, IsAnswer, IsDone, IsQuiet, IsLeft, IsAnswered, IsRefusedBy, IsRefused};
-ghost use Rattle.program.specs.Refused.{IsAskFault, IsFaultOf};
-ghost use Rattle.program.specs.Told.{IsTold};
-ghost use Rattle.refusal.specs.Refusals.{fault_of};
-ghost use Rattle.refusal.specs.Streams.{has_refused, stream_of};
+ghost use Rattle.std.specs.Prelude.{◌≡◌, ◌≢◌, ◌≤◌, IfOk, IfErr};
+ghost use Rattle.program.specs.Answered.{layout_of, IsAnswer, IsDone, IsQuiet, IsLeft, IsRefusedBy, IsRefused};
+ghost use Rattle.program.specs.Runs.{sight, words_of, RefusesAsk, RefusesWords, WarnsOfPages, IsSilentBut, Answers, Tells};
 
+use crate::asked::RunAsk;
 use crate::done::Done;
 use crate::host::Host;
 use crate::runs::perform_run;
 use answers::banks::perform_show_banks;
 use answers::comparisons::perform_compare;
+use answers::folder::RunFolder;
 use answers::pages::perform_page;
 use answers::places::perform_map;
 use answers::print::print_text;
@@ -26,6 +25,7 @@ use refusal::refusal::Refusal;
 use refusal::status::REFUSED;
 use refusal::warning::write_warning;
 use show::options::Options;
+use sim_base::message::Cycle;
 use std::alloc::Global;
 use std::io::Write;
 use std::sync::Wait;
@@ -51,6 +51,17 @@ fn layout_of(csv: bool) -> Layout
     if csv { Layout::Csv } else { Layout::Screen }
 }
 
+// What a screen shows, and by which clock.
+fn options_of(all: bool, khz: Option<u64>) -> Options {
+    Options { all, khz }
+}
+
+// What a page shows: its window of cycles, and its clock.
+fn view_of(khz: Option<u64>, from: Cycle, cycles: Cycle) -> View {
+    let window = Window { from, cycles };
+    View { window, khz }
+}
+
 // Does what is asked.
 fn answer<R: Threads + Wait + Sync, W: Watch, F: FileSet, P: Write>(
     host: &mut Host<'_, R, W>,
@@ -59,11 +70,15 @@ fn answer<R: Threads + Wait + Sync, W: Watch, F: FileSet, P: Write>(
     files: &mut F,
     output: &mut P,
 ) -> Result<Done, Refusal>
-    ensures answered { IfOk result (λ done. F.tells → IsAnswer ask.now done (seen (F.held files.old) (F.has_folder files.old) (F.opened files.old) (P.contents output.old)) (seen (F.held files.new) (F.has_folder files.new) (F.opened files.new) (P.contents output.new))) }
+    ensures answered { let old = sight F.FileSet P.Write files.old output.old in
+        let new = sight F.FileSet P.Write files.new output.new in
+        IfOk result (λ done. F.tells → IsAnswer ask.now done old new) }
     ensures status { IfOk result (λ done. done.status ≤ 1) }
     ensures quiet { IfOk result (λ done. IsQuiet ask.now done.warning) }
-    ensures refused { IfErr result (λ e. F.tells → IsLeft e ask.now (seen (F.held files.old) (F.has_folder files.old) (F.opened files.old) (P.contents output.old)) (seen (F.held files.new) (F.has_folder files.new) (F.opened files.new) (P.contents output.new))) }
-    ensures fault { IfErr result (λ e. IsAskFault F.tells (F.held files.old) ask.now (fault_of e)) }
+    ensures refused { let old = sight F.FileSet P.Write files.old output.old in
+        let new = sight F.FileSet P.Write files.new output.new in
+        IfErr result (λ e. F.tells → IsLeft e ask.now old new) }
+    ensures fault { IfErr result (RefusesAsk F.FileSet files.old ask.now) }
 {
     match ask {
         Ask::Run {
@@ -76,9 +91,15 @@ fn answer<R: Threads + Wait + Sync, W: Watch, F: FileSet, P: Write>(
             traces,
         } => {
             let workers = workers_of(*workers, *share);
-            perform_run(
-                host, alloc, files, config, *cycles, workers, *tables, out, traces,
-            )?;
+            let asked = RunAsk {
+                config,
+                cycles: *cycles,
+                workers,
+                tables: *tables,
+                out,
+                traces,
+            };
+            perform_run(host, alloc, files, &asked)?;
             Ok(Done::quiet())
         }
         Ask::Check { config, commands } => {
@@ -95,11 +116,11 @@ fn answer<R: Threads + Wait + Sync, W: Watch, F: FileSet, P: Write>(
             config,
             khz,
         } => {
-            let options = Options {
-                all: *all,
-                khz: *khz,
+            let folder = RunFolder {
+                dir,
+                config: *config,
             };
-            perform_show(alloc, files, output, dir, options, *config)?;
+            perform_show(alloc, files, output, &folder, options_of(*all, *khz))?;
             Ok(Done::quiet())
         }
         Ask::ShowBanks {
@@ -108,11 +129,11 @@ fn answer<R: Threads + Wait + Sync, W: Watch, F: FileSet, P: Write>(
             config,
             khz,
         } => {
-            let options = Options {
-                all: *all,
-                khz: *khz,
+            let folder = RunFolder {
+                dir,
+                config: *config,
             };
-            perform_show_banks(alloc, files, output, dir, options, *config)?;
+            perform_show_banks(alloc, files, output, &folder, options_of(*all, *khz))?;
             Ok(Done::quiet())
         }
         Ask::Page {
@@ -123,14 +144,12 @@ fn answer<R: Threads + Wait + Sync, W: Watch, F: FileSet, P: Write>(
             from,
             cycles,
         } => {
-            let view = View {
-                window: Window {
-                    from: *from,
-                    cycles: *cycles,
-                },
-                khz: *khz,
+            let folder = RunFolder {
+                dir,
+                config: *config,
             };
-            let warning = perform_page(alloc, files, dir, file, *config, view)?;
+            let view = view_of(*khz, *from, *cycles);
+            let warning = perform_page(alloc, files, &folder, file, view)?;
             Ok(Done::with_warning(warning))
         }
         Ask::Compare { dirs, csv } => {
@@ -152,29 +171,36 @@ fn answer_words<R: Threads + Wait + Sync, W: Watch, F: FileSet, P: Write>(
     files: &mut F,
     output: &mut P,
 ) -> Result<Done, Refusal>
-    ensures answered { IfOk result (λ done. F.tells → IsDone (map (λ w. w.now) words.now) done (seen (F.held files.old) (F.has_folder files.old) (F.opened files.old) (P.contents output.old)) (seen (F.held files.new) (F.has_folder files.new) (F.opened files.new) (P.contents output.new))) }
+    ensures answered { let old = sight F.FileSet P.Write files.old output.old in
+        let new = sight F.FileSet P.Write files.new output.new in
+        IfOk result (λ done. F.tells → IsDone (words_of words.now) done old new) }
     ensures status { IfOk result (λ done. done.status ≤ 1) }
-    ensures quiet { IfOk result (λ done. (done.warning ≡ None) ⊎ AskForPage (map (λ w. w.now) words.now)) }
-    ensures refused { IfErr result (λ e. F.tells → IsRefusedBy e (map (λ w. w.now) words.now) (seen (F.held files.old) (F.has_folder files.old) (F.opened files.old) (P.contents output.old)) (seen (F.held files.new) (F.has_folder files.new) (F.opened files.new) (P.contents output.new))) }
-    ensures fault { IfErr result (λ e. IsFaultOf F.tells (F.held files.old) (map (λ w. w.now) words.now) (fault_of e)) }
+    ensures quiet { IfOk result (λ done. WarnsOfPages words.now done.warning) }
+    ensures refused { let old = sight F.FileSet P.Write files.old output.old in
+        let new = sight F.FileSet P.Write files.new output.new in
+        IfErr result (λ e. F.tells → IsRefusedBy e (words_of words.now) old new) }
+    ensures fault { IfErr result (RefusesWords F.FileSet files.old words.now) }
 {
     let ask = read_words(alloc, words)?;
     answer(host, alloc, &ask, files, output)
 }
 
-/// Does what the words ask for, the first of which is the program's name, and returns the status: 0 done, 1 a table that breaks
-/// a rule, 2 refused. A run's workers are threads of the host, and the host's watcher is told how far the run is.
+/// Does what the words ask for, the first of which is the program's name, and returns the status: 0 done, 1 a table
+/// that breaks a rule, 2 refused. A run's workers are threads of the host, and the host's watcher is told how far the
+/// run is.
 ///
-/// A refusal is one line on `errors`, `fault N: ...`, and a second one where the tables in the folder are of two runs, with lines that
-/// explain it after them. It is told whole, unless the stream refuses (`ErrorStream::has_refused`): then the stream has a beginning of
-/// it. The fault is the first in this order: the words, the files that they name, what stands in these (the configuration, and then
-/// as `simulate` and `check` say), whether a run's folder is there, and what cannot be written. Memory may be refused at any time. With another status, nothing is
-/// told, but of a page of more than 50 MB one line that warns of it, with its length in bytes.
+/// A refusal is one line on `errors`, `fault N: ...`, and a second one where the tables in the folder are of two runs,
+/// with lines that explain it after them. It is told whole, unless the stream refuses (`ErrorStream::has_refused`):
+/// then the stream has a beginning of it. The fault is the first in this order: the words, the files that they name,
+/// what stands in these (the configuration, and then as `simulate` and `check` say), whether a run's folder is there,
+/// and what cannot be written. Memory may be refused at any time. With another status, nothing is told, but of a page
+/// of more than 50 MB one line that warns of it, with its length in bytes.
 ///
-/// Promises about files are made only where the set of files tells what it holds. A run whose status is 0 has put the tables of its
-/// outcome that were asked for into the folder, and none of another run is left there. Where it is 2, either the run had no outcome, and nothing was opened; or the places of the
-/// tables hold what they held, and none is left under a name that ends in `.part`; or a file could not be renamed after another one
-/// was, and each table is the earlier one or the new one, whole: in that case there is the second line.
+/// Promises about files are made only where the set of files tells what it holds. A run whose status is 0 has put the
+/// tables of its outcome that were asked for into the folder, and none of another run is left there. Where it is 2,
+/// either the run had no outcome, and nothing was opened; or the places of the tables hold what they held, and none is
+/// left under a name that ends in `.part`; or a file could not be renamed after another one was, and each table is the
+/// earlier one or the new one, whole: in that case there is the second line.
 pub fn perform<R: Threads + Wait + Sync, W: Watch, F: FileSet, P: Write, E: Write>(
     host: &mut Host<'_, R, W>,
     alloc: Global,
@@ -184,10 +210,16 @@ pub fn perform<R: Threads + Wait + Sync, W: Watch, F: FileSet, P: Write, E: Writ
     errors: &mut ErrorStream<E>,
 ) -> u8
     ensures status { result ≤ 2 }
-    ensures answered { result ≢ 2 → F.tells → IsAnswered (map (λ w. w.now) words.now) result (seen (F.held files.old) (F.has_folder files.old) (F.opened files.old) (P.contents output.old)) (seen (F.held files.new) (F.has_folder files.new) (F.opened files.new) (P.contents output.new)) (has_refused errors.new) (E.contents (stream_of errors.old)) (E.contents (stream_of errors.new)) }
-    ensures refused { result ≡ 2 → F.tells → IsRefused (map (λ w. w.now) words.now) (seen (F.held files.old) (F.has_folder files.old) (F.opened files.old) (P.contents output.old)) (seen (F.held files.new) (F.has_folder files.new) (F.opened files.new) (P.contents output.new)) }
-    ensures told { result ≡ 2 → IsTold F.tells (map (λ w. w.now) words.now) (seen (F.held files.old) (F.has_folder files.old) (F.opened files.old) (P.contents output.old)) (seen (F.held files.new) (F.has_folder files.new) (F.opened files.new) (P.contents output.new)) (has_refused errors.new) (E.contents (stream_of errors.old)) (E.contents (stream_of errors.new)) }
-    ensures silent { result ≢ 2 → (errors.new ≡ errors.old) ⊎ AskForPage (map (λ w. w.now) words.now) }
+    ensures answered { let old = sight F.FileSet P.Write files.old output.old in
+        let new = sight F.FileSet P.Write files.new output.new in
+        result ≢ 2 → F.tells → Answers E.Write errors.old errors.new words.now result old new }
+    ensures refused { let old = sight F.FileSet P.Write files.old output.old in
+        let new = sight F.FileSet P.Write files.new output.new in
+        result ≡ 2 → F.tells → IsRefused (words_of words.now) old new }
+    ensures told { let old = sight F.FileSet P.Write files.old output.old in
+        let new = sight F.FileSet P.Write files.new output.new in
+        result ≡ 2 → Tells E.Write errors.old errors.new F.tells words.now old new }
+    ensures silent { result ≢ 2 → IsSilentBut errors.old errors.new words.now }
 {
     match answer_words(host, alloc, words, files, output) {
         Ok(done) => {

@@ -1,12 +1,11 @@
 //! `run`: the files of a run are read, the machine is run, and its tables are written.
 
-ghost use Rattle.std.specs.Prelude.{◌≡◌, ◌<◌, ◌≤◌, ◌^◌, ◌++◌, ◌∷◌, length, vec_len, map, slice_index_or, true, Some, IsOk, IfOk, IfErr, IfSome, OnOk};
-ghost use Rattle.answers.specs.Refused.{IsFilesFault, IsReady, IsAnswerFault};
-ghost use Rattle.program.specs.Answered.{IsInputOf, IsOutcome, IsRunDone, IsUnfinished};
-ghost use Rattle.program.specs.Refused.{IsRunFault, IsRightRun};
+ghost use Rattle.std.specs.Prelude.{◌≡◌, ◌<◌, ◌≤◌, ◌^◌, length, vec_len, map, true, Some, IsOk, IfOk, IfErr, IfSome, OnOk};
+ghost use Rattle.program.specs.Runs.{words_of, IsPathAt, AreTextsAt, AreUnread, HasWorkers, ReadsInput, CanRun, RefusesRun, ReadsOutcome, EndsRun, LeavesRun};
 ghost use Rattle.refusal.specs.Refusals.{fault_of};
 ghost use Rattle.whole_files.specs.Files.{SameFiles, AreHeld, IsReadFault};
 
+use crate::asked::RunAsk;
 use crate::explained::{Input, outcome_of, tested_input};
 use crate::host::Host;
 use crate::shared::SharedText;
@@ -14,22 +13,19 @@ use cpu_trace::trace::Trace;
 use refusal::reason::Reason;
 use refusal::refusal::Refusal;
 use run_outcome::outcome::Outcome;
-use run_outcome::tables::Tables;
 use sim_base::config::Config;
 use sim_base::fault::Fault;
-use sim_base::message::Cycle;
 use std::alloc::{AllocError, Global};
 use std::sync::Wait;
 use std::thread::Threads;
 use whole_files::files::FileSet;
 use whole_files::tables::write_tables;
-use workers::sharing::Workers;
 use workers::watch::Watch;
 
 // An earlier place with the same path.
 fn earlier(paths: &[&str], place: usize, path: &str) -> Option<usize>
     ensures before { IfSome result (λ first. first < place) }
-    ensures same { IfSome result (λ first. (slice_index_or paths.now first path.entry).now ≡ path.now) }
+    ensures same { IfSome result (IsPathAt paths.now path.entry) }
 {
     for first in 0..place.min(paths.len()) {
         if paths[first] == path {
@@ -47,7 +43,7 @@ fn next_text<F: FileSet>(
     texts: &[SharedText],
     path: &str,
 ) -> Result<SharedText, Reason>
-    requires read { F.tells → AreHeld (F.held files.old) (map (λ p. p.now) paths.now) texts.now }
+    requires read { F.tells → AreHeld (F.held files.old) (words_of paths.now) texts.now }
     ensures text { IfOk result (λ t. F.tells → F.held files.old path.now ≡ Some t) }
     ensures fault { IfErr result (IsReadFault F.tells (F.held files.old path.now)) }
     ensures same { F.tells → SameFiles (F.held files.old) (F.held files.new) }
@@ -64,9 +60,9 @@ fn read_texts<F: FileSet>(
     files: &mut F,
     paths: &[&str],
 ) -> Result<Vec<SharedText>, Reason>
-    ensures texts { IfOk result (λ v. F.tells → map (λ p. F.held files.old p.now) paths.now ≡ map (λ t. Some t) v.items) }
+    ensures texts { IfOk result (AreTextsAt F.FileSet files.old paths.now) }
     ensures count { IfOk result (λ v. length v.items ≡ length paths.now) }
-    ensures fault { IfErr result (IsFilesFault F.tells (F.held files.old) (map (λ p. p.now) paths.now)) }
+    ensures fault { IfErr result (AreUnread F.FileSet files.old paths.now) }
     ensures same { F.tells → SameFiles (F.held files.old) (F.held files.new) }
     ensures unopened { F.tells → F.opened files.new ≡ F.opened files.old }
 {
@@ -90,38 +86,35 @@ fn slices_of<'a>(alloc: Global, texts: &'a [SharedText]) -> Result<Vec<&'a [u8]>
     Ok(slices)
 }
 
-// The configuration and the traces of a run over the files that are named, if its folder was not refused. The texts of the files are let go.
+// The configuration and the traces of a run over the files that are named, if its folder was not refused. The texts of
+// the files are let go.
 fn read_files<R: Threads + Sync, F: FileSet>(
     threads: &R,
     alloc: Global,
     files: &mut F,
     folder: Result<(), Reason>,
-    config: &str,
-    cycles: Cycle,
-    workers: u64,
-    traces: &[&str],
+    asked: &RunAsk<'_>,
 ) -> Result<(Config, Vec<Trace>), Reason>
     requires folder { IfErr folder (λ e. e ≡ Fault.Write) }
     ensures folder { OnOk result (IsOk folder) }
-    ensures read { IfOk result (λ r. F.tells → IsInputOf config.now cycles workers (map (λ t. t.now) traces.now) (F.held files.old) r.0 r.1.items) }
+    ensures read { IfOk result (ReadsInput F.FileSet files.old asked.now) }
     ensures count { IfOk result (λ r. vec_len r.1 ≡ r.0.cores) }
-    ensures workers { IfOk result (λ _. (1 ≤ workers) × (workers ≤ 64)) }
-    ensures cycles { IfOk result (λ _. cycles ≤ 10 ^ 12) }
-    ensures ready { OnOk result (IsReady F.tells (F.held files.old) (config.now ∷ map (λ t. t.now) traces.now) (IsRightRun cycles workers)) }
-    ensures fault { IfErr result (IsAnswerFault F.tells (F.held files.old) (config.now ∷ map (λ t. t.now) traces.now) (IsRunFault cycles workers) (IsRightRun cycles workers)) }
+    ensures workers { OnOk result (HasWorkers asked.now) }
+    ensures cycles { OnOk result (asked.now.cycles ≤ 10 ^ 12) }
+    ensures ready { OnOk result (CanRun F.FileSet files.old asked.now) }
+    ensures fault { IfErr result (RefusesRun F.FileSet files.old asked.now) }
     ensures same { F.tells → SameFiles (F.held files.old) (F.held files.new) }
     ensures unopened { F.tells → F.opened files.new ≡ F.opened files.old }
 {
-    let document = files.read(alloc, config)?;
-    let texts = read_texts(alloc, files, traces)?;
+    let document = files.read(alloc, asked.config)?;
+    let texts = read_texts(alloc, files, asked.traces)?;
     let slices = slices_of(alloc, &texts)?;
     let input = Input {
-        config,
+        asked,
         document: &document,
-        traces,
         texts: &slices,
     };
-    tested_input(threads, alloc, folder, &input, cycles, workers)
+    tested_input(threads, alloc, folder, &input)
 }
 
 // The outcome of a run over the files that are named, if its folder was not refused.
@@ -130,61 +123,35 @@ fn run_files<R: Threads + Wait + Sync, W: Watch, F: FileSet>(
     alloc: Global,
     files: &mut F,
     folder: Result<(), Reason>,
-    config: &str,
-    cycles: Cycle,
-    workers: Workers,
-    tables: Tables,
-    traces: &[&str],
+    asked: &RunAsk<'_>,
 ) -> Result<Outcome, Reason>
     requires folder { IfErr folder (λ e. e ≡ Fault.Write) }
     ensures folder { OnOk result (IsOk folder) }
-    ensures outcome { IfOk result (λ run. F.tells → IsOutcome config.now cycles workers.count tables (map (λ t. t.now) traces.now) (F.held files.old) run) }
-    ensures ready { OnOk result (IsReady F.tells (F.held files.old) (config.now ∷ map (λ t. t.now) traces.now) (IsRightRun cycles workers.count)) }
-    ensures fault { IfErr result (IsAnswerFault F.tells (F.held files.old) (config.now ∷ map (λ t. t.now) traces.now) (IsRunFault cycles workers.count) (IsRightRun cycles workers.count)) }
+    ensures outcome { IfOk result (ReadsOutcome F.FileSet files.old asked.now) }
+    ensures ready { OnOk result (CanRun F.FileSet files.old asked.now) }
+    ensures fault { IfErr result (RefusesRun F.FileSet files.old asked.now) }
     ensures same { F.tells → SameFiles (F.held files.old) (F.held files.new) }
     ensures unopened { F.tells → F.opened files.new ≡ F.opened files.old }
 {
-    let (machine, traces) = read_files(
-        host.threads,
-        alloc,
-        files,
-        folder,
-        config,
-        cycles,
-        workers.count,
-        traces,
-    )?;
-    outcome_of(host, alloc, &machine, traces, cycles, workers, tables)
+    let (machine, traces) = read_files(host.threads, alloc, files, folder, asked)?;
+    outcome_of(host, alloc, &machine, traces, asked)
 }
 
-// `run CONFIG --cycles N --workers N [--share auto|always] [--tables LIST] --out DIR TRACE...`: no cycle is run if the folder is not there, and nothing is
-// opened before the run is over.
+// `run CONFIG --cycles N --workers N [--share auto|always] [--tables LIST] --out DIR TRACE...`: no cycle is run if the
+// folder is not there, and nothing is opened before the run is over.
 pub(crate) fn perform_run<R: Threads + Wait + Sync, W: Watch, F: FileSet>(
     host: &mut Host<'_, R, W>,
     alloc: Global,
     files: &mut F,
-    config: &str,
-    cycles: Cycle,
-    workers: Workers,
-    tables: Tables,
-    out: &str,
-    traces: &[&str],
+    asked: &RunAsk<'_>,
 ) -> Result<(), Refusal>
-    ensures done { OnOk result (F.tells → IsRunDone config.now cycles workers.count tables out.now (map (λ t. t.now) traces.now) (F.held files.old) (F.held files.new) (F.opened files.old) (F.opened files.new)) }
-    ensures folder { OnOk result (F.tells → F.has_folder files.old out.now ≡ true) }
-    ensures refused { IfErr result (λ e. F.tells → IsUnfinished e config.now cycles workers.count tables out.now (map (λ t. t.now) traces.now) (F.has_folder files.old out.now) (F.held files.old) (F.held files.new) (F.opened files.old) (F.opened files.new)) }
-    ensures fault { IfErr result (λ e. IsAnswerFault F.tells (F.held files.old) (config.now ∷ map (λ t. t.now) traces.now) (IsRunFault cycles workers.count) (IsRightRun cycles workers.count) (fault_of e)) }
+    ensures done { OnOk result (EndsRun F.FileSet files.old files.new asked.now) }
+    ensures folder { OnOk result (F.tells → F.has_folder files.old asked.now.out.now ≡ true) }
+    ensures refused { IfErr result (LeavesRun F.FileSet files.old files.new asked.now) }
+    ensures fault { IfErr result (λ e. RefusesRun F.FileSet files.old asked.now (fault_of e)) }
 {
-    let folder = files.test_folder(out);
-    let run = run_files(
-        host, alloc, files, folder, config, cycles, workers, tables, traces,
-    )?;
-    write_tables(
-        host.threads,
-        alloc,
-        workers.count as usize,
-        files,
-        out,
-        &run,
-    )
+    let folder = files.test_folder(asked.out);
+    let run = run_files(host, alloc, files, folder, asked)?;
+    let workers = asked.workers.count as usize;
+    write_tables(host.threads, alloc, workers, files, asked.out, &run)
 }

@@ -1,9 +1,8 @@
 //! Runs of which only some tables are asked for, in a folder with those of an earlier run.
 
 use crate::files_in_memory::MemoryFiles;
-use crate::program_runs::{assert_text, files_by, said_to_run};
-use crate::table_lines::tables_of;
-use fixtures::worked_runs::{ONE_READ, Run};
+use crate::program_runs::{assert_tables, assert_text, files_by, machine_of, said_to_run};
+use fixtures::worked_runs::ONE_READ;
 use std::process::Abort;
 use std::sync::Wait;
 use std::test::Fail;
@@ -55,57 +54,27 @@ static CHOSEN: [Chosen<'static>; 8] = [
     ),
 ];
 
-// Asserts what a path holds: a text, or nothing where the table was not asked for.
-fn assert_at(
-    rt: &impl Abort,
-    name: &str,
-    files: &MemoryFiles,
-    path: &str,
-    text: &str,
-    asked: bool,
-) {
-    let wanted = if asked { text } else { "no table" };
-    assert_text(rt, name, files.text_at(path).unwrap_or("no table"), wanted);
-}
-
 // A run of which some tables are asked for leaves these in the folder, as the whole run does, and no others.
 fn assert_chosen<R: Abort + Threads + Wait + Sync + AllocGlobal>(
     rt: &R,
-    run: &Run,
+    whole: &MemoryFiles,
     (tables, opened, asked): &Chosen<'_>,
 ) -> Result<(), Fail> {
-    let whole = files_by(rt, run, 1)?;
-    let wanted = tables_of(&whole).ok_or("no tables")?;
-    let mut files = files_by(rt, run, 1)?;
+    let mut files = files_by(rt, &ONE_READ, 1)?;
     files.opened.clear();
-    let words = format!(in rt.alloc(); "--cycles {} --workers 2 {tables}", run.cycles)?;
-    said_to_run(rt, &mut files, run, words.as_str())?.assert_is(rt, tables, (0, "", ""));
+    let words = format!(in rt.alloc(); "--cycles {} --workers 2 {tables}", ONE_READ.cycles)?;
+    let said = said_to_run(rt, &mut files, machine_of(&ONE_READ), words.as_str())?;
+    said.assert_is(rt, tables, (0, "", ""));
     assert_text(rt, tables, files.opened.as_str(), opened);
-    assert_at(
-        rt,
-        tables,
-        &files,
-        "d/commands.csv",
-        wanted.commands,
-        asked[0],
-    );
-    assert_at(rt, tables, &files, "d/stats.csv", wanted.stats, asked[1]);
-    assert_at(rt, tables, &files, "d/final.csv", wanted.last, asked[2]);
-    assert_at(
-        rt,
-        tables,
-        &files,
-        "d/requests.csv",
-        wanted.requests,
-        asked[3],
-    );
+    assert_tables(rt, tables, &files, whole, asked);
     Ok(())
 }
 
 #[test]
 fn leaves_the_tables_that_are_asked_for(rt: HostRuntime) -> Result<(), Fail> {
+    let whole = files_by(&rt, &ONE_READ, 1)?;
     for chosen in &CHOSEN {
-        assert_chosen(&rt, &ONE_READ, chosen)?;
+        assert_chosen(&rt, &whole, chosen)?;
     }
     Ok(())
 }

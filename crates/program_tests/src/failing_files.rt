@@ -1,9 +1,11 @@
-//! Tables that cannot be written or be given their places: what stood there still stands there, or the tables are torn and all there.
+//! Tables that cannot be written or be given their places: what stood there still stands there, or the tables are torn
+//! and all there.
 
 use crate::expect::expect_at;
 use crate::files_in_memory::{Failure, MemoryFiles, files_with};
-use crate::program_runs::{assert_text, files_by, said_to_run};
+use crate::program_runs::{files_by, machine_of, said_to_run};
 use fixtures::worked_runs::ONE_READ;
+use std::alloc::{AllocError, Global};
 use std::process::Abort;
 use std::sync::Wait;
 use std::test::Fail;
@@ -40,46 +42,24 @@ fn standing(files: &MemoryFiles, path: &str, new: &str) -> &'static str {
     }
 }
 
-// What goes wrong with a run into the folder.
-type Case = (Failure, &'static str);
-
-// What the folder is left with: what stands in each table's place and beside it.
-type Left<'x> = &'x [(&'x str, &'x str)];
-
-// Asserts what stands in the folder after a run that is refused.
-fn assert_left(
-    rt: &impl Abort,
-    name: &str,
-    files: &MemoryFiles,
-    good: &MemoryFiles,
-    left: Left<'_>,
-) {
-    for ((table, part), want) in TABLES.iter().zip(left.iter()) {
+// What stands in the place of each table and beside it, from the first table to the last.
+fn left_of(alloc: Global, files: &MemoryFiles, good: &MemoryFiles) -> Result<String, AllocError> {
+    let mut left = String::new(alloc);
+    for (table, part) in &TABLES {
         let new = good.text_at(table).unwrap_or("no table");
-        let found = (standing(files, table, new), standing(files, part, new));
-        expect_at(rt, &(name, table), &found, want);
+        left.push_str(standing(files, table, new))?;
+        left.push_str(" ")?;
+        left.push_str(standing(files, part, new))?;
+        left.push_str("; ")?;
     }
+    Ok(left)
 }
 
-// Asserts what a run that is refused because a file fails tells of errors, and what it opened and left.
-fn assert_refused<R: Abort + Threads + Wait + Sync + AllocGlobal>(
-    rt: &R,
-    case: &Case,
-    told: &str,
-    opened: &str,
-    left: Left<'_>,
-) -> Result<(), Fail> {
-    let good = files_by(rt, &ONE_READ, 1)?;
-    let mut files = files_with(rt.alloc(), &OLD_FILES)?;
-    files.failing = Some(*case);
-    let said = said_to_run(rt, &mut files, &ONE_READ, WORDS)?;
-    said.assert_is(rt, case.1, (2, "", told));
-    assert_text(rt, case.1, files.opened.as_str(), opened);
-    assert_left(rt, case.1, &files, &good, left);
-    Ok(())
-}
+const WRITE: &str = "fault 12: write\n";
 
-static KEPT: [(&str, &str); 4] = [("old", "nothing"); 4];
+const TORN: &str = "fault 12: write
+the tables are of two runs: what is missing of this one stands beside them under names that end in .part
+";
 
 const ONE_OPENED: &str = "d/commands.csv.part ";
 
@@ -90,103 +70,170 @@ const THREE_OPENED: &str = "d/commands.csv.part d/stats.csv.part d/final.csv.par
 const ALL_OPENED: &str =
     "d/commands.csv.part d/stats.csv.part d/final.csv.part d/requests.csv.part ";
 
-// What goes wrong before the first table has its place, and what is opened until then.
-static EARLY: [(Case, &str); 17] = [
-    ((Failure::Opening, "d/commands.csv.part"), ONE_OPENED),
-    ((Failure::Opening, "d/stats.csv.part"), TWO_OPENED),
-    ((Failure::Opening, "d/final.csv.part"), THREE_OPENED),
-    ((Failure::Opening, "d/requests.csv.part"), ALL_OPENED),
-    ((Failure::Writing, "d/commands.csv.part"), ONE_OPENED),
-    ((Failure::Writing, "d/stats.csv.part"), TWO_OPENED),
-    ((Failure::Writing, "d/final.csv.part"), THREE_OPENED),
-    ((Failure::Writing, "d/requests.csv.part"), ALL_OPENED),
-    ((Failure::Closing, "d/commands.csv.part"), ONE_OPENED),
-    ((Failure::Closing, "d/stats.csv.part"), TWO_OPENED),
-    ((Failure::Closing, "d/final.csv.part"), THREE_OPENED),
-    ((Failure::Closing, "d/requests.csv.part"), ALL_OPENED),
-    ((Failure::Placing, "d/commands.csv"), ALL_OPENED),
-    ((Failure::Placing, "d/stats.csv"), ALL_OPENED),
-    ((Failure::Placing, "d/final.csv"), ALL_OPENED),
-    ((Failure::Placing, "d/requests.csv"), ALL_OPENED),
-    ((Failure::Renaming, "d/commands.csv"), ALL_OPENED),
-];
+// What goes wrong with a run into the folder, what is told and opened, and what is left. Up to the first renaming all
+// that is left is old, except where the folder is not there, so that not even the part of an earlier run is removed.
+type Case = (
+    Failure,
+    &'static str,
+    &'static str,
+    &'static str,
+    &'static str,
+);
 
-#[test]
-fn keeps_old_tables(rt: HostRuntime) -> Result<(), Fail> {
-    for (case, opened) in &EARLY {
-        assert_refused(&rt, case, "fault 12: write\n", opened, &KEPT)?;
-    }
-    Ok(())
-}
+const KEPT: &str = "old nothing; old nothing; old nothing; old nothing; ";
 
-const TORN: &str = "fault 12: write
-the tables are of two runs: what is missing of this one stands beside them under names that end in .part
-";
-
-// What goes wrong, what is told and opened, and what is left: the folder is not there; or a table is refused after the first has its place.
-static LATE: [(Case, &str, &str, Left<'static>); 4] = [
+static CASES: [Case; 22] = [
     (
-        (Failure::Folder, "d"),
-        "fault 12: write\n",
+        Failure::Opening,
+        "d/commands.csv.part",
+        WRITE,
+        ONE_OPENED,
+        KEPT,
+    ),
+    (
+        Failure::Opening,
+        "d/stats.csv.part",
+        WRITE,
+        TWO_OPENED,
+        KEPT,
+    ),
+    (
+        Failure::Opening,
+        "d/final.csv.part",
+        WRITE,
+        THREE_OPENED,
+        KEPT,
+    ),
+    (
+        Failure::Opening,
+        "d/requests.csv.part",
+        WRITE,
+        ALL_OPENED,
+        KEPT,
+    ),
+    (
+        Failure::Writing,
+        "d/commands.csv.part",
+        WRITE,
+        ONE_OPENED,
+        KEPT,
+    ),
+    (
+        Failure::Writing,
+        "d/stats.csv.part",
+        WRITE,
+        TWO_OPENED,
+        KEPT,
+    ),
+    (
+        Failure::Writing,
+        "d/final.csv.part",
+        WRITE,
+        THREE_OPENED,
+        KEPT,
+    ),
+    (
+        Failure::Writing,
+        "d/requests.csv.part",
+        WRITE,
+        ALL_OPENED,
+        KEPT,
+    ),
+    (
+        Failure::Closing,
+        "d/commands.csv.part",
+        WRITE,
+        ONE_OPENED,
+        KEPT,
+    ),
+    (
+        Failure::Closing,
+        "d/stats.csv.part",
+        WRITE,
+        TWO_OPENED,
+        KEPT,
+    ),
+    (
+        Failure::Closing,
+        "d/final.csv.part",
+        WRITE,
+        THREE_OPENED,
+        KEPT,
+    ),
+    (
+        Failure::Closing,
+        "d/requests.csv.part",
+        WRITE,
+        ALL_OPENED,
+        KEPT,
+    ),
+    (Failure::Placing, "d/commands.csv", WRITE, ALL_OPENED, KEPT),
+    (Failure::Placing, "d/stats.csv", WRITE, ALL_OPENED, KEPT),
+    (Failure::Placing, "d/final.csv", WRITE, ALL_OPENED, KEPT),
+    (Failure::Placing, "d/requests.csv", WRITE, ALL_OPENED, KEPT),
+    (Failure::Renaming, "d/commands.csv", WRITE, ALL_OPENED, KEPT),
+    (
+        Failure::Folder,
+        "d",
+        WRITE,
         "",
-        &[
-            ("old", "nothing"),
-            ("old", "old"),
-            ("old", "nothing"),
-            ("old", "nothing"),
-        ],
+        "old nothing; old old; old nothing; old nothing; ",
     ),
     (
-        (Failure::Renaming, "d/stats.csv"),
+        Failure::Renaming,
+        "d/stats.csv",
         TORN,
         ALL_OPENED,
-        &[
-            ("new", "nothing"),
-            ("old", "new"),
-            ("old", "new"),
-            ("old", "new"),
-        ],
+        "new nothing; old new; old new; old new; ",
     ),
     (
-        (Failure::Renaming, "d/final.csv"),
+        Failure::Renaming,
+        "d/final.csv",
         TORN,
         ALL_OPENED,
-        &[
-            ("new", "nothing"),
-            ("new", "nothing"),
-            ("old", "new"),
-            ("old", "new"),
-        ],
+        "new nothing; new nothing; old new; old new; ",
     ),
     (
-        (Failure::Renaming, "d/requests.csv"),
+        Failure::Renaming,
+        "d/requests.csv",
         TORN,
         ALL_OPENED,
-        &[
-            ("new", "nothing"),
-            ("new", "nothing"),
-            ("new", "nothing"),
-            ("old", "new"),
-        ],
+        "new nothing; new nothing; new nothing; old new; ",
+    ),
+    (
+        Failure::None,
+        "",
+        "",
+        ALL_OPENED,
+        "new nothing; new nothing; new nothing; new nothing; ",
     ),
 ];
 
-#[test]
-fn tells_what_is_left(rt: HostRuntime) -> Result<(), Fail> {
-    for (case, told, opened, left) in &LATE {
-        assert_refused(&rt, case, told, opened, left)?;
-    }
+// Asserts what a run tells of errors, and what it opens and leaves.
+fn assert_ends<R: Abort + Threads + Wait + Sync + AllocGlobal>(
+    rt: &R,
+    good: &MemoryFiles,
+    (failure, path, told, opened, left): &Case,
+) -> Result<(), Fail> {
+    let mut files = files_with(rt.alloc(), &OLD_FILES)?;
+    files.failing = (*failure, *path);
+    let said = said_to_run(rt, &mut files, machine_of(&ONE_READ), WORDS)?;
+    said.assert_is(rt, path, (if told.is_empty() { 0 } else { 2 }, "", told));
+    let found = left_of(rt.alloc(), &files, good)?;
+    expect_at(
+        rt,
+        path,
+        &(files.opened.as_str(), found.as_str()),
+        &(*opened, *left),
+    );
     Ok(())
 }
 
-static NEW: [(&str, &str); 4] = [("new", "nothing"); 4];
-
 #[test]
-fn replaces_old_tables(rt: HostRuntime) -> Result<(), Fail> {
+fn keeps_old_tables_or_tells_what_is_left(rt: HostRuntime) -> Result<(), Fail> {
     let good = files_by(&rt, &ONE_READ, 1)?;
-    let mut files = files_with(rt.alloc(), &OLD_FILES)?;
-    let said = said_to_run(&rt, &mut files, &ONE_READ, WORDS)?;
-    said.assert_is(&rt, "old tables", (0, "", ""));
-    assert_left(&rt, "old tables", &files, &good, &NEW);
+    for case in &CASES {
+        assert_ends(&rt, &good, case)?;
+    }
     Ok(())
 }

@@ -11,8 +11,9 @@ use std::io::{ErrorKind, Write};
 use whole_files::files::FileSet;
 
 // What goes wrong with a file. A placing or a renaming fails by the path that the file is to have.
-#[derive(Clone, Copy, PartialEq, Eq, Debug)]
+#[derive(Clone, Copy, PartialEq)]
 pub(crate) enum Failure {
+    None,
     Folder,
     Opening,
     Writing,
@@ -47,7 +48,7 @@ impl Write for MemoryOut {
 pub(crate) struct MemoryFiles {
     files: BTreeMap<String, Vec<u8>>,
     pub(crate) opened: String,
-    pub(crate) failing: Option<(Failure, &'static str)>,
+    pub(crate) failing: (Failure, &'static str),
 }
 
 impl MemoryFiles {
@@ -55,7 +56,7 @@ impl MemoryFiles {
         MemoryFiles {
             files: BTreeMap::new(alloc),
             opened: String::new(alloc),
-            failing: None,
+            failing: (Failure::None, ""),
         }
     }
 
@@ -78,11 +79,11 @@ impl MemoryFiles {
     fn test(&self, failure: Failure, path: &str) -> Result<(), Reason>
         ensures { IfErr result (λ e. e ≡ Fault.Write) }
     {
-        match self.failing {
-            Some((kind, name)) if kind == failure && name == path => Err(Reason::from(
-                Fault::Write,
-            )),
-            _ => Ok(()),
+        let (kind, name) = self.failing;
+        if kind == failure && name == path {
+            Err(Reason::from(Fault::Write))
+        } else {
+            Ok(())
         }
     }
 }

@@ -2,8 +2,6 @@
 #![tactic(auto)]
 
 #[cfg(test)]
-mod checks;
-#[cfg(test)]
 mod chosen_tables;
 #[cfg(test)]
 mod command_words;
@@ -14,6 +12,8 @@ mod failing_files;
 #[cfg(test)]
 mod files_in_memory;
 #[cfg(test)]
+mod lines;
+#[cfg(test)]
 mod pages;
 #[cfg(test)]
 mod program_runs;
@@ -21,10 +21,6 @@ mod program_runs;
 mod refusals;
 #[cfg(test)]
 mod refusing_streams;
-#[cfg(test)]
-mod shows;
-#[cfg(test)]
-mod table_lines;
 #[cfg(test)]
 mod told_files;
 #[cfg(test)]

@@ -26,7 +26,8 @@ const LATE: &str = "cycle,channel,command,group,bank,row,column,core,entry
 16,0,PREA,,,,,,
 ";
 
-// A folder for each case: a run; one whose statistics are cut; one whose commands have no header; one with a command behind its end.
+// A folder for each case: a run; one whose statistics are cut; one whose commands have no header; one with a command
+// behind its end.
 static FILES: [(&str, &str); 9] = [
     ("out/stats.csv", STATS),
     ("out/commands.csv", COMMANDS),
@@ -39,143 +40,141 @@ static FILES: [(&str, &str); 9] = [
     ("p.html", OLD),
 ];
 
-// Asserts that a text has others in it.
-fn assert_has(rt: &impl Abort, words: &str, text: &str, parts: &[&str]) {
-    for part in parts {
-        expect_at(rt, &(words, part), &text.contains(*part), &true);
-    }
-}
+const WRITE: &str = "fault 12: write\n";
 
-// What a page has to say, by the words that ask for it.
-static PAGES: [(&str, &[&str]); 4] = [
-    (
-        "dramsim page out p.html",
-        &[
-            "<!DOCTYPE html>",
-            "<b>16</b> cycles, <b>1</b> core, <b>1</b> channel, <b>2</b> commands",
-            "Timeline from cycle 0 to before 16",
-            "</html>",
-        ],
-    ),
-    (
-        "dramsim page out p.html --mhz 1250",
-        &["<b>2</b> commands, <b>13</b> ns with a clock of <b>1,250,000</b> kHz"],
-    ),
-    (
-        "dramsim page out p.html --from 4 --cycles 3",
-        &["Timeline from cycle 4 to before 7"],
-    ),
-    (
-        "dramsim page --from 99 out p.html",
-        &["The run has no cycle from 99 on in the window."],
-    ),
-];
-
-// Asserts that a page is drawn, and what it says.
-fn assert_drawn<R: Abort + Threads + Wait + Sync + AllocGlobal>(
-    rt: &R,
-    words: &str,
-    parts: &[&str],
-) -> Result<(), Fail> {
-    let mut files = files_with(rt.alloc(), &FILES)?;
-    let said = said_to(rt, &mut files, words)?;
-    said.assert_is(rt, words, (0, "", ""));
-    assert_text(rt, words, files.opened.as_str(), "p.html.part ");
-    assert_has(rt, words, files.text_at("p.html").unwrap_or(""), parts);
-    expect_at(rt, &words, &files.text_at("p.html.part"), &None);
-    Ok(())
-}
-
-#[test]
-fn draws_a_run(rt: HostRuntime) -> Result<(), Fail> {
-    for (words, parts) in &PAGES {
-        assert_drawn(&rt, words, parts)?;
-    }
-    Ok(())
-}
-
-// Words that are refused, what goes wrong with a file, what is told, and what is opened.
+// Words, what goes wrong with a file, what is told of errors, what is opened, and parts of the page, on a line each;
+// where it is refused, the whole of what stands in its place, and nothing beside it.
 type Case = (
     &'static str,
-    Option<(Failure, &'static str)>,
+    (Failure, &'static str),
+    &'static str,
     &'static str,
     &'static str,
 );
 
-const WRITE: &str = "fault 12: write\n";
-
-static REFUSED: [Case; 9] = [
-    ("dramsim page none p.html", None, "fault 13: read\n", ""),
+static CASES: [Case; 13] = [
+    (
+        "dramsim page out p.html",
+        (Failure::None, ""),
+        "",
+        "p.html.part ",
+        "<!DOCTYPE html>\n<b>16</b> cycles, <b>1</b> core, <b>1</b> channel, <b>2</b> commands\nTimeline from cycle 0 to before 16\n</html>",
+    ),
+    (
+        "dramsim page out p.html --mhz 1250",
+        (Failure::None, ""),
+        "",
+        "p.html.part ",
+        "<b>2</b> commands, <b>13</b> ns with a clock of <b>1,250,000</b> kHz",
+    ),
+    (
+        "dramsim page out p.html --from 4 --cycles 3",
+        (Failure::None, ""),
+        "",
+        "p.html.part ",
+        "Timeline from cycle 4 to before 7",
+    ),
+    (
+        "dramsim page --from 99 out p.html",
+        (Failure::None, ""),
+        "",
+        "p.html.part ",
+        "The run has no cycle from 99 on in the window.",
+    ),
+    (
+        "dramsim page none p.html",
+        (Failure::None, ""),
+        "fault 13: read\n",
+        "",
+        OLD,
+    ),
     (
         "dramsim page cut p.html",
-        None,
+        (Failure::None, ""),
         "fault 15: check row 1\ncut/stats.csv: row 1 is missing\n",
         "",
+        OLD,
     ),
     (
         "dramsim page bad p.html",
-        None,
+        (Failure::None, ""),
         "fault 15: check row 0\nbad/commands.csv: row 0: 2,0,ACT,0,0,0,,0,0\nthe header must be cycle,channel,command,group,bank,row,column,core,entry, with rank before group where a channel has several ranks\n",
         "",
+        OLD,
     ),
     (
         "dramsim page late p.html",
-        None,
+        (Failure::None, ""),
         "fault 15: check row 3\nlate/commands.csv: row 3 is none of the run: that has the cycles below 16 and the channels below 1\n",
         "",
+        OLD,
     ),
     (
         "dramsim page out p.html",
-        Some((Failure::Opening, "p.html.part")),
+        (Failure::Opening, "p.html.part"),
         WRITE,
         "p.html.part ",
+        OLD,
     ),
     (
         "dramsim page out p.html",
-        Some((Failure::Writing, "p.html.part")),
+        (Failure::Writing, "p.html.part"),
         WRITE,
         "p.html.part ",
+        OLD,
     ),
     (
         "dramsim page out p.html",
-        Some((Failure::Closing, "p.html.part")),
+        (Failure::Closing, "p.html.part"),
         WRITE,
         "p.html.part ",
+        OLD,
     ),
     (
         "dramsim page out p.html",
-        Some((Failure::Placing, "p.html")),
+        (Failure::Placing, "p.html"),
         WRITE,
         "p.html.part ",
+        OLD,
     ),
     (
         "dramsim page out p.html",
-        Some((Failure::Renaming, "p.html")),
+        (Failure::Renaming, "p.html"),
         WRITE,
         "p.html.part ",
+        OLD,
     ),
 ];
 
-// Asserts that a page is refused, and that what stood in its place stands there alone.
-fn assert_refused<R: Abort + Threads + Wait + Sync + AllocGlobal>(
+// Asserts that a text has each of these lines in it.
+fn assert_has(rt: &impl Abort, words: &str, text: &str, parts: &str) {
+    for part in parts.lines() {
+        expect_at(rt, &(words, part), &text.contains(part), &true);
+    }
+}
+
+// Asserts that a page is drawn, or refused, so that what stood in its place stands there alone.
+fn assert_page<R: Abort + Threads + Wait + Sync + AllocGlobal>(
     rt: &R,
-    case: &Case,
+    (words, failing, told, opened, parts): &Case,
 ) -> Result<(), Fail> {
-    let (words, failing, told, opened) = *case;
     let mut files = files_with(rt.alloc(), &FILES)?;
-    files.failing = failing;
+    files.failing = *failing;
     let said = said_to(rt, &mut files, words)?;
-    said.assert_is(rt, words, (2, "", told));
+    said.assert_is(rt, words, (if told.is_empty() { 0 } else { 2 }, "", told));
     assert_text(rt, words, files.opened.as_str(), opened);
-    expect_at(rt, &words, &files.text_at("p.html"), &Some(OLD));
-    expect_at(rt, &words, &files.text_at("p.html.part"), &None);
+    let page = files.text_at("p.html").unwrap_or("");
+    assert_has(rt, words, page, parts);
+    let is_old = page == OLD;
+    let beside = files.text_at("p.html.part");
+    expect_at(rt, words, &(is_old, beside), &(!told.is_empty(), None));
     Ok(())
 }
 
 #[test]
-fn keeps_an_earlier_page(rt: HostRuntime) -> Result<(), Fail> {
-    for case in &REFUSED {
-        assert_refused(&rt, case)?;
+fn draws_a_run_or_keeps_an_earlier_page(rt: HostRuntime) -> Result<(), Fail> {
+    for case in &CASES {
+        assert_page(&rt, case)?;
     }
     Ok(())
 }

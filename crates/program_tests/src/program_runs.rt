@@ -14,9 +14,6 @@ use std::test::Fail;
 use std::thread::Threads;
 use workers::watch::Unwatched;
 
-/// The header of a table of commands of one rank.
-pub(crate) const HEADER: &str = "cycle,channel,command,group,bank,row,column,core,entry\n";
-
 /// What the program says: its status, and what it writes on its two streams.
 #[derive(Drop)]
 pub(crate) struct Said {
@@ -72,7 +69,7 @@ pub(crate) fn said_to<R: Threads + Wait + Sync + AllocGlobal>(
 }
 
 /// Adds the small machine, with other lines for some keys and more lines at its end.
-pub(crate) fn add_machine(
+fn add_machine(
     alloc: Global,
     files: &mut MemoryFiles,
     changes: &[&str],
@@ -109,24 +106,33 @@ fn add_traces(
     Ok(())
 }
 
-/// What the program says to a run, whose limit and number of workers are told by words.
+/// Other lines for some keys of the small machine, more lines at its end, and the traces of its cores.
+pub(crate) type Machine<'x> = (&'x [&'x str], &'x str, &'x [&'x str]);
+
+/// What the program says to a run of a machine, whose limit and number of workers are told by words.
 pub(crate) fn said_to_run<R: Threads + Wait + Sync + AllocGlobal>(
     rt: &R,
     files: &mut MemoryFiles,
-    run: &Run,
+    (changes, more, traces): Machine<'_>,
     words: &str,
 ) -> Result<Said, AllocError> {
     let alloc = rt.alloc();
     let mut line = format!(in alloc; "dramsim run c.toml {words} --out d")?;
-    add_machine(alloc, files, run.changes, run.more)?;
-    add_traces(alloc, files, run.traces, &mut line)?;
+    add_machine(alloc, files, changes, more)?;
+    add_traces(alloc, files, traces, &mut line)?;
     said_to(rt, files, line.as_str())
+}
+
+/// The machine of a run.
+pub(crate) fn machine_of(run: &Run) -> Machine<'_> {
+    (run.changes, run.more, run.traces)
 }
 
 /// The words that ask for all tables.
 pub(crate) const ALL_TABLES: &str = "--tables commands,stats,final,requests";
 
-/// Asserts that a run with all tables by this number of workers, which always share the machine out, succeeds and says nothing.
+/// Asserts that a run with all tables by this number of workers, which always share the machine out, succeeds and says
+/// nothing.
 fn assert_quiet<R: Abort + Threads + Wait + Sync + AllocGlobal>(
     rt: &R,
     files: &mut MemoryFiles,
@@ -137,7 +143,7 @@ fn assert_quiet<R: Abort + Threads + Wait + Sync + AllocGlobal>(
         "--cycles {} --workers {workers} --share always {ALL_TABLES}",
         run.cycles
     )?;
-    let said = said_to_run(rt, files, run, words.as_str())?;
+    let said = said_to_run(rt, files, machine_of(run), words.as_str())?;
     said.assert_is(rt, run.name, (0, "", ""));
     Ok(())
 }
@@ -151,4 +157,32 @@ pub(crate) fn files_by<R: Abort + Threads + Wait + Sync + AllocGlobal>(
     let mut files = MemoryFiles::new(rt.alloc());
     assert_quiet(rt, &mut files, run, workers)?;
     Ok(files)
+}
+
+/// The tables of a run.
+pub(crate) static PATHS: [&str; 4] = [
+    "d/commands.csv",
+    "d/stats.csv",
+    "d/final.csv",
+    "d/requests.csv",
+];
+
+/// Asserts that a folder has those tables of another one that are asked for, and no others.
+pub(crate) fn assert_tables(
+    rt: &impl Abort,
+    name: &str,
+    files: &MemoryFiles,
+    whole: &MemoryFiles,
+    asked: &[bool; 4],
+) {
+    for (path, is_asked) in PATHS.iter().zip(asked) {
+        let wanted = if *is_asked { whole.text_at(path) } else { None };
+        let found = files.text_at(path);
+        expect_at(
+            rt,
+            &(name, path),
+            &(found, found.is_some()),
+            &(wanted, *is_asked),
+        );
+    }
 }

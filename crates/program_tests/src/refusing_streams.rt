@@ -9,8 +9,8 @@ use std::io::{self, ErrorKind, Write};
 use std::process::Abort;
 use std::test::Fail;
 
-/// A stream that takes at most five bytes at a time, refuses once it has as many bytes as it has room for, and before each
-/// other answer is interrupted.
+/// A stream that takes at most five bytes at a time, refuses once it has as many bytes as it has room for, and before
+/// each other answer is interrupted.
 #[derive(Drop)]
 struct SlowStream {
     taken: Vec<u8>,

@@ -6,6 +6,7 @@ ghost use Rattle.program.specs.Answered.{seen, IsAnswered};
 ghost use Rattle.program.specs.Told.{IsTold};
 ghost use Rattle.refusal.specs.Streams.{has_refused, stream_of};
 
+use crate::expect::expect_at;
 use fixtures::small::SMALL;
 use program::host::Host;
 use program::perform::perform;
@@ -146,9 +147,7 @@ fn tells_of_a_run(rt: HostRuntime) -> Result<(), Fail> {
     let mut output = Vec::new(alloc);
     let mut errors = ErrorStream::new(Vec::new(alloc));
     let status = perform_told(&rt, alloc, &RUN, &mut files, &mut output, &mut errors);
-    assert_eq!(rt; status, 0);
-    assert_eq!(rt; files.files.len(), 5);
-    assert_eq!(rt; files.opened.len(), 3);
-    assert_eq!(rt; output.len(), 0);
+    let counts = [files.files.len(), files.opened.len(), output.len()];
+    expect_at(&rt, &"a run", &(status, counts), &(0, [5, 3, 0]));
     Ok(())
 }

@@ -15,7 +15,7 @@ const MOST: u128 = 1 << 80;
 const LONGEST: u128 = 1 << 40;
 
 /// What is told of a run, each number rounded down. What cannot be known yet is left out.
-#[derive(Clone, Copy, PartialEq, Eq, PartialOrd, Ord, Debug)]
+#[derive(Clone, Copy, PartialEq, Debug)]
 pub struct Figures {
     /// How many cycles are over.
     pub cycles: Cycle,
@@ -61,7 +61,8 @@ fn sooner_of(one: Option<u128>, other: Option<u128>) -> Option<u128>
     }
 }
 
-// How many seconds are left: up to the limit, or, where the run ends drained, until all has retired, whichever is sooner.
+// How many seconds are left: up to the limit, or, where the run ends drained, until all has retired, whichever is
+// sooner.
 fn left_of(stage: Stage, millis: u128) -> Option<u128>
     ensures { result ≡ left_of stage millis }
 {

@@ -8,7 +8,7 @@ use std::alloc::{AllocError, Global};
 use std::fmt;
 
 /// A number in groups of three digits: `4,200,000`.
-#[derive(Clone, Copy, Debug)]
+#[derive(Clone, Copy)]
 struct Grouped(u64);
 
 /// What the groups of a number are worth.
@@ -39,7 +39,7 @@ impl fmt::Display for Grouped {
 }
 
 /// A number with a letter for thousands, millions or more, and then one decimal: `950`, `1.2 M`.
-#[derive(Clone, Copy, Debug)]
+#[derive(Clone, Copy)]
 struct Rounded(u128);
 
 impl fmt::Display for Rounded {
@@ -56,7 +56,7 @@ impl fmt::Display for Rounded {
 }
 
 /// A time in seconds: `0:12`, `1:02:03`.
-#[derive(Clone, Copy, Debug)]
+#[derive(Clone, Copy)]
 struct Clock(u128);
 
 impl fmt::Display for Clock {
@@ -86,8 +86,8 @@ impl fmt::Display for Figures {
     }
 }
 
-/// The text, cut or filled with spaces to 79 characters, after a carriage return: it replaces the line that stood there.
-/// The only error is out of memory.
+/// The text, cut or filled with spaces to 79 characters, after a carriage return: it replaces the line that stood
+/// there. The only error is out of memory.
 pub fn line_of(alloc: Global, text: &str) -> Result<String, AllocError>
     ensures { IfOk result (λ line. string_bytes line ≡ line_of text.now) }
 {

@@ -16,8 +16,8 @@ const SHORT: u128 = 50;
 /// A stretch that takes more milliseconds is cut.
 const LONG: u128 = 200;
 
-/// How many cycles come next after a stretch that took this long: twice as many if it took less than a twentieth of a second, half as
-/// many if it took more than a fifth, and at least one.
+/// How many cycles come next after a stretch that took this long: twice as many if it took less than a twentieth of a
+/// second, half as many if it took more than a fifth, and at least one.
 pub fn next_stretch(stretch: Cycle, took: Duration) -> Cycle
     ensures { result ≡ next_stretch stretch (as_nanos took / 1_000_000) }
 {

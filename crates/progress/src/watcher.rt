@@ -57,8 +57,8 @@ impl Progress {
     }
 }
 
-/// Draws how far a run is, on one line, twice a second from its first second on, and clears the line where the run has ended. If the
-/// clock fails, no line is drawn; if the stream or memory refuses a line, nothing else changes.
+/// Draws how far a run is, on one line, twice a second from its first second on, and clears the line where the run has
+/// ended. If the clock fails, no line is drawn; if the stream or memory refuses a line, nothing else changes.
 #[derive(Drop)]
 pub struct ProgressLine<'a, C: Clock, E: Write> {
     alloc: Global,

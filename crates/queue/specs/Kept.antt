@@ -1,10 +1,23 @@
 -- What a queue keeps beside its requests.
+--     view_of inside      the queue that contracts see
 --     AreKept inside      the requests that wait and the writes are counted, and it is known whether the queue drains
 use Rattle.std.specs.Prelude.{◌≡◌, ◌-◌, ◌^◌, ◌<◌, ◌≤◌, length}
 use Rattle.queue.specs.declared.Queue.TheInside.{Inside}
-use Rattle.queue.specs.View.{drains_by}
+use Rattle.queue.specs.View.{QueueView, drains_by}
 use Rattle.request_log.specs.Log.{waiting_requests}
 use Rattle.request_log.specs.Columns.{write_count}
+
+-- the queue that contracts see
+abbrev pub view_of : Inside → QueueView
+view_of q =
+    record {
+      room = q.room;
+      places = q.log.places;
+      high = q.high;
+      low = q.low;
+      log = q.log.log;
+      drain_decided = q.drain_decided;
+    }
 
 -- Those that wait are counted, and the writes among them. What is kept of a drain is right for these writes. There are places for as
 -- many requests as may wait.

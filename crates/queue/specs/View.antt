@@ -1,11 +1,15 @@
 -- What a queue stands for.
 --     QueueView      the requests that have arrived, and what decides whether it drains
+--     empty_queue room high low      one with no requests
+--     with_request view r      a queue with one more request
+--     renumbered view      one whose requests that wait have moved to the front
 --     places_for room      how many requests there are places for
 --     drains_by high low drained writes      whether a queue with this many writes drains, given whether it drained before
 --     is_draining view      whether it drains with the requests that wait
-use Rattle.std.specs.Prelude.{ℕ, ◌+◌, ◌*◌, min, nat_lt, nat_le, Bool, ◌&&◌, ◌||◌, List}
+use Rattle.std.specs.Prelude.{ℕ, ◌+◌, ◌*◌, min, nat_lt, nat_le, Bool, false, ◌&&◌, ◌||◌, List, []}
+use Rattle.sim_base.specs.declared.message.Request.{Request}
 use Rattle.request_log.specs.declared.Arrived.{Arrived}
-use Rattle.request_log.specs.Log.{waiting_requests}
+use Rattle.request_log.specs.Log.{waiting, waiting_requests, with_arrival}
 use Rattle.request_log.specs.Columns.{write_count}
 
 -- how many requests may wait, how many have places, the numbers of writes with which a drain begins and ends, the requests that have
@@ -22,6 +26,26 @@ pub record QueueView : Type 0 where
 -- further places
 abbrev pub places_for : ℕ → ℕ
 places_for room = min (room * 2 + 256) 65534
+
+-- a queue with no requests, in which `room` may wait, and which drains its writes from `high` of them down to `low`
+abbrev pub empty_queue : ℕ → ℕ → ℕ → QueueView
+empty_queue room high low =
+    record {
+      room = room;
+      places = places_for room;
+      high = high;
+      low = low;
+      log = [];
+      drain_decided = false;
+    }
+
+-- a queue with a request that has just arrived
+abbrev pub with_request : QueueView → Request → QueueView
+with_request view r = record view { log = with_arrival view.log r }
+
+-- a queue whose requests that wait have moved to the front of its log, where no other one has a place any more
+abbrev pub renumbered : QueueView → QueueView
+renumbered view = record view { log = waiting view.log }
 
 -- A drain begins with `high` writes or more, if that is not 0, and goes on with more than `low`.
 abbrev pub drains_by : ℕ → ℕ → Bool → ℕ → Bool

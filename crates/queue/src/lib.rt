@@ -1,8 +1,8 @@
 //! The requests that wait in a channel, by age, and whether it drains its writes.
 #![tactic(auto)]
 
-ghost use Rattle.std.specs.Prelude.{◌≡◌, ◌+◌, ◌-◌, ◌^◌, ◌<◌, ◌≤◌, ◌++◌, [], ◌∷◌, true, false, IfOk, length};
-ghost use Rattle.queue.specs.View.{drains_by, is_draining, places_for};
+ghost use Rattle.std.specs.Prelude.{◌≡◌, ◌+◌, ◌-◌, ◌^◌, ◌<◌, ◌≤◌, true, false, IfOk, length};
+ghost use Rattle.queue.specs.View.{drains_by, is_draining, places_for, empty_queue, with_request, renumbered};
 
 use request_log::RequestLog;
 use sim_base::message::Request;
@@ -54,25 +54,25 @@ pub struct Queue {
 
 impl Model for Queue {
     ghost use Rattle.queue.specs.View.{QueueView};
-    ghost use Rattle.queue.specs.Kept.{AreKept};
+    ghost use Rattle.queue.specs.Kept.{view_of, AreKept};
 
     ghost Value = { QueueView };
 
-    ghost view = { λ q. record { room = q.room; places = q.log.places; high = q.high; low = q.low; log = q.log.log; drain_decided = q.drain_decided } };
+    ghost view = { view_of };
 
     ghost invariant = { AreKept };
 }
 
 impl Queue {
-    ghost use Rattle.std.specs.Prelude.{IfSome, slice_set};
-    ghost use Rattle.request_log.specs.Log.{waiting, waiting_requests, arrived_now, served_at, activated_at, waits_at, eligible_column, unblocked_by};
+    ghost use Rattle.std.specs.Prelude.{IfSome};
+    ghost use Rattle.request_log.specs.Log.{waiting_requests, served_at, activated_at, waits_at, eligible_column, is_eligible_at, marks_once_served};
 
     /// An empty queue in which `room` requests may wait, and which drains its writes from `high` of them down to `low`, and never
     /// if `high` is 0. Only this call allocates memory.
     #[tactic(auto, unfolding(request_log::specs::Log::waiting))]
     pub fn with_room(alloc: Global, room: usize, high: u32, low: u32) -> Result<Self, AllocError>
         requires room { room < 2 ^ 16 - 1 }
-        ensures { IfOk result (λ queue. queue ≡ record { room = room; places = places_for room; high = high; low = low; log = []; drain_decided = false }) }
+        ensures { IfOk result (λ queue. queue ≡ empty_queue room high low) }
     {
         Ok(Queue {
             room,
@@ -110,7 +110,7 @@ impl Queue {
         requires { length (waiting_requests self.old.log) + count ≤ self.old.room }
         ensures places { length self.new.log + count ≤ self.new.places }
         ensures kept { result ≡ false → self.new ≡ self.old }
-        ensures moved { result ≡ true → self.new ≡ record self.old { log = waiting self.old.log } }
+        ensures moved { result ≡ true → self.new ≡ renumbered self.old }
     {
         if count <= self.log.free() && self.log.len() <= self.waiting * 2 + SPARE_PLACES {
             return false;
@@ -124,7 +124,7 @@ impl Queue {
     pub fn arrive(&mut self, request: Request)
         requires room { length (waiting_requests self.old.log) < self.old.room }
         requires places { length self.old.log < self.old.places }
-        ensures { self.new ≡ record self.old { log = self.old.log ++ arrived_now request ∷ [] } }
+        ensures { self.new ≡ with_request self.old request }
     {
         self.log.arrive(request);
         self.waiting += 1;
@@ -141,8 +141,9 @@ impl Queue {
         requires within { slot < length self.old.log }
         requires waits { waits_at self.old.log slot ≡ true }
         ensures log { self.new ≡ record self.old { log = served_at self.old.log slot } }
-        ensures unblocked { eligible_column self.new.log ≡ unblocked_by result (slice_set (eligible_column self.old.log) slot 0) }
+        ensures marks { eligible_column self.new.log ≡ marks_once_served self.old.log slot result }
         ensures place { IfSome result (λ next. next < length self.new.log) }
+        ensures newly { IfSome result (λ next. is_eligible_at self.old.log next ≡ false) }
     {
         let write = self.log.log()[slot].request.write;
         let unblocked = self.log.serve(slot);

@@ -12,7 +12,7 @@ use Rattle.sim_base.specs.declared.command.IssuedCommand.{IssuedCommand}
 use Rattle.sim_base.specs.declared.command.Command.TheVariants.{Ref}
 use Rattle.sim_base.specs.History.{below}
 use Rattle.sim_base.specs.Scheduling.{due, lowest_due, refreshes}
-use Rattle.refresh.specs.Refreshes.{RefreshCounts, owed, lowest_owed, IsFirstDue, IsDueFrom, IsFewest, IsCountable, IsQuietTo, IsCounted, IsNoRefresh, StandsFor}
+use Rattle.refresh.specs.Refreshes.{RefreshCounts, owed, lowest_owed, IsFirstDue, IsDueFrom, IsFewest, IsCountable, IsQuietTo, IsCounted, IsNoRefresh, StandsFor, refreshed}
 
 -- what is due to a rank
 pub due_from_owed : (counts : RefreshCounts) (s : Config) (rank : ℕ) (history : List IssuedCommand) (now : ℕ) → StandsFor counts s history → rank < counts.ranks
@@ -207,10 +207,6 @@ owed_over counts rank now due = elim (cases_lt now ((slice_index counts.issued r
       absurd (omega (arith, owed_is counts rank now some, few))
   | inr over ↦ over
 ]
-
--- the counts after a refresh that was due
-abbrev pub refreshed : RefreshCounts → ℕ → RefreshCounts
-refreshed counts rank = record counts { issued = slice_set counts.issued rank (slice_index counts.issued rank + 1) }
 
 countable_more : (counts : RefreshCounts) (rank now : ℕ) → IsCountable counts → rank < length counts.issued → now < 2 ^ 62 → 0 < owed counts rank now → IsCountable (refreshed counts rank)
 countable_more counts rank now before exists fits due = record {

@@ -1,1 +1,2 @@
 pub mod Refreshes
+pub mod Kept

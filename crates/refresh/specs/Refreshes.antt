@@ -1,5 +1,7 @@
 -- The refreshes that are due for the ranks of a channel.
 --     RefreshCounts      how often a rank is to be refreshed, and how often each was
+--     never_refreshed interval ranks      the counts before the first refresh
+--     refreshed counts rank      the counts after one more
 --     owed counts rank now      refreshes of a rank that are due
 --     lowest_owed counts now      the lowest rank with a refresh that is due
 --     IsFirstDue lowest now time      the first cycle from now on with a refresh that is due
@@ -7,7 +9,7 @@
 --     IsFewest counts fewest      the refreshes of the rank that had the fewest
 --     IsQuietTo counts quiet      the last cycle in which none is due
 --     StandsFor counts s history      the refreshes of a list of commands were counted, and no others
-use Rattle.std.specs.Prelude.{◌≡◌, ℕ, ◌+◌, ◌-◌, ◌*◌, ◌^◌, ◌/◌, ◌<◌, ◌≤◌, ◌==◌, nat_lt, nat_le, Bool, List, slice_index, find, count_by, false, Option, IsSome, IfSome, Some, None, if◌then◌else◌}
+use Rattle.std.specs.Prelude.{◌≡◌, ℕ, ◌+◌, ◌-◌, ◌*◌, ◌^◌, ◌/◌, ◌<◌, ◌≤◌, ◌==◌, nat_lt, nat_le, Bool, List, slice_index, find, count_by, false, Option, replicate, slice_set, IsSome, IfSome, Some, None, if◌then◌else◌}
 use Rattle.sim_base.specs.declared.config.Config.{Config}
 use Rattle.sim_base.specs.declared.command.Command.{Command}
 use Rattle.sim_base.specs.declared.command.IssuedCommand.{IssuedCommand}
@@ -19,6 +21,14 @@ pub record RefreshCounts : Type 0 where
   pub interval : ℕ
   pub ranks : ℕ
   pub issued : List ℕ
+
+-- the counts of ranks of which none has been refreshed
+abbrev pub never_refreshed : ℕ → ℕ → RefreshCounts
+never_refreshed interval ranks = record { interval = interval; ranks = ranks; issued = replicate 4 0 }
+
+-- the counts with one more refresh of a rank
+abbrev pub refreshed : RefreshCounts → ℕ → RefreshCounts
+refreshed counts rank = record counts { issued = slice_set counts.issued rank (slice_index counts.issued rank + 1) }
 
 -- how many refreshes of a rank are due: one more after each interval, and one less after each refresh
 abbrev pub owed : RefreshCounts → ℕ → ℕ → ℕ

@@ -1,14 +1,15 @@
 //! The refreshes that are due for the ranks of a channel.
 #![tactic(auto)]
 
-ghost use Rattle.std.specs.Prelude.{◌≡◌, ◌↔◌, ◌+◌, ◌*◌, ◌<◌, ◌≤◌, ◌^◌, ◌++◌, ℕ, List, [], ◌∷◌, IsTrue, IsNone, IfSome, length, slice_index, slice_set, replicate, find, nat_lt, is_some};
+ghost use Rattle.std.specs.Prelude.{◌≡◌, ◌↔◌, ◌+◌, ◌*◌, ◌<◌, ◌≤◌, ◌^◌, ◌++◌, ℕ, List, [], ◌∷◌, IsTrue, IsNone, IfSome, length, slice_index, find, nat_lt, is_some};
 ghost use Rattle.std.specs.Int.{is_power_of_two};
 ghost use Rattle.sim_base.specs.Ranges.{Within};
 ghost use Rattle.sim_base.specs.Scheduling.{due, lowest_due};
 ghost use Rattle.sim_base.specs.declared.config.Config.{Config};
 ghost use Rattle.sim_base.specs.declared.command.Command.TheVariants.{Ref};
 ghost use Rattle.sim_base.specs.declared.command.IssuedCommand.{IssuedCommand};
-ghost use Rattle.refresh.specs.Refreshes.{RefreshCounts, owed, lowest_owed, IsFirstDue, IsDueFrom, IsCounted, StandsFor, IsNoRefresh};
+ghost use Rattle.refresh.specs.Refreshes.{RefreshCounts, never_refreshed, refreshed, owed, lowest_owed};
+ghost use Rattle.refresh.specs.Refreshes.{IsFirstDue, IsDueFrom, StandsFor, IsNoRefresh};
 
 use sim_base::message::Cycle;
 use std::marker::Model;
@@ -26,13 +27,14 @@ pub struct Refresh {
 }
 
 impl Model for Refresh {
-    ghost use Rattle.refresh.specs.Refreshes.{RefreshCounts, IsCounted};
+    ghost use Rattle.refresh.specs.Refreshes.{RefreshCounts};
+    ghost use Rattle.refresh.specs.Kept.{counts_of, AreKept};
 
     ghost Value = { RefreshCounts };
 
-    ghost view = { λ r. record { interval = r.refresh_interval; ranks = r.ranks; issued = r.issued } };
+    ghost view = { counts_of };
 
-    ghost invariant = { λ r. IsCounted (record { interval = r.refresh_interval; ranks = r.ranks; issued = r.issued }) r.quiet_to };
+    ghost invariant = { AreKept };
 }
 
 /// The least of some counts.
@@ -56,8 +58,9 @@ impl Refresh {
         requires interval { refresh_interval ≤ 100000 }
         requires ranks_in { Within 1 4 ranks }
         requires ranks_power { IsTrue (is_power_of_two ranks) }
-        ensures value { result ≡ record { interval = refresh_interval; ranks = ranks; issued = replicate 4 0 } }
-        ensures stands { (s : Config) → s.timing.n_refi ≡ refresh_interval → s.ranks ≡ ranks → StandsFor result s [] }
+        ensures value { result ≡ never_refreshed refresh_interval ranks }
+        ensures stands { (s : Config)
+            → s.timing.n_refi ≡ refresh_interval → s.ranks ≡ ranks → StandsFor result s [] }
     {
         Refresh {
             refresh_interval,
@@ -106,7 +109,8 @@ impl Refresh {
     pub fn due(&self, now: Cycle, rank: u32) -> u64
         requires { rank < self.now.ranks }
         ensures value { result ≡ owed self.now rank now }
-        ensures stands { (s : Config) (history : List IssuedCommand) → StandsFor self.now s history → result ≡ due s rank history now }
+        ensures stands { (s : Config) (history : List IssuedCommand)
+            → StandsFor self.now s history → result ≡ due s rank history now }
     {
         self.owed(now, rank)
     }
@@ -115,7 +119,8 @@ impl Refresh {
     #[tactic(auto, using(crate::proofs::Due::lowest_due_from_owed))]
     pub fn lowest_due(&self, now: Cycle) -> Option<u32>
         ensures value { result ≡ lowest_owed self.now now }
-        ensures stands { (s : Config) (history : List IssuedCommand) → StandsFor self.now s history → result ≡ lowest_due s history now }
+        ensures stands { (s : Config) (history : List IssuedCommand)
+            → StandsFor self.now s history → result ≡ lowest_due s history now }
     {
         self.lowest_owed(now)
     }
@@ -125,7 +130,8 @@ impl Refresh {
     pub fn next_due(&self, now: Cycle) -> Option<Cycle>
         ensures none { IsNone result ↔ (self.now.interval ≡ 0) }
         ensures next { IfSome result (IsFirstDue (lowest_owed self.now) now) }
-        ensures stands { (s : Config) (history : List IssuedCommand) → StandsFor self.now s history → IfSome result (IsFirstDue (lowest_due s history) now) }
+        ensures stands { (s : Config) (history : List IssuedCommand)
+            → StandsFor self.now s history → IfSome result (IsFirstDue (lowest_due s history) now) }
     {
         if self.refresh_interval == 0 {
             return None;
@@ -154,7 +160,8 @@ impl Refresh {
         requires { rank < self.now.ranks }
         ensures none { IsNone result ↔ (self.now.interval ≡ 0) }
         ensures value { IsDueFrom (owed self.now rank) now result }
-        ensures stands { (s : Config) (history : List IssuedCommand) → StandsFor self.now s history → IsDueFrom (due s rank history) now result }
+        ensures stands { (s : Config) (history : List IssuedCommand)
+            → StandsFor self.now s history → IsDueFrom (due s rank history) now result }
     {
         if self.refresh_interval == 0 {
             return None;
@@ -168,8 +175,10 @@ impl Refresh {
         requires rank { rank < self.old.ranks }
         requires now { now < 2 ^ 62 }
         requires due { 0 < owed self.old rank now }
-        ensures value { self.new ≡ record self.old { issued = slice_set self.old.issued rank (slice_index self.old.issued rank + 1) } }
-        ensures stands { (s : Config) (history : List IssuedCommand) (i : IssuedCommand) → i.command ≡ Ref rank → StandsFor self.old s history → StandsFor self.new s (history ++ i ∷ []) }
+        ensures value { self.new ≡ refreshed self.old rank }
+        ensures stands { (s : Config) (history : List IssuedCommand) (i : IssuedCommand)
+            → i.command ≡ Ref rank
+            → StandsFor self.old s history → StandsFor self.new s (history ++ i ∷ []) }
     {
         self.issued[rank as usize] += 1;
         let fewest = fewest(&self.issued[..self.ranks as usize]);
@@ -180,5 +189,8 @@ impl Refresh {
 /// A law about the counts: those that stand for some commands still do after one more that refreshes no rank.
 #[tactic(auto, using(crate::proofs::Due::stands_without_refresh))]
 pub fn other_commands_change_nothing()
-    ensures { (counts : RefreshCounts) (s : Config) (history : List IssuedCommand) (i : IssuedCommand) → IsNoRefresh s i.command → StandsFor counts s history → StandsFor counts s (history ++ i ∷ []) }
+    ensures { (counts : RefreshCounts) (s : Config)
+        (history : List IssuedCommand) (i : IssuedCommand)
+        → IsNoRefresh s i.command
+        → StandsFor counts s history → StandsFor counts s (history ++ i ∷ []) }
 {}

@@ -1,17 +1,20 @@
 -- The text of the table of commands.
 --     header ranks      the names of its columns
+--     request_operands bank row column source      the fields of a command of a request, after that of the rank
 --     operand_fields command      which fields a command fills, by its kind
 --     command_fields ranks row      the fields of a row
 --     lines_text ranks rows      the rows without the header
 --     commands_text ranks rows      the whole table
-use Rattle.std.specs.Prelude.{ℕ, nat_lt, List, [], ◌∷◌, ◌++◌, map, codes, decimal, if◌then◌else◌}
+use Rattle.std.specs.Prelude.{ℕ, nat_lt, List, [], ◌∷◌, ◌++◌, map, codes, decimal, Option, Some, None, if◌then◌else◌}
 use Rattle.sim_base.specs.Rules.{kind_of, rank_of}
 use Rattle.sim_base.specs.declared.command.Kind.{Kind}
 use Rattle.sim_base.specs.declared.command.Kind.TheVariants as kind
 use Rattle.sim_base.specs.declared.command.Command.{Command}
 use Rattle.sim_base.specs.declared.command.Command.TheVariants.{Act, Rd, Wr, Pre, Prea, Ref}
 use Rattle.sim_base.specs.declared.command.IssuedCommand.{IssuedCommand}
-use Rattle.reports.specs.Rows.{rows_text, table_text}
+use Rattle.sim_base.specs.declared.command.Source.{Source}
+use Rattle.sim_base.specs.declared.place.BankId.{BankId}
+use Rattle.reports.specs.Rows.{optional, rows_text, table_text}
 
 -- a field of the column of the rank, present only if there are several ranks
 abbrev pub rank_field : ℕ → List ℕ → List (List ℕ)
@@ -32,16 +35,18 @@ kind_word kind.Pre = codes "PRE"
 kind_word kind.Prea = codes "PREA"
 kind_word kind.Ref = codes "REF"
 
--- the fields of a command for group, bank, row, column, core and entry; those that it does not state are empty
+-- the fields of a command of a request for group, bank, row, column, core and entry; a row or column that it does not
+-- state is empty
+abbrev pub request_operands : BankId → Option ℕ → Option ℕ → Source → List (List ℕ)
+request_operands bank row column source =
+    decimal bank.group ∷ decimal bank.bank ∷ optional row ∷ optional column ∷ decimal source.core ∷ decimal source.entry ∷ []
+
+-- these fields of any command; one of a whole rank states none of them
 abbrev pub operand_fields : Command → List (List ℕ)
-operand_fields (Act bank row source) =
-    decimal bank.group ∷ decimal bank.bank ∷ decimal row ∷ [] ∷ decimal source.core ∷ decimal source.entry ∷ []
-operand_fields (Rd bank row column source) =
-    decimal bank.group ∷ decimal bank.bank ∷ decimal row ∷ decimal column ∷ decimal source.core ∷ decimal source.entry ∷ []
-operand_fields (Wr bank row column source) =
-    decimal bank.group ∷ decimal bank.bank ∷ decimal row ∷ decimal column ∷ decimal source.core ∷ decimal source.entry ∷ []
-operand_fields (Pre bank source) =
-    decimal bank.group ∷ decimal bank.bank ∷ [] ∷ [] ∷ decimal source.core ∷ decimal source.entry ∷ []
+operand_fields (Act bank row source) = request_operands bank (Some row) None source
+operand_fields (Rd bank row column source) = request_operands bank (Some row) (Some column) source
+operand_fields (Wr bank row column source) = request_operands bank (Some row) (Some column) source
+operand_fields (Pre bank source) = request_operands bank None None source
 operand_fields (Prea rank) = [] ∷ [] ∷ [] ∷ [] ∷ [] ∷ [] ∷ []
 operand_fields (Ref rank) = [] ∷ [] ∷ [] ∷ [] ∷ [] ∷ [] ∷ []
 

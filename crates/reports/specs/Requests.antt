@@ -1,6 +1,7 @@
 -- The text of the table of requests.
 --     request_header      the names of its columns
 --     access_word access      the word of what a request asks
+--     time_fields row      the last five fields of a row: when the request was where, and whether its row was open
 --     request_fields row      the fields of a row
 --     request_lines rows      the rows without the header
 --     requests_text rows      the whole table
@@ -25,11 +26,14 @@ access_word access.Write = codes "write"
 abbrev pub hit_field : Bool → List ℕ
 hit_field hit = decimal (if hit then 1 else 0)
 
--- the fields of a row; that of the reply is empty where none came
+-- the fields of when the request was where, in cycles, and of the row hit; that of the reply is empty where none came
+abbrev pub time_fields : RequestTimes → List (List ℕ)
+time_fields row =
+    decimal row.issued ∷ decimal row.arrived ∷ decimal row.served ∷ optional row.replied ∷ hit_field row.hit ∷ []
+
+-- the fields of a row
 abbrev pub request_fields : RequestTimes → List (List ℕ)
-request_fields row =
-    decimal row.core ∷ decimal row.entry ∷ access_word row.access ∷ decimal row.channel ∷ decimal row.issued
-    ∷ decimal row.arrived ∷ decimal row.served ∷ optional row.replied ∷ hit_field row.hit ∷ []
+request_fields row = decimal row.core ∷ decimal row.entry ∷ access_word row.access ∷ decimal row.channel ∷ time_fields row
 
 -- the rows of requests, in this order
 abbrev pub request_lines : List RequestTimes → List ℕ

@@ -1,5 +1,7 @@
 -- The text of a table.
 --     optional number      a field for a number that may be missing
+--     fields_text fields      the fields of a row, with commas between them
+--     with_rank ranks rank rest      a row's text from the column of the rank on
 --     row_text fields      a row
 --     ended text      rows with the line feed at their end
 --     rows_text rows      rows, one after the other
@@ -8,7 +10,10 @@
 --     plain_writer      how csv writes: never with quotes
 --     IsReportFault fault      why a table may be refused
 --     IsTextOf text result      a text, or why there is none
-use Rattle.std.specs.Prelude.{◌≡◌, ℕ, List, [], ◌∷◌, ◌++◌, ⊤, codes, decimal, Option, Some, None, Result, MatchResult, Vec}
+--     all_of texts      texts, one after the other
+--     WritesOnOk result contents old new text      on Ok, a writer has got this text and nothing else
+use Rattle.std.specs.Prelude.{◌≡◌, ℕ, nat_lt, List, [], ◌∷◌, ◌++◌, ⊤, codes, decimal, if◌then◌else◌, Option, Some, None, Result, OnOk, MatchResult, Vec}
+use Rattle.std.specs.Io.KnownBytes.{Appends}
 use Rattle.std.specs.List.{enumerate_from, flat_map, join_with_byte}
 use Rattle.csv.specs.Writing.{default_writer, with_style}
 use Rattle.csv.specs.declared.writer.QuoteStyle.TheVariants as style
@@ -30,9 +35,17 @@ optional number = optional_by decimal number
 abbrev pub comma : ℕ
 comma = 44
 
+-- the fields of a row, with commas between them
+abbrev pub fields_text : List (List ℕ) → List ℕ
+fields_text fields = join_with_byte comma fields
+
+-- a row's text from the column of the rank on, which is present only if there are several ranks
+abbrev pub with_rank : ℕ → Option ℕ → List ℕ → List ℕ
+with_rank ranks rank rest = if nat_lt 1 ranks then optional rank ++ comma ∷ rest else rest
+
 -- a row: its fields, separated by commas, and a line feed
 unfoldable pub row_text : List (List ℕ) → List ℕ
-row_text fields = join_with_byte comma fields ++ codes "\n"
+row_text fields = fields_text fields ++ codes "\n"
 
 -- the text of rows with the line feed at its end; without rows there is none
 abbrev pub ended : List ℕ → List ℕ
@@ -64,3 +77,11 @@ IsReportFault _ = ⊥
 -- a text, or why there is none
 abbrev pub IsTextOf : List ℕ → Result (Vec ℕ Global) Fault → Type 0
 IsTextOf text result = MatchResult result (λ found. found.items ≡ text) IsReportFault
+
+-- texts, one after the other
+abbrev pub all_of : List (Vec ℕ Global) → List ℕ
+all_of texts = flat_map (λ text. text.items) texts
+
+-- on Ok, what a writer holds has grown by this text and by nothing else
+abbrev pub WritesOnOk : {T E W : Type 0} → Result T E → (W → Option (List ℕ)) → W → W → List ℕ → Type 0
+WritesOnOk result contents old new text = OnOk result (Appends (contents old) (contents new) text)

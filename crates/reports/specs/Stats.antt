@@ -1,5 +1,6 @@
 -- The text of the table of statistics.
 --     stats_header      the names of its columns
+--     value_fields scope id value, count_fields scope id count      a row: a count of a unit
 --     core_values core, channel_values channel      the counts of a unit, each with its name, in order
 --     stats_rows stats      its rows
 --     stats_text stats      the whole table
@@ -21,6 +22,10 @@ count_named count = (count.name.now, count.value)
 -- a row: a count of the unit of this scope with this number
 abbrev pub value_fields : List ℕ → ℕ → List ℕ × Option ℕ → List (List ℕ)
 value_fields scope id value = scope ∷ decimal id ∷ value.0 ∷ optional value.1 ∷ []
+
+-- a row: a count that has its name
+abbrev pub count_fields : List ℕ → ℕ → NamedCount → List (List ℕ)
+count_fields scope id count = value_fields scope id (count_named count)
 
 -- the counts of a core; it has a finish where all its entries retired
 abbrev pub core_values : CoreStats → List (List ℕ × Option ℕ)

@@ -1,8 +1,12 @@
--- What is on its way through a table.
+-- What is on its way through a table, and what a call makes of it. A call is told the writer and the table before it
+-- and after it.
 --     waiting table      the text of the rows that wait
 --     held contents writer table      what the writer holds, and then the rows that wait
-use Rattle.std.specs.Prelude.{ℕ, List, ◌++◌, Option}
-use Rattle.std.specs.Io.KnownBytes.{append_known}
+--     AddsOnOk result contents writer table writer' table' text      on Ok, this text was added to what both hold
+--     KeepsOnOk result contents writer table writer' table'      on Ok, both hold what they held
+--     SendsOnOk result contents writer table writer'      on Ok, the writer alone holds what both held
+use Rattle.std.specs.Prelude.{ℕ, List, ◌++◌, Option, Result, OnOk}
+use Rattle.std.specs.Io.KnownBytes.{Appends, Keeps, append_known}
 use Rattle.csv.specs.Writing.{writer_under, writer_pending}
 use Rattle.reports.specs.declared.table.Table.{Table}
 
@@ -13,3 +17,17 @@ waiting table = (writer_under table.rows).items ++ writer_pending table.rows ++ 
 -- what the writer holds, and then the rows that wait
 abbrev pub held : {W : Type 0} → (W → Option (List ℕ)) → W → Table → Option (List ℕ)
 held contents writer table = append_known (contents writer) (waiting table)
+
+-- on Ok, this text was added to what the writer and the table hold
+abbrev pub AddsOnOk : {T E W : Type 0} → Result T E → (W → Option (List ℕ)) → W → Table → W → Table → List ℕ → Type 0
+AddsOnOk result contents writer table writer' table' text =
+    OnOk result (Appends (held contents writer table) (held contents writer' table') text)
+
+-- on Ok, the writer and the table together hold what they held
+abbrev pub KeepsOnOk : {T E W : Type 0} → Result T E → (W → Option (List ℕ)) → W → Table → W → Table → Type 0
+KeepsOnOk result contents writer table writer' table' =
+    OnOk result (Keeps (held contents writer table) (held contents writer' table'))
+
+-- on Ok, the writer alone holds what it and the table held
+abbrev pub SendsOnOk : {T E W : Type 0} → Result T E → (W → Option (List ℕ)) → W → Table → W → Type 0
+SendsOnOk result contents writer table writer' = OnOk result (Keeps (held contents writer table) (contents writer'))

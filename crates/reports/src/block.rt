@@ -11,7 +11,8 @@ use std::simd::prelude::*;
 /// The room for the text, in bytes.
 const SIZE: usize = 4096;
 
-/// Rows, each ended by a line feed, the last of which `csv` writes. So what `csv` does for a text is done once for many rows.
+/// Rows, each ended by a line feed, the last of which `csv` writes. So what `csv` does for a text is done once for many
+/// rows.
 #[derive(Drop)]
 pub(crate) struct Block {
     bytes: [u8; SIZE],
@@ -48,7 +49,8 @@ fn end_last(bytes: &mut [u8; SIZE], len: usize) -> usize
 fn copy_piece(bytes: &mut [u8; SIZE], start: usize, row: &[u8], at: usize)
     requires piece { at + 16 ≤ length row.now }
     requires room { start + length row.now ≤ 4096 }
-    ensures { take (start + at + 16) bytes.new ≡ take (start + at) bytes.old ++ chunk at 16 row.now }
+    ensures { take (start + at + 16) bytes.new
+        ≡ take (start + at) bytes.old ++ chunk at 16 row.now }
 {
     let piece: u8x16 = Simd::from_slice(&row[at..]);
     piece.copy_to_slice(&mut bytes[start + at..]);

@@ -1,14 +1,12 @@
 //! The table of commands, `commands.csv`.
 
-ghost use Rattle.std.specs.Prelude.{◌≡◌, ◌<◌, ◌≤◌, ◌+◌, [], ◌∷◌, ◌++◌, length, drop, decimal, IfErr, OnOk};
-ghost use Rattle.std.specs.Io.KnownBytes.{Appends};
-ghost use Rattle.std.specs.List.{join_with_byte};
-ghost use Rattle.reports.specs.Rows.{comma, row_text, optional, IsReportFault};
-ghost use Rattle.reports.specs.Tables.{held};
-ghost use Rattle.reports.specs.Commands.{header, kind_word, operand_fields, command_fields, lines_text, commands_text};
+ghost use Rattle.std.specs.Prelude.{◌≡◌, ◌<◌, ◌≤◌, ◌+◌, ◌∷◌, ◌++◌, length, drop, IfErr};
+ghost use Rattle.reports.specs.Rows.{comma, fields_text, row_text, IsReportFault, WritesOnOk};
+ghost use Rattle.reports.specs.Tables.{AddsOnOk};
+ghost use Rattle.reports.specs.Commands.{header, kind_word, request_operands, operand_fields, command_fields, lines_text, commands_text};
 
 use crate::line::{Line, put, put_last, put_last_word, put_rank, put_word};
-use crate::pieces::{MOST, TableLines, write_pieces, write_whole};
+use crate::pieces::{Crew, MOST, TableLines, write_pieces, write_whole};
 use crate::table::Table;
 use command_table::table::{CommandTable, Rows};
 use sim_base::command::{Command, IssuedCommand, Kind, Source};
@@ -27,7 +25,7 @@ fn put_request(
     column: Option<u32>,
     source: Source,
 ) -> usize
-    ensures text { drop result line.new ≡ join_with_byte comma (decimal bank.group ∷ decimal bank.bank ∷ optional row ∷ optional column ∷ decimal source.core ∷ decimal source.entry ∷ []) }
+    ensures text { drop result line.new ≡ fields_text (request_operands bank row column source) }
     ensures low { 131 ≤ result }
     ensures high { result ≤ 256 }
 {
@@ -42,7 +40,7 @@ fn put_request(
 // The fields after that of the rank; a command of a whole rank fills none of them.
 #[inline(always)]
 fn put_operands(line: &mut Line, command: Command) -> usize
-    ensures text { drop result line.new ≡ join_with_byte comma (operand_fields command) }
+    ensures text { drop result line.new ≡ fields_text (operand_fields command) }
     ensures low { 131 ≤ result }
     ensures high { result ≤ 256 }
 {
@@ -84,7 +82,7 @@ fn put_kind(line: &mut Line, end: usize, kind: Kind) -> usize
 }
 
 fn columns(ranks: u32) -> &'static [u8]
-    ensures names { result.now ≡ join_with_byte comma (header ranks) }
+    ensures names { result.now ≡ fields_text (header ranks) }
     ensures some { 0 < length result.now }
     ensures short { length result.now ≤ 64 }
 {
@@ -98,7 +96,7 @@ fn columns(ranks: u32) -> &'static [u8]
 // The fields of a row, from the last to the first.
 #[inline(always)]
 fn put_command(line: &mut Line, ranks: u32, row: &IssuedCommand) -> usize
-    ensures text { drop result line.new ≡ join_with_byte comma (command_fields ranks row.now) }
+    ensures text { drop result line.new ≡ fields_text (command_fields ranks row.now) }
     ensures some { result < 256 }
 {
     let start = put_operands(line, row.command);
@@ -114,7 +112,8 @@ fn write_command<W: Write>(
     row: &IssuedCommand,
     writer: &mut W,
 ) -> Result<(), Fault>
-    ensures written { OnOk result (Appends (held W.contents writer.old table.old) (held W.contents writer.new table.new) (row_text (command_fields ranks row.now))) }
+    ensures written { AddsOnOk result W.contents writer.old table.old writer.new table.new
+        (row_text (command_fields ranks row.now)) }
     ensures refused { IfErr result (λ e. IsReportFault e) }
 {
     let start = put_command(&mut table.line, ranks, row);
@@ -128,7 +127,8 @@ fn write_each<W: Write>(
     mut rows: Rows<'_>,
     writer: &mut W,
 ) -> Result<(), Fault>
-    ensures written { OnOk result (Appends (held W.contents writer.old table.old) (held W.contents writer.new table.new) (lines_text ranks rows.entry)) }
+    ensures written { AddsOnOk result W.contents writer.old table.old writer.new table.new
+        (lines_text ranks rows.entry) }
     ensures refused { IfErr result (λ e. IsReportFault e) }
 {
     while let Some(row) = rows.next() {
@@ -149,7 +149,8 @@ impl<'a> TableLines<Rows<'a>> for CommandLines {
     ghost lines = { λ of rows. lines_text of.ranks rows };
 
     fn write_header<W: Write>(&self, table: &mut Table, writer: &mut W) -> Result<(), Fault>
-        ensures written { OnOk result (Appends (held W.contents writer.old table.old) (held W.contents writer.new table.new) (row_text (header self.now.ranks))) }
+        ensures written { AddsOnOk result W.contents writer.old table.old writer.new table.new
+            (row_text (header self.now.ranks)) }
         ensures refused { IfErr result (λ e. IsReportFault e) }
     {
         let start = put_last_word(&mut table.line, columns(self.ranks));
@@ -163,7 +164,8 @@ impl<'a> TableLines<Rows<'a>> for CommandLines {
         table: &mut Table,
         writer: &mut W,
     ) -> Result<(), Fault>
-        ensures written { OnOk result (Appends (held W.contents writer.old table.old) (held W.contents writer.new table.new) (lines_text self.now.ranks piece.now)) }
+        ensures written { AddsOnOk result W.contents writer.old table.old writer.new table.new
+            (lines_text self.now.ranks piece.now) }
         ensures refused { IfErr result (λ e. IsReportFault e) }
     {
         write_each(table, self.ranks, piece.copied(alloc)?, writer)
@@ -185,18 +187,19 @@ pub fn write_commands<W: Write>(
     commands: &CommandTable,
     writer: &mut W,
 ) -> Result<(), Fault>
-    ensures written { OnOk result (Appends (W.contents writer.old) (W.contents writer.new) (commands_text ranks commands.now)) }
+    ensures written { WritesOnOk result W.contents writer.old writer.new
+        (commands_text ranks commands.now) }
     ensures refused { IfErr result (λ e. IsReportFault e) }
 {
     let rows = commands.rows(alloc)?;
     write_whole(alloc, &CommandLines { ranks }, &rows, writer)
 }
 
-/// Writes the table of commands as `write_commands` does, put together by at most `threads` threads. If there are few commands,
-/// or only one thread, the caller alone puts it together.
+/// Writes the table of commands as `write_commands` does, put together by at most `threads` threads. If there are few
+/// commands, or only one thread, the caller alone puts it together.
 ///
-/// In addition to the memory of `write_commands`, the call takes that of the texts of as many pieces as there are threads, each of
-/// at most 4,096 commands per channel.
+/// In addition to the memory of `write_commands`, the call takes that of the texts of as many pieces as there are
+/// threads, each of at most 4,096 commands per channel.
 ///
 /// # Errors
 ///
@@ -209,7 +212,8 @@ pub fn write_commands_by<R: Threads + Sync, W: Write>(
     commands: &CommandTable,
     writer: &mut W,
 ) -> Result<(), Fault>
-    ensures written { OnOk result (Appends (W.contents writer.old) (W.contents writer.new) (commands_text ranks commands.now)) }
+    ensures written { WritesOnOk result W.contents writer.old writer.new
+        (commands_text ranks commands.now) }
     ensures refused { IfErr result (λ e. IsReportFault e) }
 {
     if threads < 2 {
@@ -219,5 +223,6 @@ pub fn write_commands_by<R: Threads + Sync, W: Write>(
     if pieces.len() < 2 {
         return write_commands(alloc, ranks, commands, writer);
     }
-    write_pieces(rt, alloc, threads, &CommandLines { ranks }, &pieces, writer)
+    let crew = Crew { rt, alloc, threads };
+    write_pieces(&crew, &CommandLines { ranks }, &pieces, writer)
 }

@@ -1,11 +1,9 @@
 //! The table of the state in which a run ends, `final.csv`.
 
-ghost use Rattle.std.specs.Prelude.{◌≡◌, ◌<◌, ◌≤◌, length, drop, map, Some, IfErr, OnOk};
-ghost use Rattle.std.specs.Io.KnownBytes.{Appends};
-ghost use Rattle.std.specs.List.{join_with_byte};
-ghost use Rattle.reports.specs.Rows.{comma, row_text, rows_text, numbered, IsReportFault};
+ghost use Rattle.std.specs.Prelude.{◌≡◌, ◌<◌, ◌≤◌, length, drop, map, Some, IfErr};
+ghost use Rattle.reports.specs.Rows.{fields_text, row_text, rows_text, numbered, IsReportFault, WritesOnOk};
 ghost use Rattle.reports.specs.Final.{final_header, final_fields, progress_rows, credit_rows, credits_of_core, due_rows, open_numbers, open_fields, queued_item, queued_numbers, queued_fields, channel_rows, flight_item, flight_entry, core_of_link, channel_of_link, flight_numbers, flight_fields, final_text};
-ghost use Rattle.reports.specs.Tables.{held};
+ghost use Rattle.reports.specs.Tables.{AddsOnOk};
 
 use crate::line::{Line, put, put_last, put_last_word, put_rank, put_word};
 use crate::table::Table;
@@ -40,7 +38,7 @@ const BLANK: Numbers = Numbers {
 };
 
 fn columns(ranks: u32) -> &'static [u8]
-    ensures names { result.now ≡ join_with_byte comma (final_header ranks) }
+    ensures names { result.now ≡ fields_text (final_header ranks) }
     ensures some { 0 < length result.now }
     ensures short { length result.now ≤ 64 }
 {
@@ -52,7 +50,8 @@ fn columns(ranks: u32) -> &'static [u8]
 }
 
 fn write_header<W: Write>(table: &mut Table, ranks: u32, writer: &mut W) -> Result<(), Fault>
-    ensures written { OnOk result (Appends (held W.contents writer.old table.old) (held W.contents writer.new table.new) (row_text (final_header ranks))) }
+    ensures written { AddsOnOk result W.contents writer.old table.old writer.new table.new
+        (row_text (final_header ranks)) }
     ensures refused { IfErr result (λ e. IsReportFault e) }
 {
     let start = put_last_word(&mut table.line, columns(ranks));
@@ -62,7 +61,7 @@ fn write_header<W: Write>(table: &mut Table, ranks: u32, writer: &mut W) -> Resu
 // The fields of a row, from the last to the first.
 fn put_numbers(line: &mut Line, ranks: u32, item: &[u8], numbers: &Numbers) -> usize
     requires { length item.now ≤ 32 }
-    ensures text { drop result line.new ≡ join_with_byte comma (final_fields ranks item.now numbers.now) }
+    ensures text { drop result line.new ≡ fields_text (final_fields ranks item.now numbers.now) }
     ensures some { result < 256 }
 {
     let start = put_last(line, numbers.value);
@@ -84,7 +83,8 @@ fn write_numbers<W: Write>(
     writer: &mut W,
 ) -> Result<(), Fault>
     requires { length item.now ≤ 32 }
-    ensures written { OnOk result (Appends (held W.contents writer.old table.old) (held W.contents writer.new table.new) (row_text (final_fields ranks item.now numbers.now))) }
+    ensures written { AddsOnOk result W.contents writer.old table.old writer.new table.new
+        (row_text (final_fields ranks item.now numbers.now)) }
     ensures refused { IfErr result (λ e. IsReportFault e) }
 {
     let start = put_numbers(&mut table.line, ranks, item, numbers);
@@ -98,7 +98,8 @@ fn write_progress<W: Write>(
     state: &CoreState,
     writer: &mut W,
 ) -> Result<(), Fault>
-    ensures written { OnOk result (Appends (held W.contents writer.old table.old) (held W.contents writer.new table.new) (rows_text (progress_rows ranks core state.now))) }
+    ensures written { AddsOnOk result W.contents writer.old table.old writer.new table.new
+        (rows_text (progress_rows ranks core state.now)) }
     ensures refused { IfErr result (λ e. IsReportFault e) }
 {
     let issued = Numbers {
@@ -121,7 +122,8 @@ fn write_progress_of_all<W: Write>(
     cores: &[CoreState],
     writer: &mut W,
 ) -> Result<(), Fault>
-    ensures written { OnOk result (Appends (held W.contents writer.old table.old) (held W.contents writer.new table.new) (rows_text (numbered (progress_rows ranks) cores.now))) }
+    ensures written { AddsOnOk result W.contents writer.old table.old writer.new table.new
+        (rows_text (numbered (progress_rows ranks) cores.now)) }
     ensures refused { IfErr result (λ e. IsReportFault e) }
 {
     for (core, state) in cores.iter().enumerate() {
@@ -130,26 +132,33 @@ fn write_progress_of_all<W: Write>(
     Ok(())
 }
 
+// A core and the channel for which it holds credits.
+#[derive(Clone, Copy)]
+struct Pair {
+    core: u64,
+    channel: u64,
+}
+
 fn write_credits<W: Write>(
     table: &mut Table,
     ranks: u32,
-    core: u64,
-    channel: u64,
+    pair: Pair,
     credits: Credits,
     writer: &mut W,
 ) -> Result<(), Fault>
-    ensures written { OnOk result (Appends (held W.contents writer.old table.old) (held W.contents writer.new table.new) (rows_text (credit_rows ranks core channel credits))) }
+    ensures written { AddsOnOk result W.contents writer.old table.old writer.new table.new
+        (rows_text (credit_rows ranks pair.core pair.channel credits)) }
     ensures refused { IfErr result (λ e. IsReportFault e) }
 {
     let of_reads = Numbers {
-        core: Some(core),
-        channel: Some(channel),
+        core: Some(pair.core),
+        channel: Some(pair.channel),
         value: Some(credits.read),
         ..BLANK
     };
     let of_writes = Numbers {
-        core: Some(core),
-        channel: Some(channel),
+        core: Some(pair.core),
+        channel: Some(pair.channel),
         value: Some(credits.write),
         ..BLANK
     };
@@ -164,11 +173,13 @@ fn write_credits_of_core<W: Write>(
     credits: &[Credits],
     writer: &mut W,
 ) -> Result<(), Fault>
-    ensures written { OnOk result (Appends (held W.contents writer.old table.old) (held W.contents writer.new table.new) (rows_text (numbered (credit_rows ranks core) credits.now))) }
+    ensures written { AddsOnOk result W.contents writer.old table.old writer.new table.new
+        (rows_text (numbered (credit_rows ranks core) credits.now)) }
     ensures refused { IfErr result (λ e. IsReportFault e) }
 {
     for (channel, held) in credits.iter().enumerate() {
-        write_credits(table, ranks, core, channel as u64, *held, writer)?;
+        let channel = channel as u64;
+        write_credits(table, ranks, Pair { core, channel }, *held, writer)?;
     }
     Ok(())
 }
@@ -179,7 +190,8 @@ fn write_credits_of_all<W: Write>(
     cores: &[CoreState],
     writer: &mut W,
 ) -> Result<(), Fault>
-    ensures written { OnOk result (Appends (held W.contents writer.old table.old) (held W.contents writer.new table.new) (rows_text (numbered (credits_of_core ranks) cores.now))) }
+    ensures written { AddsOnOk result W.contents writer.old table.old writer.new table.new
+        (rows_text (numbered (credits_of_core ranks) cores.now)) }
     ensures refused { IfErr result (λ e. IsReportFault e) }
 {
     for (core, state) in cores.iter().enumerate() {
@@ -195,7 +207,8 @@ fn write_due<W: Write>(
     due: &[u64],
     writer: &mut W,
 ) -> Result<(), Fault>
-    ensures written { OnOk result (Appends (held W.contents writer.old table.old) (held W.contents writer.new table.new) (rows_text (numbered (due_rows ranks channel) due.now))) }
+    ensures written { AddsOnOk result W.contents writer.old table.old writer.new table.new
+        (rows_text (numbered (due_rows ranks channel) due.now)) }
     ensures refused { IfErr result (λ e. IsReportFault e) }
 {
     for (rank, count) in due.iter().enumerate() {
@@ -230,7 +243,8 @@ fn write_open_rows<W: Write>(
     open_rows: &[OpenRow],
     writer: &mut W,
 ) -> Result<(), Fault>
-    ensures written { OnOk result (Appends (held W.contents writer.old table.old) (held W.contents writer.new table.new) (rows_text (map (open_fields ranks channel) open_rows.now))) }
+    ensures written { AddsOnOk result W.contents writer.old table.old writer.new table.new
+        (rows_text (map (open_fields ranks channel) open_rows.now)) }
     ensures refused { IfErr result (λ e. IsReportFault e) }
 {
     for opened in open_rows {
@@ -278,7 +292,8 @@ fn write_queue<W: Write>(
     queue: &[Request],
     writer: &mut W,
 ) -> Result<(), Fault>
-    ensures written { OnOk result (Appends (held W.contents writer.old table.old) (held W.contents writer.new table.new) (rows_text (map (queued_fields ranks channel) queue.now))) }
+    ensures written { AddsOnOk result W.contents writer.old table.old writer.new table.new
+        (rows_text (map (queued_fields ranks channel) queue.now)) }
     ensures refused { IfErr result (λ e. IsReportFault e) }
 {
     for request in queue {
@@ -301,7 +316,8 @@ fn write_channel<W: Write>(
     state: &ChannelState,
     writer: &mut W,
 ) -> Result<(), Fault>
-    ensures written { OnOk result (Appends (held W.contents writer.old table.old) (held W.contents writer.new table.new) (rows_text (channel_rows ranks channel state.now))) }
+    ensures written { AddsOnOk result W.contents writer.old table.old writer.new table.new
+        (rows_text (channel_rows ranks channel state.now)) }
     ensures refused { IfErr result (λ e. IsReportFault e) }
 {
     write_due(table, ranks, channel, &state.due, writer)?;
@@ -315,7 +331,8 @@ fn write_channels<W: Write>(
     channels: &[ChannelState],
     writer: &mut W,
 ) -> Result<(), Fault>
-    ensures written { OnOk result (Appends (held W.contents writer.old table.old) (held W.contents writer.new table.new) (rows_text (numbered (channel_rows ranks) channels.now))) }
+    ensures written { AddsOnOk result W.contents writer.old table.old writer.new table.new
+        (rows_text (numbered (channel_rows ranks) channels.now)) }
     ensures refused { IfErr result (λ e. IsReportFault e) }
 {
     for (channel, state) in channels.iter().enumerate() {
@@ -385,7 +402,8 @@ fn write_in_flight<W: Write>(
     in_flight: &[Message],
     writer: &mut W,
 ) -> Result<(), Fault>
-    ensures written { OnOk result (Appends (held W.contents writer.old table.old) (held W.contents writer.new table.new) (rows_text (map (flight_fields ranks channels) in_flight.now))) }
+    ensures written { AddsOnOk result W.contents writer.old table.old writer.new table.new
+        (rows_text (map (flight_fields ranks channels) in_flight.now)) }
     ensures refused { IfErr result (λ e. IsReportFault e) }
 {
     for message in in_flight {
@@ -408,7 +426,8 @@ fn write_rows<W: Write>(
     ranks: u32,
     writer: &mut W,
 ) -> Result<(), Fault>
-    ensures written { OnOk result (Appends (held W.contents writer.old table.old) (held W.contents writer.new table.new) (final_text ranks state.now)) }
+    ensures written { AddsOnOk result W.contents writer.old table.old writer.new table.new
+        (final_text ranks state.now) }
     ensures refused { IfErr result (λ e. IsReportFault e) }
 {
     write_header(table, ranks, writer)?;
@@ -419,9 +438,9 @@ fn write_rows<W: Write>(
     write_in_flight(table, ranks, channels, &state.in_flight, writer)
 }
 
-/// Writes the table of the state in which a run ends: a header; the entries that each core issued and retired; the credits
-/// that each core holds for each channel; for each channel the refreshes that are due by rank, the open rows and the queue;
-/// and the messages in flight. Fields that a row does not have are empty.
+/// Writes the table of the state in which a run ends: a header; the entries that each core issued and retired; the
+/// credits that each core holds for each channel; for each channel the refreshes that are due by rank, the open rows
+/// and the queue; and the messages in flight. Fields that a row does not have are empty.
 ///
 /// Where `ranks` is above 1 the table has a column for the rank. The call takes memory for a batch of
 /// rows, below 64 KB, and some 14 KB for the writer of `csv` and what it is handed.
@@ -436,7 +455,8 @@ pub fn write_final<W: Write>(
     ranks: u32,
     writer: &mut W,
 ) -> Result<(), Fault>
-    ensures written { OnOk result (Appends (W.contents writer.old) (W.contents writer.new) (final_text ranks state.now)) }
+    ensures written { WritesOnOk result W.contents writer.old writer.new
+        (final_text ranks state.now) }
     ensures refused { IfErr result (λ e. IsReportFault e) }
 {
     let mut table = Table::new(alloc);

@@ -1,8 +1,9 @@
-//! The text of one row. It is put together from its last field to its first, since digits are found from the last to the first;
-//! so each byte is written once, where it stays. A function that puts something before a place returns the place where it begins.
+//! The text of one row. It is put together from its last field to its first, since digits are found from the last to
+//! the first; so each byte is written once, where it stays. A function that puts something before a place returns the
+//! place where it begins.
 
-ghost use Rattle.std.specs.Prelude.{◌≡◌, ◌≤◌, ◌<◌, ◌+◌, ◌++◌, ◌∷◌, if◌then◌else◌, nat_lt, length, drop, decimal};
-ghost use Rattle.reports.specs.Rows.{comma, optional};
+ghost use Rattle.std.specs.Prelude.{◌≡◌, ◌≤◌, ◌<◌, ◌+◌, ◌++◌, ◌∷◌, length, drop, decimal};
+ghost use Rattle.reports.specs.Rows.{comma, optional, with_rank};
 
 use itoa::{Buffer, write_digits};
 
@@ -71,7 +72,7 @@ pub(crate) fn put_last(line: &mut Line, number: Option<u64>) -> usize
     }
 }
 
-/// The same for a number that may exceed 64 bits.
+/// Puts the last field: a number that may exceed 64 bits, or nothing where there is none.
 #[inline]
 pub(crate) fn put_last_wide(line: &mut Line, number: Option<u128>) -> usize
     ensures text { drop result line.new ≡ optional number }
@@ -115,7 +116,7 @@ pub(crate) fn put(line: &mut Line, end: usize, number: Option<u64>) -> usize
 #[inline(always)]
 pub(crate) fn put_rank(line: &mut Line, end: usize, ranks: u32, rank: Option<u64>) -> usize
     requires { (21 ≤ end) × (end ≤ 256) }
-    ensures text { drop result line.new ≡ (if nat_lt 1 ranks then optional rank ++ comma ∷ drop end line.old else drop end line.old) }
+    ensures text { drop result line.new ≡ with_rank ranks rank (drop end line.old) }
     ensures low { end ≤ result + 21 }
     ensures high { result ≤ end }
 {

@@ -1,9 +1,8 @@
 //! Tables whose rows come in pieces, the texts of which are put together in parallel.
 
-ghost use Rattle.std.specs.Prelude.{◌≡◌, ◌<◌, ◌++◌, List, ℕ, flat_map, IfOk, IfErr, OnOk};
-ghost use Rattle.std.specs.Io.KnownBytes.{Appends};
-ghost use Rattle.reports.specs.Rows.{IsTextOf, IsReportFault};
-ghost use Rattle.reports.specs.Tables.{held};
+ghost use Rattle.std.specs.Prelude.{◌≡◌, ◌<◌, ◌++◌, List, ℕ, flat_map, IfOk, IfErr};
+ghost use Rattle.reports.specs.Rows.{all_of, IsTextOf, IsReportFault, WritesOnOk};
+ghost use Rattle.reports.specs.Tables.{AddsOnOk};
 
 use crate::table::Table;
 use rayon::prelude::*;
@@ -25,7 +24,8 @@ pub(crate) trait TableLines<P> {
 
     /// Writes the header.
     fn write_header<W: Write>(&self, table: &mut Table, writer: &mut W) -> Result<(), Fault>
-        ensures written { OnOk result (Appends (held W.contents writer.old table.old) (held W.contents writer.new table.new) (header_line self.now)) }
+        ensures written { AddsOnOk result W.contents writer.old table.old writer.new table.new
+            (header_line self.now) }
         ensures refused { IfErr result (λ e. IsReportFault e) };
 
     /// Writes the rows of a piece.
@@ -36,7 +36,8 @@ pub(crate) trait TableLines<P> {
         table: &mut Table,
         writer: &mut W,
     ) -> Result<(), Fault>
-        ensures written { OnOk result (Appends (held W.contents writer.old table.old) (held W.contents writer.new table.new) (lines self.now piece.now)) }
+        ensures written { AddsOnOk result W.contents writer.old table.old writer.new table.new
+            (lines self.now piece.now) }
         ensures refused { IfErr result (λ e. IsReportFault e) };
 }
 
@@ -46,7 +47,7 @@ fn write_header_alone<P, T: TableLines<P>, W: Write>(
     of: &T,
     writer: &mut W,
 ) -> Result<(), Fault>
-    ensures written { OnOk result (Appends (W.contents writer.old) (W.contents writer.new) (T.header_line of.now)) }
+    ensures written { WritesOnOk result W.contents writer.old writer.new (T.header_line of.now) }
     ensures refused { IfErr result (λ e. IsReportFault e) }
 {
     let mut table = Table::new(alloc);
@@ -61,7 +62,8 @@ fn write_piece<P, T: TableLines<P>, W: Write>(
     piece: &P,
     writer: &mut W,
 ) -> Result<(), Fault>
-    ensures written { OnOk result (Appends (W.contents writer.old) (W.contents writer.new) (T.lines of.now piece.now)) }
+    ensures written { WritesOnOk result W.contents writer.old writer.new
+        (T.lines of.now piece.now) }
     ensures refused { IfErr result (λ e. IsReportFault e) }
 {
     let mut table = Table::new(alloc);
@@ -77,7 +79,8 @@ fn write_both<P, T: TableLines<P>, W: Write>(
     table: &mut Table,
     writer: &mut W,
 ) -> Result<(), Fault>
-    ensures written { OnOk result (Appends (held W.contents writer.old table.old) (held W.contents writer.new table.new) (T.header_line of.now ++ T.lines of.now rows.now)) }
+    ensures written { AddsOnOk result W.contents writer.old table.old writer.new table.new
+        (T.header_line of.now ++ T.lines of.now rows.now) }
     ensures refused { IfErr result (λ e. IsReportFault e) }
 {
     of.write_header(table, writer)?;
@@ -91,7 +94,8 @@ pub(crate) fn write_whole<P, T: TableLines<P>, W: Write>(
     rows: &P,
     writer: &mut W,
 ) -> Result<(), Fault>
-    ensures written { OnOk result (Appends (W.contents writer.old) (W.contents writer.new) (T.header_line of.now ++ T.lines of.now rows.now)) }
+    ensures written { WritesOnOk result W.contents writer.old writer.new
+        (T.header_line of.now ++ T.lines of.now rows.now) }
     ensures refused { IfErr result (λ e. IsReportFault e) }
 {
     let mut table = Table::new(alloc);
@@ -115,7 +119,8 @@ fn texts_of<R: Threads + Sync, P: Sync, T: TableLines<P> + Sync>(
     of: &T,
     pieces: &[P],
 ) -> Result<Vec<Vec<u8>>, Fault>
-    ensures texts { IfOk result (λ texts. flat_map (λ text. text.items) texts.items ≡ flat_map (T.lines of.now) pieces.now) }
+    ensures texts { IfOk result (λ texts.
+        all_of texts.items ≡ flat_map (T.lines of.now) pieces.now) }
     ensures refused { IfErr result (λ e. IsReportFault e) }
 {
     pieces
@@ -131,7 +136,7 @@ fn texts_of<R: Threads + Sync, P: Sync, T: TableLines<P> + Sync>(
 
 // Writes texts, one after the other.
 fn write_texts<W: Write>(texts: &[Vec<u8>], writer: &mut W) -> Result<(), Fault>
-    ensures written { OnOk result (Appends (W.contents writer.old) (W.contents writer.new) (flat_map (λ text. text.items) texts.now)) }
+    ensures written { WritesOnOk result W.contents writer.old writer.new (all_of texts.now) }
     ensures refused { IfErr result (λ e. IsReportFault e) }
 {
     for text in texts {
@@ -150,48 +155,55 @@ fn write_round<R: Threads + Sync, P: Sync, T: TableLines<P> + Sync, W: Write>(
     pieces: &[P],
     writer: &mut W,
 ) -> Result<(), Fault>
-    ensures written { OnOk result (Appends (W.contents writer.old) (W.contents writer.new) (flat_map (T.lines of.now) pieces.now)) }
+    ensures written { WritesOnOk result W.contents writer.old writer.new
+        (flat_map (T.lines of.now) pieces.now) }
     ensures refused { IfErr result (λ e. IsReportFault e) }
 {
     let texts = texts_of(rt, alloc, of, pieces)?;
     write_texts(&texts, writer)
 }
 
-// Writes the rows of all pieces, `threads` pieces at a time.
+/// Who puts the texts of pieces together: at most so many threads of the host, with this memory.
+#[derive(Drop)]
+pub(crate) struct Crew<'a, R> {
+    pub(crate) rt: &'a R,
+    pub(crate) alloc: Global,
+    pub(crate) threads: usize,
+}
+
+// Writes the rows of all pieces, as many pieces at a time as there are threads.
 fn write_rounds<R: Threads + Sync, P: Sync, T: TableLines<P> + Sync, W: Write>(
-    rt: &R,
-    alloc: Global,
-    threads: usize,
+    crew: &Crew<'_, R>,
     of: &T,
     pieces: &[P],
     writer: &mut W,
 ) -> Result<(), Fault>
-    requires some { 0 < threads }
-    ensures written { OnOk result (Appends (W.contents writer.old) (W.contents writer.new) (flat_map (T.lines of.now) pieces.now)) }
+    requires some { 0 < crew.now.threads }
+    ensures written { WritesOnOk result W.contents writer.old writer.new
+        (flat_map (T.lines of.now) pieces.now) }
     ensures refused { IfErr result (λ e. IsReportFault e) }
 {
     let mut done = 0;
     while done < pieces.len() {
-        let end = done + threads.min(pieces.len() - done);
-        write_round(rt, alloc, of, &pieces[done..end], writer)?;
+        let end = done + crew.threads.min(pieces.len() - done);
+        write_round(crew.rt, crew.alloc, of, &pieces[done..end], writer)?;
         done = end;
     }
     Ok(())
 }
 
-/// Writes a table: the header, and then the rows of the pieces, whose texts are put together by at most `threads` threads.
+/// Writes a table: the header, and then the rows of the pieces, whose texts a crew puts together.
 pub(crate) fn write_pieces<R: Threads + Sync, P: Sync, T: TableLines<P> + Sync, W: Write>(
-    rt: &R,
-    alloc: Global,
-    threads: usize,
+    crew: &Crew<'_, R>,
     of: &T,
     pieces: &[P],
     writer: &mut W,
 ) -> Result<(), Fault>
-    requires some { 0 < threads }
-    ensures written { OnOk result (Appends (W.contents writer.old) (W.contents writer.new) (T.header_line of.now ++ flat_map (T.lines of.now) pieces.now)) }
+    requires some { 0 < crew.now.threads }
+    ensures written { WritesOnOk result W.contents writer.old writer.new
+        (T.header_line of.now ++ flat_map (T.lines of.now) pieces.now) }
     ensures refused { IfErr result (λ e. IsReportFault e) }
 {
-    write_header_alone(alloc, of, writer)?;
-    write_rounds(rt, alloc, threads, of, pieces, writer)
+    write_header_alone(crew.alloc, of, writer)?;
+    write_rounds(crew, of, pieces, writer)
 }

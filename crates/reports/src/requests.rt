@@ -1,14 +1,12 @@
 //! The table of requests, `requests.csv`.
 
-ghost use Rattle.std.specs.Prelude.{◌≡◌, ◌<◌, ◌≤◌, ◌+◌, ◌++◌, ◌∷◌, [], length, drop, decimal, IfErr, OnOk};
-ghost use Rattle.std.specs.Io.KnownBytes.{Appends};
-ghost use Rattle.std.specs.List.{join_with_byte};
-ghost use Rattle.reports.specs.Rows.{comma, row_text, optional, IsReportFault};
-ghost use Rattle.reports.specs.Tables.{held};
-ghost use Rattle.reports.specs.Requests.{request_header, access_word, hit_field, request_fields, request_lines, requests_text};
+ghost use Rattle.std.specs.Prelude.{◌≡◌, ◌<◌, ◌≤◌, ◌+◌, ◌++◌, ◌∷◌, length, drop, IfErr};
+ghost use Rattle.reports.specs.Rows.{comma, fields_text, row_text, IsReportFault, WritesOnOk};
+ghost use Rattle.reports.specs.Tables.{AddsOnOk};
+ghost use Rattle.reports.specs.Requests.{request_header, access_word, time_fields, request_fields, request_lines, requests_text};
 
 use crate::line::{Line, put, put_last, put_last_word, put_word};
-use crate::pieces::{MOST, TableLines, write_pieces, write_whole};
+use crate::pieces::{Crew, MOST, TableLines, write_pieces, write_whole};
 use crate::table::Table;
 use request_table::table::{RequestTable, Rows};
 use request_table::times::{Access, RequestTimes};
@@ -18,7 +16,7 @@ use std::io::Write;
 use std::thread::Threads;
 
 fn columns() -> &'static [u8]
-    ensures names { result.now ≡ join_with_byte comma request_header }
+    ensures names { result.now ≡ fields_text request_header }
     ensures some { 0 < length result.now }
     ensures short { length result.now ≤ 64 }
 {
@@ -42,7 +40,7 @@ fn put_access(line: &mut Line, end: usize, access: Access) -> usize
 // The fields of when the request was where, from the last to the first.
 #[inline(always)]
 fn put_times(line: &mut Line, row: &RequestTimes) -> usize
-    ensures text { drop result line.new ≡ join_with_byte comma (decimal row.now.issued ∷ decimal row.now.arrived ∷ decimal row.now.served ∷ optional row.now.replied ∷ hit_field row.now.hit ∷ []) }
+    ensures text { drop result line.new ≡ fields_text (time_fields row.now) }
     ensures low { 131 ≤ result }
     ensures high { result ≤ 256 }
 {
@@ -56,7 +54,7 @@ fn put_times(line: &mut Line, row: &RequestTimes) -> usize
 // The fields of a row, from the last to the first.
 #[inline(always)]
 fn put_request(line: &mut Line, row: &RequestTimes) -> usize
-    ensures text { drop result line.new ≡ join_with_byte comma (request_fields row.now) }
+    ensures text { drop result line.new ≡ fields_text (request_fields row.now) }
     ensures some { result < 256 }
 {
     let start = put_times(line, row);
@@ -71,7 +69,8 @@ fn write_request<W: Write>(
     row: &RequestTimes,
     writer: &mut W,
 ) -> Result<(), Fault>
-    ensures written { OnOk result (Appends (held W.contents writer.old table.old) (held W.contents writer.new table.new) (row_text (request_fields row.now))) }
+    ensures written { AddsOnOk result W.contents writer.old table.old writer.new table.new
+        (row_text (request_fields row.now)) }
     ensures refused { IfErr result (λ e. IsReportFault e) }
 {
     let start = put_request(&mut table.line, row);
@@ -80,7 +79,8 @@ fn write_request<W: Write>(
 
 // Each request that is left.
 fn write_each<W: Write>(table: &mut Table, mut rows: Rows<'_>, writer: &mut W) -> Result<(), Fault>
-    ensures written { OnOk result (Appends (held W.contents writer.old table.old) (held W.contents writer.new table.new) (request_lines rows.entry)) }
+    ensures written { AddsOnOk result W.contents writer.old table.old writer.new table.new
+        (request_lines rows.entry) }
     ensures refused { IfErr result (λ e. IsReportFault e) }
 {
     while let Some(row) = rows.next() {
@@ -99,7 +99,8 @@ impl<'a> TableLines<Rows<'a>> for RequestLines {
     ghost lines = { λ of rows. request_lines rows };
 
     fn write_header<W: Write>(&self, table: &mut Table, writer: &mut W) -> Result<(), Fault>
-        ensures written { OnOk result (Appends (held W.contents writer.old table.old) (held W.contents writer.new table.new) (row_text request_header)) }
+        ensures written { AddsOnOk result W.contents writer.old table.old writer.new table.new
+            (row_text request_header) }
         ensures refused { IfErr result (λ e. IsReportFault e) }
     {
         let start = put_last_word(&mut table.line, columns());
@@ -113,15 +114,16 @@ impl<'a> TableLines<Rows<'a>> for RequestLines {
         table: &mut Table,
         writer: &mut W,
     ) -> Result<(), Fault>
-        ensures written { OnOk result (Appends (held W.contents writer.old table.old) (held W.contents writer.new table.new) (request_lines piece.now)) }
+        ensures written { AddsOnOk result W.contents writer.old table.old writer.new table.new
+            (request_lines piece.now) }
         ensures refused { IfErr result (λ e. IsReportFault e) }
     {
         write_each(table, piece.copied(alloc)?, writer)
     }
 }
 
-/// Writes the table of requests: a header, and then a row for each request, in their order. The call takes as much memory as
-/// `write_commands`.
+/// Writes the table of requests: a header, and then a row for each request, in their order. The call takes as much
+/// memory as `write_commands`.
 ///
 /// # Errors
 ///
@@ -131,15 +133,16 @@ pub fn write_requests<W: Write>(
     requests: &RequestTable,
     writer: &mut W,
 ) -> Result<(), Fault>
-    ensures written { OnOk result (Appends (W.contents writer.old) (W.contents writer.new) (requests_text requests.now)) }
+    ensures written { WritesOnOk result W.contents writer.old writer.new
+        (requests_text requests.now) }
     ensures refused { IfErr result (λ e. IsReportFault e) }
 {
     let rows = requests.rows(alloc)?;
     write_whole(alloc, &RequestLines, &rows, writer)
 }
 
-/// Writes the table of requests as `write_requests` does, put together by at most `threads` threads, as `write_commands_by` puts the
-/// table of commands together.
+/// Writes the table of requests as `write_requests` does, put together by at most `threads` threads, as
+/// `write_commands_by` puts the table of commands together.
 ///
 /// # Errors
 ///
@@ -151,7 +154,8 @@ pub fn write_requests_by<R: Threads + Sync, W: Write>(
     requests: &RequestTable,
     writer: &mut W,
 ) -> Result<(), Fault>
-    ensures written { OnOk result (Appends (W.contents writer.old) (W.contents writer.new) (requests_text requests.now)) }
+    ensures written { WritesOnOk result W.contents writer.old writer.new
+        (requests_text requests.now) }
     ensures refused { IfErr result (λ e. IsReportFault e) }
 {
     if threads < 2 {
@@ -161,5 +165,6 @@ pub fn write_requests_by<R: Threads + Sync, W: Write>(
     if pieces.len() < 2 {
         return write_requests(alloc, requests, writer);
     }
-    write_pieces(rt, alloc, threads, &RequestLines, &pieces, writer)
+    let crew = Crew { rt, alloc, threads };
+    write_pieces(&crew, &RequestLines, &pieces, writer)
 }

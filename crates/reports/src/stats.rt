@@ -1,11 +1,9 @@
 //! The table of statistics, `stats.csv`.
 
-ghost use Rattle.std.specs.Prelude.{◌≡◌, ◌<◌, ◌≤◌, length, drop, map, IfErr, OnOk};
-ghost use Rattle.std.specs.Io.KnownBytes.{Appends};
-ghost use Rattle.std.specs.List.{join_with_byte};
-ghost use Rattle.reports.specs.Rows.{comma, row_text, rows_text, numbered, IsReportFault};
-ghost use Rattle.reports.specs.Stats.{count_named, value_fields, core_values, usual_values, core_rows, channel_rows, stats_text};
-ghost use Rattle.reports.specs.Tables.{held};
+ghost use Rattle.std.specs.Prelude.{◌≡◌, ◌<◌, ◌≤◌, length, drop, map, IfErr};
+ghost use Rattle.reports.specs.Rows.{fields_text, row_text, rows_text, numbered, IsReportFault, WritesOnOk};
+ghost use Rattle.reports.specs.Stats.{count_named, value_fields, count_fields, core_values, usual_values, core_rows, channel_rows, stats_text};
+ghost use Rattle.reports.specs.Tables.{AddsOnOk};
 
 mod named;
 
@@ -75,13 +73,13 @@ fn channel_counts(channel: &ChannelStats) -> [NamedCount; 11]
 }
 
 // The fields of a row, from the last to the first.
-fn put_count(line: &mut Line, scope: &[u8], id: u64, name: &[u8], value: Option<u128>) -> usize
-    requires { (length scope.now ≤ 32) × (length name.now ≤ 32) }
-    ensures text { drop result line.new ≡ join_with_byte comma (value_fields scope.now id (name.now, value)) }
+fn put_count(line: &mut Line, scope: &[u8], id: u64, count: NamedCount) -> usize
+    requires { length scope.now ≤ 32 }
+    ensures text { drop result line.new ≡ fields_text (count_fields scope.now id count) }
     ensures some { result < 256 }
 {
-    let start = put_last_wide(line, value);
-    let start = put_word(line, start, name);
+    let start = put_last_wide(line, count.value);
+    let start = put_word(line, start, count.name);
     let start = put(line, start, Some(id));
     put_word(line, start, scope)
 }
@@ -90,15 +88,15 @@ fn write_count<W: Write>(
     table: &mut Table,
     scope: &[u8],
     id: u64,
-    name: &[u8],
-    value: Option<u128>,
+    count: NamedCount,
     writer: &mut W,
 ) -> Result<(), Fault>
-    requires { (length scope.now ≤ 32) × (length name.now ≤ 32) }
-    ensures written { OnOk result (Appends (held W.contents writer.old table.old) (held W.contents writer.new table.new) (row_text (value_fields scope.now id (name.now, value)))) }
+    requires { length scope.now ≤ 32 }
+    ensures written { AddsOnOk result W.contents writer.old table.old writer.new table.new
+        (row_text (count_fields scope.now id count)) }
     ensures refused { IfErr result (λ e. IsReportFault e) }
 {
-    let start = put_count(&mut table.line, scope, id, name, value);
+    let start = put_count(&mut table.line, scope, id, count);
     table.write_row(start, writer)
 }
 
@@ -110,11 +108,12 @@ fn write_counts<W: Write>(
     writer: &mut W,
 ) -> Result<(), Fault>
     requires { length scope.now ≤ 32 }
-    ensures written { OnOk result (Appends (held W.contents writer.old table.old) (held W.contents writer.new table.new) (rows_text (map (value_fields scope.now id) (map count_named counts.now)))) }
+    ensures written { AddsOnOk result W.contents writer.old table.old writer.new table.new
+        (rows_text (map (value_fields scope.now id) (map count_named counts.now))) }
     ensures refused { IfErr result (λ e. IsReportFault e) }
 {
     for count in counts {
-        write_count(table, scope, id, count.name, count.value, writer)?;
+        write_count(table, scope, id, *count, writer)?;
     }
     Ok(())
 }
@@ -124,7 +123,8 @@ fn write_cores<W: Write>(
     cores: &[CoreStats],
     writer: &mut W,
 ) -> Result<(), Fault>
-    ensures written { OnOk result (Appends (held W.contents writer.old table.old) (held W.contents writer.new table.new) (rows_text (numbered core_rows cores.now))) }
+    ensures written { AddsOnOk result W.contents writer.old table.old writer.new table.new
+        (rows_text (numbered core_rows cores.now)) }
     ensures refused { IfErr result (λ e. IsReportFault e) }
 {
     for (id, core) in cores.iter().enumerate() {
@@ -139,14 +139,15 @@ fn write_channel<W: Write>(
     channel: &ChannelStats,
     writer: &mut W,
 ) -> Result<(), Fault>
-    ensures written { OnOk result (Appends (held W.contents writer.old table.old) (held W.contents writer.new table.new) (rows_text (channel_rows id channel.now))) }
+    ensures written { AddsOnOk result W.contents writer.old table.old writer.new table.new
+        (rows_text (channel_rows id channel.now)) }
     ensures refused { IfErr result (λ e. IsReportFault e) }
 {
     write_counts(table, b"channel", id, &channel_counts(channel), writer)?;
     match channel.draining {
         Some(cycles) => {
-            let cycles = Some(u128::from(cycles));
-            write_count(table, b"channel", id, b"draining", cycles, writer)
+            let draining = named(b"draining", cycles);
+            write_count(table, b"channel", id, draining, writer)
         }
         None => Ok(()),
     }
@@ -157,7 +158,8 @@ fn write_channels<W: Write>(
     channels: &[ChannelStats],
     writer: &mut W,
 ) -> Result<(), Fault>
-    ensures written { OnOk result (Appends (held W.contents writer.old table.old) (held W.contents writer.new table.new) (rows_text (numbered channel_rows channels.now))) }
+    ensures written { AddsOnOk result W.contents writer.old table.old writer.new table.new
+        (rows_text (numbered channel_rows channels.now)) }
     ensures refused { IfErr result (λ e. IsReportFault e) }
 {
     for (id, channel) in channels.iter().enumerate() {
@@ -168,28 +170,30 @@ fn write_channels<W: Write>(
 
 // The header, how many cycles there were, and then each core and each channel.
 fn write_rows<W: Write>(table: &mut Table, stats: &Stats, writer: &mut W) -> Result<(), Fault>
-    ensures written { OnOk result (Appends (held W.contents writer.old table.old) (held W.contents writer.new table.new) (stats_text stats.now)) }
+    ensures written { AddsOnOk result W.contents writer.old table.old writer.new table.new
+        (stats_text stats.now) }
     ensures refused { IfErr result (λ e. IsReportFault e) }
 {
     let start = put_last_word(&mut table.line, b"scope,id,name,value");
     table.write_row(start, writer)?;
-    let cycles = Some(u128::from(stats.cycles));
-    write_count(table, b"run", 0, b"cycles", cycles, writer)?;
+    let cycles = named(b"cycles", stats.cycles);
+    write_count(table, b"run", 0, cycles, writer)?;
     write_cores(table, &stats.cores, writer)?;
     write_channels(table, &stats.channels, writer)
 }
 
-/// Writes the table of statistics: a header, how many cycles there were, and then a row for each count of each core and of
-/// each channel, by number. A channel that may drain its writes has a row `draining` after all others.
+/// Writes the table of statistics: a header, how many cycles there were, and then a row for each count of each core and
+/// of each channel, by number. A channel that may drain its writes has a row `draining` after all others.
 ///
-/// The call takes memory for a batch of rows, below 64 KB, and some 14 KB for the writer of `csv` and what it is handed.
+/// The call takes memory for a batch of rows, below 64 KB, and some 14 KB for the writer of `csv` and what it is
+/// handed.
 ///
 /// # Errors
 ///
 /// `Fault::Memory` where memory is refused, and `Fault::Write` where the writer fails or takes no byte. How much
 /// went out before that is not known.
 pub fn write_stats<W: Write>(alloc: Global, stats: &Stats, writer: &mut W) -> Result<(), Fault>
-    ensures written { OnOk result (Appends (W.contents writer.old) (W.contents writer.new) (stats_text stats.now)) }
+    ensures written { WritesOnOk result W.contents writer.old writer.new (stats_text stats.now) }
     ensures refused { IfErr result (λ e. IsReportFault e) }
 {
     let mut table = Table::new(alloc);

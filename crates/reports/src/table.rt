@@ -1,9 +1,8 @@
 //! A table on its way to a writer.
 
 ghost use Rattle.std.specs.Prelude.{◌≡◌, ◌<◌, ◌≤◌, ◌+◌, ◌++◌, [], false, length, drop, codes, IfErr, OnOk};
-ghost use Rattle.std.specs.Io.KnownBytes.{Appends, Keeps};
 ghost use Rattle.csv.specs.Writing.{writer_setup, fields_written, has_written, writer_under, writer_pending};
-ghost use Rattle.reports.specs.Rows.{plain_writer, IsReportFault};
+ghost use Rattle.reports.specs.Rows.{plain_writer, IsReportFault, WritesOnOk};
 
 use crate::block::Block;
 use crate::line::{Line, ROOM, text_from};
@@ -13,10 +12,12 @@ use std::alloc::Global;
 use std::io::Write;
 use std::mem;
 
-// Once this many bytes wait in the list, everything that waits goes out. Together with what `csv` may hold, that is below 64 KB.
+// Once this many bytes wait in the list, everything that waits goes out. Together with what `csv` may hold, that is
+// below 64 KB.
 const BATCH: usize = 48 * 1024;
 
-// A writer that appends rows to this text, without quotes. Its buffer of 8 KB is cleared here, so one writer is made for many rows.
+// A writer that appends rows to this text, without quotes. Its buffer of 8 KB is cleared here, so one writer is made
+// for many rows.
 fn rows_after(text: Vec<u8>) -> Writer<Vec<u8>>
     ensures under { writer_under result ≡ text }
     ensures pending { writer_pending result ≡ [] }
@@ -32,7 +33,8 @@ fn rows_after(text: Vec<u8>) -> Writer<Vec<u8>>
 // Hands rows to the writer.
 #[inline(always)]
 fn write_out<W: Write>(rows: Writer<Vec<u8>>, writer: &mut W) -> Result<(), Fault>
-    ensures written { OnOk result (Appends (W.contents writer.old) (W.contents writer.new) ((writer_under rows).items ++ writer_pending rows)) }
+    ensures written { WritesOnOk result W.contents writer.old writer.new
+        ((writer_under rows).items ++ writer_pending rows) }
     ensures refused { IfErr result (λ e. IsReportFault e) }
 {
     let Ok(batch) = rows.into_inner() else {
@@ -44,8 +46,8 @@ fn write_out<W: Write>(rows: Writer<Vec<u8>>, writer: &mut W) -> Result<(), Faul
     Ok(())
 }
 
-/// Rows that wait for a writer, less than 64 KB of them, and the row that is being put together. They go out together. The last
-/// of them wait in a block, which `csv` gets as one text.
+/// Rows that wait for a writer, less than 64 KB of them, and the row that is being put together. They go out together.
+/// The last of them wait in a block, which `csv` gets as one text.
 #[derive(Drop)]
 pub(crate) struct Table {
     pub(crate) line: Line,
@@ -58,7 +60,7 @@ pub(crate) struct Table {
 }
 
 impl Table {
-    ghost use Rattle.reports.specs.Tables.{waiting, held};
+    ghost use Rattle.reports.specs.Tables.{waiting, AddsOnOk, KeepsOnOk, SendsOnOk};
 
     /// No row.
     pub(crate) fn new(alloc: Global) -> Table
@@ -92,7 +94,7 @@ impl Table {
 
     // Hands all waiting rows to the writer. After an error only those of the block still wait.
     fn send<W: Write>(&mut self, writer: &mut W) -> Result<(), Fault>
-        ensures written { OnOk result (Keeps (held W.contents writer.old self.old) (held W.contents writer.new self.new)) }
+        ensures written { KeepsOnOk result W.contents writer.old self.old writer.new self.new }
         ensures none { OnOk result (waiting self.new ≡ []) }
         ensures empty { OnOk result (self.new.block ≡ []) }
         ensures line { self.new.line ≡ self.old.line }
@@ -106,7 +108,7 @@ impl Table {
     // Empties the block. If enough rows wait, they go out.
     #[inline(never)]
     fn empty_block<W: Write>(&mut self, writer: &mut W) -> Result<(), Fault>
-        ensures written { OnOk result (Keeps (held W.contents writer.old self.old) (held W.contents writer.new self.new)) }
+        ensures written { KeepsOnOk result W.contents writer.old self.old writer.new self.new }
         ensures empty { OnOk result (self.new.block ≡ []) }
         ensures line { self.new.line ≡ self.old.line }
         ensures refused { IfErr result (λ e. IsReportFault e) }
@@ -120,7 +122,7 @@ impl Table {
     // Makes sure that the block has room for a row.
     #[inline(always)]
     fn make_room<W: Write>(&mut self, writer: &mut W) -> Result<(), Fault>
-        ensures written { OnOk result (Keeps (held W.contents writer.old self.old) (held W.contents writer.new self.new)) }
+        ensures written { KeepsOnOk result W.contents writer.old self.old writer.new self.new }
         ensures room { OnOk result (length self.new.block + 256 ≤ 4096) }
         ensures line { self.new.line ≡ self.old.line }
         ensures refused { IfErr result (λ e. IsReportFault e) }
@@ -131,12 +133,13 @@ impl Table {
         self.empty_block(writer)
     }
 
-    /// Ends the row whose fields stand in the line from a place on. If enough rows wait, they go out. After an error those that
-    /// waited are lost.
+    /// Ends the row whose fields stand in the line from a place on. If enough rows wait, they go out. After an error
+    /// those that waited are lost.
     #[inline(always)]
     pub(crate) fn write_row<W: Write>(&mut self, start: usize, writer: &mut W) -> Result<(), Fault>
         requires { start < 256 }
-        ensures written { OnOk result (Appends (held W.contents writer.old self.old) (held W.contents writer.new self.new) (drop start self.old.line ++ codes "\n")) }
+        ensures written { AddsOnOk result W.contents writer.old self.old writer.new self.new
+            (drop start self.old.line ++ codes "\n") }
         ensures refused { IfErr result (λ e. IsReportFault e) }
     {
         self.make_room(writer)?;
@@ -146,7 +149,7 @@ impl Table {
 
     /// Hands the rows that still wait to the writer. A table that is not finished loses them.
     pub(crate) fn finish<W: Write>(mut self, writer: &mut W) -> Result<(), Fault>
-        ensures written { OnOk result (Keeps (held W.contents writer.old self) (W.contents writer.new)) }
+        ensures written { SendsOnOk result W.contents writer.old self writer.new }
         ensures refused { IfErr result (λ e. IsReportFault e) }
     {
         self.put_block()?;

@@ -11,17 +11,18 @@
 --     slot_of_line mask r, slot_of_row mask r      the counters of a request
 --     slot_count slot_of requests slot, AreCounted slot_of counts requests      how many requests a counter counts, and that each counter says so
 --     asks_for_row bank write row r      a request asks for a row of a bank, to write or to read
+--     NoneAsksForRow bank write row log      none that waits does
 --     marked_items items marks      the items at the places that are marked
 --     waiting_items log items      the items at the places of those that wait
 --     write_count requests      how many of them are writes
-use Rattle.std.specs.Prelude.{ℕ, ◌≡◌, ◌<◌, ◌+◌, ◌*◌, ◌/◌, ◌%◌, ◌^◌, bit_and, length, slice_index_or, ◌==◌, Bool, not, ◌&&◌, List, map, filter, count_by, if◌then◌else◌}
+use Rattle.std.specs.Prelude.{ℕ, ◌≡◌, ◌<◌, ◌+◌, ◌*◌, ◌/◌, ◌%◌, ◌^◌, bit_and, length, slice_index_or, ◌==◌, Bool, false, not, ◌&&◌, List, All, map, filter, count_by, if◌then◌else◌}
 use Rattle.std.specs.List.{zip}
 use Rattle.std.specs.Simd.Lanes.{zip2}
 use Rattle.sim_base.specs.declared.message.Request.{Request}
 use Rattle.sim_base.specs.declared.place.Place.{Place}
 use Rattle.request_log.specs.declared.Arrived.{Arrived}
 use Rattle.request_log.specs.Marks.{is_marked, mark}
-use Rattle.request_log.specs.Log.{eligible_column}
+use Rattle.request_log.specs.Log.{eligible_column, waiting_requests}
 
 -- the number of the bank of a place, each rank having places for four groups of four banks
 abbrev pub bank_number : Place → ℕ
@@ -82,6 +83,10 @@ AreCounted slot_of counts requests = (slot : ℕ) → slot < length counts → s
 -- a request asks for a row of a bank, to write or to read
 abbrev pub asks_for_row : ℕ → Bool → ℕ → Request → Bool
 asks_for_row bank write row r = (bank_number r.place == bank) && (if write then r.write else not r.write) && (r.place.row == row)
+
+-- no request that waits asks for a row of a bank, to write or to read
+abbrev pub NoneAsksForRow : ℕ → Bool → ℕ → List Arrived → Type 0
+NoneAsksForRow bank write row log = All (λ r. asks_for_row bank write row r ≡ false) (waiting_requests log)
 
 -- the items at the places that are marked
 abbrev pub marked_items : {X : Type 0} → List X → List ℕ → List X

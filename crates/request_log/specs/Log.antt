@@ -2,21 +2,23 @@
 --     absent      what a read past the end of a log would give
 --     waiting log      those that wait
 --     waiting_requests log, all_requests log      the requests that wait, and all that have arrived
---     arrived_now r      a request that has just arrived
+--     arrived_now r, with_arrival log r      a request that has just arrived, and a log with it
 --     served_at log slot, activated_at log slot      the log once the request at a place is served, and once an ACT was issued in its name
 --     waits_at log slot      a request stands at a place and waits
 --     is_for place a      a request waits for the line of a place
 --     eligible_column log      a mark for each that waits with no older one waiting for the same line
+--     is_eligible_at log slot      the request at a place has a mark
 --     unblocked_by next marks      these marks, and one more at a place that is given
+--     marks_once_served log slot next      the marks once the request at a place is served
 --     LogView      what contracts see of a log
-use Rattle.std.specs.Prelude.{ℕ, Bool, true, false, not, ◌&&◌, List, map, filter, take, slice_set, slice_index_or, Option, Some, None}
+use Rattle.std.specs.Prelude.{ℕ, Bool, true, false, not, ◌&&◌, List, [], ◌∷◌, ◌++◌, map, filter, take, slice_set, slice_index_or, Option, Some, None}
 use Rattle.std.specs.List.{enumerate_from}
 use Rattle.sim_base.specs.Scheduling.{asks_for_line}
 use Rattle.sim_base.specs.Places.{is_line}
 use Rattle.sim_base.specs.declared.message.Request.{Request}
 use Rattle.sim_base.specs.declared.place.Place.{Place}
 use Rattle.request_log.specs.declared.Arrived.{Arrived}
-use Rattle.request_log.specs.Marks.{mark}
+use Rattle.request_log.specs.Marks.{mark, is_marked}
 
 -- what a read past the end of a log would give
 abbrev pub absent : Arrived
@@ -50,6 +52,10 @@ all_requests log = map (λ a. a.request) log
 abbrev pub arrived_now : Request → Arrived
 arrived_now r = record { request = r; waits = true; activated = false }
 
+-- the log with a request that has just arrived
+abbrev pub with_arrival : List Arrived → Request → List Arrived
+with_arrival log r = log ++ arrived_now r ∷ []
+
 -- the log once the request at a place has been served
 abbrev pub served_at : List Arrived → ℕ → List Arrived
 served_at log slot = slice_set log slot (record (slice_index_or log slot absent) { waits = false })
@@ -71,10 +77,19 @@ unfoldable pub eligible_column : List Arrived → List ℕ
 eligible_column log =
     map (λ e. mark (e.1.waits && not (asks_for_line e.1.request.place (waiting_requests (take e.0 log))))) (enumerate_from 0 log)
 
+-- the request at a place may be served: it waits, and no older one waits for its line
+abbrev pub is_eligible_at : List Arrived → ℕ → Bool
+is_eligible_at log slot = is_marked (slice_index_or (eligible_column log) slot 0)
+
 -- these marks, and one more at a place that is given
 abbrev pub unblocked_by : Option ℕ → List ℕ → List ℕ
 unblocked_by None marks = marks
 unblocked_by (Some next) marks = slice_set marks next 1
+
+-- the marks of a log once the request at a place is served: its own is gone, and the next one for its line has one,
+-- at a place that is given
+abbrev pub marks_once_served : List Arrived → ℕ → Option ℕ → List ℕ
+marks_once_served log slot next = unblocked_by next (slice_set (eligible_column log) slot 0)
 
 -- how many requests there are places for, and those that have arrived
 pub record LogView : Type 0 where

@@ -93,10 +93,10 @@ impl Model for RequestLog {
 }
 
 impl RequestLog {
-    ghost use Rattle.std.specs.Prelude.{true, false, [], ◌∷◌, ◌++◌, All, IfOk, IfSome, slice_index_or, slice_set};
-    ghost use Rattle.request_log.specs.Marks.{is_marked};
-    ghost use Rattle.request_log.specs.Log.{waiting, waiting_requests, arrived_now, served_at, activated_at, waits_at, eligible_column, unblocked_by};
-    ghost use Rattle.request_log.specs.Columns.{tag_column, asks_for_row};
+    ghost use Rattle.std.specs.Prelude.{true, false, [], IfOk, IfSome};
+    ghost use Rattle.request_log.specs.Log.{waiting, waiting_requests, with_arrival, served_at, activated_at, waits_at, eligible_column};
+    ghost use Rattle.request_log.specs.Log.{is_eligible_at, marks_once_served};
+    ghost use Rattle.request_log.specs.Columns.{tag_column, NoneAsksForRow};
 
     /// No requests, with places for so many of them, of which at most `room` wait at a time. Only this call allocates memory.
     #[tactic(auto, unfolding(crate::specs::Log::waiting, crate::specs::Log::eligible_column, crate::specs::Columns::tag_column))]
@@ -149,7 +149,7 @@ impl RequestLog {
     #[inline(always)]
     pub fn is_eligible(&self, slot: usize) -> bool
         requires { slot < length self.now.log }
-        ensures { result ≡ is_marked (slice_index_or (eligible_column self.now.log) slot 0) }
+        ensures { result ≡ is_eligible_at self.now.log slot }
     {
         128 <= self.tags[slot]
     }
@@ -157,7 +157,7 @@ impl RequestLog {
     /// Whether some request that waits may ask for a row of a bank, to write or to read: false only where none does.
     #[inline(always)]
     pub fn may_ask(&self, bank: usize, write: bool, row: u32) -> bool
-        ensures { result ≡ false → All (λ r. asks_for_row bank write row r ≡ false) (waiting_requests self.now.log) }
+        ensures { result ≡ false → NoneAsksForRow bank write row self.now.log }
     {
         self.rows[row_slot(bank, write, row, self.row_mask)] != 0
     }
@@ -174,7 +174,7 @@ impl RequestLog {
     #[inline(always)]
     pub fn arrive(&mut self, request: Request)
         requires { length self.old.log < self.old.places }
-        ensures { self.new ≡ record self.old { log = self.old.log ++ arrived_now request ∷ [] } }
+        ensures { self.new ≡ record self.old { log = with_arrival self.old.log request } }
     {
         let line = line_slot(request.place, self.mask);
         let alike = self.lines[line];
@@ -199,8 +199,9 @@ impl RequestLog {
         requires within { slot < length self.old.log }
         requires waits { waits_at self.old.log slot ≡ true }
         ensures log { self.new ≡ record self.old { log = served_at self.old.log slot } }
-        ensures unblocked { eligible_column self.new.log ≡ unblocked_by result (slice_set (eligible_column self.old.log) slot 0) }
+        ensures marks { eligible_column self.new.log ≡ marks_once_served self.old.log slot result }
         ensures place { IfSome result (λ next. next < length self.new.log) }
+        ensures newly { IfSome result (λ next. is_eligible_at self.old.log next ≡ false) }
     {
         let was_first = self.is_eligible(slot);
         let request = self.log[slot].request;

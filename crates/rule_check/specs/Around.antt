@@ -1,7 +1,7 @@
 -- The latest commands around a command: those that a rule may bind to it.
 --     latest_at around scope      the latest that a rule of this scope binds
 --     is_ahead_by around which now r      a command of a kind comes too soon in a cycle, by a rule
---     IsAround around channel rank bank      an `Around` has what is kept of a channel for a command of this rank and this bank, if any
+--     IsAround around channel rank bank      an `Around` has what is kept for a command of this rank and bank
 use Rattle.std.specs.Prelude.{ℕ, ◌≡◌, ◌&&◌, Bool, Option}
 use Rattle.sim_base.specs.declared.place.BankId.{BankId}
 use Rattle.sim_base.specs.declared.command.Kind.{Kind}

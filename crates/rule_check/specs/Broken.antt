@@ -1,7 +1,7 @@
 -- Which rules a row of a table breaks after the rows before it. Each rule has its number.
 --     rows_on channel rows      the rows of a channel
 --     breaks_order rows row      rule 1: rows ascend by cycle and then by channel
---     breaks_distance t number history row      rules 3 to 15, 17 and 19 to 21: the distances from each earlier command of the channel
+--     breaks_distance t number history row      rules 3 to 15, 17 and 19 to 21: distances from earlier commands
 --     breaks_window t history row      rule 16: at most four ACTs of a rank in a window
 --     breaks_refresh s history row      rule 18: no row comes while a refresh of its channel is overdue
 --     breaks s rows row number      a row breaks the rule with this number
@@ -51,7 +51,8 @@ breaks_distance t number history row = list_any (λ r. (r.number == number) && l
 abbrev pub breaks_window : Timing → List IssuedCommand → IssuedCommand → Bool
 breaks_window t history row = is_kind (kind_of row.command) kind.Act && nat_lt 3 (recent_acts t (rank_of row.command) row.cycle history)
 
--- The next refresh of a rank is overdue in a cycle: it comes by refresh_slack after the end of its interval of nREFI cycles.
+-- The next refresh of a rank is overdue in a cycle: it comes by refresh_slack after the end of its interval of nREFI
+-- cycles.
 abbrev pub is_overdue : Config → List IssuedCommand → ℕ → ℕ → Bool
 is_overdue s history now rank = nat_lt ((count_by (λ i. refreshes rank i.command) history + 1) * s.timing.n_refi + refresh_slack s) now
 

@@ -1,4 +1,5 @@
--- What the records of a table of commands mean. A table has a column for the rank only under a configuration with several.
+-- What the records of a table of commands mean. A table has a column for the rank only under a configuration with
+-- several.
 --     column_count ranks      how many columns a table has
 --     is_header ranks fields      a record has the names of the columns
 --     limits_of s      the limits of a configuration
@@ -130,7 +131,7 @@ rd_in limits fields = do
   source ← source_in limits fields
   Some (Rd bank row column source)
 
--- so does a WR
+-- the fields of a WR, with a row and a column
 unfoldable pub wr_in : Limits → List (List ℕ) → Option Command
 wr_in limits fields = do
   bank ← bank_in limits fields
@@ -138,6 +139,10 @@ wr_in limits fields = do
   column ← number_below limits.columns (column_text limits.ranks fields)
   source ← source_in limits fields
   Some (Wr bank row column source)
+
+-- a WR or a RD
+abbrev pub access_in : Limits → List (List ℕ) → Bool → Option Command
+access_in limits fields writes = if writes then wr_in limits fields else rd_in limits fields
 
 -- a PRE names a bank and an entry, and neither row nor column
 unfoldable pub pre_in : Limits → List (List ℕ) → Option Command
@@ -158,11 +163,15 @@ prea_in limits fields = do
   rank ← rank_in limits fields
   if has_no_operands limits.ranks fields then Some (Prea rank) else None
 
--- so does a REF
+-- the fields of a REF, which names a rank and nothing else
 unfoldable pub ref_in : Limits → List (List ℕ) → Option Command
 ref_in limits fields = do
   rank ← rank_in limits fields
   if has_no_operands limits.ranks fields then Some (Ref rank) else None
+
+-- a REF or a PREA
+abbrev pub whole_rank_in : Limits → List (List ℕ) → Bool → Option Command
+whole_rank_in limits fields refreshes = if refreshes then ref_in limits fields else prea_in limits fields
 
 -- the command that a record writes, by its word
 unfoldable pub command_in : Limits → List (List ℕ) → Option Command

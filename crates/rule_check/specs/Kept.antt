@@ -1,5 +1,5 @@
 -- What is kept of the rows of a channel, in place of the rows themselves.
---     lies scope rank bank earlier      a rule of this scope that binds both kinds binds an earlier command to one of this rank and this bank, if any
+--     lies scope rank bank earlier      a rule of this scope binds a command to a later one of this rank and bank
 --     latest_where p history      the latest cycle of each kind of command, among those of which p holds
 --     bank_past, group_past, rank_past      what the rows of a channel make of a bank, of a group and of a rank
 --     bank_after, group_after, rank_after      what one more row makes of them
@@ -63,7 +63,7 @@ noted kind.Pre cycle l = record l { pre = later_cycle l.pre cycle }
 noted kind.Prea cycle l = record l { prea = later_cycle l.prea cycle }
 noted kind.Ref cycle l = record l { refresh = later_cycle l.refresh cycle }
 
--- the same, where it is to be noted
+-- one more command, where it is one of those that are noted
 abbrev pub noted_where : Bool → Kind → ℕ → Latest → Latest
 noted_where counts which cycle l = if counts then noted which cycle l else l
 
@@ -84,7 +84,7 @@ window_after end w =
 abbrev pub activates : ℕ → Command → Bool
 activates rank command = is_kind (kind_of command) kind.Act && (rank_of command == rank)
 
--- the same, where the command is an ACT of the rank
+-- one more command, where only an ACT of the rank counts
 abbrev pub window_where : Bool → ℕ → Window → Window
 window_where counts end w = if counts then window_after end w else w
 
@@ -92,11 +92,12 @@ window_where counts end w = if counts then window_after end w else w
 unfoldable pub window_from : Timing → ℕ → List IssuedCommand → Window
 window_from t rank history = fold (λ w i. window_where (activates rank i.command) (i.cycle + t.n_faw) w) no_window history
 
--- the cycle after which the next refresh of a rank is overdue, after one more refresh; it stays once no cycle of a table is later
+-- the cycle after which the next refresh of a rank is overdue, after one more refresh; it stays once no cycle of a
+-- table is later
 abbrev pub deadline_after : ℕ → ℕ → ℕ
 deadline_after interval deadline = if nat_lt deadline number_limit then deadline + interval else deadline
 
--- the same, where the command refreshes the rank
+-- one more command, where only a refresh of the rank counts
 abbrev pub deadline_where : Bool → ℕ → ℕ → ℕ
 deadline_where counts interval deadline = if counts then deadline_after interval deadline else deadline
 
@@ -157,6 +158,10 @@ rank_after t rank cycle command state =
 -- the number of a bank, each rank having places for four groups of four banks, and the bank with a number
 abbrev pub number_of : BankId → ℕ
 number_of bank = bank.rank * 16 + bank.group * 4 + bank.bank
+
+-- a bank is one of these: its group has four banks, and its rank four groups at most
+abbrev pub HasPlace : List Bank → BankId → Type 0
+HasPlace banks bank = (bank.group < 4) × (bank.bank < 4) × (number_of bank < length banks)
 
 abbrev pub bank_numbered : ℕ → BankId
 bank_numbered k = record { rank = k / 16; group = k / 4 % 4; bank = k % 4 }

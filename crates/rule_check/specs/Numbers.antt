@@ -14,7 +14,7 @@ number_limit = 2 ^ 62
 abbrev pub with_digit : ℕ → ℕ → ℕ
 with_digit number digit = number * 10 + (digit - 48)
 
--- the same, where the limit stands for every number not below it
+-- the number, followed by one more digit, where the limit stands for every number not below it
 abbrev pub capped_digit : ℕ → ℕ → ℕ
 capped_digit number digit = min (with_digit number digit) number_limit
 

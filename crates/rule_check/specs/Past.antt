@@ -1,7 +1,9 @@
 -- What is kept of the rows of a table.
 --     IsPast past s rows      a `Past` keeps just what these rows make of each channel, and the last of them
 --     past_breaks s table last channel row number      which rules a row breaks, by what is kept
-use Rattle.std.specs.Prelude.{◌≡◌, ℕ, ◌<◌, ◌==◌, Bool, List, length, slice_index_or, Option, if◌then◌else◌}
+--     lowest_by s table last channel row      the lowest of them
+use Rattle.std.specs.Prelude.{◌≡◌, ℕ, ◌<◌, ◌==◌, Bool, List, find, length, slice_index_or, Option, if◌then◌else◌}
+use Rattle.std.specs.List.{range_with_len}
 use Rattle.sim_base.specs.declared.config.Config.{Config}
 use Rattle.sim_base.specs.declared.rule.Rule.{Rule}
 use Rattle.sim_base.specs.declared.command.IssuedCommand.{IssuedCommand}
@@ -19,3 +21,7 @@ pub record IsPast (past : Past) (s : Config) (rows : List IssuedCommand) : Type 
 -- which rules a row breaks, by what is kept
 abbrev pub past_breaks : Config → List Rule → Option IssuedCommand → Channel → IssuedCommand → ℕ → Bool
 past_breaks s table last c row number = if number == 1 then stands_wrongly last row else kept_breaks s table c row number
+
+-- the lowest of them; rules are numbered from 1 to 21
+abbrev pub lowest_by : Config → List Rule → Option IssuedCommand → Channel → IssuedCommand → Option ℕ
+lowest_by s table last c row = find (past_breaks s table last c row) (range_with_len 1 21)

@@ -1,9 +1,10 @@
 -- The verdict on a table of commands.
 --     records_of table      the records of its text
 --     verdict s records      the verdict on a table with these records
+--     IsFaultOf told fault      a fault is that of this verdict, or memory was refused
 --     IsCheckFault fault      why a table may be refused
 --     IsLegalTable s table      it has the header, no malformed record, and each row keeps every rule
-use Rattle.std.specs.Prelude.{◌≡◌, ℕ, ◌+◌, ◌<◌, ◌≤◌, false, IsTrue, length, take, map, slice_index_or, List, [], ◌∷◌, ◌++◌, ⊤, Option, Some, None, Result, Ok, Err, if◌then◌else◌}
+use Rattle.std.specs.Prelude.{◌≡◌, ◌≢◌, ℕ, ◌+◌, ◌<◌, ◌≤◌, false, IsTrue, length, take, map, slice_index_or, List, [], ◌∷◌, ◌++◌, ⊤, Option, Some, None, Result, Ok, Err, if◌then◌else◌}
 use Rattle.csv.specs.Reading.{default_config, records, strip_bom}
 use Rattle.sim_base.specs.declared.config.Config.{Config}
 use Rattle.sim_base.specs.declared.command.IssuedCommand.{IssuedCommand}
@@ -14,7 +15,8 @@ use Rattle.rule_check.specs.Broken.{breaks, lowest_broken}
 use Rattle.rule_check.specs.declared.verdict.Verdict.{Verdict}
 use Rattle.rule_check.specs.declared.verdict.Verdict.TheVariants.{Legal, Broken}
 
--- The records of a table's text, as `csv` reads them: CR, LF or both end a row, blank lines are skipped, fields may be quoted.
+-- The records of a table's text, as `csv` reads them: CR, LF or both end a row, blank lines are skipped, fields may be
+-- quoted.
 abbrev pub records_of : List ℕ → List (List (List ℕ))
 records_of table = records default_config (strip_bom table)
 
@@ -28,8 +30,8 @@ abbrev pub decided_by_row : ℕ → (IssuedCommand → Option ℕ) → (IssuedCo
 decided_by_row number broken rest None = Err (CheckRow number)
 decided_by_row number broken rest (Some row) = decided_by_rule number (broken row) (rest row)
 
--- The verdict on the records from a number on, after rows that are well-formed and keep every rule: the first record that is
--- malformed, or breaks a rule, decides.
+-- The verdict on the records from a number on, after rows that are well-formed and keep every rule: the first record
+-- that is malformed, or breaks a rule, decides.
 unfoldable pub verdict_after : Config → List IssuedCommand → ℕ → List (List (List ℕ)) → Result Verdict Fault
 verdict_after s rows number [] = Ok Legal
 verdict_after s rows number (fields ∷ others) =
@@ -39,6 +41,10 @@ verdict_after s rows number (fields ∷ others) =
 unfoldable pub verdict : Config → List (List (List ℕ)) → Result Verdict Fault
 verdict s [] = Err (CheckRow 0)
 verdict s (header ∷ others) = if is_header s.ranks header then verdict_after s [] 1 others else Err (CheckRow 0)
+
+-- a fault is the one that the definition of the verdict tells, unless memory was refused
+abbrev pub IsFaultOf : Result Verdict Fault → Fault → Type 0
+IsFaultOf told fault = fault ≢ Memory → told ≡ Err fault
 
 -- a row is malformed, or memory was refused
 abbrev pub IsCheckFault : Fault → Type 0

@@ -98,7 +98,8 @@ fn comes_too_soon(table: &[Rule], channel: &Channel, row: IssuedCommand) -> bool
         .any(|rule| is_ahead_by(around, rule, kind, row.cycle))
 }
 
-/// Whether a row keeps every rule of its channel: one pass over the rules, which does not tell the number of a broken one.
+/// Whether a row keeps every rule of its channel: one pass over the rules, which does not tell the number of a broken
+/// one.
 pub(crate) fn keeps_each(
     config: &Config,
     table: &[Rule],

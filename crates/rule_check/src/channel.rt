@@ -7,7 +7,7 @@ ghost use Rattle.sim_base.specs.Rules.{bank_of};
 ghost use Rattle.sim_base.specs.Scheduling.{refreshes};
 ghost use Rattle.rule_check.specs.Numbers.{number_limit};
 ghost use Rattle.rule_check.specs.Fields.{limits_of, RowFits};
-ghost use Rattle.rule_check.specs.Kept.{activates, deadline_after, first_deadline, bank_after, group_after, rank_after, number_of, bank_numbered, group_number, IsKept};
+ghost use Rattle.rule_check.specs.Kept.{activates, deadline_after, first_deadline, bank_after, group_after, rank_after, number_of, HasPlace, bank_numbered, group_number, IsKept};
 
 use crate::latest;
 use crate::state::{Bank, Channel, Group, NEW_BANK, NEW_GROUP, NEW_RANK, Rank};
@@ -135,7 +135,7 @@ fn note_in_own_bank(banks: &mut [Bank], bank: BankId, command: Command, cycle: u
 // A command that names no bank may concern each of them.
 fn note_in_banks(banks: &mut [Bank], command: Command, cycle: u64)
     requires few { length banks.old ≤ 64 }
-    requires names { IfSome (bank_of command) (λ bank. (bank.group < 4) × (bank.bank < 4) × (number_of bank < length banks.old)) }
+    requires names { IfSome (bank_of command) (HasPlace banks.old) }
     ensures each { (k : ℕ) (d : Bank) → k < length banks.old
         → slice_index_or banks.new k d ≡ bank_after (bank_numbered k) cycle command (slice_index_or banks.old k d) }
 {
@@ -198,7 +198,8 @@ pub(crate) fn start(alloc: Global, config: &Config) -> Result<Channel, AllocErro
 pub(crate) fn note(channel: &mut Channel, config: &Config, row: IssuedCommand)
     requires fits { RowFits (limits_of config.now) row }
     requires ranks { length channel.old.ranks.items ≡ config.now.ranks }
-    ensures { (history : List IssuedCommand) → IsKept channel.old config.now history → IsKept channel.new config.now (history ++ row ∷ []) }
+    ensures { (history : List IssuedCommand) → IsKept channel.old config.now history
+        → IsKept channel.new config.now (history ++ row ∷ []) }
 {
     note_in_banks(&mut channel.banks, row.command, row.cycle);
     note_in_groups(&mut channel.groups, row.command, row.cycle);

@@ -3,7 +3,7 @@
 ghost use Rattle.std.specs.Prelude.{◌≡◌, ◌+◌, ◌<◌, ◌==◌, IfSome, if◌then◌else◌};
 ghost use Rattle.std.specs.Str.{bytes_eq};
 ghost use Rattle.csv.specs.Records.{fields_of};
-ghost use Rattle.rule_check.specs.Fields.{limits_of, column_count, text_at, operand, is_header, rank_is_named, is_empty, rank_in, bank_in, source_in, act_in, rd_in, wr_in, pre_in, has_no_operands, prea_in, ref_in, command_in, row_in};
+ghost use Rattle.rule_check.specs.Fields.{limits_of, column_count, text_at, operand, is_header, rank_is_named, is_empty, rank_in, bank_in, source_in, act_in, access_in, pre_in, has_no_operands, whole_rank_in, command_in, row_in};
 ghost use Rattle.rule_check.specs.Fields.{BankFits, CommandFits, RowFits};
 
 use crate::limits::Limits;
@@ -157,7 +157,7 @@ fn act_in(limits: Limits, fields: &ByteRecord) -> Option<Command>
 // The WR or the RD that a record writes.
 #[tactic(auto, unfolding(crate::specs::Fields::rd_in, crate::specs::Fields::wr_in))]
 fn access_in(limits: Limits, fields: &ByteRecord, writes: bool) -> Option<Command>
-    ensures value { result ≡ (if writes then wr_in limits (fields_of fields.now) else rd_in limits (fields_of fields.now)) }
+    ensures value { result ≡ access_in limits (fields_of fields.now) writes }
     ensures fits { IfSome result (CommandFits limits) }
 {
     let bank = bank_in(limits, fields)?;
@@ -212,7 +212,7 @@ fn has_no_operands(ranks: u32, fields: &ByteRecord) -> bool
 // The REF or the PREA that a record writes.
 #[tactic(auto, unfolding(crate::specs::Fields::prea_in, crate::specs::Fields::ref_in))]
 fn whole_rank_in(limits: Limits, fields: &ByteRecord, refreshes: bool) -> Option<Command>
-    ensures value { result ≡ (if refreshes then ref_in limits (fields_of fields.now) else prea_in limits (fields_of fields.now)) }
+    ensures value { result ≡ whole_rank_in limits (fields_of fields.now) refreshes }
     ensures fits { IfSome result (CommandFits limits) }
 {
     let rank = rank_in(limits, fields)?;

@@ -2,8 +2,8 @@
 
 ghost use Rattle.std.specs.Prelude.{◌<◌};
 
-/// The numbers of a table of commands are below these. Banks are below 4, cycles and entries below 2^62. With one rank a table has no
-/// column for it.
+/// The numbers of a table of commands are below these. Banks are below 4, cycles and entries below 2^62. With one rank
+/// a table has no column for it.
 #[derive(Clone, Copy)]
 pub struct Limits {
     pub channels: u16,

@@ -54,7 +54,7 @@ pub fn number_below(limit: u64, text: &[u8]) -> Option<u64>
     }
 }
 
-/// The same for a limit of 32 bits.
+/// The number in a field, if it has one below a limit of 32 bits. Leading zeros are allowed.
 pub fn small_number(limit: u32, text: &[u8]) -> Option<u32>
     ensures value { result ≡ number_below limit text.now }
     ensures below { IfSome result (λ n. n < limit) }

@@ -1,13 +1,12 @@
 //! The rows of a table that were found to keep every rule.
 
-ghost use Rattle.std.specs.Prelude.{◌≡◌, ◌+◌, ◌*◌, ◌<◌, ◌++◌, ◌∷◌, [], List, find, All, IfOk, length};
-ghost use Rattle.std.specs.List.{range_with_len};
+ghost use Rattle.std.specs.Prelude.{◌≡◌, ◌+◌, ◌*◌, ◌<◌, ◌++◌, ◌∷◌, [], List, All, IfOk, length};
 ghost use Rattle.sim_base.specs.declared.command.IssuedCommand.{IssuedCommand};
 ghost use Rattle.sim_base.specs.Rules.{rules};
 ghost use Rattle.rule_check.specs.Fields.{limits_of, RowFits};
 ghost use Rattle.rule_check.specs.Broken.{stands_before, stands_wrongly, lowest_broken};
 ghost use Rattle.rule_check.specs.Kept.{IsKept};
-ghost use Rattle.rule_check.specs.Past.{IsPast, past_breaks};
+ghost use Rattle.rule_check.specs.Past.{IsPast, past_breaks, lowest_by};
 
 use crate::state::{Channel, Past};
 use crate::{broken, channel};
@@ -53,49 +52,49 @@ fn stands_wrongly(last: Option<IssuedCommand>, row: IssuedCommand) -> bool
     }
 }
 
+// What is kept of the rows before one: the last of them, and those of its channel.
+#[derive(Clone, Copy)]
+struct Before<'a> {
+    last: Option<IssuedCommand>,
+    channel: &'a Channel,
+}
+
 fn breaks(
     config: &Config,
     table: &[Rule],
-    last: Option<IssuedCommand>,
-    channel: &Channel,
+    before: &Before<'_>,
     row: IssuedCommand,
     number: u32,
 ) -> bool
-    ensures { result ≡ past_breaks config.now table.now last channel.now row number }
+    ensures { result ≡ past_breaks config.now table.now before.now.last before.now.channel.now
+        row number }
 {
     if number == 1 {
-        stands_wrongly(last, row)
+        stands_wrongly(before.last, row)
     } else {
-        broken::breaks(config, table, channel, row, number)
+        broken::breaks(config, table, before.channel, row, number)
     }
 }
 
-fn lowest_by(
-    config: &Config,
-    table: &[Rule],
-    last: Option<IssuedCommand>,
-    channel: &Channel,
-    row: IssuedCommand,
-) -> Option<u8>
-    ensures { result ≡ find (past_breaks config.now table.now last channel.now row) (range_with_len 1 21) }
+fn lowest_by(config: &Config, table: &[Rule], before: &Before<'_>, row: IssuedCommand) -> Option<u8>
+    ensures { result ≡ lowest_by config.now table.now before.now.last before.now.channel.now row }
 {
-    (1u8..22).find(|number| breaks(config, table, last, channel, row, u32::from(*number)))
+    (1u8..22).find(|number| breaks(config, table, before, row, u32::from(*number)))
 }
 
 // Most rows break no rule, which takes only one pass to find out.
 fn lowest_if_any(
     config: &Config,
     table: &[Rule],
-    last: Option<IssuedCommand>,
-    channel: &Channel,
+    before: &Before<'_>,
     row: IssuedCommand,
 ) -> Option<u8>
-    ensures { result ≡ find (past_breaks config.now table.now last channel.now row) (range_with_len 1 21) }
+    ensures { result ≡ lowest_by config.now table.now before.now.last before.now.channel.now row }
 {
-    if !stands_wrongly(last, row) && broken::keeps_each(config, table, channel, row) {
+    if !stands_wrongly(before.last, row) && broken::keeps_each(config, table, before.channel, row) {
         None
     } else {
-        lowest_by(config, table, last, channel, row)
+        lowest_by(config, table, before, row)
     }
 }
 
@@ -109,17 +108,20 @@ pub(crate) fn lowest_broken(
     requires fits { RowFits (limits_of config.now) row }
     requires table { table.now ≡ rules config.now.timing }
     requires stands { (rows : List IssuedCommand) × IsPast past.now config.now rows }
-    ensures { (rows : List IssuedCommand) → IsPast past.now config.now rows → result ≡ lowest_broken config.now rows row }
+    ensures { (rows : List IssuedCommand) → IsPast past.now config.now rows
+        → result ≡ lowest_broken config.now rows row }
 {
     let channel = &past.channels[row.channel as usize];
-    lowest_if_any(config, table, past.last, channel, row)
+    let last = past.last;
+    lowest_if_any(config, table, &Before { last, channel }, row)
 }
 
 /// Keeps one more row.
 pub(crate) fn note(past: &mut Past, config: &Config, row: IssuedCommand)
     requires fits { RowFits (limits_of config.now) row }
     requires stands { (rows : List IssuedCommand) × IsPast past.old config.now rows }
-    ensures { (rows : List IssuedCommand) → IsPast past.old config.now rows → IsPast past.new config.now (rows ++ row ∷ []) }
+    ensures { (rows : List IssuedCommand) → IsPast past.old config.now rows
+        → IsPast past.new config.now (rows ++ row ∷ []) }
 {
     let number = row.channel as usize;
     channel::note(&mut past.channels[number], config, row);

@@ -32,8 +32,8 @@ pub(crate) static NEW_GROUP: Group = Group {
     across: NOTHING,
 };
 
-/// A rank: the latest command of each kind in it and in the other ranks, its last ACTs, and the cycle after which its next refresh
-/// is overdue.
+/// A rank: the latest command of each kind in it and in the other ranks, its last ACTs, and the cycle after which its
+/// next refresh is overdue.
 #[derive(Clone, Copy)]
 pub(crate) struct Rank {
     pub(crate) within: Latest,

@@ -1,13 +1,13 @@
 //! The verdict on a whole table.
 
-ghost use Rattle.std.specs.Prelude.{ℕ, List, ◌≡◌, ◌≢◌, ◌↔◌, ◌+◌, ◌≤◌, [], ◌∷◌, length, Ok, Err, None, IfOk, IfErr, IfSome};
+ghost use Rattle.std.specs.Prelude.{List, ◌≡◌, ◌↔◌, ◌+◌, ◌≤◌, [], length, Ok, None, IfOk, IfErr, IfSome};
 ghost use Rattle.csv.specs.Records.{fields_of};
 ghost use Rattle.sim_base.specs.Rules.{rules};
 ghost use Rattle.sim_base.specs.declared.command.IssuedCommand.{IssuedCommand};
-ghost use Rattle.rule_check.specs.Judged.{IsKeptRow};
+ghost use Rattle.rule_check.specs.Judged.{Decides, KeepsRow};
 ghost use Rattle.rule_check.specs.Left.{IsReading, left_of};
 ghost use Rattle.rule_check.specs.Past.{IsPast};
-ghost use Rattle.rule_check.specs.Verdict.{records_of, verdict, verdict_after, IsCheckFault, IsLegalTable};
+ghost use Rattle.rule_check.specs.Verdict.{records_of, verdict, verdict_after, IsFaultOf, IsCheckFault, IsLegalTable};
 
 use crate::fields::{is_header, row_in};
 use crate::limits::Limits;
@@ -32,9 +32,8 @@ fn judge(
 ) -> Option<Result<Verdict, Fault>>
     requires table { table.now ≡ rules config.now.timing }
     requires stands { (rows : List IssuedCommand) × IsPast past.old config.now rows }
-    ensures decided { IfSome result (λ answer. (rows : List IssuedCommand) (others : List (List (List ℕ)))
-        → IsPast past.old config.now rows → verdict_after config.now rows number (fields_of fields.now ∷ others) ≡ answer) }
-    ensures kept { result ≡ None → (rows : List IssuedCommand) → IsPast past.old config.now rows → IsKeptRow past.new config.now rows number (fields_of fields.now) }
+    ensures decided { IfSome result (Decides config.now past.old number (fields_of fields.now)) }
+    ensures kept { result ≡ None → KeepsRow config.now past.old past.new number (fields_of fields.now) }
     ensures fault { IfSome result (λ answer. IfErr answer IsCheckFault) }
 {
     let Some(row) = row_in(Limits::of(config), fields) else {
@@ -58,7 +57,7 @@ fn check_rows(
     requires reading { IsReading reader.old }
     requires few { length (left_of reader.old) + 2 ≤ most_reads }
     ensures ok { IfOk result (λ v. verdict_after config.now [] 1 (left_of reader.old) ≡ Ok v) }
-    ensures refused { IfErr result (λ e. e ≢ Fault.Memory → verdict_after config.now [] 1 (left_of reader.old) ≡ Err e) }
+    ensures refused { IfErr result (IsFaultOf (verdict_after config.now [] 1 (left_of reader.old))) }
     ensures fault { IfErr result IsCheckFault }
 {
     let table = rules(&config.timing);
@@ -88,7 +87,7 @@ fn check_left(
     requires reading { IsReading reader.old }
     requires few { length (left_of reader.old) + 1 ≤ most_reads }
     ensures ok { IfOk result (λ v. verdict config.now (left_of reader.old) ≡ Ok v) }
-    ensures refused { IfErr result (λ e. e ≢ Fault.Memory → verdict config.now (left_of reader.old) ≡ Err e) }
+    ensures refused { IfErr result (IsFaultOf (verdict config.now (left_of reader.old))) }
     ensures fault { IfErr result IsCheckFault }
 {
     let Ok(found) = read_next(reader, fields) else {
@@ -106,7 +105,7 @@ fn check_left(
 // The verdict on a table, whose records are read one after the other.
 fn check_records(alloc: Global, config: &Config, table: &[u8]) -> Result<Verdict, Fault>
     ensures ok { IfOk result (λ v. verdict config.now (records_of table.now) ≡ Ok v) }
-    ensures refused { IfErr result (λ e. e ≢ Fault.Memory → verdict config.now (records_of table.now) ≡ Err e) }
+    ensures refused { IfErr result (IsFaultOf (verdict config.now (records_of table.now))) }
     ensures fault { IfErr result IsCheckFault }
 {
     let mut reader = open(alloc, table);
@@ -115,16 +114,16 @@ fn check_records(alloc: Global, config: &Config, table: &[u8]) -> Result<Verdict
     check_left(alloc, config, most_reads, &mut reader, &mut fields)
 }
 
-/// Tests a table of commands under a configuration: its text is read as comma-separated values, whose first record must be the
-/// header. The first row that is malformed, or that breaks a rule of DDR4 over the rows before it, decides.
+/// Tests a table of commands under a configuration: its text is read as comma-separated values, whose first record must
+/// be the header. The first row that is malformed, or that breaks a rule of DDR4 over the rows before it, decides.
 ///
-/// A malformed row is `CheckRow` with its number, counted from 1 by records and not by lines; 0 is a missing or wrong header.
-/// A broken rule is not an error: the verdict names the row and the lowest rule that it breaks. Otherwise only memory can be
-/// refused. The time is proportional to the length of the table, and the memory is that of one row and of what the rules need of
-/// the rows before it.
+/// A malformed row is `CheckRow` with its number, counted from 1 by records and not by lines; 0 is a missing or wrong
+/// header. A broken rule is not an error: the verdict names the row and the lowest rule that it breaks. Otherwise only
+/// memory can be refused. The time is proportional to the length of the table, and the memory is that of one row and of
+/// what the rules need of the rows before it.
 pub fn check(alloc: Global, config: &Config, table: &[u8]) -> Result<Verdict, Fault>
     ensures ok { IfOk result (λ v. verdict config.now (records_of table.now) ≡ Ok v) }
-    ensures refused { IfErr result (λ e. e ≢ Fault.Memory → verdict config.now (records_of table.now) ≡ Err e) }
+    ensures refused { IfErr result (IsFaultOf (verdict config.now (records_of table.now))) }
     ensures legal { IfOk result (λ v. (v ≡ Verdict.Legal) ↔ IsLegalTable config.now (records_of table.now)) }
     ensures fault { IfErr result IsCheckFault }
 {

@@ -1,4 +1,5 @@
--- What is read of the rows of a table, one after the other: it depends on these rows alone, and a fault is of the first that is wrong.
+-- What is read of the rows of a table, one after the other: it depends on these rows alone, and a fault is of the first
+-- that is wrong.
 use Rattle.std.proofs.Common.{◌≡◌, ◌+◌, ◌<◌, ◌≤◌, ◌∙◌, ◌⊎◌, ℕ, zero, suc, List, [], ◌∷◌, ◌++◌, length, take, Option, Some, None, Result, Ok, Err, refl, sym, ap, subst, arith, inl, inr, length-append}
 use Rattle.std.proofs.lemmas.List.{take-take, take_at, length-take-le}
 use Rattle.std.proofs.lemmas.Option.{slice_get_within}

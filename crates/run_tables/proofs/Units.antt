@@ -42,7 +42,8 @@ pub end_after : {A : Type 0} (u : ℕ → ℕ → Result A Fault) (size : A → 
 end_after u size [] row id end h = omega (arith, h)
 end_after u size (x ∷ xs) row id end h = let after = end_after u size xs (row + size x) (id + 1) end h.1 in omega (arith, after)
 
--- two tables in which units are read from the same row on: those of the second begin with those of the first, or end where one more can be read
+-- two tables in which units are read from the same row on: those of the second begin with those of the first, or end
+-- where one more can be read
 abbrev pub Begins : {A : Type 0} → (ℕ → ℕ → Result A Fault) → (A → ℕ) → List A → List A → ℕ → ℕ → ℕ → Type 0
 Begins v size xs ys id end last =
     ((zs : List _) × (ys ≡ xs ++ zs) × AreRead v size end (id + length xs) zs last) ⊎ ((number : ℕ) × (x : _) × (v last number ≡ Ok x))

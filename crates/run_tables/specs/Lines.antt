@@ -1,6 +1,6 @@
 -- What the reader of statistics makes of a record.
 --     line_value scope id name fields      the value of the line of a count, if a record is one
---     count_in, sum_in, cycle_in row scope id name record      the value of the line of a count, or the fault of its row
+--     count_in, sum_in, cycle_in row scope id name record      the value of a count's line, or the fault of its row
 --     has_text k text record      a field of a record is this text
 --     is_stats_header fields      a record is the header
 use Rattle.std.specs.Prelude.{ℕ, ◌^◌, ◌==◌, nat_lt, Bool, false, ◌&&◌, List, length, codes, decimal, option_map, option_and_then, Option, Some, None, Result, Ok, Err, if◌then◌else◌}
@@ -38,7 +38,7 @@ or_refused row None = Err (CheckRow row)
 abbrev pub narrow : ℕ → ℕ → Result ℕ Fault
 narrow row number = if nat_lt number (2 ^ 64) then Ok number else Err (CheckRow row)
 
--- the same of a number that may be missing
+-- a number of a row that may be missing, which is refused if it has more than 64 bits
 abbrev pub narrow_optional : ℕ → Option ℕ → Result (Option ℕ) Fault
 narrow_optional row None = Ok None
 narrow_optional row (Some number) = narrow row number >>= (λ found. Ok (Some found))
@@ -70,7 +70,7 @@ is_stats_header fields =
     (length fields == 4) && bytes_eq (text_at fields 0) (codes "scope") && bytes_eq (text_at fields 1) (codes "id")
     && bytes_eq (text_at fields 2) (codes "name") && bytes_eq (text_at fields 3) (codes "value")
 
--- the same of a record that may be missing
+-- whether a record that may be missing is the header
 abbrev pub is_header_row : Option (List (List ℕ)) → Bool
 is_header_row None = false
 is_header_row (Some fields) = is_stats_header fields

@@ -1,8 +1,10 @@
 -- What is left of a table that is read, and where a table is wrong.
 --     Left      the number of the first record that is left, and the records
 --     left_from found first rest      the records that are left, of which one was read
+--     left_at row found first rest      the same with the number of the first
 --     Stands reader first found row      what a reader keeps
 --     IsTableFault fault      why a table may be refused
+--     IsFaultAt row Wrong fault      this row is wrong, and the fault names it, or memory was refused
 --     IsFirstWrong IsTable records row      the first record that no table has there
 --     IsRefusedFor IsTable records fault      a table is refused for its first wrong record, or for memory
 use Rattle.std.specs.Borrow.{Bor}
@@ -22,6 +24,10 @@ abbrev pub left_from : Bool → List (List ℕ) → List (List (List ℕ)) → L
 left_from true first rest = first ∷ rest
 left_from false first rest = []
 
+-- what is left, where this is the number of the first
+abbrev pub left_at : ℕ → Bool → List (List ℕ) → List (List (List ℕ)) → Left
+left_at row found first rest = record { row = row; records = left_from found first rest }
+
 -- a reader can go on after the record that it read, and the records can be counted
 pub record Stands (reader : Reader (Bor (List ℕ))) (first : List (List ℕ)) (found : Bool) (row : ℕ) : Type 0 where
   pub reading : found ≡ true → IsReading reader
@@ -33,8 +39,12 @@ IsTableFault (CheckRow row) = ⊤
 IsTableFault Memory = ⊤
 IsTableFault _ = ⊥
 
--- The first record at fault, counted from 0: there is a table that begins with the records before it, and none that goes on as they do, with this
--- record, or, where it is missing, with the end.
+-- a fault names this row, of which this holds, unless memory was refused
+abbrev pub IsFaultAt : ℕ → Type 0 → Fault → Type 0
+IsFaultAt row Wrong fault = fault ≢ Memory → (fault ≡ CheckRow row) × Wrong
+
+-- The first record at fault, counted from 0: there is a table that begins with the records before it, and none that
+-- goes on as they do, with this record, or, where it is missing, with the end.
 pub record IsFirstWrong (IsTable : List (List (List ℕ)) → Type 0) (records : List (List (List ℕ))) (row : ℕ) : Type 0 where
   pub table : List (List (List ℕ))
   pub is_table : IsTable table

@@ -92,7 +92,7 @@ request_from fields = do
 unfoldable pub request_in : List (List ℕ) → Option RequestTimes
 request_in fields = if length fields == 9 then request_from fields else None
 
--- the same of the first of some records
+-- the row that the first of some records writes
 abbrev pub first_request : List (List (List ℕ)) → Option RequestTimes
 first_request [] = None
 first_request (fields ∷ others) = request_in fields

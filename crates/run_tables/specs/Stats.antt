@@ -3,8 +3,10 @@
 --     StatsFit stats      statistics that a run can have
 --     IsStatsTable records stats      the records are those that are written of these statistics
 --     HoldsStats records      they are a table of some statistics
+--     StatsComeBack stats      the table of these statistics is read as it was written
 use Rattle.std.specs.Prelude.{◌≡◌, ℕ, ◌<◌, ◌^◌, List, ◌∷◌, length, All, IfSome}
-use Rattle.reports.specs.Stats.{stats_header, stats_rows}
+use Rattle.reports.specs.Stats.{stats_header, stats_rows, stats_text}
+use Rattle.rule_check.specs.Verdict.{records_of}
 use Rattle.statistics.specs.Values.{RunStats}
 use Rattle.statistics.specs.Cores.{CoreFits}
 use Rattle.statistics.specs.Channels.{ChannelFits}
@@ -31,3 +33,7 @@ pub record IsStatsTable (records : List (List (List ℕ))) (stats : RunStats) : 
 -- the records are those of a table of some statistics
 abbrev pub HoldsStats : List (List (List ℕ)) → Type 0
 HoldsStats records = (stats : RunStats) × IsStatsTable records stats
+
+-- the table that is written of these statistics is read as these statistics
+abbrev pub StatsComeBack : RunStats → Type 0
+StatsComeBack stats = IsStatsTable (records_of (stats_text stats)) stats

@@ -1,5 +1,5 @@
 -- What the reader of statistics makes of the records of a unit, and of a table.
---     core_at, channel_at table row id      the counts of a unit, from a row on, or the fault of the first row that is wrong
+--     core_at, channel_at table row id      the counts of a unit, from a row on, or the fault of a wrong row
 --     AreRead unit_at size row id units end      from a row on, these units are read, one after the other
 --     CoresAre table cores, CoresStop table fault      the cores are read, or one of them is wrong
 --     ChannelsAre table row channels, ChannelsStop table row fault      the same of the channels

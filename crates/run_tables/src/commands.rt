@@ -1,12 +1,12 @@
 //! The table of commands.
 
-ghost use Rattle.std.specs.Prelude.{◌≡◌, ◌≢◌, ◌+◌, ◌<◌, ◌≤◌, List, None, Some, MatchResult, length, drop, IfSome, IfOk, IfErr, OnOk};
+ghost use Rattle.std.specs.Prelude.{◌≡◌, ◌+◌, ◌<◌, ◌≤◌, List, Some, MatchResult, length, drop, IfOk, IfErr, OnOk};
 ghost use Rattle.sim_base.specs.declared.command.IssuedCommand.{IssuedCommand as Row};
 ghost use Rattle.csv.specs.Records.{fields_of};
 ghost use Rattle.command_table.specs.Tables.{IsRising};
 ghost use Rattle.rule_check.specs.Verdict.{records_of};
-ghost use Rattle.run_tables.specs.Commands.{with_rank, without_rank, limits_told, first_told, first_read, IsCommandTable, HoldsCommands};
-ghost use Rattle.run_tables.specs.Records.{IsTableFault, IsRefusedFor};
+ghost use Rattle.run_tables.specs.Commands.{with_rank, without_rank, limits_told, first_told, first_read, HasNoHeader, IsTooEarly, IsCommandTable, HoldsCommands};
+ghost use Rattle.run_tables.specs.Records.{IsTableFault, IsFaultAt, IsRefusedFor};
 
 use crate::records::Records;
 use command_table::list::CommandList;
@@ -32,7 +32,7 @@ fn with_rank() -> Limits
     }
 }
 
-// The same of a table that has none.
+// What the numbers of a table are below that has no such column.
 fn without_rank() -> Limits
     ensures { result ≡ without_rank }
 {
@@ -65,7 +65,7 @@ fn take_header(records: &mut Records<'_>) -> Result<Limits, Fault>
     ensures header { IfOk result (λ limits. first_told records.old.records ≡ Some limits) }
     ensures rest { OnOk result (records.new.records ≡ drop 1 records.old.records) }
     ensures row { OnOk result (records.new.row ≡ records.old.row + 1) }
-    ensures refused { IfErr result (λ e. e ≢ Fault.Memory → (e ≡ Fault.CheckRow records.old.row) × (first_told records.old.records ≡ None)) }
+    ensures refused { IfErr result (IsFaultAt records.old.row (HasNoHeader records.old.records)) }
     ensures fault { IfErr result IsTableFault }
 {
     let fault = records.fault();
@@ -90,7 +90,8 @@ fn take_row(
     ensures later { IfOk result (λ row. earliest ≤ row.cycle) }
     ensures rest { OnOk result (records.new.records ≡ drop 1 records.old.records) }
     ensures row { OnOk result (records.new.row ≡ records.old.row + 1) }
-    ensures refused { IfErr result (λ e. e ≢ Fault.Memory → (e ≡ Fault.CheckRow records.old.row) × IfSome (first_read limits records.old.records) (λ row. row.cycle < earliest)) }
+    ensures refused { IfErr result
+        (IsFaultAt records.old.row (IsTooEarly limits earliest records.old.records)) }
     ensures fault { IfErr result IsTableFault }
 {
     let Some(row) = row_in(limits, records.first()) else {
@@ -120,21 +121,22 @@ fn read_rows(alloc: Global, table: &[u8]) -> Result<CommandList, Fault>
     Ok(rows)
 }
 
-/// Reads the table of commands of a run, `commands.csv`, with or without a column for the rank, under no configuration: the very commands
-/// whose table it is. Each command has exactly its fields; the channel is below 16, rank, group and bank below 4, the row below 262,144, the
-/// column below 1,024, the core below 256, cycle and entry below 2^62, and no cycle is before that of the row above. Numbers may have leading
-/// zeros.
+/// Reads the table of commands of a run, `commands.csv`, with or without a column for the rank, under no configuration:
+/// the very commands whose table it is. Each command has exactly its fields; the channel is below 16, rank, group and
+/// bank below 4, the row below 262,144, the column below 1,024, the core below 256, cycle and entry below 2^62, and no
+/// cycle is before that of the row above. Numbers may have leading zeros.
 ///
 /// The memory is that of the list, and of one row.
 ///
 /// # Errors
 ///
-/// `Fault::CheckRow` with the first record that is not like this: 0 is the header, even if it is missing, and rows are counted from 1.
-/// `Fault::Memory` where memory is refused. A table that is like this is refused for memory alone.
+/// `Fault::CheckRow` with the first record that is not like this: 0 is the header, even if it is missing, and rows are
+/// counted from 1. `Fault::Memory` where memory is refused. A table that is like this is refused for memory alone.
 pub fn read_commands(alloc: Global, table: &[u8]) -> Result<CommandList, Fault>
     ensures read { IfOk result (λ rows. IsCommandTable (records_of table.now) rows) }
     ensures refused { IfErr result (IsRefusedFor HoldsCommands (records_of table.now)) }
-    ensures inverse { (rows : List Row) → IsCommandTable (records_of table.now) rows → MatchResult result (λ found. found ≡ rows) (λ e. e ≡ Fault.Memory) }
+    ensures inverse { (rows : List Row) → IsCommandTable (records_of table.now) rows
+        → MatchResult result (λ found. found ≡ rows) (λ e. e ≡ Fault.Memory) }
     ensures rows { IfOk result (λ rows. length (records_of table.now) ≡ length rows + 1) }
     ensures rising { IfOk result IsRising }
     ensures fault { IfErr result IsTableFault }

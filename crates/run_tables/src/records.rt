@@ -10,7 +10,8 @@ use sim_base::fault::Fault;
 use std::alloc::Global;
 use std::marker::Model;
 
-/// The records of a table that are left, the first of which can be looked at, and the number of that one; the header has number 0.
+/// The records of a table that are left, the first of which can be looked at, and the number of that one; the header
+/// has number 0.
 #[derive(Drop)]
 pub(crate) struct Records<'t> {
     reader: Reader<&'t [u8]>,
@@ -22,11 +23,11 @@ pub(crate) struct Records<'t> {
 impl<'t> Model for Records<'t> {
     ghost use Rattle.csv.specs.Records.{fields_of};
     ghost use Rattle.rule_check.specs.Left.{left_of};
-    ghost use Rattle.run_tables.specs.Records.{Left, left_from, Stands};
+    ghost use Rattle.run_tables.specs.Records.{Left, left_at, Stands};
 
     ghost Value = { Left };
 
-    ghost view = { λ r. record { row = r.row; records = left_from r.found (fields_of r.first) (left_of r.reader) } };
+    ghost view = { λ r. left_at r.row r.found (fields_of r.first) (left_of r.reader) };
 
     ghost invariant = { λ r. Stands r.reader (fields_of r.first) r.found r.row };
 }

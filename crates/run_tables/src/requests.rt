@@ -1,13 +1,13 @@
 //! The table of requests.
 
-ghost use Rattle.std.specs.Prelude.{◌≡◌, ◌≢◌, ◌+◌, ◌<◌, ◌≤◌, List, true, false, MatchResult, length, drop, IfSome, IfOk, IfErr, OnOk};
+ghost use Rattle.std.specs.Prelude.{◌≡◌, ◌+◌, ◌<◌, ◌≤◌, List, true, MatchResult, length, drop, IfSome, IfOk, IfErr, OnOk};
 ghost use Rattle.request_table.specs.declared.times.RequestTimes.{RequestTimes as Row};
 ghost use Rattle.csv.specs.Records.{fields_of};
 ghost use Rattle.rule_check.specs.Fields.{text_at};
 ghost use Rattle.rule_check.specs.Verdict.{records_of};
-ghost use Rattle.run_tables.specs.Records.{IsTableFault, IsRefusedFor};
+ghost use Rattle.run_tables.specs.Records.{IsTableFault, IsFaultAt, IsRefusedFor};
 ghost use Rattle.run_tables.specs.RequestRows.{exact_below, replied_in, access_in, hit_in, asked_in, times_in, is_reply_to, follows, in_time, request_from, request_in, first_request, is_request_header, begins_requests};
-ghost use Rattle.run_tables.specs.Requests.{turn, IsRequestTable, HoldsRequests};
+ghost use Rattle.run_tables.specs.Requests.{turn, HasNoHeader, IsTooEarly, IsRequestTable, HoldsRequests};
 
 use crate::fields::is_at;
 use crate::numbers::number_in;
@@ -187,7 +187,7 @@ fn take_header(records: &mut Records<'_>) -> Result<(), Fault>
     ensures header { OnOk result (begins_requests records.old.records ≡ true) }
     ensures rest { OnOk result (records.new.records ≡ drop 1 records.old.records) }
     ensures row { OnOk result (records.new.row ≡ records.old.row + 1) }
-    ensures refused { IfErr result (λ e. e ≢ Fault.Memory → (e ≡ Fault.CheckRow records.old.row) × (begins_requests records.old.records ≡ false)) }
+    ensures refused { IfErr result (IsFaultAt records.old.row (HasNoHeader records.old.records)) }
     ensures fault { IfErr result IsTableFault }
 {
     let fault = records.fault();
@@ -208,7 +208,8 @@ fn take_row(records: &mut Records<'_>, least: u128) -> Result<RequestTimes, Faul
     ensures later { IfOk result (λ row. least ≤ turn row) }
     ensures rest { OnOk result (records.new.records ≡ drop 1 records.old.records) }
     ensures row { OnOk result (records.new.row ≡ records.old.row + 1) }
-    ensures refused { IfErr result (λ e. e ≢ Fault.Memory → (e ≡ Fault.CheckRow records.old.row) × IfSome (first_request records.old.records) (λ row. turn row < least)) }
+    ensures refused { IfErr result
+        (IsFaultAt records.old.row (IsTooEarly least records.old.records)) }
     ensures fault { IfErr result IsTableFault }
 {
     let Some(row) = request_in(records.first()) else {
@@ -238,19 +239,21 @@ fn read_rows(alloc: Global, table: &[u8]) -> Result<Vec<RequestTimes>, Fault>
     Ok(rows)
 }
 
-/// Reads the table of the requests of a run, `requests.csv`, under no configuration: the very rows whose table it is. Each row has exactly its
-/// fields, without leading zeros; the core is below 256, the channel below 16, entry and cycles are below 2^62; a request arrives in no
-/// cycle before it is issued and is served in none before it arrives; only a read has a reply, which comes after its RD. The rows stand by the
-/// cycle of their RD or WR, and those of a cycle by their channel, of which each is named once.
+/// Reads the table of the requests of a run, `requests.csv`, under no configuration: the very rows whose table it is.
+/// Each row has exactly its fields, without leading zeros; the core is below 256, the channel below 16, entry and
+/// cycles are below 2^62; a request arrives in no cycle before it is issued and is served in none before it arrives;
+/// only a read has a reply, which comes after its RD. The rows stand by the cycle of their RD or WR, and those of a
+/// cycle by their channel, of which each is named once.
 ///
 /// # Errors
 ///
-/// `Fault::CheckRow` with the first record that is not like this: 0 is the header, even if it is missing, and rows are counted from 1.
-/// `Fault::Memory` where memory is refused. A table that is like this is refused for memory alone.
+/// `Fault::CheckRow` with the first record that is not like this: 0 is the header, even if it is missing, and rows are
+/// counted from 1. `Fault::Memory` where memory is refused. A table that is like this is refused for memory alone.
 pub fn read_requests(alloc: Global, table: &[u8]) -> Result<Vec<RequestTimes>, Fault>
     ensures read { IfOk result (λ rows. IsRequestTable (records_of table.now) rows.items) }
     ensures refused { IfErr result (IsRefusedFor HoldsRequests (records_of table.now)) }
-    ensures inverse { (rows : List Row) → IsRequestTable (records_of table.now) rows → MatchResult result (λ found. found.items ≡ rows) (λ e. e ≡ Fault.Memory) }
+    ensures inverse { (rows : List Row) → IsRequestTable (records_of table.now) rows
+        → MatchResult result (λ found. found.items ≡ rows) (λ e. e ≡ Fault.Memory) }
     ensures fault { IfErr result IsTableFault }
 {
     read_rows(alloc, table)

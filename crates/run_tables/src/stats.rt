@@ -251,7 +251,8 @@ fn has_core(count: usize, table: &Table, row: usize) -> bool
 // The counts of each core, from the third record on. There is at least one.
 fn read_cores(alloc: Global, table: &Table) -> Result<Vec<CoreStats>, Fault>
     requires { 2 ≤ length table.now }
-    ensures read { IfOk result (λ cores. CoresAre table.now cores.items (2 + 12 * length cores.items)) }
+    ensures read { IfOk result (λ cores.
+        CoresAre table.now cores.items (2 + 12 * length cores.items)) }
     ensures refused { IfErr result (λ e. (e ≡ Fault.Memory) ⊎ CoresStop table.now e) }
 {
     let mut cores = Vec::new(alloc);
@@ -359,7 +360,8 @@ fn channel_size(channel: &ChannelStats) -> usize
     }
 }
 
-// Whether the counts of a channel must follow, after those of this many channels: they end the table, and there is at least one.
+// Whether the counts of a channel must follow, after those of this many channels: they end the table, and there is at
+// least one.
 fn has_channel(count: usize, table: &Table, row: usize) -> bool
     ensures { result ≡ has_channel count table.now row }
 {
@@ -404,19 +406,23 @@ fn read_table(alloc: Global, table: &Table) -> Result<Stats, Fault>
     })
 }
 
-/// Reads the table of statistics of a run, `stats.csv`: the very statistics whose table it is, of one core and one channel or more. It has
-/// just the records that `reports::write_stats` writes, in their order, and numbers without leading zeros.
+/// Reads the table of statistics of a run, `stats.csv`: the very statistics whose table it is, of one core and one
+/// channel or more. It has just the records that `reports::write_stats` writes, in their order, and numbers without
+/// leading zeros.
 ///
 /// The memory is that of the records of the table, and of the statistics.
 ///
 /// # Errors
 ///
-/// `Fault::CheckRow` with the first record that is not what must stand there, or that is missing: 0 is the header, and those after it are
-/// counted from 1. `Fault::Memory` where memory is refused. A table of statistics is refused for memory alone.
+/// `Fault::CheckRow` with the first record that is not what must stand there, or that is missing: 0 is the header, and
+/// those after it are counted from 1. `Fault::Memory` where memory is refused. A table of statistics is refused for
+/// memory alone.
 pub fn read_stats(alloc: Global, table: &[u8]) -> Result<Stats, Fault>
-    ensures read { IfOk result (λ stats. records_of table.now ≡ stats_header ∷ stats_rows stats) }
+    ensures read { IfOk result (λ stats.
+        records_of table.now ≡ stats_header ∷ stats_rows stats) }
     ensures refused { IfErr result (IsRefusedFor HoldsStats (records_of table.now)) }
-    ensures inverse { (stats : RunStats) → IsStatsTable (records_of table.now) stats → MatchResult result (λ found. found ≡ stats) (λ e. e ≡ Fault.Memory) }
+    ensures inverse { (stats : RunStats) → IsStatsTable (records_of table.now) stats
+        → MatchResult result (λ found. found ≡ stats) (λ e. e ≡ Fault.Memory) }
     ensures fault { IfErr result IsTableFault }
 {
     let records = Table::read(alloc, table)?;

@@ -7,15 +7,14 @@ use Rattle.std.specs.declared.vec.Vec.{Vec}
 use Rattle.std.specs.declared.alloc.Global.{Global}
 use Rattle.std.specs.declared.sync.Arc.{Arc}
 use Rattle.std.proofs.lemmas.List.Elements.{All-from_recursion, recursion_from_All}
-use Rattle.sim_base.specs.declared.config.Config.{Config}
 use Rattle.sim_base.specs.History.{insert_by_age}
 use Rattle.sim_base.specs.declared.message.Message.{Message}
-use Rattle.sim_base.specs.declared.trace.Entry.{Entry}
 use Rattle.sim_base.specs.Locality.{TravelsFor}
 use Rattle.sim_base.proofs.Each.{Each-filter, Each-flat_map_below}
 use Rattle.links.specs.InFlight.{InFlight}
 use Rattle.units.specs.Flight.{among, fresh, goes_among, sent_by}
-use Rattle.shards.specs.Shards.{IsUpTo, bound, lists_of, sent_of_shard}
+use Rattle.shards.specs.Lists.{AreDealt, bound, lists_of}
+use Rattle.shards.specs.Shards.{HasGone, IsUpTo, sent_of_shard}
 use Rattle.shards.specs.Jobs.{IsJob, IsDone}
 use Rattle.units.specs.Units.{unit_at, unit_count}
 use Rattle.wake_words.specs.Wakes.{AreLowered, HaveGone, IsAsleep, WaitAll, sent_in, sleeper_at}
@@ -30,20 +29,20 @@ use Rattle.wake_words.proofs.Sharing.{among-joins}
 use Rattle.units.proofs.Standing.{same-default}
 
 -- what was sent to the units of a shard arrives no sooner than what was sent to all
-pub inbound-later : (s : Config) (traces : List (List Entry)) (bounds : List ℕ) (index now : ℕ) (shard : Shard) (inbound : List (Vec Message Global)) → IsUpTo s traces bounds index now shard inbound
+pub inbound-later : (machine : Machine) (bounds : List ℕ) (index now : ℕ) (shard : Shard) (inbound : List (Vec Message Global)) → IsUpTo machine bounds index now shard inbound
     → All (λ m. now ≤ m.arrival) (lists_of inbound)
-inbound-later s traces bounds index now shard inbound h =
-    let all = sent_in s traces h.began h.last in
+inbound-later machine bounds index now shard inbound h =
+    let all = sent_in machine h.began h.last in
     All-from_recursion (λ (m : Message). now ≤ m.arrival) (lists_of inbound)
     (subst (AllByRecursion (λ (m : Message). now ≤ m.arrival)) (sym h.inbound_are)
-    (Each-filter (λ (m : Message). now ≤ m.arrival) (goes_among s shard.first (shard.first + length shard.slots.items)) all (recursion_from_All (λ (m : Message). now ≤ m.arrival) all h.arrivals)))
+    (Each-filter (λ (m : Message). now ≤ m.arrival) (goes_among machine.config shard.first (shard.first + length shard.slots.items)) all (recursion_from_All (λ (m : Message). now ≤ m.arrival) all h.arrivals)))
 
 -- a shard that takes up what was sent to it waits where nothing happens up to there
-pub taken-up : (s : Config) (traces : List (List Entry)) (bounds : List ℕ) (index now : ℕ) (shard : Shard) (inbound : List (Vec Message Global)) (words : List ℕ) (links : InFlight)
-    → IsUpTo s traces bounds index now shard inbound → AreLowered s shard.first (lists_of inbound) shard.words.items words
+pub taken-up : (machine : Machine) (bounds : List ℕ) (index now : ℕ) (shard : Shard) (inbound : List (Vec Message Global)) (words : List ℕ) (links : InFlight)
+    → IsUpTo machine bounds index now shard inbound → AreLowered machine.config shard.first (lists_of inbound) shard.words.items words
     → links ≡ record shard.links { messages = fold insert_by_age shard.links.messages (lists_of inbound) }
-    → IsAsleep s traces shard.first now shard.slots.items words links
-taken-up s traces bounds index now shard inbound words links h low e =
+    → IsAsleep machine shard.first now shard.slots.items words links
+taken-up machine bounds index now shard inbound words links h low e =
     let first = shard.first in
     let slots = shard.slots.items in
     let past = first + length slots in
@@ -51,45 +50,44 @@ taken-up s traces bounds index now shard inbound words links h low e =
       early = h.early;
       within = h.gone.within;
       words_count = low.count ∙ h.gone.words_count;
-      wait = λ k d less. still-waits s traces (unit_at s (first + k)) h.last now (sleeper_at slots words k d) (before k d less) h.still h.since (later k less);
+      wait = λ k d less. still-waits machine (unit_at machine.config (first + k)) h.last now (sleeper_at slots words k d) (before k d less) h.still h.since (later k less);
       flight = e
           ∙ ap {A = InFlight} {B = InFlight} (λ l. record l { messages = fold insert_by_age l.messages (lists_of inbound) }) h.gone.flight
-          ∙ ap {B = InFlight} (λ ms. record { channels = s.channels; messages = ms })
-          (ap (fold insert_by_age _) h.inbound_are ∙ among-joins s traces first past h.began h.last h.order h.travels ∙ ap (among s first past) (sym h.still.flight));
+          ∙ ap {B = InFlight} (λ ms. record { channels = machine.config.channels; messages = ms })
+          (ap (fold insert_by_age _) h.inbound_are ∙ among-joins machine first past h.began h.last h.order h.travels ∙ ap (among machine.config first past) (sym h.still.flight));
     }
   where
-    before : WaitAll s traces shard.first h.last h.last shard.slots.items words
-    before = lowered-wait_all s traces shard.first h.began h.last shard.slots.items shard.words.items words (lists_of inbound) h.order h.travels h.gone.words_count h.gone.between h.inbound_are low
+    before : WaitAll machine shard.first h.last h.last shard.slots.items words
+    before = lowered-wait_all machine shard.first h.began h.last shard.slots.items shard.words.items words (lists_of inbound) h.order h.travels h.gone.words_count h.gone.between h.inbound_are low
 
     later : (k : ℕ) → k < length shard.slots.items → now ≤ get_or words k 0
     later k less =
         let i : k < length shard.words.items = omega (arith, less, h.gone.words_count) in
-        low.since now (inbound-later s traces bounds index now shard inbound h) k i (h.sleep k 0 i)
+        low.since now (inbound-later machine bounds index now shard inbound h) k i (h.sleep k 0 i)
 
 -- a shard that has gone over its part of a phase
-pub job-ends : (s : Config) (traces : List (List Entry)) (bounds : List ℕ) (name : JobName) (wake : ℕ) (before after : Shard) (inbound lists : List (Vec Message Global)) → IsJob s traces bounds name before inbound
+pub job-ends : (machine : Machine) (bounds : List ℕ) (name : JobName) (wake : ℕ) (before after : Shard) (inbound lists : List (Vec Message Global)) → IsJob machine bounds name before inbound
     → after.machine ≡ before.machine → after.bounds ≡ before.bounds → after.first ≡ before.first → length after.slots.items ≡ length before.slots.items
-    → HaveGone s traces before.first name.from name.until after.slots.items after.words.items after.links
-    → after.mail.sent.items ≡ sent_by s traces name.from name.until before.first (length before.slots.items)
+    → HasGone machine name.from name.until after
+    → after.mail.sent.items ≡ sent_by machine name.from name.until before.first (length before.slots.items)
     → name.until ≤ wake → All (λ word. wake ≤ word) after.words.items → All (λ m. wake ≤ m.arrival) after.mail.sent.items → length lists ≡ length inbound
-    → ((index : ℕ) (d : Vec Message Global) → index < length lists → (get_or lists index d).items ≡ among s (bound bounds index) (bound bounds (suc index)) after.mail.sent.items)
-    → IsDone s traces bounds name wake after lists
-job-ends s traces bounds name wake before after inbound lists h machine same first count gone sent since sleep arrivals many each =
+    → AreDealt machine.config bounds after.mail.sent.items lists
+    → IsDone machine bounds name wake after lists
+job-ends machine bounds name wake before after inbound lists h shared same first count gone sent since sleep arrivals many each =
     let is = h.before.is in
-    let sends : after.mail.sent.items ≡ sent_of_shard s traces name.from name.until after =
-    sent ∙ ap₂ (sent_by s traces name.from name.until) (sym first) (sym count) in
+    let sends : after.mail.sent.items ≡ sent_of_shard machine name.from name.until after =
+    sent ∙ ap₂ (sent_by machine name.from name.until) (sym first) (sym count) in
     record {
       split = h.before.split;
       rests = record {
         is = record {
-          machine_is = ap (λ (m : Arc Machine Global). (arc_value m).config) machine ∙ is.machine_is;
-          traces_are = ap (λ (m : Arc Machine Global). (arc_value m).traces.items) machine ∙ is.traces_are;
+          machine_is = ap (λ (m : Arc Machine Global). arc_value m) shared ∙ is.machine_is;
           bounds_are = ap (λ (b : Vec ℕ Global). b.items) same ∙ is.bounds_are;
           exists = is.exists;
           first_is = first ∙ is.first_is;
           past_is = ap₂ (λ a b. a + b) first count ∙ is.past_is;
         };
-        gone = subst (λ f. HaveGone s traces f name.from name.until after.slots.items after.words.items after.links) (sym first) gone;
+        gone = gone;
         since = since;
         sleep = sleep;
         arrivals = subst (All (λ (m : Message). wake ≤ m.arrival)) sends arrivals;
@@ -99,19 +97,19 @@ job-ends s traces bounds name wake before after inbound lists h machine same fir
       travels = h.travels;
       outbound_are = record {
         count = ap suc many ∙ h.before.count;
-        each = λ index d l. each index d l ∙ ap (among s (bound bounds index) (bound bounds (suc index))) sends;
+        each = λ index d l. each index d l ∙ ap (among machine.config (bound bounds index) (bound bounds (suc index))) sends;
       };
     }
 
 -- at the end of a phase no word is sooner
-pub gone-words : (s : Config) (traces : List (List Entry)) (first now until : ℕ) (slots : List Slot) (words : List ℕ) (links : InFlight) → HaveGone s traces first now until slots words links → All (λ w. until ≤ w) words
-gone-words s traces first now until slots words links h k d less =
+pub gone-words : (machine : Machine) (first now until : ℕ) (slots : List Slot) (words : List ℕ) (links : InFlight) → HaveGone machine first now until slots words links → All (λ w. until ≤ w) words
+gone-words machine first now until slots words links h k d less =
     let i : k < length slots = omega (arith, less, h.words_count) in
     let e : get_or words k 0 ≡ get_or words k d = same-default words k 0 d less in
     subst (λ w. until ≤ w) e (h.between k (some-slot slots (omega (arith, i))) i).ahead
 
 -- nor does what some units send in it arrive sooner
-pub part-late : (s : Config) (traces : List (List Entry)) (now until first count : ℕ) → first + count ≤ unit_count s → now ≤ until → TravelsFor s (until - now) → All (λ m. until ≤ m.arrival) (sent_by s traces now until first count)
-part-late s traces now until first count within l t =
-    All-from_recursion (λ (m : Message). until ≤ m.arrival) (sent_by s traces now until first count)
-    (Each-flat_map_below (λ (m : Message). until ≤ m.arrival) (λ i. fresh s traces now until (first + i)) count (λ i less. fresh-late s traces now until (first + i) (omega (arith, within, less)) l t))
+pub part-late : (machine : Machine) (now until first count : ℕ) → first + count ≤ unit_count machine.config → now ≤ until → TravelsFor machine.config (until - now) → All (λ m. until ≤ m.arrival) (sent_by machine now until first count)
+part-late machine now until first count within l t =
+    All-from_recursion (λ (m : Message). until ≤ m.arrival) (sent_by machine now until first count)
+    (Each-flat_map_below (λ (m : Message). until ≤ m.arrival) (λ i. fresh machine now until (first + i)) count (λ i less. fresh-late machine now until (first + i) (omega (arith, within, less)) l t))

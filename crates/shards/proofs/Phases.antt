@@ -11,20 +11,19 @@ use Rattle.std.proofs.lemmas.List.FromFn.{length-map-range_with_len}
 use Rattle.std.proofs.lemmas.List.Elements.{All-from_recursion, recursion_from_All, filter-append}
 use Rattle.sim_base.specs.declared.config.Config.{Config}
 use Rattle.sim_base.specs.declared.message.Message.{Message}
-use Rattle.sim_base.specs.declared.trace.Entry.{Entry}
 use Rattle.sim_base.specs.History.{below}
-use Rattle.sim_base.specs.Counts.{in_flight}
-use Rattle.sim_base.specs.Machine.{run}
 use Rattle.sim_base.specs.Locality.{TravelsFor}
 use Rattle.sim_base.proofs.Below.{flat_map_below_more}
 use Rattle.sim_base.proofs.Each.{Each-flat_map_below}
 use Rattle.sim_base.proofs.Ordered.{Each-weaker}
 use Rattle.links.specs.InFlight.{InFlight}
-use Rattle.span_laws.specs.Units.{sent_of}
+use Rattle.units.specs.declared.machine.Machine.{Machine}
+use Rattle.units.specs.Runs.{flight_at, sent_at}
 use Rattle.units.specs.Flight.{fresh, among, goes_among, sent_by}
-use Rattle.shards.specs.Shards.{IsSplit, IsShard, IsAtRest, IsUpTo, IsSharded, AreFor, AreShards, lists_of, bound, sent_of_shard}
+use Rattle.shards.specs.Lists.{lists_of, bound, IsSquare, AreTurned}
+use Rattle.shards.specs.Shards.{IsSplit, IsShard, IsAtRest, IsUpTo, IsSharded, AreFor, AreShards, sent_of_shard}
 use Rattle.shards.specs.Jobs.{job_at, jobs_at}
-use Rattle.shards.specs.Phases.{IsPhase, AreUnloaded}
+use Rattle.shards.specs.Phases.{PhaseView, IsPhase, AreUnloaded}
 use Rattle.units.specs.Parts.{late}
 use Rattle.units.specs.Units.{unit_at, unit_count}
 use Rattle.wake_words.specs.Wakes.{Sleeper, HaveGone, IsAsleep, IsStill, Waits, sent_in, sleeper_at}
@@ -63,45 +62,45 @@ home s bounds place split less =
     home-below bounds place (length bounds - 1) split.begins (omega (arith, split.some)) (subst (λ n. place < n) (sym (split.ends (length bounds - 1) last)) less)
 
 -- what the units of all shards send is what all units send
-shards-sent : (s : Config) (traces : List (List Entry)) (bounds : List ℕ) (now until : ℕ) → IsSplit s bounds → (n : ℕ) → n < length bounds
-    → flat_map (λ i. sent_by s traces now until (bound bounds i) (bound bounds (suc i) - bound bounds i)) (below n) ≡ flat_map (fresh s traces now until) (below (bound bounds n))
-shards-sent s traces bounds now until split zero l = ap (λ n. flat_map (fresh s traces now until) (below n)) (sym split.begins)
-shards-sent s traces bounds now until split (suc n) l =
+shards-sent : (machine : Machine) (bounds : List ℕ) (now until : ℕ) → IsSplit machine.config bounds → (n : ℕ) → n < length bounds
+    → flat_map (λ i. sent_by machine now until (bound bounds i) (bound bounds (suc i) - bound bounds i)) (below n) ≡ flat_map (fresh machine now until) (below (bound bounds n))
+shards-sent machine bounds now until split zero l = ap (λ n. flat_map (fresh machine now until) (below n)) (sym split.begins)
+shards-sent machine bounds now until split (suc n) l =
     let a = bound bounds n in
     let b = bound bounds (suc n) in
     let rises : a ≤ b = split.rises n l in
     let e : a + (b - a) ≡ b = omega (arith, rises) in
-    flat_map_below_more (λ i. sent_by s traces now until (bound bounds i) (bound bounds (suc i) - bound bounds i)) n
-    ∙ ap (λ z. z ++ sent_by s traces now until a (b - a)) (shards-sent s traces bounds now until split n (omega (arith, l)))
-    ∙ sym (flat-split (fresh s traces now until) a (b - a))
-    ∙ ap (λ k. flat_map (fresh s traces now until) (below k)) e
+    flat_map_below_more (λ i. sent_by machine now until (bound bounds i) (bound bounds (suc i) - bound bounds i)) n
+    ∙ ap (λ z. z ++ sent_by machine now until a (b - a)) (shards-sent machine bounds now until split n (omega (arith, l)))
+    ∙ sym (flat-split (fresh machine now until) a (b - a))
+    ∙ ap (λ k. flat_map (fresh machine now until) (below k)) e
 
-all-shards_sent : (s : Config) (traces : List (List Entry)) (bounds : List ℕ) (now until count : ℕ) → IsSplit s bounds → suc count ≡ length bounds
-    → flat_map (λ i. sent_by s traces now until (bound bounds i) (bound bounds (suc i) - bound bounds i)) (below count) ≡ sent_in s traces now until
-all-shards_sent s traces bounds now until count split e =
-    shards-sent s traces bounds now until split count (omega (arith, e))
-    ∙ ap (λ n. flat_map (fresh s traces now until) (below n)) (split.ends count e)
+all-shards_sent : (machine : Machine) (bounds : List ℕ) (now until count : ℕ) → IsSplit machine.config bounds → suc count ≡ length bounds
+    → flat_map (λ i. sent_by machine now until (bound bounds i) (bound bounds (suc i) - bound bounds i)) (below count) ≡ sent_in machine now until
+all-shards_sent machine bounds now until count split e =
+    shards-sent machine bounds now until split count (omega (arith, e))
+    ∙ ap (λ n. flat_map (fresh machine now until) (below n)) (split.ends count e)
 
 -- what a shard sends, by its bounds
-shard-sent : (s : Config) (traces : List (List Entry)) (bounds : List ℕ) (now until index : ℕ) (shard : Shard) → IsShard s traces bounds index shard
-    → sent_of_shard s traces now until shard ≡ sent_by s traces now until (bound bounds index) (bound bounds (suc index) - bound bounds index)
-shard-sent s traces bounds now until index shard h =
+shard-sent : (machine : Machine) (bounds : List ℕ) (now until index : ℕ) (shard : Shard) → IsShard machine bounds index shard
+    → sent_of_shard machine now until shard ≡ sent_by machine now until (bound bounds index) (bound bounds (suc index) - bound bounds index)
+shard-sent machine bounds now until index shard h =
     let count : length shard.slots.items ≡ bound bounds (suc index) - bound bounds index = omega (arith, h.first_is, h.past_is) in
-    ap₂ (sent_by s traces now until) h.first_is count
+    ap₂ (sent_by machine now until) h.first_is count
 
 -- so all that was sent arrives no sooner than what each shard sent
-sent-later : (s : Config) (traces : List (List Entry)) (bounds : List ℕ) (now until wake : ℕ) (shards : List (Box Shard Global)) → IsSplit s bounds → suc (length shards) ≡ length bounds
-    → ((index : ℕ) (d : Box Shard Global) → index < length shards → IsAtRest s traces bounds index now until wake (get_or shards index d).value)
-    → All (λ m. wake ≤ m.arrival) (sent_in s traces now until)
-sent-later s traces bounds now until wake shards split count rest =
-    All-from_recursion (λ (m : Message). wake ≤ m.arrival) (sent_in s traces now until)
-    (subst (Each (λ (m : Message). wake ≤ m.arrival)) (all-shards_sent s traces bounds now until (length shards) split count)
-    (Each-flat_map_below (λ (m : Message). wake ≤ m.arrival) (λ i. sent_by s traces now until (bound bounds i) (bound bounds (suc i) - bound bounds i)) (length shards)
+sent-later : (machine : Machine) (bounds : List ℕ) (now until wake : ℕ) (shards : List (Box Shard Global)) → IsSplit machine.config bounds → suc (length shards) ≡ length bounds
+    → ((index : ℕ) (d : Box Shard Global) → index < length shards → IsAtRest machine bounds index now until wake (get_or shards index d).value)
+    → All (λ m. wake ≤ m.arrival) (sent_in machine now until)
+sent-later machine bounds now until wake shards split count rest =
+    All-from_recursion (λ (m : Message). wake ≤ m.arrival) (sent_in machine now until)
+    (subst (Each (λ (m : Message). wake ≤ m.arrival)) (all-shards_sent machine bounds now until (length shards) split count)
+    (Each-flat_map_below (λ (m : Message). wake ≤ m.arrival) (λ i. sent_by machine now until (bound bounds i) (bound bounds (suc i) - bound bounds i)) (length shards)
     (λ i l.
     let d = some-of shards (omega (arith, l)) in
     let r = rest i d l in
-    let sent = shard-sent s traces bounds now until i (get_or shards i d).value r.is in
-    subst (Each (λ (m : Message). wake ≤ m.arrival)) sent (recursion_from_All (λ (m : Message). wake ≤ m.arrival) (sent_of_shard s traces now until (get_or shards i d).value) r.arrivals))))
+    let sent = shard-sent machine bounds now until i (get_or shards i d).value r.is in
+    subst (Each (λ (m : Message). wake ≤ m.arrival)) sent (recursion_from_All (λ (m : Message). wake ≤ m.arrival) (sent_of_shard machine now until (get_or shards i d).value) r.arrivals))))
 
 -- a bound that comes sooner
 All-sooner : (word least : ℕ) (ms : List Message) → word ≤ least → All (λ m. least ≤ m.arrival) ms → All (λ m. word ≤ m.arrival) ms
@@ -111,19 +110,19 @@ words-sooner : (word least : ℕ) (ws : List ℕ) → word ≤ least → All (λ
 words-sooner word least ws l h k d less = let a = h k d less in omega (arith, a, l)
 
 -- before the cycle up to which all are at rest nothing happens
-pub sharded-still : (s : Config) (traces : List (List Entry)) (bounds : List ℕ) (now phase wake then : ℕ) (shards : List (Box Shard Global)) (inbound : List (Vec (Vec Message Global) Global))
-    → IsSharded s traces bounds now phase wake shards inbound → now ≤ then → then ≤ wake → IsStill s traces now then
-sharded-still s traces bounds now phase wake then shards inbound h l w = sleep-on s traces now then rests l
+pub sharded-still : (machine : Machine) (bounds : List ℕ) (now phase wake then : ℕ) (shards : List (Box Shard Global)) (inbound : List (Vec (Vec Message Global) Global))
+    → IsSharded machine bounds now phase wake shards inbound → now ≤ then → then ≤ wake → IsStill machine now then
+sharded-still machine bounds now phase wake then shards inbound h l w = sleep-on machine now then rests l
   where
-    sent : All (λ m. then ≤ m.arrival) (sent_in s traces h.began now)
-    sent = All-sooner then wake (sent_in s traces h.began now) w (sent-later s traces bounds h.began now wake shards h.split h.count h.rest)
+    sent : All (λ m. then ≤ m.arrival) (sent_in machine h.began now)
+    sent = All-sooner then wake (sent_in machine h.began now) w (sent-later machine bounds h.began now wake shards h.split h.count h.rest)
 
     some : Box Shard Global
     some = some-of shards (omega (arith, h.count, h.split.some))
 
-    rests : AllRest s traces now then
+    rests : AllRest machine now then
     rests place less =
-        let at = home s bounds place h.split less in
+        let at = home machine.config bounds place h.split less in
         let there : at.index < length shards = omega (arith, at.exists, h.count) in
         let shard = (get_or shards at.index some).value in
         let r = h.rest at.index some there in
@@ -132,22 +131,22 @@ sharded-still s traces bounds now phase wake then shards inbound h l w = sleep-o
         let d = some-slot shard.slots.items (omega (arith, i)) in
         let slot = sleeper_at shard.slots.items shard.words.items k d in
         let e : shard.first + k ≡ place = omega (arith, at.since, r.is.first_is) in
-        let u = unit_at s place in
-        let b = subst (λ n. Waits s traces (unit_at s n) now h.began slot) e (r.gone.between k d i) in
+        let u = unit_at machine.config place in
+        let b = subst (λ n. Waits machine (unit_at machine.config n) now h.began slot) e (r.gone.between k d i) in
         let later = r.sleep k 0 (omega (arith, i, r.gone.words_count)) in
         let after : Sleeper = record { part = slot.part; at = slot.at; wake = then } in
         record {
           slot = after;
           wakes = omega arith;
-          waits = lowered-waits s traces u h.began now slot after h.order h.travels b refl refl l (omega (arith, later, w))
-              (none-due s.channels now then then u (sent_in s traces h.began now) (λ j m o to. sent j m o) (omega arith));
+          waits = lowered-waits machine u h.began now slot after h.order h.travels b refl refl l (omega (arith, later, w))
+              (none-due machine.config.channels now then then u (sent_in machine h.began now) (λ j m o to. sent j m o) (omega arith));
         }
 
 -- each shard may go on up to there
-pub sharded-up_to : (s : Config) (traces : List (List Entry)) (bounds : List ℕ) (now phase wake then : ℕ) (shards : List (Box Shard Global)) (inbound : List (Vec (Vec Message Global) Global))
-    → IsSharded s traces bounds now phase wake shards inbound → now ≤ then → then ≤ wake → then ≤ 10 ^ 12
-    → (index : ℕ) (d : Box Shard Global) (e : Vec (Vec Message Global) Global) → index < length shards → IsUpTo s traces bounds index then (get_or shards index d).value (get_or inbound index e).items
-sharded-up_to s traces bounds now phase wake then shards inbound h l w early index d e less =
+pub sharded-up_to : (machine : Machine) (bounds : List ℕ) (now phase wake then : ℕ) (shards : List (Box Shard Global)) (inbound : List (Vec (Vec Message Global) Global))
+    → IsSharded machine bounds now phase wake shards inbound → now ≤ then → then ≤ wake → then ≤ 10 ^ 12
+    → (index : ℕ) (d : Box Shard Global) (e : Vec (Vec Message Global) Global) → index < length shards → IsUpTo machine bounds index then (get_or shards index d).value (get_or inbound index e).items
+sharded-up_to machine bounds now phase wake then shards inbound h l w early index d e less =
     let r = h.rest index d less in
     record {
       split = h.split;
@@ -162,8 +161,8 @@ sharded-up_to s traces bounds now phase wake then shards inbound h l w early ind
       since = l;
       early = early;
       sleep = words-sooner then wake (get_or shards index d).value.words.items w r.sleep;
-      arrivals = All-sooner then wake (sent_in s traces h.began now) w (sent-later s traces bounds h.began now wake shards h.split h.count h.rest);
-      still = sharded-still s traces bounds now phase wake then shards inbound h l w;
+      arrivals = All-sooner then wake (sent_in machine h.began now) w (sent-later machine bounds h.began now wake shards h.split h.count h.rest);
+      still = sharded-still machine bounds now phase wake then shards inbound h l w;
     }
 
 -- lists by their numbers
@@ -183,54 +182,48 @@ filter-flat p f (suc n) =
     ∙ sym (flat_map_below_more (λ i. filter p (f i)) n)
 
 -- what each shard sent to one, shard by shard, is what was sent to that one
-pub inbound-is : (s : Config) (traces : List (List Entry)) (bounds : List ℕ) (now until wake index : ℕ) (shards : List (Box Shard Global)) (d : Box Shard Global) (lists : List (Vec Message Global)) → IsSplit s bounds → suc (length shards) ≡ length bounds
-    → ((i : ℕ) (b : Box Shard Global) → i < length shards → IsAtRest s traces bounds i now until wake (get_or shards i b).value) → length lists ≡ length shards
-    → ((i : ℕ) (b : Box Shard Global) (e : Vec Message Global) → i < length shards → (get_or lists i e).items ≡ among s (bound bounds index) (bound bounds (suc index)) (sent_of_shard s traces now until (get_or shards i b).value))
-    → index < length shards → AreFor s traces now until (get_or shards index d).value lists
-inbound-is s traces bounds now until wake index shards d lists split count rest same each less =
+pub inbound-is : (machine : Machine) (bounds : List ℕ) (now until wake index : ℕ) (shards : List (Box Shard Global)) (d : Box Shard Global) (lists : List (Vec Message Global)) → IsSplit machine.config bounds → suc (length shards) ≡ length bounds
+    → ((i : ℕ) (b : Box Shard Global) → i < length shards → IsAtRest machine bounds i now until wake (get_or shards i b).value) → length lists ≡ length shards
+    → ((i : ℕ) (b : Box Shard Global) (e : Vec Message Global) → i < length shards → (get_or lists i e).items ≡ among machine.config (bound bounds index) (bound bounds (suc index)) (sent_of_shard machine now until (get_or shards i b).value))
+    → index < length shards → AreFor machine now until (get_or shards index d).value lists
+inbound-is machine bounds now until wake index shards d lists split count rest same each less =
     let shard = (get_or shards index d).value in
     let here = (rest index d less).is in
-    let p = goes_among s (bound bounds index) (bound bounds (suc index)) in
-    let sent = λ (i : ℕ). sent_by s traces now until (bound bounds i) (bound bounds (suc i) - bound bounds i) in
+    let p = goes_among machine.config (bound bounds index) (bound bounds (suc index)) in
+    let sent = λ (i : ℕ). sent_by machine now until (bound bounds i) (bound bounds (suc i) - bound bounds i) in
     let past : bound bounds (suc index) ≡ shard.first + length shard.slots.items = sym here.past_is in
     flat-by_number (λ (list : Vec Message Global). list.items) (λ i. filter p (sent i)) 0 lists
     (λ i e l.
     let j : i < length shards = omega (arith, l, same) in
     let b = some-of shards (omega (arith, j)) in
     let zero-first : i ≡ 0 + i = omega arith in
-    each i b e j ∙ ap (filter p) (shard-sent s traces bounds now until i (get_or shards i b).value (rest i b j).is) ∙ ap (λ n. filter p (sent n)) zero-first)
+    each i b e j ∙ ap (filter p) (shard-sent machine bounds now until i (get_or shards i b).value (rest i b j).is) ∙ ap (λ n. filter p (sent n)) zero-first)
     ∙ ap (λ n. flat_map (λ i. filter p (sent i)) (below n)) same
     ∙ sym (filter-flat p sent (length shards))
-    ∙ ap (filter p) (all-shards_sent s traces bounds now until (length shards) split count)
-    ∙ ap₂ (λ a b. among s a b (sent_in s traces now until)) (sym here.first_is) past
+    ∙ ap (filter p) (all-shards_sent machine bounds now until (length shards) split count)
+    ∙ ap₂ (λ a b. among machine.config a b (sent_in machine now until)) (sym here.first_is) past
 
-jobs-count : (s : Config) (traces : List (List Entry)) (bounds : List ℕ) (number from until : ℕ) → length (jobs_at s traces bounds number from until) ≡ length bounds - 1
-jobs-count s traces bounds number from until = length-map-range_with_len (job_at s traces bounds number from until) 0 (length bounds - 1)
+jobs-count : (machine : Machine) (bounds : List ℕ) (number from until : ℕ) → length (jobs_at machine bounds number from until) ≡ length bounds - 1
+jobs-count machine bounds number from until = length-map-range_with_len (job_at machine bounds number from until) 0 (length bounds - 1)
 
 -- each shard has sent a list to each
-pub rows-square : (s : Config) (traces : List (List Entry)) (bounds : List ℕ) (from until wake : ℕ) (shards : List (Box Shard Global)) (outbound : List (Vec (Vec Message Global) Global)) (number phase : ℕ)
-    → AreUnloaded s traces bounds from until wake shards outbound → length shards ≡ number → number ≡ length (jobs_at s traces bounds phase from until) → IsSplit s bounds
-    → (i : ℕ) (d : Vec (Vec Message Global) Global) → i < length outbound → length (get_or outbound i d).items ≡ length outbound
-rows-square s traces bounds from until wake shards outbound number phase h many jobs split i d less =
-    let count = jobs-count s traces bounds phase from until in
+pub rows-square : (p : PhaseView) (wake : ℕ) (shards : List (Box Shard Global)) (outbound : List (Vec (Vec Message Global) Global)) → AreUnloaded p wake shards outbound
+    → IsSplit p.machine.config p.bounds → IsSquare (length outbound) outbound
+rows-square p wake shards outbound h split i d less =
+    let count = jobs-count p.machine p.bounds p.number p.from p.until in
     let there : i < length shards = omega (arith, less, h.outbound_count) in
     let row = (h.outbound_are i (some-of shards (omega (arith, there))) d there).count in
-    omega (arith, row, h.outbound_count, many, jobs, count, split.some)
+    omega (arith, row, h.outbound_count, h.count, count, split.some)
 
 -- the shards of a machine at the end of a phase
-pub sharded-ends : (s : Config) (traces : List (List Entry)) (bounds : List ℕ) (number from until wake : ℕ) (shards : List (Box Shard Global)) (outbound inbound : List (Vec (Vec Message Global) Global))
-    → IsPhase s traces bounds number from until → AreUnloaded s traces bounds from until wake shards outbound → length shards ≡ length (jobs_at s traces bounds number from until)
-    → length inbound ≡ length outbound
-    → ((j : ℕ) (d : Vec (Vec Message Global) Global) → j < length outbound → length (get_or inbound j d).items ≡ length outbound)
-    → ((i j : ℕ) (d e : Vec (Vec Message Global) Global) (f g : Vec Message Global) → i < length outbound → j < length outbound
-    → (get_or (get_or inbound j d).items i f).items ≡ (get_or (get_or outbound i e).items j g).items)
-    → IsSharded s traces bounds until (number + 1) wake shards inbound
-sharded-ends s traces bounds number from until wake shards outbound inbound h un many same square each =
+pub sharded-ends : (p : PhaseView) (wake : ℕ) (shards : List (Box Shard Global)) (outbound inbound : List (Vec (Vec Message Global) Global)) → IsPhase p → AreUnloaded p wake shards outbound
+    → length inbound ≡ length outbound → IsSquare (length outbound) inbound → AreTurned outbound inbound → IsSharded p.machine p.bounds p.until (p.number + 1) wake shards inbound
+sharded-ends p wake shards outbound inbound h un same square each =
     record {
       counted = omega (arith, h.counted, h.order);
       early = h.early;
       split = h.split;
-      began = from;
+      began = p.from;
       order = omega (arith, h.order);
       travels = h.travels;
       since = un.since;
@@ -239,7 +232,7 @@ sharded-ends s traces bounds number from until wake shards outbound inbound h un
       rest = un.rest;
       lists = λ index d less. ap suc (square index d (omega (arith, less, un.outbound_count)) ∙ un.outbound_count) ∙ count;
       inbound_are = λ index d e less.
-          inbound-is s traces bounds from until wake index shards d (get_or inbound index e).items h.split count un.rest (square index e (omega (arith, less, un.outbound_count)) ∙ un.outbound_count)
+          inbound-is p.machine p.bounds p.from p.until wake index shards d (get_or inbound index e).items h.split count un.rest (square index e (omega (arith, less, un.outbound_count)) ∙ un.outbound_count)
           (λ i b f l.
           let row = get_or outbound i e in
           let are = un.outbound_are i b e l in
@@ -248,52 +241,52 @@ sharded-ends s traces bounds number from until wake shards outbound inbound h un
           less;
     }
   where
-    count : suc (length shards) ≡ length bounds
-    count = let n = jobs-count s traces bounds number from until in omega (arith, many, n, h.split.some)
+    count : suc (length shards) ≡ length p.bounds
+    count = let n = jobs-count p.machine p.bounds p.number p.from p.until in omega (arith, un.count, n, h.split.some)
 
-fresh-none : (s : Config) (traces : List (List Entry)) (now place : ℕ) → fresh s traces now now place ≡ []
-fresh-none s traces now place = fresh-is s traces now now place [] (sym (append-nil (sent_of s traces now (unit_at s place))))
+fresh-none : (machine : Machine) (now place : ℕ) → fresh machine now now place ≡ []
+fresh-none machine now place = fresh-is machine now now place [] (sym (append-nil (sent_at machine now (unit_at machine.config place))))
 
 -- in no cycles nothing is sent
-none-by : (s : Config) (traces : List (List Entry)) (now first count : ℕ) → sent_by s traces now now first count ≡ []
-none-by s traces now first count = all-none (λ i. fresh s traces now now (first + i)) count (λ i l. fresh-none s traces now (first + i))
+none-by : (machine : Machine) (now first count : ℕ) → sent_by machine now now first count ≡ []
+none-by machine now first count = all-none (λ i. fresh machine now now (first + i)) count (λ i l. fresh-none machine now (first + i))
 
-none-in : (s : Config) (traces : List (List Entry)) (now : ℕ) → sent_in s traces now now ≡ []
-none-in s traces now = all-none (fresh s traces now now) (unit_count s) (λ i l. fresh-none s traces now i)
+none-in : (machine : Machine) (now : ℕ) → sent_in machine now now ≡ []
+none-in machine now = all-none (fresh machine now now) (unit_count machine.config) (λ i l. fresh-none machine now i)
 
 -- what is in flight is still to arrive
-late-now : (s : Config) (traces : List (List Entry)) (now : ℕ) → late now (in_flight s traces (run s traces now)) ≡ in_flight s traces (run s traces now)
-late-now s traces now =
-    filter-all (λ (m : Message). not (ltb m.arrival now)) (in_flight s traces (run s traces now))
-    (Each-weaker (λ (m : Message). Goes s m × (now ≤ m.arrival)) (λ (m : Message). not (ltb m.arrival now) ≡ true) (λ m h. since m.arrival h.1) _ (flight-each s traces now))
+late-now : (machine : Machine) (now : ℕ) → late now (flight_at machine now) ≡ flight_at machine now
+late-now machine now =
+    filter-all (λ (m : Message). not (ltb m.arrival now)) (flight_at machine now)
+    (Each-weaker (λ (m : Message). Goes machine.config m × (now ≤ m.arrival)) (λ (m : Message). not (ltb m.arrival now) ≡ true) (λ m h. since m.arrival h.1) _ (flight-each machine.config machine.traces.items now))
   where
     since : (a : ℕ) → now ≤ a → not (ltb a now) ≡ true
     since a l = grind (arith, nat_tests)
 
 -- units that wait at a cycle have gone over no cycles
-asleep-gone : (s : Config) (traces : List (List Entry)) (first now : ℕ) (slots : List Slot) (words : List ℕ) (links : InFlight) → IsAsleep s traces first now slots words links → HaveGone s traces first now now slots words links
-asleep-gone s traces first now slots words links h =
+asleep-gone : (machine : Machine) (first now : ℕ) (slots : List Slot) (words : List ℕ) (links : InFlight) → IsAsleep machine first now slots words links → HaveGone machine first now now slots words links
+asleep-gone machine first now slots words links h =
     record {
       within = h.within;
       words_count = h.words_count;
       between = h.wait;
-      flight = h.flight ∙ ap {B = InFlight} (λ ms. record { channels = s.channels; messages = among s first (first + length slots) ms }) (sym (late-now s traces now));
+      flight = h.flight ∙ ap {B = InFlight} (λ ms. record { channels = machine.config.channels; messages = among machine.config first (first + length slots) ms }) (sym (late-now machine now));
     }
 
 -- the shards of a machine before any phase
-pub sharded-begins : (s : Config) (traces : List (List Entry)) (bounds : List ℕ) (now phase : ℕ) (shards : List (Box Shard Global)) (inbound : List (Vec (Vec Message Global) Global)) → phase ≤ now → now ≤ 10 ^ 12
-    → AreShards s traces bounds now shards → length inbound ≡ length shards
+pub sharded-begins : (machine : Machine) (bounds : List ℕ) (now phase : ℕ) (shards : List (Box Shard Global)) (inbound : List (Vec (Vec Message Global) Global)) → phase ≤ now → now ≤ 10 ^ 12
+    → AreShards machine bounds now shards → length inbound ≡ length shards
     → ((index : ℕ) (d : Vec (Vec Message Global) Global) → index < length shards → length (get_or inbound index d).items ≡ length shards)
     → ((index : ℕ) (d : Vec (Vec Message Global) Global) → index < length shards → lists_of (get_or inbound index d).items ≡ [])
-    → IsSharded s traces bounds now phase now shards inbound
-sharded-begins s traces bounds now phase shards inbound counted early h many square empty =
+    → IsSharded machine bounds now phase now shards inbound
+sharded-begins machine bounds now phase shards inbound counted early h many square empty =
     record {
       counted = counted;
       early = early;
       split = h.split;
       began = now;
       order = omega arith;
-      travels = subst (TravelsFor s) none (λ link l. omega arith);
+      travels = subst (TravelsFor machine.config) none (λ link l. omega arith);
       since = omega arith;
       count = h.count;
       inbound_count = many;
@@ -302,15 +295,15 @@ sharded-begins s traces bounds now phase shards inbound counted early h many squ
           let a = h.asleep index d less in
           record {
             is = h.each index d less;
-            gone = asleep-gone s traces shard.first now shard.slots.items shard.words.items shard.links a;
+            gone = asleep-gone machine shard.first now shard.slots.items shard.words.items shard.links a;
             since = omega arith;
-            sleep = asleep-until s traces shard.first now shard.slots.items shard.words.items shard.links a;
-            arrivals = subst (All (λ (m : Message). now ≤ m.arrival)) (sym (none-by s traces now shard.first (length shard.slots.items))) (λ k e l. absurd (omega (arith, l)));
+            sleep = asleep-until machine shard.first now shard.slots.items shard.words.items shard.links a;
+            arrivals = subst (All (λ (m : Message). now ≤ m.arrival)) (sym (none-by machine now shard.first (length shard.slots.items))) (λ k e l. absurd (omega (arith, l)));
           };
       lists = λ index d less. ap suc (square index d less) ∙ h.count;
       inbound_are = λ index d e less.
           let shard = (get_or shards index d).value in
-          empty index e less ∙ ap (among s shard.first (shard.first + length shard.slots.items)) (sym (none-in s traces now));
+          empty index e less ∙ ap (among machine.config shard.first (shard.first + length shard.slots.items)) (sym (none-in machine now));
     }
   where
     none : 0 ≡ now - now

@@ -237,10 +237,10 @@ unfolding first_fault
 first-end p earlier = refl
 
 -- a result of the phase's machine is that of the job whose name it has
-pub job-is : (p : PhaseView) (place : ℕ) (d : JobView) → d.machine ≡ p.machine → d.traces ≡ p.traces → d.bounds ≡ p.bounds → name_of p place ≡ d.name → d ≡ job_of p place
-job-is p place d h k b l =
-    ap₂ {C = JobView} (λ m t. record { machine = m; traces = t; bounds = d.bounds; name = d.name }) h k
-    ∙ ap₂ {C = JobView} (λ bs n. record { machine = p.machine; traces = p.traces; bounds = bs; name = n }) b (sym l)
+pub job-is : (p : PhaseView) (place : ℕ) (d : JobView) → d.machine ≡ p.machine → d.bounds ≡ p.bounds → name_of p place ≡ d.name → d ≡ job_of p place
+job-is p place d h b l =
+    ap {B = JobView} (λ m. record { machine = m; bounds = d.bounds; name = d.name }) h
+    ∙ ap₂ {C = JobView} (λ bs n. record { machine = p.machine; bounds = bs; name = n }) b (sym l)
 
 -- whether a place has a result is whether its name is among those that came
 taken-is : (p : PhaseView) (names : List JobName) (places : List (Option JobView)) (i : ℕ) (t : Bool) → places ≡ results_at p names → i < shard_count p

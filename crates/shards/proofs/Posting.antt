@@ -16,7 +16,8 @@ use Rattle.sim_base.specs.declared.message.Unit.TheVariants.{Core, Channel}
 use Rattle.sim_base.specs.History.{is_unit, insert_by_age}
 use Rattle.links.specs.InFlight.{receiver_of}
 use Rattle.units.specs.Flight.{is_at_places, goes_among}
-use Rattle.shards.specs.Shards.{IsSplit, bound, lists_of}
+use Rattle.shards.specs.Lists.{bound, lists_of}
+use Rattle.shards.specs.Shards.{IsSplit}
 use Rattle.units.specs.Units.{unit_at, unit_count}
 use Rattle.wake_words.specs.Wakes.{AreLowered}
 use Rattle.units.proofs.Due.{unit_is}

@@ -3,15 +3,11 @@ use Rattle.std.proofs.Common.{◌≡◌, ℕ, ◌+◌, ◌-◌, ◌≤◌, Bool,
 use Rattle.std.proofs.lemmas.Bool.Decides.{nat_tests}
 use Rattle.std.specs.Prelude.{filter}
 use Rattle.std.specs.List.{list_any}
-use Rattle.sim_base.specs.declared.config.Config.{Config}
-use Rattle.sim_base.specs.Counts.{in_flight}
 use Rattle.sim_base.specs.History.{is_unit}
 use Rattle.sim_base.specs.Locality.{TravelsFor}
-use Rattle.sim_base.specs.Machine.{run}
 use Rattle.sim_base.specs.declared.message.Message.{Message}
 use Rattle.sim_base.specs.declared.message.Unit.{Unit as MachineUnit}
 use Rattle.sim_base.specs.declared.message.Unit.TheVariants.{Core, Channel}
-use Rattle.sim_base.specs.declared.trace.Entry.{Entry}
 use Rattle.sim_base.proofs.Ordered.{Each-weaker}
 use Rattle.links.specs.InFlight.{InFlight, is_due, receiver_of}
 use Rattle.span_laws.specs.Flight.{left_after}
@@ -19,6 +15,8 @@ use Rattle.span_laws.proofs.Flights.{any-and}
 use Rattle.span_laws.proofs.Flights as flights
 use Rattle.horizon_laws.proofs.Bringing.{unit-overdue}
 use Rattle.horizon_laws.proofs.Flights.{flights-meet}
+use Rattle.units.specs.declared.machine.Machine.{Machine}
+use Rattle.units.specs.Runs.{flight_at}
 use Rattle.units.specs.Flight.{goes_among, among}
 use Rattle.units.specs.Parts.{late}
 use Rattle.units.specs.Units.{unit_at}
@@ -31,23 +29,23 @@ use Rattle.wake_words.proofs.Sharing.{due-among}
 use Rattle.wake_words.proofs.Waiting.{due-flight, known-phase}
 
 -- nothing in flight is overdue
-none-in_flight : (s : Config) (traces : List (List Entry)) (now : ℕ) (u : MachineUnit) → filter (is_due s.channels u 0 now) (in_flight s traces (run s traces now)) ≡ []
-none-in_flight s traces now (Core core) = ap (filter (is_due s.channels (Core core) 0 now)) (sym (flights-meet s traces now)) ∙ unit-overdue s traces now now (Core core)
-none-in_flight s traces now (Channel channel) =
-    ap (filter (is_due s.channels (Channel channel) 0 now)) (sym (flights-meet s traces now)) ∙ unit-overdue s traces now now (Channel channel)
+none-in_flight : (machine : Machine) (now : ℕ) (u : MachineUnit) → filter (is_due machine.config.channels u 0 now) (flight_at machine now) ≡ []
+none-in_flight machine now (Core core) = ap (filter (is_due machine.config.channels (Core core) 0 now)) (sym (flights-meet machine.config machine.traces.items now)) ∙ unit-overdue machine.config machine.traces.items now now (Core core)
+none-in_flight machine now (Channel channel) =
+    ap (filter (is_due machine.config.channels (Channel channel) 0 now)) (sym (flights-meet machine.config machine.traces.items now)) ∙ unit-overdue machine.config machine.traces.items now now (Channel channel)
 
 -- what is in flight is brought to all units, in a phase that is no longer than any message travels
-pub phase-brought : (s : Config) (traces : List (List Entry)) (first now until : ℕ) (slots : List Slot) (words : List ℕ) (links : InFlight) → IsAsleep s traces first now slots words links → now ≤ until
-    → TravelsFor s (until - now) → AllBrought s traces first (length slots) now now until links
-phase-brought s traces first now until slots words links h l t k less =
-    let u = unit_at s (first + k) in
-    let flying = in_flight s traces (run s traces now) in
-    subst (IsBrought s traces now now until u) (sym h.flight)
+pub phase-brought : (machine : Machine) (first now until : ℕ) (slots : List Slot) (words : List ℕ) (links : InFlight) → IsAsleep machine first now slots words links → now ≤ until
+    → TravelsFor machine.config (until - now) → AllBrought machine first (length slots) now now until links
+phase-brought machine first now until slots words links h l t k less =
+    let u = unit_at machine.config (first + k) in
+    let flying = flight_at machine now in
+    subst (IsBrought machine now now until u) (sym h.flight)
     (record {
       channels_are = refl;
-      overdue = due-among s first (first + length slots) 0 now (first + k) flying (omega arith) (omega (arith, less)) ∙ none-in_flight s traces now u;
-      due = λ from to m. due-among s first (first + length slots) from to (first + k) flying (omega arith) (omega (arith, less)) ∙ due-flight s traces now from to u m;
-      known = known-phase s traces now until u l t;
+      overdue = due-among machine.config first (first + length slots) 0 now (first + k) flying (omega arith) (omega (arith, less)) ∙ none-in_flight machine now u;
+      due = λ from to m. due-among machine.config first (first + length slots) from to (first + k) flying (omega arith) (omega (arith, less)) ∙ due-flight machine.config machine.traces.items now from to u m;
+      known = known-phase machine now until u l t;
     })
 
 kept : (goes since soon : Bool) → since ≡ true → (goes && not (goes && (since && soon))) ≡ (not soon && goes)
@@ -58,45 +56,45 @@ kept false true false e = refl
 kept goes false soon e = cc
 
 -- when all have taken theirs, what comes later is left
-phase-left : (s : Config) (traces : List (List Entry)) (first count now until : ℕ) → left_after s.channels now until (units_from s first count) (among s first (first + count) (in_flight s traces (run s traces now)))
-    ≡ among s first (first + count) (late until (in_flight s traces (run s traces now)))
-phase-left s traces first count now until =
-    flights.left-all s.channels now until units (filter goes flying)
+phase-left : (machine : Machine) (first count now until : ℕ) → left_after machine.config.channels now until (units_from machine.config first count) (among machine.config first (first + count) (flight_at machine now))
+    ≡ among machine.config first (first + count) (late until (flight_at machine now))
+phase-left machine first count now until =
+    flights.left-all machine.config.channels now until units (filter goes flying)
     ∙ filter-filter stays goes flying
-    ∙ filter-same (λ m. goes m && stays m) (λ m. not (ltb m.arrival until) && goes m) flying (Each-weaker _ _ (λ m h. same m h.1) flying (flight-each s traces now))
+    ∙ filter-same (λ m. goes m && stays m) (λ m. not (ltb m.arrival until) && goes m) flying (Each-weaker _ _ (λ m h. same m h.1) flying (flight-each machine.config machine.traces.items now))
     ∙ sym (filter-filter goes (λ m. not (ltb m.arrival until)) flying)
   where
     units : List MachineUnit
-    units = units_from s first count
+    units = units_from machine.config first count
 
     flying : List Message
-    flying = in_flight s traces (run s traces now)
+    flying = flight_at machine now
 
     goes : Message → Bool
-    goes m = goes_among s first (first + count) m
+    goes m = goes_among machine.config first (first + count) m
 
     stays : Message → Bool
-    stays m = not (list_any (λ u. is_due s.channels u now until m) units)
+    stays m = not (list_any (λ u. is_due machine.config.channels u now until m) units)
 
     same : (m : Message) → now ≤ m.arrival → (goes m && stays m) ≡ (not (ltb m.arrival until) && goes m)
     same m l =
         let since : leb now m.arrival ≡ true = grind (arith, nat_tests) in
         ap (λ b. goes m && not b)
-        (any-and (λ u. is_unit (receiver_of s.channels m.link) u) (leb now m.arrival && ltb m.arrival until) units
-        ∙ ap (λ b. b && (leb now m.arrival && ltb m.arrival until)) (units-places s first count (receiver_of s.channels m.link)))
+        (any-and (λ u. is_unit (receiver_of machine.config.channels m.link) u) (leb now m.arrival && ltb m.arrival until) units
+        ∙ ap (λ b. b && (leb now m.arrival && ltb m.arrival until)) (units-places machine.config first count (receiver_of machine.config.channels m.link)))
         ∙ kept (goes m) (leb now m.arrival) (ltb m.arrival until) since
 
 -- so the phase is over for them
-pub phase-gone : (s : Config) (traces : List (List Entry)) (first now until : ℕ) (before slots : List Slot) (old words : List ℕ) (links after : InFlight) → IsAsleep s traces first now before old links
-    → length slots ≡ length before → length words ≡ length old → WaitAll s traces first until now slots words → after ≡ links_after s now until first (length before) links
-    → HaveGone s traces first now until slots words after
-phase-gone s traces first now until before slots old words links after h e f wait left =
+pub phase-gone : (machine : Machine) (first now until : ℕ) (before slots : List Slot) (old words : List ℕ) (links after : InFlight) → IsAsleep machine first now before old links
+    → length slots ≡ length before → length words ≡ length old → WaitAll machine first until now slots words → after ≡ links_after machine.config now until first (length before) links
+    → HaveGone machine first now until slots words after
+phase-gone machine first now until before slots old words links after h e f wait left =
     record {
       within = omega (arith, h.within, e);
       words_count = f ∙ h.words_count ∙ sym e;
       between = wait;
       flight = left
-          ∙ ap {A = InFlight} {B = InFlight} (links_after s now until first (length before)) h.flight
-          ∙ ap {B = InFlight} (λ ms. record { channels = s.channels; messages = ms }) (phase-left s traces first (length before) now until)
-          ∙ ap {B = InFlight} (λ n. record { channels = s.channels; messages = among s first (first + n) (late until (in_flight s traces (run s traces now))) }) (sym e);
+          ∙ ap {A = InFlight} {B = InFlight} (links_after machine.config now until first (length before)) h.flight
+          ∙ ap {B = InFlight} (λ ms. record { channels = machine.config.channels; messages = ms }) (phase-left machine first (length before) now until)
+          ∙ ap {B = InFlight} (λ n. record { channels = machine.config.channels; messages = among machine.config first (first + n) (late until (flight_at machine now)) }) (sym e);
     }

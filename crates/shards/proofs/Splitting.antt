@@ -1,5 +1,5 @@
 -- A machine that is split into shards, and joined from them.
-use Rattle.std.proofs.Common.{◌≡◌, ℕ, zero, suc, ◌+◌, ◌-◌, ◌<◌, ◌≤◌, Bool, true, false, cond, eqb, not, ◌&&◌, List, [], ◌∷◌, ◌++◌, length, replicate, take, drop, get_or, ◌^◌, length-take, length-drop, get_or-drop, get_or-take, ◌⊎◌, inl, inr, refl, sym, ap, ap₂, subst, ◌∙◌, arith}
+use Rattle.std.proofs.Common.{◌≡◌, ℕ, zero, suc, ◌+◌, ◌-◌, ◌<◌, ◌≤◌, Bool, true, false, cond, eqb, not, ◌&&◌, List, [], ◌∷◌, ◌++◌, length, replicate, take, drop, get_or, ◌^◌, length-take, length-drop, get_or-drop, get_or-take, ◌⊎◌, inl, inr, refl, sym, ap, ap₂, subst, ◌∙◌, zero-add, arith}
 use Rattle.std.specs.Prelude.{filter, fold}
 use Rattle.std.specs.declared.alloc.Global.{Global}
 use Rattle.std.specs.declared.boxed.Box.{Box}
@@ -11,13 +11,10 @@ use Rattle.std.proofs.lemmas.Option.{slice_get-get_or}
 use Rattle.std.proofs.Math.Seq.{get_or-append_seam}
 use Rattle.statistics.proofs.Lists.{length-push_suc}
 use Rattle.sim_base.specs.declared.config.Config.{Config}
-use Rattle.sim_base.specs.Counts.{in_flight}
 use Rattle.sim_base.specs.History.{is_unit, insert_by_age}
-use Rattle.sim_base.specs.Machine.{run}
 use Rattle.sim_base.specs.declared.message.Message.{Message}
 use Rattle.sim_base.specs.declared.message.Unit.{Unit as MachineUnit}
 use Rattle.sim_base.specs.declared.message.Unit.TheVariants.{Core, Channel}
-use Rattle.sim_base.specs.declared.trace.Entry.{Entry}
 use Rattle.sim_base.proofs.Arrived.{puts, put, by_age-puts, fold-puts}
 use Rattle.sim_base.proofs.Each.{Each-all}
 use Rattle.sim_base.proofs.Ordered.{Sorted, Each-weaker, puts-swap}
@@ -25,8 +22,10 @@ use Rattle.span_laws.proofs.Lists.{Sorted-filter}
 use Rattle.span_laws.specs.Units.{Exists}
 use Rattle.links.specs.InFlight.{InFlight, receiver_of}
 use Rattle.links.proofs.Ages.{by_age-same}
+use Rattle.units.specs.declared.machine.Machine.{Machine}
+use Rattle.units.specs.Runs.{flight_at}
 use Rattle.units.specs.Flight.{is_at_places, goes_among, among}
-use Rattle.shards.specs.Shards.{IsSplit, IsShard, AreShards}
+use Rattle.shards.specs.Shards.{AllAwake, AreShards, IsShard, IsSplit, Sleeps, links_among}
 use Rattle.units.specs.Parts.{IsPart, StandAt}
 use Rattle.units.specs.Units.{unit_count, unit_at}
 use Rattle.wake_words.specs.Wakes.{AreSlots, IsAsleep, Waits, sleeper}
@@ -162,13 +161,13 @@ among-next s a b ms l h =
     ∙ sym (puts-parted p (goes-link s a) [] all)
     ∙ puts-sorted all (Sorted-filter (goes_among s 0 b) ms h)
 
-pub flight-next : (s : Config) (traces : List (List Entry)) (now a b : ℕ) → a ≤ b
-    → fold insert_by_age (among s 0 a (in_flight s traces (run s traces now))) (among s a b (in_flight s traces (run s traces now))) ≡ among s 0 b (in_flight s traces (run s traces now))
-flight-next s traces now a b l = among-next s a b (in_flight s traces (run s traces now)) l (flight-sorted s traces now)
+pub flight-next : (machine : Machine) (now a b : ℕ) → a ≤ b
+    → fold insert_by_age (among machine.config 0 a (flight_at machine now)) (among machine.config a b (flight_at machine now)) ≡ among machine.config 0 b (flight_at machine now)
+flight-next machine now a b l = among-next machine.config a b (flight_at machine now) l (flight-sorted machine.config machine.traces.items now)
 
-pub flight-share : (s : Config) (traces : List (List Entry)) (now first past : ℕ)
-    → fold insert_by_age [] (among s first past (in_flight s traces (run s traces now))) ≡ among s first past (in_flight s traces (run s traces now))
-flight-share s traces now first past = among-sorted s first past (in_flight s traces (run s traces now)) (flight-sorted s traces now)
+pub flight-share : (machine : Machine) (now first past : ℕ)
+    → fold insert_by_age [] (among machine.config first past (flight_at machine now)) ≡ among machine.config first past (flight_at machine now)
+flight-share machine now first past = among-sorted machine.config first past (flight_at machine now) (flight-sorted machine.config machine.traces.items now)
 
 -- nothing goes to no units
 pub among-nothing : (s : Config) (ms : List Message) → among s 0 0 ms ≡ []
@@ -180,79 +179,77 @@ among-nothing s (m ∷ ms) = cond-false _ _ _ (none (receiver_of s.channels m.li
     none (Channel channel) = grind (arith, nat_tests)
 
 -- units that all stand at a cycle sleep, with what goes to them of the messages in flight
-pub shard-asleep : (s : Config) (traces : List (List Entry)) (first past now : ℕ) (slots : List Slot) (words : List ℕ) (links : InFlight) → now ≤ 10 ^ 12 → first + length slots ≡ past → past ≤ unit_count s
-    → ((k : ℕ) (d : Slot) → k < length slots → Waits s traces (unit_at s (first + k)) now now (sleeper (get_or slots k d) now)) → words ≡ replicate (length slots) now
-    → links ≡ record { channels = s.channels; messages = fold insert_by_age [] (among s first past (in_flight s traces (run s traces now))) } → IsAsleep s traces first now slots words links
-shard-asleep s traces first past now slots words links early count within wait fill flight = record {
+pub shard-asleep : (machine : Machine) (first past now : ℕ) (slots : List Slot) (words : List ℕ) (links : InFlight) → now ≤ 10 ^ 12 → first + length slots ≡ past → past ≤ unit_count machine.config
+    → AllAwake machine first now slots → words ≡ replicate (length slots) now → links ≡ links_among machine.config first past (flight_at machine now) → IsAsleep machine first now slots words links
+shard-asleep machine first past now slots words links early count within wait fill flight = record {
   early = early;
   within = omega (arith, count, within);
   words_count = ap length fill ∙ length-replicate (length slots) now;
   wait = λ k d l.
       let word : get_or words k 0 ≡ now = ap (λ z. get_or z k 0) fill ∙ get_or-replicate (length slots) k now 0 l in
-      subst (λ w. Waits s traces (unit_at s (first + k)) now now (sleeper (get_or slots k d) w)) (sym word) (wait k d l);
+      subst (λ w. Waits machine (unit_at machine.config (first + k)) now now (sleeper (get_or slots k d) w)) (sym word) (wait k d l);
   flight = flight
-      ∙ ap {B = InFlight} (λ z. record { channels = s.channels; messages = z }) (flight-share s traces now first past)
-      ∙ ap {B = InFlight} (λ n. record { channels = s.channels; messages = among s first n (in_flight s traces (run s traces now)) }) (sym count);
+      ∙ ap {B = InFlight} (λ z. record { channels = machine.config.channels; messages = z }) (flight-share machine now first past)
+      ∙ ap {B = InFlight} (λ n. record { channels = machine.config.channels; messages = among machine.config first n (flight_at machine now) }) (sym count);
 }
 
 -- so many of the units at places from one on
-pub front-waits : (s : Config) (traces : List (List Entry)) (now first n : ℕ) (slots left own : List Slot) → left ≡ drop first slots → own ≡ take n left → first + n ≤ length slots
-    → ((k : ℕ) (d : Slot) → k < length slots → Waits s traces (unit_at s k) now now (sleeper (get_or slots k d) now))
-    → (k : ℕ) (d : Slot) → k < length own → Waits s traces (unit_at s (first + k)) now now (sleeper (get_or own k d) now)
-front-waits s traces now first n slots left own e f l h k d m =
+pub front-waits : (machine : Machine) (now first n : ℕ) (slots left own : List Slot) → left ≡ drop first slots → own ≡ take n left → first + n ≤ length slots
+    → AllAwake machine 0 now slots → AllAwake machine first now own
+front-waits machine now first n slots left own e f l h k d m =
     let size : length own ≤ n = omega (arith, ap length f, length-take n left) in
     let less : k < n = omega (arith, m, size) in
     let at : get_or own k d ≡ get_or slots (first + k) d = ap (λ z. get_or z k d) (f ∙ ap (take n) e) ∙ get_or-take n (drop first slots) k d less ∙ get_or-drop first slots k d in
-    subst (λ (x : Slot). Waits s traces (unit_at s (first + k)) now now (sleeper x now)) (sym at) (h (first + k) d (omega (arith, less, l)))
+    subst (λ (x : Slot). Waits machine (unit_at machine.config (first + k)) now now (sleeper x now)) (sym at)
+    (subst (λ n. Waits machine (unit_at machine.config n) now now (sleeper (get_or slots (first + k) d) now)) (zero-add (first + k)) (h (first + k) d (omega (arith, less, l))))
 
 -- a shard with its number
-abbrev pub IsMade : Config → List (List Entry) → List ℕ → ℕ → ℕ → Box Shard Global → Type 0
-IsMade s traces bounds now index b = IsShard s traces bounds index b.value × IsAsleep s traces b.value.first now b.value.slots.items b.value.words.items b.value.links
+abbrev pub IsMade : Machine → List ℕ → ℕ → ℕ → Box Shard Global → Type 0
+IsMade machine bounds now index b = IsShard machine bounds index b.value × Sleeps machine now b.value
 
 -- the shards of a machine so far
-pub record AreMade (s : Config) (traces : List (List Entry)) (bounds : List ℕ) (now : ℕ) (shards : List (Box Shard Global)) : Type 0 where
-  pub each : (index : ℕ) (d : Box Shard Global) → index < length shards → IsShard s traces bounds index (get_or shards index d).value
-  pub asleep : (index : ℕ) (d : Box Shard Global) → index < length shards
-      → IsAsleep s traces (get_or shards index d).value.first now (get_or shards index d).value.slots.items (get_or shards index d).value.words.items (get_or shards index d).value.links
+pub record AreMade (machine : Machine) (bounds : List ℕ) (now : ℕ) (shards : List (Box Shard Global)) : Type 0 where
+  pub each : (index : ℕ) (d : Box Shard Global) → index < length shards → IsShard machine bounds index (get_or shards index d).value
+  pub asleep : (index : ℕ) (d : Box Shard Global) → index < length shards → Sleeps machine now (get_or shards index d).value
 
-pub made-none : (s : Config) (traces : List (List Entry)) (bounds : List ℕ) (now : ℕ) (shards : List (Box Shard Global)) → shards ≡ [] → AreMade s traces bounds now shards
-made-none s traces bounds now shards e = let f = ap length e in record { each = λ index d l. absurd (omega (arith, l, f)); asleep = λ index d l. absurd (omega (arith, l, f)) }
+pub made-none : (machine : Machine) (bounds : List ℕ) (now : ℕ) (shards : List (Box Shard Global)) → shards ≡ [] → AreMade machine bounds now shards
+made-none machine bounds now shards e = let f = ap length e in record { each = λ index d l. absurd (omega (arith, l, f)); asleep = λ index d l. absurd (omega (arith, l, f)) }
 
-pub made-push : (s : Config) (traces : List (List Entry)) (bounds : List ℕ) (now : ℕ) (shards : List (Box Shard Global)) (x : Box Shard Global) → AreMade s traces bounds now shards
-    → IsShard s traces bounds (length shards) x.value → IsAsleep s traces x.value.first now x.value.slots.items x.value.words.items x.value.links → AreMade s traces bounds now (shards ++ x ∷ [])
-made-push s traces bounds now shards x h is asleep = record {
+pub made-push : (machine : Machine) (bounds : List ℕ) (now : ℕ) (shards : List (Box Shard Global)) (x : Box Shard Global) → AreMade machine bounds now shards
+    → IsShard machine bounds (length shards) x.value → Sleeps machine now x.value → AreMade machine bounds now (shards ++ x ∷ [])
+made-push machine bounds now shards x h is asleep = record {
   each = λ index d l. (both index d (omega (arith, l, length-push_suc shards x)) (cases_lt index (length shards))).0;
   asleep = λ index d l. (both index d (omega (arith, l, length-push_suc shards x)) (cases_lt index (length shards))).1;
 }
   where
-    both : (index : ℕ) (d : Box Shard Global) → index < suc (length shards) → (index < length shards) ⊎ (length shards ≤ index) → IsMade s traces bounds now index (get_or (shards ++ x ∷ []) index d)
-    both index d l (inl m) = subst (IsMade s traces bounds now index) (sym (get_or_append_left shards (x ∷ []) d index m)) (h.each index d m, h.asleep index d m)
+    both : (index : ℕ) (d : Box Shard Global) → index < suc (length shards) → (index < length shards) ⊎ (length shards ≤ index) → IsMade machine bounds now index (get_or (shards ++ x ∷ []) index d)
+    both index d l (inl m) = subst (IsMade machine bounds now index) (sym (get_or_append_left shards (x ∷ []) d index m)) (h.each index d m, h.asleep index d m)
     both index d l (inr m) =
         let last : index ≡ length shards = omega (arith, l, m) in
         let at : get_or (shards ++ x ∷ []) index d ≡ x = ap (λ n. get_or (shards ++ x ∷ []) n d) last ∙ get_or-append_seam shards x [] d in
-        subst (IsMade s traces bounds now index) (sym at) (subst (λ n. IsMade s traces bounds now n x) (sym last) (is, asleep))
+        subst (IsMade machine bounds now index) (sym at) (subst (λ n. IsMade machine bounds now n x) (sym last) (is, asleep))
 
 -- the shard after some of a machine's
-pub shard-seam : (s : Config) (traces : List (List Entry)) (bounds : List ℕ) (now : ℕ) (shards ys rest : List (Box Shard Global)) (x : Box Shard Global) → AreShards s traces bounds now shards
-    → ys ++ x ∷ rest ≡ shards → IsMade s traces bounds now (length ys) x
-shard-seam s traces bounds now shards ys rest x h e =
+pub shard-seam : (machine : Machine) (bounds : List ℕ) (now : ℕ) (shards ys rest : List (Box Shard Global)) (x : Box Shard Global) → AreShards machine bounds now shards
+    → ys ++ x ∷ rest ≡ shards → IsMade machine bounds now (length ys) x
+shard-seam machine bounds now shards ys rest x h e =
     let less = seam-within shards ys rest x (length shards) e refl in
     let at : get_or shards (length ys) x ≡ x = ap (λ z. get_or z (length ys) x) (sym e) ∙ get_or-append_seam ys x rest x in
-    subst (IsMade s traces bounds now (length ys)) at (h.each (length ys) x less, h.asleep (length ys) x less)
+    subst (IsMade machine bounds now (length ys)) at (h.each (length ys) x less, h.asleep (length ys) x less)
 
 -- a machine has a shard
-pub shards-early : (s : Config) (traces : List (List Entry)) (bounds : List ℕ) (now : ℕ) (shards : List (Box Shard Global)) → AreShards s traces bounds now shards → now ≤ 10 ^ 12
-shards-early s traces bounds now [] h = absurd (omega (arith, h.split.some, h.count))
-shards-early s traces bounds now (x ∷ xs) h = (h.asleep 0 x (omega arith)).early
+pub shards-early : (machine : Machine) (bounds : List ℕ) (now : ℕ) (shards : List (Box Shard Global)) → AreShards machine bounds now shards → now ≤ 10 ^ 12
+shards-early machine bounds now [] h = absurd (omega (arith, h.split.some, h.count))
+shards-early machine bounds now (x ∷ xs) h = (h.asleep 0 x (omega arith)).early
 
 -- units that all stand at a cycle are asked in the next phase
-pub slots-wait : (s : Config) (traces : List (List Entry)) (now : ℕ) (parts : List UnitState) (slots : List Slot) → StandAt s traces now parts → AreSlots now parts slots
-    → (k : ℕ) (d : Slot) → k < length slots → Waits s traces (unit_at s k) now now (sleeper (get_or slots k d) now)
-slots-wait s traces now parts slots h e k d l =
+pub slots-wait : (machine : Machine) (now : ℕ) (parts : List UnitState) (slots : List Slot) → StandAt machine now parts → AreSlots now parts slots → AllAwake machine 0 now slots
+slots-wait machine now parts slots h e k d l =
     let less : k < length parts = omega (arith, l, e.count) in
     let p = some-part parts (omega (arith, less)) in
-    let stands = subst (IsPart s traces (unit_at s k) now) (sym (e.parts_are k d p less)) (h k (get_or parts k p) (slice_get-get_or parts k p less)) in
-    awake-waits s traces (unit_at s k) now (sleeper (get_or slots k d) now) stands (e.stand k d less) refl
+    let stands = subst (IsPart machine (unit_at machine.config k) now) (sym (e.parts_are k d p less)) (h k (get_or parts k p) (slice_get-get_or parts k p less)) in
+    subst (λ n. Waits machine (unit_at machine.config n) now now (sleeper (get_or slots k d) now)) (sym (zero-add k))
+    (awake-waits machine (unit_at machine.config k) now (sleeper (get_or slots k d) now) stands (e.stand k d less) refl)
   where
     some-part : (xs : List UnitState) → 0 < length xs → UnitState
     some-part [] l = absurd (omega (arith, l))

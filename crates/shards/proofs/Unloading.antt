@@ -9,19 +9,19 @@ use Rattle.std.proofs.lemmas.List.FromFn.{get_or-map-range_with_len, length-map-
 use Rattle.std.specs.declared.vec.Vec.{Vec}
 use Rattle.std.specs.declared.alloc.Global.{Global}
 use Rattle.std.specs.declared.boxed.Box.{Box}
-use Rattle.sim_base.specs.declared.config.Config.{Config}
 use Rattle.sim_base.specs.declared.message.Message.{Message}
-use Rattle.sim_base.specs.declared.trace.Entry.{Entry}
 use Rattle.statistics.proofs.Lists.{length-push_suc}
-use Rattle.shards.specs.Shards.{IsAtRest, lists_of, sent_of_shard}
-use Rattle.shards.specs.Jobs.{JobView, IsDone, job_at, jobs_at}
-use Rattle.shards.specs.Phases.{AreUnloaded}
+use Rattle.units.specs.declared.machine.Machine.{Machine}
+use Rattle.shards.specs.Lists.{lists_of}
+use Rattle.shards.specs.Shards.{IsAtRest, sent_of_shard}
+use Rattle.shards.specs.Jobs.{JobView, IsDone}
+use Rattle.shards.specs.Phases.{PhaseView, AreUnloaded, job_of, jobs_of}
 use Rattle.shards.specs.declared.shard.Shard.{Shard}
 
 -- what a result holds that was taken apart, and a cycle that is no later than its own
 pub record IsTaken (first : ℕ) (view : JobView) (shard : Shard) (outbound : List (Vec Message Global)) : Type 0 where
   pub wake : ℕ
-  pub done : IsDone view.machine view.traces view.bounds view.name wake shard outbound
+  pub done : IsDone view.machine view.bounds view.name wake shard outbound
   pub least : first ≤ wake
 
 -- the shards and the lists of results, and a cycle that is no later than that of any
@@ -50,7 +50,7 @@ taken-same first v w d x e y f g h t =
 -- one more result is taken apart
 pub taken-push : (first wake least : ℕ) (views : List JobView) (shards : List (Box Shard Global)) (outbound : List (Vec (Vec Message Global) Global))
     (view : JobView) (shard : Box Shard Global) (lists : Vec (Vec Message Global) Global) → least ≡ min first wake
-    → AreTaken first views shards outbound → IsDone view.machine view.traces view.bounds view.name wake shard.value lists.items
+    → AreTaken first views shards outbound → IsDone view.machine view.bounds view.name wake shard.value lists.items
     → AreTaken least (views ++ view ∷ []) (shards ++ shard ∷ []) (outbound ++ lists ∷ [])
 taken-push first wake least views shards outbound view shard lists is h done = record {
   shard_count = length-push_suc shards shard ∙ ap suc h.shard_count ∙ sym (length-push_suc views view);
@@ -78,14 +78,14 @@ taken-push first wake least views shards outbound view shard lists is h done = r
         (record { wake = wake; done = done; least = omega arith })
 
 -- a shard at rest up to a cycle is so up to an earlier one
-rest-lower : (s : Config) (traces : List (List Entry)) (bounds : List ℕ) (index from until wake least : ℕ) (shard : Shard) → until ≤ least → least ≤ wake
-    → IsAtRest s traces bounds index from until wake shard → IsAtRest s traces bounds index from until least shard
-rest-lower s traces bounds index from until wake least shard since h r = record {
+rest-lower : (machine : Machine) (bounds : List ℕ) (index from until wake least : ℕ) (shard : Shard) → until ≤ least → least ≤ wake
+    → IsAtRest machine bounds index from until wake shard → IsAtRest machine bounds index from until least shard
+rest-lower machine bounds index from until wake least shard since h r = record {
   is = r.is;
   gone = r.gone;
   since = since;
   sleep = All-weaker (λ word. wake ≤ word) (λ word. least ≤ word) (λ word k. omega arith) shard.words.items r.sleep;
-  arrivals = All-weaker (λ (m : Message). wake ≤ m.arrival) (λ (m : Message). least ≤ m.arrival) (λ m k. omega arith) (sent_of_shard s traces from until shard) r.arrivals;
+  arrivals = All-weaker (λ (m : Message). wake ≤ m.arrival) (λ (m : Message). least ≤ m.arrival) (λ m k. omega arith) (sent_of_shard machine from until shard) r.arrivals;
 }
 
 -- an element of a list that has one
@@ -94,31 +94,31 @@ some-element [] i l = absurd (omega arith)
 some-element (x ∷ xs) i l = x
 
 -- results of the jobs of a phase, in their order, are taken apart
-pub taken-all : (s : Config) (traces : List (List Entry)) (bounds : List ℕ) (number from until first : ℕ) (views : List JobView) (shards : List (Box Shard Global))
-    (outbound : List (Vec (Vec Message Global) Global)) → AreTaken first views shards outbound → until ≤ 10 ^ 12
-    → views ≡ jobs_at s traces bounds number from until → AreUnloaded s traces bounds from until first shards outbound
-taken-all s traces bounds number from until first views shards outbound h early are = record {
+pub taken-all : (p : PhaseView) (first : ℕ) (views : List JobView) (shards : List (Box Shard Global)) (outbound : List (Vec (Vec Message Global) Global)) → AreTaken first views shards outbound
+    → p.until ≤ 10 ^ 12 → views ≡ jobs_of p → AreUnloaded p first shards outbound
+taken-all p first views shards outbound h early are = record {
   since = since;
+  count = h.shard_count ∙ ap length are;
   outbound_count = h.outbound_count ∙ sym h.shard_count;
   rest = λ index d l.
       (let t = taken index d (some-element outbound index (omega (arith, h.shard_count, h.outbound_count))) (omega (arith, h.shard_count)) in
-      rest-lower s traces bounds index from until t.wake first (get_or shards index d).value since t.least t.done.rests);
+      rest-lower p.machine p.bounds index p.from p.until t.wake first (get_or shards index d).value since t.least t.done.rests);
   outbound_are = λ index d e l. (taken index d e (omega (arith, h.shard_count))).done.outbound_are;
 }
   where
-    is-at : (index : ℕ) (v : JobView) → index < length views → get_or views index v ≡ job_at s traces bounds number from until index
+    is-at : (index : ℕ) (v : JobView) → index < length views → get_or views index v ≡ job_of p index
     is-at index v l =
-        let m : index < length bounds - 1 = omega (arith, ap length are, length-map-range_with_len (job_at s traces bounds number from until) 0 (length bounds - 1)) in
+        let m : index < length p.bounds - 1 = omega (arith, ap length are, length-map-range_with_len (job_of p) 0 (length p.bounds - 1)) in
         ap (λ z. get_or z index v) are
-        ∙ get_or-map-range_with_len (job_at s traces bounds number from until) 0 (length bounds - 1) index index v m (zero-add index)
+        ∙ get_or-map-range_with_len (job_of p) 0 (length p.bounds - 1) index index v m (zero-add index)
 
-    since : until ≤ first
-    since = h.since until early (λ i d l. let e = ap (λ (v : JobView). v.name.until) (is-at i d l) in omega (arith, e))
+    since : p.until ≤ first
+    since = h.since p.until early (λ i d l. let e = ap (λ (v : JobView). v.name.until) (is-at i d l) in omega (arith, e))
 
     taken : (index : ℕ) (d : Box Shard Global) (e : Vec (Vec Message Global) Global) → index < length views
-        → IsTaken first (job_at s traces bounds number from until index) (get_or shards index d).value (get_or outbound index e).items
+        → IsTaken first (job_of p index) (get_or shards index d).value (get_or outbound index e).items
     taken index d e l =
-        let v = job_at s traces bounds number from until index in
+        let v = job_of p index in
         subst (λ (z : JobView). IsTaken first z (get_or shards index d).value (get_or outbound index e).items) (is-at index v l) (h.each index v d e l)
 
 -- a list with nothing in it adds nothing to what stands in lists

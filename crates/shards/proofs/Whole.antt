@@ -134,7 +134,7 @@ all-own : (p : PhaseView) → All (IsOf p) (jobs_of p)
 all-own p i d l among =
     let m : i < shard_count p = subst (λ n. i < n) (length-places (job_of p) (shard_count p)) l in
     let is : get_or (jobs_of p) i d ≡ job_of p i = get_or-map-range_with_len (job_of p) 0 (shard_count p) i i d m (zero-add i) in
-    (ap (λ (j : JobView). j.machine) is, ap (λ (j : JobView). j.traces) is, ap (λ (j : JobView). j.bounds) is)
+    (ap (λ (j : JobView). j.machine) is, ap (λ (j : JobView). j.bounds) is)
 
 -- and so are results of which there is one of each job
 pub permuted_of : (p : PhaseView) (results : List JobView) → IsPermutation (jobs_of p) results → All (IsOf p) results

@@ -1,3 +1,4 @@
+pub mod Lists
 pub mod Shards
 pub mod Jobs
 pub mod Phases

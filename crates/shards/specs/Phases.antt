@@ -1,55 +1,70 @@
 -- A phase of a run: all its jobs, from the time they are planned until what came of them is put together.
 --     ShardedView      what contracts see of a simulator whose units are shared out
+--     sharded_view machine bounds now phase      that of a machine in shards
 --     shards_in v, sim_of v      how many shards there are, and the simulator that they make up
+--     sim_at machine now phase      a simulator of a machine
 --     PhaseView      a phase of a run
+--     phase_over machine bounds span      that of a machine in shards over a span
 --     shard_count p      how many shards there are
 --     job_of p shard, name_of p shard      the job of a shard, and its name
 --     jobs_of p      all jobs of a phase, shard by shard
---     IsPhase s traces bounds number from until      what holds of a phase, while its jobs are out
+--     IsPhase p      what holds of a phase, while its jobs are out
 --     IsPhaseOf sim limit phase      a phase that comes next in a run
 --     ended phase      the shards when it is over
---     AreUnloaded s traces bounds from until wake shards outbound      what came of the jobs of a phase
---     MayGo s traces bounds number from until shards inbound      all shards may go over a phase
---     MayStop s traces bounds now shards inbound      all shards may stop at a cycle
-use Rattle.std.specs.Prelude.{◌≡◌, ℕ, suc, ◌-◌, ◌^◌, ◌<◌, ◌≤◌, List, length, slice_index_or}
+--     AreUnloaded p wake shards outbound      what came of the jobs of a phase
+--     UnloadAny places wake shards outbound      so it is, whichever phase these are the results of
+--     MayGo p shards inbound      all shards may go over a phase
+--     MayStop machine bounds now shards inbound      all shards may stop at a cycle
+use Rattle.std.specs.Prelude.{◌≡◌, ℕ, suc, ◌-◌, ◌^◌, ◌<◌, ◌≤◌, List, Option, Some, length, map, slice_index_or}
 use Rattle.std.specs.declared.vec.Vec.{Vec}
 use Rattle.std.specs.declared.alloc.Global.{Global}
 use Rattle.std.specs.declared.boxed.Box.{Box}
-use Rattle.sim_base.specs.declared.config.Config.{Config}
 use Rattle.sim_base.specs.declared.message.Message.{Message}
-use Rattle.sim_base.specs.declared.trace.Entry.{Entry}
 use Rattle.sim_base.specs.Locality.{TravelsFor}
 use Rattle.units.specs.Views.{SimView}
+use Rattle.units.specs.declared.machine.Machine.{Machine}
 use Rattle.shards.specs.declared.shard.Shard.{Shard}
-use Rattle.shards.specs.Shards.{IsSplit, AreFrom, IsAtRest, IsUpTo}
-use Rattle.shards.specs.Jobs.{JobView, IsJob, job_at, jobs_at}
 use Rattle.shards.specs.declared.job.JobName.{JobName}
+use Rattle.shards.specs.declared.merging.Span.{Span}
+use Rattle.shards.specs.Shards.{IsSplit, AreFrom, IsAtRest, IsUpTo, nth_shard}
+use Rattle.shards.specs.Jobs.{JobView, IsJob, job_at, jobs_at}
 
--- the run of a machine over these traces in shards: where each shard begins, and behind the last the number of units; how many cycles are
--- over, and how many phases they took
+-- the run of a machine in shards: where each shard begins, and behind the last the number of units; how many cycles
+-- are over, and how many phases they took
 pub record ShardedView : Type 0 where
-  pub machine : Config
-  pub traces : List (List Entry)
+  pub machine : Machine
   pub bounds : List ℕ
   pub now : ℕ
   pub phase : ℕ
+
+-- a machine in shards that begin at these places, when so many cycles and phases are over
+abbrev pub sharded_view : Machine → List ℕ → ℕ → ℕ → ShardedView
+sharded_view machine bounds now phase = record { machine = machine; bounds = bounds; now = now; phase = phase }
 
 -- how many shards there are
 abbrev pub shards_in : ShardedView → ℕ
 shards_in v = length v.bounds - 1
 
+-- the simulator of a machine when so many cycles and phases are over
+abbrev pub sim_at : Machine → ℕ → ℕ → SimView
+sim_at machine now phase = record { machine = machine; now = now; phase = phase }
+
 -- the simulator that the shards make up
 abbrev pub sim_of : ShardedView → SimView
-sim_of v = record { machine = v.machine; traces = v.traces; now = v.now; phase = v.phase }
+sim_of v = sim_at v.machine v.now v.phase
 
 -- a phase of a run, which covers the cycles from one on and before another, and where each shard begins
 pub record PhaseView : Type 0 where
-  pub machine : Config
-  pub traces : List (List Entry)
+  pub machine : Machine
   pub bounds : List ℕ
   pub number : ℕ
   pub from : ℕ
   pub until : ℕ
+
+-- the phase of a machine in shards over the cycles of a span, which has its number
+abbrev pub phase_over : Machine → List ℕ → Span → PhaseView
+phase_over machine bounds span =
+    record { machine = machine; bounds = bounds; number = span.number; from = span.from; until = span.until }
 
 -- how many shards there are
 abbrev pub shard_count : PhaseView → ℕ
@@ -57,7 +72,7 @@ shard_count p = length p.bounds - 1
 
 -- the job of the shard with a number
 abbrev pub job_of : PhaseView → ℕ → JobView
-job_of p shard = job_at p.machine p.traces p.bounds p.number p.from p.until shard
+job_of p shard = job_at p.machine p.bounds p.number p.from p.until shard
 
 -- its name
 abbrev pub name_of : PhaseView → ℕ → JobName
@@ -65,20 +80,19 @@ name_of p shard = record { phase = p.number; shard = shard; from = p.from; until
 
 -- the jobs of a phase
 abbrev pub jobs_of : PhaseView → List JobView
-jobs_of p = jobs_at p.machine p.traces p.bounds p.number p.from p.until
+jobs_of p = jobs_at p.machine p.bounds p.number p.from p.until
 
 -- The jobs of a phase are out.
-pub record IsPhase (s : Config) (traces : List (List Entry)) (bounds : List ℕ) (number from until : ℕ) : Type 0 where
-  pub counted : number ≤ from
-  pub order : from < until
-  pub early : until ≤ 10 ^ 12
-  pub travels : TravelsFor s (until - from)
-  pub split : IsSplit s bounds
+pub record IsPhase (p : PhaseView) : Type 0 where
+  pub counted : p.number ≤ p.from
+  pub order : p.from < p.until
+  pub early : p.until ≤ 10 ^ 12
+  pub travels : TravelsFor p.machine.config (p.until - p.from)
+  pub split : IsSplit p.machine.config p.bounds
 
 -- a phase of a run, from where it stands or later on, and not past a limit
 pub record IsPhaseOf (sim : SimView) (limit : ℕ) (phase : PhaseView) : Type 0 where
   pub machine_is : phase.machine ≡ sim.machine
-  pub traces_are : phase.traces ≡ sim.traces
   pub number_is : phase.number ≡ sim.phase
   pub since : sim.now ≤ phase.from
   pub order : phase.from < phase.until
@@ -86,28 +100,36 @@ pub record IsPhaseOf (sim : SimView) (limit : ℕ) (phase : PhaseView) : Type 0 
 
 -- the shards when the phase is over
 abbrev pub ended : PhaseView → ShardedView
-ended phase = record { machine = phase.machine; traces = phase.traces; bounds = phase.bounds; now = phase.until; phase = suc phase.number }
+ended phase = sharded_view phase.machine phase.bounds phase.until (suc phase.number)
 
--- What came of the jobs of a phase, shard by shard: each is at rest up to a cycle, and what it sent stands in its lists.
-pub record AreUnloaded (s : Config) (traces : List (List Entry)) (bounds : List ℕ) (from until wake : ℕ) (shards : List (Box Shard Global)) (outbound : List (Vec (Vec Message Global) Global)) : Type 0 where
-  pub since : until ≤ wake
+-- What came of the jobs of a phase, shard by shard: each is at rest up to a cycle, and what it sent stands in its
+-- lists.
+pub record AreUnloaded (p : PhaseView) (wake : ℕ) (shards : List (Box Shard Global)) (outbound : List (Vec (Vec Message Global) Global)) : Type 0 where
+  pub since : p.until ≤ wake
+  pub count : length shards ≡ length (jobs_of p)
   pub outbound_count : length outbound ≡ length shards
-  pub rest : (index : ℕ) (d : Box Shard Global) → index < length shards → IsAtRest s traces bounds index from until wake (slice_index_or shards index d).value
+  pub rest : (index : ℕ) (d : Box Shard Global) → index < length shards
+      → IsAtRest p.machine p.bounds index p.from p.until wake (nth_shard shards index d)
   pub outbound_are : (index : ℕ) (d : Box Shard Global) (e : Vec (Vec Message Global) Global) → index < length shards
-      → AreFrom s traces bounds from until (slice_index_or shards index d).value (slice_index_or outbound index e).items
+      → AreFrom p.machine p.bounds p.from p.until (nth_shard shards index d) (slice_index_or outbound index e).items
+
+-- so it is of the phase of which these are the results, one for each shard
+abbrev pub UnloadAny : List (Option JobView) → ℕ → List (Box Shard Global) → List (Vec (Vec Message Global) Global) → Type 0
+UnloadAny places wake shards outbound =
+    (p : PhaseView) → p.until ≤ 10 ^ 12 → places ≡ map Some (jobs_of p) → AreUnloaded p wake shards outbound
 
 -- All shards may go over a phase: each was at rest before, and nothing happens up to its beginning.
-pub record MayGo (s : Config) (traces : List (List Entry)) (bounds : List ℕ) (number from until : ℕ) (shards : List (Box Shard Global)) (inbound : List (Vec (Vec Message Global) Global)) : Type 0 where
-  pub count : suc (length shards) ≡ length bounds
+pub record MayGo (p : PhaseView) (shards : List (Box Shard Global)) (inbound : List (Vec (Vec Message Global) Global)) : Type 0 where
+  pub count : suc (length shards) ≡ length p.bounds
   pub inbound_count : length inbound ≡ length shards
   pub each : (index : ℕ) (d : Box Shard Global) (e : Vec (Vec Message Global) Global) → index < length shards
-      → IsJob s traces bounds (record { phase = number; shard = index; from = from; until = until }) (slice_index_or shards index d).value (slice_index_or inbound index e).items
+      → IsJob p.machine p.bounds (name_of p index) (nth_shard shards index d) (slice_index_or inbound index e).items
 
 -- All shards may stop at a cycle: each was at rest before, and nothing happens up to there.
-pub record MayStop (s : Config) (traces : List (List Entry)) (bounds : List ℕ) (now : ℕ) (shards : List (Box Shard Global)) (inbound : List (Vec (Vec Message Global) Global)) : Type 0 where
-  pub split : IsSplit s bounds
+pub record MayStop (machine : Machine) (bounds : List ℕ) (now : ℕ) (shards : List (Box Shard Global)) (inbound : List (Vec (Vec Message Global) Global)) : Type 0 where
+  pub split : IsSplit machine.config bounds
   pub early : now ≤ 10 ^ 12
   pub count : suc (length shards) ≡ length bounds
   pub inbound_count : length inbound ≡ length shards
   pub each : (index : ℕ) (d : Box Shard Global) (e : Vec (Vec Message Global) Global) → index < length shards
-      → IsUpTo s traces bounds index now (slice_index_or shards index d).value (slice_index_or inbound index e).items
+      → IsUpTo machine bounds index now (nth_shard shards index d) (slice_index_or inbound index e).items

@@ -1,34 +1,47 @@
--- A machine whose units are shared out: a shard has those at places one after the other, and is run by one thread at a time.
+-- A machine whose units are shared out: a shard has those at places one after the other, and is run by one thread at
+-- a time.
 --     IsSplit s bounds      where each shard begins, and how many units there are
---     IsShard s traces bounds index shard      the shard with a number, of this machine
---     lists_of lists      what stands in lists, one after the other
---     sent_of_shard s traces from until shard      what the units of a shard send in a span
---     AreFor s traces from until shard lists      lists hold what was sent to the units of a shard in a span
---     AreFrom s traces bounds from until shard lists      lists hold what the units of a shard sent in a span, by the shard that it goes to
---     IsAtRest s traces bounds index from until wake shard      a shard at the end of a phase, which sends nothing before a cycle
---     IsUpTo s traces bounds index now shard inbound      a shard up to a cycle before which nothing more happens
---     AreShards s traces bounds now shards      all shards of a machine, where it stands at a cycle
---     IsSharded s traces bounds now phase wake shards inbound      what holds of all shards between two phases
-use Rattle.std.specs.Prelude.{◌≡◌, ℕ, suc, ◌+◌, ◌-◌, ◌^◌, ◌<◌, ◌≤◌, List, length, flat_map, slice_index_or, All}
+--     nth_shard shards index d      the shard with a number
+--     IsShard machine bounds index shard      the shard with a number, of this machine
+--     Sleeps machine now shard      a shard's units wait at a cycle, with what is in flight to them
+--     SleepsAt machine first now shard      so they do at places from one on
+--     HasGone machine from until shard      a shard's units have gone over a phase
+--     AllAwake machine first now slots      units at places from one on stand at a cycle, where each may be asked
+--     links_among s first past ms, flight_to machine now first past      links that hold what goes to some units
+--     HaveSent machine first from until slots mail      what so many units sent in a span stands in a list
+--     sent_of_shard machine from until shard      what the units of a shard send in a span
+--     AreFor machine from until shard lists      lists hold what was sent to the units of a shard in a span
+--     AreFrom machine bounds from until shard lists      they hold what its units sent, by the shard that it goes to
+--     HasJoined shard old new      so many units more, as a shard has
+--     IsWithin shard      the units of a shard are units of its machine
+--     ChangesOnlyMail old new      only the words of a shard's units, and what is in flight to them, have changed
+--     LowersWords lists old new      the words of a shard are lowered to what stands in lists
+--     HasSent from until old new      a shard keeps what its units sent in a span
+--     HoldWhatWasSent shard lists      lists hold this, by the shard that it goes to
+--     IsAtRest machine bounds index from until wake shard      a shard at the end of a phase
+--     IsUpTo machine bounds index now shard inbound      a shard up to a cycle before which nothing more happens
+--     AreShards machine bounds now shards      all shards of a machine, where it stands at a cycle
+--     IsSharded machine bounds now phase wake shards inbound      what holds of all shards between two phases
+use Rattle.std.specs.Prelude.{◌≡◌, ℕ, suc, ◌+◌, ◌-◌, ◌^◌, ◌<◌, ◌≤◌, List, [], fold, length, slice_index_or, All}
 use Rattle.std.specs.Arc.{arc_value}
 use Rattle.std.specs.declared.vec.Vec.{Vec}
 use Rattle.std.specs.declared.alloc.Global.{Global}
 use Rattle.std.specs.declared.boxed.Box.{Box}
 use Rattle.sim_base.specs.declared.config.Config.{Config}
 use Rattle.sim_base.specs.declared.message.Message.{Message}
-use Rattle.sim_base.specs.declared.trace.Entry.{Entry}
-use Rattle.sim_base.specs.Counts.{in_flight}
+use Rattle.sim_base.specs.History.{insert_by_age}
 use Rattle.sim_base.specs.Locality.{TravelsFor}
-use Rattle.sim_base.specs.Machine.{run}
-use Rattle.span_laws.specs.Units.{sent_of}
+use Rattle.links.specs.InFlight.{InFlight}
 use Rattle.units.specs.Flight.{among, sent_by}
+use Rattle.units.specs.Runs.{flight_at}
 use Rattle.units.specs.Units.{unit_at, unit_count}
-use Rattle.wake_words.specs.Wakes.{IsStill, HaveGone, IsAsleep, sent_in}
+use Rattle.units.specs.declared.machine.Machine.{Machine}
+use Rattle.units.specs.declared.mail.Mail.{Mail}
+use Rattle.units.specs.declared.part.UnitState.{UnitState}
+use Rattle.wake_words.specs.Wakes.{IsStill, HaveGone, IsAsleep, Waits, sent_in, sleeper}
+use Rattle.wake_words.specs.declared.slot.Slot.{Slot}
 use Rattle.shards.specs.declared.shard.Shard.{Shard}
-
--- where the shard with a number begins; behind the last, the number of units
-abbrev pub bound : List ℕ → ℕ → ℕ
-bound bounds index = slice_index_or bounds index 0
+use Rattle.shards.specs.Lists.{bound, lists_of, AreDealt, LowersAll}
 
 -- The first shard begins with the first unit, each ends where the next begins, and the last ends with the last unit.
 pub record IsSplit (s : Config) (bounds : List ℕ) : Type 0 where
@@ -37,78 +50,137 @@ pub record IsSplit (s : Config) (bounds : List ℕ) : Type 0 where
   pub rises : (index : ℕ) → suc index < length bounds → bound bounds index ≤ bound bounds (suc index)
   pub ends : (index : ℕ) → suc index ≡ length bounds → bound bounds index ≡ unit_count s
 
+-- the shard with a number; another, where there is none
+abbrev pub nth_shard : List (Box Shard Global) → ℕ → Box Shard Global → Shard
+nth_shard shards index d = (slice_index_or shards index d).value
+
 -- the units of the shard with a number
-pub record IsShard (s : Config) (traces : List (List Entry)) (bounds : List ℕ) (index : ℕ) (shard : Shard) : Type 0 where
-  pub machine_is : (arc_value shard.machine).config ≡ s
-  pub traces_are : (arc_value shard.machine).traces.items ≡ traces
+pub record IsShard (machine : Machine) (bounds : List ℕ) (index : ℕ) (shard : Shard) : Type 0 where
+  pub machine_is : arc_value shard.machine ≡ machine
   pub bounds_are : shard.bounds.items ≡ bounds
   pub exists : suc index < length bounds
   pub first_is : shard.first ≡ bound bounds index
   pub past_is : shard.first + length shard.slots.items ≡ bound bounds (suc index)
 
--- what stands in lists
-abbrev pub lists_of : List (Vec Message Global) → List Message
-lists_of lists = flat_map (λ (list : Vec Message Global). list.items) lists
+-- The units of a shard, at places from one on, wait at a cycle, each with its word, and its links hold just what is
+-- in flight to them.
+abbrev pub SleepsAt : Machine → ℕ → ℕ → Shard → Type 0
+SleepsAt machine first now shard = IsAsleep machine first now shard.slots.items shard.words.items shard.links
+
+-- so do they at the places of the shard
+abbrev pub Sleeps : Machine → ℕ → Shard → Type 0
+Sleeps machine now shard = SleepsAt machine shard.first now shard
+
+-- the units of a shard have gone over a phase, and its links hold what was in flight to them before and arrives later
+abbrev pub HasGone : Machine → ℕ → ℕ → Shard → Type 0
+HasGone machine from until shard = HaveGone machine shard.first from until shard.slots.items shard.words.items shard.links
+
+-- units at places from one on stand at a cycle, which is the word of each
+abbrev pub AllAwake : Machine → ℕ → ℕ → List Slot → Type 0
+AllAwake machine first now slots =
+    (k : ℕ) (d : Slot) → k < length slots
+    → Waits machine (unit_at machine.config (first + k)) now now (sleeper (slice_index_or slots k d) now)
+
+-- links that hold, of these messages, those to units at places from one on and before another, put in by age
+abbrev pub links_among : Config → ℕ → ℕ → List Message → InFlight
+links_among s first past ms = record { channels = s.channels; messages = fold insert_by_age [] (among s first past ms) }
+
+-- links that hold just what is in flight to units at these places before a cycle of the run
+abbrev pub flight_to : Machine → ℕ → ℕ → ℕ → InFlight
+flight_to machine now first past =
+    record { channels = machine.config.channels; messages = among machine.config first past (flight_at machine now) }
 
 -- what the units of a shard send in a span
-abbrev pub sent_of_shard : Config → List (List Entry) → ℕ → ℕ → Shard → List Message
-sent_of_shard s traces from until shard = sent_by s traces from until shard.first (length shard.slots.items)
+abbrev pub sent_of_shard : Machine → ℕ → ℕ → Shard → List Message
+sent_of_shard machine from until shard = sent_by machine from until shard.first (length shard.slots.items)
+
+-- a list holds what as many units as these, at places from one on, send in a span
+abbrev pub HaveSent : Machine → ℕ → ℕ → ℕ → List Slot → Mail → Type 0
+HaveSent machine first from until slots mail = mail.sent.items ≡ sent_by machine from until first (length slots)
 
 -- lists hold, of what all units sent in a span, what goes to those of a shard
-abbrev pub AreFor : Config → List (List Entry) → ℕ → ℕ → Shard → List (Vec Message Global) → Type 0
-AreFor s traces from until shard lists = lists_of lists ≡ among s shard.first (shard.first + length shard.slots.items) (sent_in s traces from until)
+abbrev pub AreFor : Machine → ℕ → ℕ → Shard → List (Vec Message Global) → Type 0
+AreFor machine from until shard lists =
+    lists_of lists ≡ among machine.config shard.first (shard.first + length shard.slots.items) (sent_in machine from until)
 
--- the list with a number holds, of what the units of a shard sent in a span, what goes to those of the shard with this number
-pub record AreFrom (s : Config) (traces : List (List Entry)) (bounds : List ℕ) (from until : ℕ) (shard : Shard) (lists : List (Vec Message Global)) : Type 0 where
+-- the list with a number holds, of what the units of a shard sent in a span, what goes to those of the shard with
+-- this number
+pub record AreFrom (machine : Machine) (bounds : List ℕ) (from until : ℕ) (shard : Shard) (lists : List (Vec Message Global)) : Type 0 where
   pub count : suc (length lists) ≡ length bounds
-  pub each : (index : ℕ) (d : Vec Message Global) → index < length lists
-      → (slice_index_or lists index d).items ≡ among s (bound bounds index) (bound bounds (suc index)) (sent_of_shard s traces from until shard)
+  pub each : AreDealt machine.config bounds (sent_of_shard machine from until shard) lists
+
+-- there are as many units more as a shard has
+abbrev pub HasJoined : Shard → List UnitState → List UnitState → Type 0
+HasJoined shard old new = length new ≡ length old + length shard.slots.items
+
+-- the words of a shard are of units that its machine has
+abbrev pub IsWithin : Shard → Type 0
+IsWithin shard = shard.first + length shard.words.items ≤ unit_count (arc_value shard.machine).config
+
+-- a shard is the same but for the words of its units and what is in flight to them
+abbrev pub ChangesOnlyMail : Shard → Shard → Type 0
+ChangesOnlyMail old new = new ≡ record old { words = new.words; links = new.links }
+
+-- the words of a shard's units are lowered to the arrivals of what stands in lists
+abbrev pub LowersWords : List (Vec Message Global) → Shard → Shard → Type 0
+LowersWords lists old new = LowersAll (arc_value old.machine).config old.first lists old.words.items new.words.items
+
+-- a shard keeps what its units sent in a span
+abbrev pub HasSent : ℕ → ℕ → Shard → Shard → Type 0
+HasSent from until old new = new.mail.sent.items ≡ sent_of_shard (arc_value old.machine) from until old
+
+-- lists hold what a shard keeps, by the shard that it goes to
+abbrev pub HoldWhatWasSent : Shard → List (Vec Message Global) → Type 0
+HoldWhatWasSent shard lists = AreDealt (arc_value shard.machine).config shard.bounds.items shard.mail.sent.items lists
 
 -- A shard at the end of a phase. Before a cycle its units send nothing, and nothing that they sent arrives.
-pub record IsAtRest (s : Config) (traces : List (List Entry)) (bounds : List ℕ) (index from until wake : ℕ) (shard : Shard) : Type 0 where
-  pub is : IsShard s traces bounds index shard
-  pub gone : HaveGone s traces shard.first from until shard.slots.items shard.words.items shard.links
+pub record IsAtRest (machine : Machine) (bounds : List ℕ) (index from until wake : ℕ) (shard : Shard) : Type 0 where
+  pub is : IsShard machine bounds index shard
+  pub gone : HasGone machine from until shard
   pub since : until ≤ wake
   pub sleep : All (λ word. wake ≤ word) shard.words.items
-  pub arrivals : All (λ m. wake ≤ m.arrival) (sent_of_shard s traces from until shard)
+  pub arrivals : All (λ m. wake ≤ m.arrival) (sent_of_shard machine from until shard)
 
--- A shard stands at the end of a phase, lists hold what was sent to its units in that phase, and nothing happens from there on up to a cycle.
-pub record IsUpTo (s : Config) (traces : List (List Entry)) (bounds : List ℕ) (index now : ℕ) (shard : Shard) (inbound : List (Vec Message Global)) : Type 0 where
-  pub split : IsSplit s bounds
+-- A shard stands at the end of a phase, lists hold what was sent to its units in that phase, and nothing happens from
+-- there on up to a cycle.
+pub record IsUpTo (machine : Machine) (bounds : List ℕ) (index now : ℕ) (shard : Shard) (inbound : List (Vec Message Global)) : Type 0 where
+  pub split : IsSplit machine.config bounds
   pub began : ℕ
   pub last : ℕ
   pub order : began ≤ last
-  pub travels : TravelsFor s (last - began)
-  pub is : IsShard s traces bounds index shard
-  pub gone : HaveGone s traces shard.first began last shard.slots.items shard.words.items shard.links
+  pub travels : TravelsFor machine.config (last - began)
+  pub is : IsShard machine bounds index shard
+  pub gone : HasGone machine began last shard
   pub count : suc (length inbound) ≡ length bounds
-  pub inbound_are : AreFor s traces began last shard inbound
+  pub inbound_are : AreFor machine began last shard inbound
   pub since : last ≤ now
   pub early : now ≤ 10 ^ 12
   pub sleep : All (λ word. now ≤ word) shard.words.items
-  pub arrivals : All (λ m. now ≤ m.arrival) (sent_in s traces began last)
-  pub still : IsStill s traces last now
+  pub arrivals : All (λ m. now ≤ m.arrival) (sent_in machine began last)
+  pub still : IsStill machine last now
 
 -- All shards of a machine, each with the units of its places, which wait, and with what is in flight to them.
-pub record AreShards (s : Config) (traces : List (List Entry)) (bounds : List ℕ) (now : ℕ) (shards : List (Box Shard Global)) : Type 0 where
-  pub split : IsSplit s bounds
+pub record AreShards (machine : Machine) (bounds : List ℕ) (now : ℕ) (shards : List (Box Shard Global)) : Type 0 where
+  pub split : IsSplit machine.config bounds
   pub count : suc (length shards) ≡ length bounds
-  pub each : (index : ℕ) (d : Box Shard Global) → index < length shards → IsShard s traces bounds index (slice_index_or shards index d).value
-  pub asleep : (index : ℕ) (d : Box Shard Global) → index < length shards
-      → IsAsleep s traces (slice_index_or shards index d).value.first now (slice_index_or shards index d).value.slots.items (slice_index_or shards index d).value.words.items (slice_index_or shards index d).value.links
+  pub each : (index : ℕ) (d : Box Shard Global) → index < length shards → IsShard machine bounds index (nth_shard shards index d)
+  pub asleep : (index : ℕ) (d : Box Shard Global) → index < length shards → Sleeps machine now (nth_shard shards index d)
 
--- What holds of all shards of a machine between two phases: each is at rest, and what was sent to it stands in its lists.
-pub record IsSharded (s : Config) (traces : List (List Entry)) (bounds : List ℕ) (now phase wake : ℕ) (shards : List (Box Shard Global)) (inbound : List (Vec (Vec Message Global) Global)) : Type 0 where
+-- What holds of all shards of a machine between two phases: each is at rest, and what was sent to it stands in its
+-- lists.
+pub record IsSharded (machine : Machine) (bounds : List ℕ) (now phase wake : ℕ) (shards : List (Box Shard Global)) (inbound : List (Vec (Vec Message Global) Global)) : Type 0 where
   pub counted : phase ≤ now
   pub early : now ≤ 10 ^ 12
-  pub split : IsSplit s bounds
+  pub split : IsSplit machine.config bounds
   pub began : ℕ
   pub order : began ≤ now
-  pub travels : TravelsFor s (now - began)
+  pub travels : TravelsFor machine.config (now - began)
   pub since : now ≤ wake
   pub count : suc (length shards) ≡ length bounds
   pub inbound_count : length inbound ≡ length shards
-  pub rest : (index : ℕ) (d : Box Shard Global) → index < length shards → IsAtRest s traces bounds index began now wake (slice_index_or shards index d).value
-  pub lists : (index : ℕ) (d : Vec (Vec Message Global) Global) → index < length shards → suc (length (slice_index_or inbound index d).items) ≡ length bounds
+  pub rest : (index : ℕ) (d : Box Shard Global) → index < length shards
+      → IsAtRest machine bounds index began now wake (nth_shard shards index d)
+  pub lists : (index : ℕ) (d : Vec (Vec Message Global) Global) → index < length shards
+      → suc (length (slice_index_or inbound index d).items) ≡ length bounds
   pub inbound_are : (index : ℕ) (d : Box Shard Global) (e : Vec (Vec Message Global) Global) → index < length shards
-      → AreFor s traces began now (slice_index_or shards index d).value (slice_index_or inbound index e).items
+      → AreFor machine began now (nth_shard shards index d) (slice_index_or inbound index e).items

@@ -8,7 +8,8 @@ use sim_base::message::{Cycle, Message};
 use std::alloc::AllocError;
 use std::marker::Model;
 
-/// The name of a job: the number of the phase, that of the shard, and the cycles of the phase, from one on and before another.
+/// The name of a job: the number of the phase, that of the shard, and the cycles of the phase, from one on and before
+/// another.
 #[derive(Clone, Copy, Debug, PartialEq, Eq)]
 pub struct JobName {
     pub phase: u64,
@@ -26,25 +27,24 @@ pub struct Job {
 }
 
 impl Model for Job {
-    ghost use Rattle.std.specs.Arc.{arc_value};
     ghost use Rattle.shards.specs.Jobs.{JobView};
 
     ghost Value = { JobView };
 
-    ghost use Rattle.sim_base.specs.contracts.config.Config as config;
+    ghost use Rattle.units.specs.contracts.machine.Machine as of_machine;
     ghost use Rattle.std.specs.Coded.{codes};
 
-    ghost coded = { Prim.hlevel (codes, config.the_row.coded) };
+    ghost coded = { Prim.hlevel (codes, of_machine.the_row.coded) };
 
-    ghost use Rattle.shards.specs.Jobs.{IsJob};
+    ghost use Rattle.shards.specs.Jobs.{IsOwnJob, job_view};
 
-    ghost view = { λ t. record { machine = (arc_value t.shard.value.machine).config; traces = (arc_value t.shard.value.machine).traces.items; bounds = t.shard.value.bounds.items; name = t.name } };
+    ghost view = { λ t. job_view t.shard.value t.name };
 
-    ghost invariant = { λ t. IsJob (arc_value t.shard.value.machine).config (arc_value t.shard.value.machine).traces.items t.shard.value.bounds.items t.name t.shard.value t.inbound.items };
+    ghost invariant = { λ t. IsOwnJob t.name t.shard.value t.inbound.items };
 }
 
-/// What came of a job: the shard at the end of the phase, with what it sent in it, by the shard that it goes to, and a cycle before which it sends nothing more
-/// and nothing that it sent arrives.
+/// What came of a job: the shard at the end of the phase, with what it sent in it, by the shard that it goes to, and
+/// a cycle before which it sends nothing more and nothing that it sent arrives.
 #[derive(Drop)]
 pub struct Done {
     pub(crate) name: JobName,
@@ -54,21 +54,20 @@ pub struct Done {
 }
 
 impl Model for Done {
-    ghost use Rattle.std.specs.Arc.{arc_value};
     ghost use Rattle.shards.specs.Jobs.{JobView};
 
     ghost Value = { JobView };
 
-    ghost use Rattle.sim_base.specs.contracts.config.Config as config;
+    ghost use Rattle.units.specs.contracts.machine.Machine as of_machine;
     ghost use Rattle.std.specs.Coded.{codes};
 
-    ghost coded = { Prim.hlevel (codes, config.the_row.coded) };
+    ghost coded = { Prim.hlevel (codes, of_machine.the_row.coded) };
 
-    ghost use Rattle.shards.specs.Jobs.{IsDone};
+    ghost use Rattle.shards.specs.Jobs.{IsOwnDone, job_view};
 
-    ghost view = { λ t. record { machine = (arc_value t.shard.value.machine).config; traces = (arc_value t.shard.value.machine).traces.items; bounds = t.shard.value.bounds.items; name = t.name } };
+    ghost view = { λ t. job_view t.shard.value t.name };
 
-    ghost invariant = { λ t. IsDone (arc_value t.shard.value.machine).config (arc_value t.shard.value.machine).traces.items t.shard.value.bounds.items t.name t.wake t.shard.value t.outbound.items };
+    ghost invariant = { λ t. IsOwnDone t.name t.wake t.shard.value t.outbound.items };
 }
 
 impl DoneOf<Job> for Done {

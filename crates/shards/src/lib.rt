@@ -1,4 +1,5 @@
-//! The units of a machine shared out in shards, whose jobs threads run side by side, phase by phase. Together they do what the one-clock machine does.
+//! The units of a machine shared out in shards, whose jobs threads run side by side, phase by phase. Together they do
+//! what the one-clock machine does.
 #![tactic(auto)]
 
 pub mod job;

@@ -1,9 +1,8 @@
 //! How the results of a phase are put together, in whatever order they come.
 
-ghost use Rattle.std.specs.Prelude.{◌≡◌, ◌==◌, ◌&&◌, ◌<◌, ◌≤◌, ◌^◌, ◌⊎◌, ◌∷◌, ◌++◌, [], List, Option, Some, None, Err, length, map, is_some, slice_index_or, All, IfOk, IfErr, IfSome, OnOk, IsPermutation};
-ghost use Rattle.shards.specs.Merging.{IsOf, fault_at, first_fault, is_among, merge_fault, missing, names_of, results_at};
-ghost use Rattle.shards.specs.Phases.{AreUnloaded, PhaseView, ended, jobs_of, shard_count};
-ghost use Rattle.shards.specs.declared.job.JobName.{JobName};
+ghost use Rattle.std.specs.Prelude.{◌≡◌, ◌<◌, ◌^◌, [], Some, None, Err, length, map, is_some, slice_index_or, All, IfOk, IfErr, IfSome, IsOkUnless, OnOk};
+ghost use Rattle.shards.specs.Merging.{AreAllThere, ArePlaced, IsMissing, IsNameFault, IsOf, IsFirstFault, IsOneOfEach, IsPut, IsWhyUnmerged, fault_in, has_span, is_among, names_in, names_of, results_at};
+ghost use Rattle.shards.specs.Phases.{UnloadAny, ended, jobs_of, shard_count};
 
 use crate::job::{Done, JobName};
 use crate::post::by_receiver;
@@ -39,24 +38,24 @@ impl Model for Outline {
 
     ghost Value = { PhaseView };
 
-    ghost use Rattle.sim_base.specs.contracts.config.Config as config;
+    ghost use Rattle.units.specs.contracts.machine.Machine as of_machine;
     ghost use Rattle.std.specs.Coded.{codes};
 
-    ghost coded = { Prim.hlevel (codes, config.the_row.coded) };
+    ghost coded = { Prim.hlevel (codes, of_machine.the_row.coded) };
 
-    ghost use Rattle.shards.specs.Phases.{IsPhase};
+    ghost use Rattle.shards.specs.Phases.{IsPhase, phase_over};
 
-    ghost view = { λ p. record { machine = (arc_value p.machine).config; traces = (arc_value p.machine).traces.items; bounds = p.bounds.items; number = p.span.number; from = p.span.from; until = p.span.until } };
+    ghost view = { λ p. phase_over (arc_value p.machine) p.bounds.items p.span };
 
-    ghost invariant = { λ p. IsPhase (arc_value p.machine).config (arc_value p.machine).traces.items p.bounds.items p.span.number p.span.from p.span.until };
+    ghost invariant = { λ p. IsPhase (phase_over (arc_value p.machine) p.bounds.items p.span) };
 }
 
 /// A phase, while its jobs are out.
 #[derive(Drop)]
 pub struct Phase {
     pub(crate) outline: Outline,
-    /// A place for the result of each shard, all of them empty. They are made with the jobs, so that what is wrong with results is told even
-    /// where memory is short.
+    /// A place for the result of each shard, all of them empty. They are made with the jobs, so that what is wrong
+    /// with results is told even where memory is short.
     pub(crate) places: Vec<Option<Done>>,
 }
 
@@ -67,10 +66,10 @@ impl Model for Phase {
 
     ghost Value = { PhaseView };
 
-    ghost use Rattle.sim_base.specs.contracts.config.Config as config;
+    ghost use Rattle.units.specs.contracts.machine.Machine as of_machine;
     ghost use Rattle.std.specs.Coded.{codes};
 
-    ghost coded = { Prim.hlevel (codes, config.the_row.coded) };
+    ghost coded = { Prim.hlevel (codes, of_machine.the_row.coded) };
 
     ghost view = { λ p. p.outline };
 
@@ -108,7 +107,7 @@ pub(crate) fn no_results(alloc: Global, phase: &Outline) -> Result<Vec<Option<Do
 
 /// Whether a name has the number and the cycles of a phase.
 fn has_span(phase: &Outline, name: JobName) -> bool
-    ensures { result ≡ ((name.phase == phase.now.number) && ((name.from == phase.now.from) && (name.until == phase.now.until))) }
+    ensures { result ≡ has_span phase.now name }
 {
     name.phase == phase.span.number
         && (name.from == phase.span.from && name.until == phase.span.until)
@@ -139,10 +138,8 @@ fn put(
     requires count { length places.old.items ≡ shard_count phase.now }
     requires of { IsOf phase.now done }
     ensures count { length places.new.items ≡ shard_count phase.now }
-    ensures ok { OnOk result ((names : List JobName) → places.old.items ≡ results_at phase.now names → length names ≡ index
-        → (fault_at phase.now names done.name ≡ None) × (places.new.items ≡ results_at phase.now (names ++ done.name ∷ []))) }
-    ensures err { IfErr result (λ fault. (names : List JobName) → places.old.items ≡ results_at phase.now names → length names ≡ index
-        → fault_at phase.now names done.name ≡ Some fault) }
+    ensures ok { OnOk result (IsPut phase.now index done.name places.old.items places.new.items) }
+    ensures err { IfErr result (IsNameFault phase.now index done.name places.old.items) }
 {
     let name = done.name();
     if !is_of_phase(phase, name) {
@@ -155,8 +152,8 @@ fn put(
     Ok(())
 }
 
-/// The results of a phase, each put in the place of its shard, of which all are empty. The first result that belongs to no job of the phase, or
-/// whose name came earlier, is a fault.
+/// The results of a phase, each put in the place of its shard, of which all are empty. The first result that belongs
+/// to no job of the phase, or whose name came earlier, is a fault.
 fn sorted_by_shard(
     phase: &Outline,
     empty: Vec<Option<Done>>,
@@ -164,9 +161,8 @@ fn sorted_by_shard(
 ) -> Result<Vec<Option<Done>>, MergeFault>
     requires empty { empty.items ≡ results_at phase.now [] }
     requires of { All (IsOf phase.now) results.items }
-    ensures ok { IfOk result (λ places. (first_fault phase.now [] (map (λ d. d.name) results.items) ≡ None)
-        × (places.items ≡ results_at phase.now (map (λ d. d.name) results.items))) }
-    ensures err { IfErr result (λ fault. first_fault phase.now [] (map (λ d. d.name) results.items) ≡ Some fault) }
+    ensures ok { IfOk result (λ v. ArePlaced phase.now (names_in results.items) v.items) }
+    ensures err { IfErr result (IsFirstFault phase.now (names_in results.items)) }
 {
     let mut places = empty;
     let mut read = 0;
@@ -179,9 +175,8 @@ fn sorted_by_shard(
 
 /// Whether each shard has a result. The least that has none is a fault.
 fn are_all_there(places: &[Option<Done>]) -> Result<(), MergeFault>
-    ensures ok { OnOk result ((p : PhaseView) (names : List JobName) → places.now ≡ results_at p names
-        → (missing p names ≡ None) × (places.now ≡ map Some (jobs_of p))) }
-    ensures err { IfErr result (λ fault. (p : PhaseView) (names : List JobName) → places.now ≡ results_at p names → missing p names ≡ Some fault) }
+    ensures ok { OnOk result (AreAllThere places.now) }
+    ensures err { IfErr result (IsMissing places.now) }
 {
     for shard in 0..places.len() {
         if !is_taken(places, shard) {
@@ -193,8 +188,7 @@ fn are_all_there(places: &[Option<Done>]) -> Result<(), MergeFault>
 
 /// Takes apart the results that are in their places.
 fn unload(alloc: Global, places: Vec<Option<Done>>) -> Result<Unloaded, AllocError>
-    ensures { IfOk result (λ r. (p : PhaseView) → p.until ≤ 10 ^ 12 → places.items ≡ map Some (jobs_of p)
-        → AreUnloaded p.machine p.traces p.bounds p.from p.until r.wake r.shards.items r.outbound.items × (length r.shards.items ≡ length places.items)) }
+    ensures { IfOk result (λ r. UnloadAny places.items r.wake r.shards.items r.outbound.items) }
 {
     let mut shards = Vec::with_capacity(alloc, places.len())?;
     let mut outbound = Vec::with_capacity(alloc, places.len())?;
@@ -249,15 +243,17 @@ fn joined(
     })
 }
 
-/// Puts the results of a phase together, in whatever order they come: the simulator then stands at the end of the phase. The first result of
-/// the list that belongs to no job of the phase, or whose name came earlier, is a fault, and otherwise the least shard without a result: that
-/// is told even where memory is short. Where there is one result of each job, only memory can be refused.
+/// Puts the results of a phase together, in whatever order they come: the simulator then stands at the end of the
+/// phase. The first result of the list that belongs to no job of the phase, or whose name came earlier, is a fault,
+/// and otherwise the least shard without a result: that is told even where memory is short. Where there is one result
+/// of each job, only memory can be refused.
 pub fn merge(phase: Phase, alloc: Global, results: Vec<Done>) -> Result<ShardedSim, MergeFault>
     requires of { All (IsOf phase) results.items }
-    ensures ok { IfOk result (λ sim. (merge_fault phase (map (λ d. d.name) results.items) ≡ None) × (sim ≡ ended phase)) }
-    ensures exact { IfSome (merge_fault phase (map (λ d. d.name) results.items)) (λ fault. result ≡ Err fault) }
-    ensures err { IfErr result (λ fault. (fault ≡ MergeFault.Memory) ⊎ (merge_fault phase (map (λ d. d.name) results.items) ≡ Some fault)) }
-    ensures whole { IsPermutation (jobs_of phase) results.items → IfErr result (λ fault. fault ≡ MergeFault.Memory) }
+    ensures ok { IfOk result (λ sim. sim ≡ ended phase) }
+    ensures fits { OnOk result (fault_in phase results.items ≡ None) }
+    ensures exact { IfSome (fault_in phase results.items) (λ fault. result ≡ Err fault) }
+    ensures err { IfErr result (IsWhyUnmerged phase results.items) }
+    ensures whole { IsOneOfEach phase results.items → IsOkUnless result MergeFault.Memory }
 {
     let Phase { outline, places } = phase;
     let places = sorted_by_shard(&outline, places, results)?;

@@ -3,8 +3,7 @@
 ghost use Rattle.std.specs.Prelude.{◌≡◌, ◌≤◌, ◌^◌, IfOk};
 ghost use Rattle.shards.specs.Planning.{IsPlanned};
 ghost use Rattle.shards.specs.Shards.{AreShards};
-ghost use Rattle.shards.specs.Jobs.{jobs_at};
-ghost use Rattle.shards.specs.Phases.{MayGo, MayStop};
+ghost use Rattle.shards.specs.Phases.{MayGo, MayStop, jobs_of, phase_over};
 
 use crate::job::{Job, JobName};
 use crate::merging::{Outline, Phase, Span, no_results};
@@ -36,8 +35,8 @@ fn jobs_for(
     inbound: Vec<Vec<Vec<Message>>>,
     span: Span,
 ) -> Result<Vec<Job>, AllocError>
-    requires { MayGo machine.now.config machine.now.traces.items bounds.now span.number span.from span.until shards.items inbound.items }
-    ensures { IfOk result (λ jobs. jobs.items ≡ jobs_at machine.now.config machine.now.traces.items bounds.now span.number span.from span.until) }
+    requires { MayGo (phase_over machine.now bounds.now span) shards.items inbound.items }
+    ensures { IfOk result (λ jobs. jobs.items ≡ jobs_of (phase_over machine.now bounds.now span)) }
 {
     let mut inbound = inbound;
     let mut jobs = Vec::with_capacity(alloc, shards.len())?;
@@ -67,8 +66,8 @@ fn settled(
     inbound: Vec<Vec<Vec<Message>>>,
     now: Cycle,
 ) -> Result<Vec<Box<Shard>>, AllocError>
-    requires { MayStop machine.now.config machine.now.traces.items bounds.now now shards.items inbound.items }
-    ensures { IfOk result (λ settled. AreShards machine.now.config machine.now.traces.items bounds.now now settled.items) }
+    requires { MayStop machine.now bounds.now now shards.items inbound.items }
+    ensures { IfOk result (λ settled. AreShards machine.now bounds.now now settled.items) }
 {
     let mut inbound = inbound;
     let mut settled = Vec::with_capacity(alloc, shards.len())?;
@@ -81,8 +80,9 @@ fn settled(
     Ok(settled)
 }
 
-/// What comes next up to a limit, at most 10^12 cycles: the phase that begins where something happens next, or the simulator at the
-/// limit, where nothing happens before it. The only error is out of memory; the simulator is then gone.
+/// What comes next up to a limit, at most 10^12 cycles: the phase that begins where something happens next, or the
+/// simulator at the limit, where nothing happens before it. The only error is out of memory; the simulator is then
+/// gone.
 pub fn plan(sim: ShardedSim, alloc: Global, limit: Cycle) -> Result<Planned, AllocError>
     requires not_past { sim.now ≤ limit }
     requires early { limit ≤ 10 ^ 12 }

@@ -1,11 +1,11 @@
 //! Messages between shards.
 
-ghost use Rattle.std.specs.Prelude.{◌≡◌, ◌≢◌, ◌<◌, ◌≤◌, ℕ, suc, [], ◌∷◌, ◌++◌, length, slice_index_or, All, OnOk, IfOk};
+ghost use Rattle.std.specs.Prelude.{◌≡◌, ◌<◌, ◌≤◌, ℕ, suc, [], length, slice_index_or, OnOk, IfOk};
 ghost use Rattle.std.specs.declared.vec.Vec.{Vec};
 ghost use Rattle.std.specs.declared.alloc.Global.{Global};
 ghost use Rattle.sim_base.specs.declared.message.Message.{Message};
-ghost use Rattle.units.specs.Flight.{among};
-ghost use Rattle.shards.specs.Shards.{IsSplit, bound};
+ghost use Rattle.shards.specs.Lists.{AllEmpty, AreDealt, AreTurned, GainOne, HaveColumn, IsColumn, IsSquare, SameElsewhere, SameOtherColumns, SameWidths, bound};
+ghost use Rattle.shards.specs.Shards.{IsSplit};
 
 use sim_base::config::Config;
 use sim_base::message::Message;
@@ -41,8 +41,7 @@ fn deal_one(
     requires split { IsSplit config.now bounds.now }
     requires count { suc (length lists.old) ≡ length bounds.now }
     ensures count { length lists.new ≡ length lists.old }
-    ensures each { OnOk result ((index : ℕ) (d : Vec Message Global) → index < length lists.old
-        → (slice_index_or lists.new index d).items ≡ (slice_index_or lists.old index d).items ++ among config.now (bound bounds.now index) (bound bounds.now (suc index)) (message.now ∷ [])) }
+    ensures each { OnOk result (GainOne config.now bounds.now message.now lists.old lists.new) }
 {
     if let Some(place) = receiver_place(config, message.link) {
         lists[shard_at(bounds, place)].push(*message)?;
@@ -59,10 +58,9 @@ pub(crate) fn deal(
 ) -> Result<(), AllocError>
     requires split { IsSplit config.now bounds.now }
     requires count { suc (length lists.old) ≡ length bounds.now }
-    requires empty { All (λ list. list.items ≡ []) lists.old }
+    requires empty { AllEmpty lists.old }
     ensures count { length lists.new ≡ length lists.old }
-    ensures each { OnOk result ((index : ℕ) (d : Vec Message Global) → index < length lists.new
-        → (slice_index_or lists.new index d).items ≡ among config.now (bound bounds.now index) (bound bounds.now (suc index)) sent.now) }
+    ensures each { OnOk result (AreDealt config.now bounds.now sent.now lists.new) }
 {
     for message in sent {
         deal_one(config, bounds, message, lists)?;
@@ -74,7 +72,7 @@ pub(crate) fn deal(
 fn taken(alloc: Global, row: &mut [Vec<Message>], index: usize) -> Vec<Message>
     requires { index < length row.old }
     ensures count { length row.new ≡ length row.old }
-    ensures others { (k : ℕ) (d : Vec Message Global) → k ≢ index → slice_index_or row.new k d ≡ slice_index_or row.old k d }
+    ensures others { SameElsewhere index row.old row.new }
     ensures taken { (d : Vec Message Global) → result ≡ slice_index_or row.old index d }
 {
     mem::replace(&mut row[index], Vec::new(alloc))
@@ -86,14 +84,12 @@ fn column(
     rows: &mut [Vec<Vec<Message>>],
     index: usize,
 ) -> Result<Vec<Vec<Message>>, AllocError>
-    requires { (i : ℕ) (d : Vec (Vec Message Global) Global) → i < length rows.old → index < length (slice_index_or rows.old i d).items }
+    requires { HaveColumn index rows.old }
     ensures count { length rows.new ≡ length rows.old }
-    ensures widths { (i : ℕ) (d : Vec (Vec Message Global) Global) → length (slice_index_or rows.new i d).items ≡ length (slice_index_or rows.old i d).items }
-    ensures others { (i j : ℕ) (d : Vec (Vec Message Global) Global) (f : Vec Message Global) → j ≢ index
-        → slice_index_or (slice_index_or rows.new i d).items j f ≡ slice_index_or (slice_index_or rows.old i d).items j f }
+    ensures widths { SameWidths rows.old rows.new }
+    ensures others { SameOtherColumns index rows.old rows.new }
     ensures height { IfOk result (λ column. length column.items ≡ length rows.old) }
-    ensures each { IfOk result (λ column. (i : ℕ) (d : Vec (Vec Message Global) Global) (f g : Vec Message Global) → i < length rows.old
-        → slice_index_or column.items i f ≡ slice_index_or (slice_index_or rows.old i d).items index g) }
+    ensures each { IfOk result (λ column. IsColumn index rows.old column.items) }
 {
     let mut column = Vec::with_capacity(alloc, rows.len())?;
     for row in rows.iter_mut() {
@@ -107,11 +103,10 @@ pub(crate) fn by_receiver(
     alloc: Global,
     rows: Vec<Vec<Vec<Message>>>,
 ) -> Result<Vec<Vec<Vec<Message>>>, AllocError>
-    requires square { (i : ℕ) (d : Vec (Vec Message Global) Global) → i < length rows.items → length (slice_index_or rows.items i d).items ≡ length rows.items }
+    requires square { IsSquare (length rows.items) rows.items }
     ensures count { IfOk result (λ columns. length columns.items ≡ length rows.items) }
-    ensures square { IfOk result (λ columns. (j : ℕ) (d : Vec (Vec Message Global) Global) → j < length rows.items → length (slice_index_or columns.items j d).items ≡ length rows.items) }
-    ensures each { IfOk result (λ columns. (i j : ℕ) (d e : Vec (Vec Message Global) Global) (f g : Vec Message Global) → i < length rows.items → j < length rows.items
-        → (slice_index_or (slice_index_or columns.items j d).items i f).items ≡ (slice_index_or (slice_index_or rows.items i e).items j g).items) }
+    ensures square { IfOk result (λ columns. IsSquare (length rows.items) columns.items) }
+    ensures each { IfOk result (λ columns. AreTurned rows.items columns.items) }
 {
     let mut rows = rows;
     let mut columns = Vec::with_capacity(alloc, rows.len())?;

@@ -1,16 +1,13 @@
 //! A part of a machine's units, which one thread runs at a time.
 
-ghost use Rattle.std.specs.Prelude.{◌≡◌, ◌<◌, ◌≤◌, ◌^◌, ◌+◌, ◌-◌, ℕ, suc, [], length, fold, All, IfOk, OnOk, slice_index_or};
+ghost use Rattle.std.specs.Prelude.{◌≡◌, ◌<◌, ◌≤◌, ◌^◌, ◌+◌, ◌-◌, ℕ, suc, [], length, All, IfOk, OnOk};
 ghost use Rattle.std.specs.Arc.{arc_value};
-ghost use Rattle.std.specs.declared.vec.Vec.{Vec};
-ghost use Rattle.std.specs.declared.alloc.Global.{Global};
-ghost use Rattle.sim_base.specs.declared.message.Message.{Message};
-ghost use Rattle.sim_base.specs.History.{insert_by_age};
 ghost use Rattle.sim_base.specs.Locality.{TravelsFor};
-ghost use Rattle.units.specs.Flight.{among, sent_by};
-ghost use Rattle.shards.specs.Shards.{IsSplit, bound, lists_of};
+ghost use Rattle.links.specs.InFlight.{NoneBefore, with_sent};
 ghost use Rattle.units.specs.Units.{unit_count};
 ghost use Rattle.wake_words.specs.Wakes.{AreLowered, HaveGone, IsAsleep};
+ghost use Rattle.shards.specs.Lists.{AllEmpty, LowersAll, with_lists};
+ghost use Rattle.shards.specs.Shards.{ChangesOnlyMail, HasGone, HasSent, HaveSent, HoldWhatWasSent, IsSplit, IsWithin, LowersWords, Sleeps};
 
 use crate::post::deal;
 use lane_scan::least;
@@ -41,8 +38,8 @@ pub(crate) struct Shard {
 /// The least arrival of messages, or a cycle that comes sooner.
 fn first_arrival(messages: &[Message], cycle: Cycle) -> Cycle
     ensures within { result ≤ cycle }
-    ensures arrivals { All (λ m. result ≤ m.arrival) messages.now }
-    ensures since { (since : ℕ) → since ≤ cycle → All (λ m. since ≤ m.arrival) messages.now → since ≤ result }
+    ensures arrivals { NoneBefore result messages.now }
+    ensures since { (since : ℕ) → since ≤ cycle → NoneBefore since messages.now → since ≤ result }
 {
     let mut first = cycle;
     for message in messages {
@@ -61,7 +58,7 @@ fn take_up_list(
 ) -> Result<(), AllocError>
     requires { first + length words.old ≤ unit_count machine.now.config }
     ensures words { AreLowered machine.now.config first list.old.items words.old words.new }
-    ensures links { OnOk result (links.new ≡ record links.old { messages = fold insert_by_age links.old.messages list.old.items }) }
+    ensures links { OnOk result (links.new ≡ with_sent links.old list.old.items) }
     ensures empty { OnOk result (list.new.items ≡ []) }
 {
     lower_all(&machine.config, first, words, list);
@@ -80,9 +77,9 @@ fn take_up_all(
 ) -> Result<(), AllocError>
     requires { first + length words.old ≤ unit_count machine.now.config }
     ensures count { length lists.new ≡ length lists.old }
-    ensures words { OnOk result (AreLowered machine.now.config first (lists_of lists.old) words.old words.new) }
-    ensures links { OnOk result (links.new ≡ record links.old { messages = fold insert_by_age links.old.messages (lists_of lists.old) }) }
-    ensures empty { OnOk result (All (λ list. list.items ≡ []) lists.new) }
+    ensures words { OnOk result (LowersAll machine.now.config first lists.old words.old words.new) }
+    ensures links { OnOk result (links.new ≡ with_lists links.old lists.old) }
+    ensures empty { OnOk result (AllEmpty lists.new) }
 {
     for list in lists.iter_mut() {
         take_up_list(machine, first, words, links, list)?;
@@ -101,15 +98,15 @@ fn go_all(
     now: Cycle,
     until: Cycle,
 ) -> Result<(), AllocError>
-    requires asleep { IsAsleep machine.now.config machine.now.traces.items first now slots.old words.old links.old }
+    requires asleep { IsAsleep machine.now first now slots.old words.old links.old }
     requires order { now < until }
     requires early { until ≤ 10 ^ 12 }
     requires travels { TravelsFor machine.now.config (until - now) }
     requires sent { mail.old.sent.items ≡ [] }
     ensures count { length slots.new ≡ length slots.old }
     ensures words { length words.new ≡ length words.old }
-    ensures gone { OnOk result (HaveGone machine.now.config machine.now.traces.items first now until slots.new words.new links.new) }
-    ensures sent { OnOk result (mail.new.sent.items ≡ sent_by machine.now.config machine.now.traces.items now until first (length slots.old)) }
+    ensures gone { OnOk result (HaveGone machine.now first now until slots.new words.new links.new) }
+    ensures sent { OnOk result (HaveSent machine.now first now until slots.old mail.new) }
 {
     let span = Span {
         here: now,
@@ -123,12 +120,12 @@ fn go_all(
 impl Shard {
     /// Takes up what was sent to the units in a phase to whose end they have gone.
     pub(crate) fn take_up(&mut self, lists: &mut [Vec<Message>]) -> Result<(), AllocError>
-        requires { self.old.first + length self.old.words.items ≤ unit_count (arc_value self.old.machine).config }
-        ensures same { OnOk result (self.new ≡ record self.old { words = self.new.words; links = self.new.links }) }
-        ensures words { OnOk result (AreLowered (arc_value self.old.machine).config self.old.first (lists_of lists.old) self.old.words.items self.new.words.items) }
-        ensures links { OnOk result (self.new.links ≡ record self.old.links { messages = fold insert_by_age self.old.links.messages (lists_of lists.old) }) }
+        requires { IsWithin self.old }
+        ensures same { OnOk result (ChangesOnlyMail self.old self.new) }
+        ensures words { OnOk result (LowersWords lists.old self.old self.new) }
+        ensures links { OnOk result (self.new.links ≡ with_lists self.old.links lists.old) }
         ensures count { OnOk result (length lists.new ≡ length lists.old) }
-        ensures empty { OnOk result (All (λ list. list.items ≡ []) lists.new) }
+        ensures empty { OnOk result (AllEmpty lists.new) }
     {
         take_up_all(
             &self.machine,
@@ -139,9 +136,10 @@ impl Shard {
         )
     }
 
-    /// Takes the units over a phase. Gives a cycle before which they send nothing more, and nothing that they sent arrives.
+    /// Takes the units over a phase. Gives a cycle before which they send nothing more, and nothing that they sent
+    /// arrives.
     pub(crate) fn go(&mut self, now: Cycle, until: Cycle) -> Result<Cycle, AllocError>
-        requires asleep { IsAsleep (arc_value self.old.machine).config (arc_value self.old.machine).traces.items self.old.first now self.old.slots.items self.old.words.items self.old.links }
+        requires asleep { Sleeps (arc_value self.old.machine) now self.old }
         requires order { now < until }
         requires early { until ≤ 10 ^ 12 }
         requires travels { TravelsFor (arc_value self.old.machine).config (until - now) }
@@ -149,11 +147,11 @@ impl Shard {
         ensures bounds { self.new.bounds ≡ self.old.bounds }
         ensures first { self.new.first ≡ self.old.first }
         ensures count { length self.new.slots.items ≡ length self.old.slots.items }
-        ensures gone { OnOk result (HaveGone (arc_value self.old.machine).config (arc_value self.old.machine).traces.items self.old.first now until self.new.slots.items self.new.words.items self.new.links) }
-        ensures sent { OnOk result (self.new.mail.sent.items ≡ sent_by (arc_value self.old.machine).config (arc_value self.old.machine).traces.items now until self.old.first (length self.old.slots.items)) }
+        ensures gone { OnOk result (HasGone (arc_value self.old.machine) now until self.new) }
+        ensures sent { OnOk result (HasSent now until self.old self.new) }
         ensures since { IfOk result (λ wake. until ≤ wake) }
         ensures sleep { IfOk result (λ wake. All (λ word. wake ≤ word) self.new.words.items) }
-        ensures arrivals { IfOk result (λ wake. All (λ m. wake ≤ m.arrival) self.new.mail.sent.items) }
+        ensures arrivals { IfOk result (λ wake. NoneBefore wake self.new.mail.sent.items) }
     {
         self.mail.sent.clear();
         go_all(
@@ -173,10 +171,9 @@ impl Shard {
     pub(crate) fn deal_sent(&self, lists: &mut [Vec<Message>]) -> Result<(), AllocError>
         requires split { IsSplit (arc_value self.now.machine).config self.now.bounds.items }
         requires count { suc (length lists.old) ≡ length self.now.bounds.items }
-        requires empty { All (λ list. list.items ≡ []) lists.old }
+        requires empty { AllEmpty lists.old }
         ensures count { length lists.new ≡ length lists.old }
-        ensures each { OnOk result ((index : ℕ) (d : Vec Message Global) → index < length lists.new
-            → (slice_index_or lists.new index d).items ≡ among (arc_value self.now.machine).config (bound self.now.bounds.items index) (bound self.now.bounds.items (suc index)) self.now.mail.sent.items) }
+        ensures each { OnOk result (HoldWhatWasSent self.now lists.new) }
     {
         deal(&self.machine.config, &self.bounds, &self.mail.sent, lists)
     }

@@ -1,10 +1,7 @@
 //! A machine whose units are shared out in shards.
 
-ghost use Rattle.std.specs.Prelude.{◌≡◌, ◌<◌, ℕ, [], length, slice_index_or, IfOk};
-ghost use Rattle.std.specs.declared.vec.Vec.{Vec};
-ghost use Rattle.std.specs.declared.alloc.Global.{Global};
-ghost use Rattle.sim_base.specs.declared.message.Message.{Message};
-ghost use Rattle.shards.specs.Shards.{lists_of};
+ghost use Rattle.std.specs.Prelude.{◌≡◌, ◌<◌, [], length, IfOk};
+ghost use Rattle.shards.specs.Lists.{AllRowsEmpty, IsSquare, lists_of};
 ghost use Rattle.shards.specs.Phases.{shards_in, sim_of};
 
 use crate::shard::Shard;
@@ -37,16 +34,18 @@ impl Model for ShardedSim {
 
     ghost Value = { ShardedView };
 
-    ghost use Rattle.sim_base.specs.contracts.config.Config as config;
+    ghost use Rattle.units.specs.contracts.machine.Machine as of_machine;
     ghost use Rattle.std.specs.Coded.{codes};
 
-    ghost coded = { Prim.hlevel (codes, config.the_row.coded) };
+    ghost coded = { Prim.hlevel (codes, of_machine.the_row.coded) };
 
+    ghost use Rattle.shards.specs.Phases.{sharded_view};
     ghost use Rattle.shards.specs.Shards.{IsSharded};
 
-    ghost view = { λ m. record { machine = (arc_value m.machine).config; traces = (arc_value m.machine).traces.items; bounds = m.bounds.items; now = m.now; phase = m.phase } };
+    ghost view = { λ m. sharded_view (arc_value m.machine) m.bounds.items m.now m.phase };
 
-    ghost invariant = { λ m. IsSharded (arc_value m.machine).config (arc_value m.machine).traces.items m.bounds.items m.now m.phase m.wake m.shards.items m.inbound.items };
+    ghost invariant = { λ m. IsSharded (arc_value m.machine) m.bounds.items m.now m.phase m.wake
+        m.shards.items m.inbound.items };
 }
 
 /// `count` lists, all of them empty.
@@ -64,8 +63,8 @@ fn no_row(alloc: Global, count: usize) -> Result<Vec<Vec<Message>>, AllocError>
 /// `count` lists, all of them empty, for each of `count` shards.
 fn no_lists(alloc: Global, count: usize) -> Result<Vec<Vec<Vec<Message>>>, AllocError>
     ensures count { IfOk result (λ rows. length rows.items ≡ count) }
-    ensures square { IfOk result (λ rows. (index : ℕ) (d : Vec (Vec Message Global) Global) → index < count → length (slice_index_or rows.items index d).items ≡ count) }
-    ensures empty { IfOk result (λ rows. (index : ℕ) (d : Vec (Vec Message Global) Global) → index < count → lists_of (slice_index_or rows.items index d).items ≡ []) }
+    ensures square { IfOk result (λ rows. IsSquare count rows.items) }
+    ensures empty { IfOk result (λ rows. AllRowsEmpty count rows.items) }
 {
     let mut rows = Vec::with_capacity(alloc, count)?;
     for _ in 0..count {
@@ -75,7 +74,8 @@ fn no_lists(alloc: Global, count: usize) -> Result<Vec<Vec<Vec<Message>>>, Alloc
 }
 
 impl ShardedSim {
-    /// A simulator whose units are shared out in `count` shards. The only error is out of memory; the simulator is then gone.
+    /// A simulator whose units are shared out in `count` shards. The only error is out of memory; the simulator is
+    /// then gone.
     pub fn split(sim: Sim, alloc: Global, count: usize) -> Result<ShardedSim, AllocError>
         requires { 0 < count }
         ensures same { IfOk result (λ sharded. sim_of sharded ≡ sim) }

@@ -1,16 +1,15 @@
 //! The shards that a machine is split into, and joined from.
 
-ghost use Rattle.std.specs.Prelude.{◌≡◌, ◌<◌, ◌≤◌, ◌^◌, ◌+◌, ℕ, [], suc, length, take, drop, fold, slice_index_or, IfOk, OnOk};
+ghost use Rattle.std.specs.Prelude.{◌≡◌, ◌<◌, ◌≤◌, ◌^◌, ◌+◌, [], suc, length, take, drop, IfOk, OnOk};
 ghost use Rattle.std.specs.Arc.{arc_value};
-ghost use Rattle.sim_base.specs.Counts.{in_flight};
-ghost use Rattle.sim_base.specs.History.{insert_by_age};
-ghost use Rattle.sim_base.specs.Machine.{run};
+ghost use Rattle.links.specs.InFlight.{nothing_in_flight};
 ghost use Rattle.units.specs.Flight.{among, goes_among};
 ghost use Rattle.units.specs.Parts.{StandAt};
-ghost use Rattle.shards.specs.Shards.{AreShards, IsShard, IsSplit, bound};
-ghost use Rattle.units.specs.Units.{unit_at, unit_count};
-ghost use Rattle.wake_words.specs.Wakes.{IsAsleep, Waits, sleeper};
-ghost use Rattle.wake_words.specs.declared.slot.Slot.{Slot};
+ghost use Rattle.units.specs.Runs.{flight_at, links_at};
+ghost use Rattle.units.specs.Units.{unit_count};
+ghost use Rattle.shards.specs.Lists.{bound};
+ghost use Rattle.shards.specs.Phases.{sim_at};
+ghost use Rattle.shards.specs.Shards.{AllAwake, AreShards, HasJoined, IsShard, IsSplit, Sleeps, SleepsAt, links_among, flight_to};
 
 use crate::shard::Shard;
 use links::flight::Links;
@@ -34,8 +33,8 @@ fn share_of(units: usize, parts: usize, count: usize) -> usize
     (units.saturating_mul(parts) / count.max(1)).min(units)
 }
 
-/// The place before which the first `parts` of `count` shards lie: those of cores, and then those of channels. Half of them are of cores, fewer if there
-/// are not that many cores, and more if there are few channels.
+/// The place before which the first `parts` of `count` shards lie: those of cores, and then those of channels. Half
+/// of them are of cores, fewer if there are not that many cores, and more if there are few channels.
 fn place_before(config: &Config, parts: usize, count: usize) -> usize
     requires { parts ≤ count }
     ensures { result ≤ unit_count config.now }
@@ -51,8 +50,9 @@ fn place_before(config: &Config, parts: usize, count: usize) -> usize
     }
 }
 
-/// Where each of `count` shards begins, and the number of units: a shard is of cores alone, or of channels alone, and is about as large as the next of its
-/// kind, so that those of channels, which have most to do, all have about the same amount to do.
+/// Where each of `count` shards begins, and the number of units: a shard is of cores alone, or of channels alone, and
+/// is about as large as the next of its kind, so that those of channels, which have most to do, all have about the
+/// same amount to do.
 pub(crate) fn bounds_for(
     alloc: Global,
     config: &Config,
@@ -111,7 +111,7 @@ fn links_to(
     messages: &[Message],
 ) -> Result<Links, AllocError>
     requires { past ≤ unit_count config.now }
-    ensures { IfOk result (λ links. links ≡ record { channels = config.now.channels; messages = fold insert_by_age [] (among config.now first past messages.now) }) }
+    ensures { IfOk result (λ links. links ≡ links_among config.now first past messages.now) }
 {
     let mut links = Links::start(alloc, config)?;
     links.accept(&mut messages_to(alloc, config, first, past, messages)?)?;
@@ -132,10 +132,10 @@ fn shard_of(
     requires exists { suc index < length bounds.now }
     requires count { bound bounds.now index + length slots.items ≡ bound bounds.now (suc index) }
     requires early { now ≤ 10 ^ 12 }
-    requires wait { (k : ℕ) (d : Slot) → k < length slots.items → Waits (arc_value machine.now).config (arc_value machine.now).traces.items (unit_at (arc_value machine.now).config (bound bounds.now index + k)) now now (sleeper (slice_index_or slots.items k d) now) }
-    requires flight { messages.now ≡ in_flight (arc_value machine.now).config (arc_value machine.now).traces.items (run (arc_value machine.now).config (arc_value machine.now).traces.items now) }
-    ensures shard { IfOk result (λ shard. IsShard (arc_value machine.now).config (arc_value machine.now).traces.items bounds.now index shard.value) }
-    ensures asleep { IfOk result (λ shard. IsAsleep (arc_value machine.now).config (arc_value machine.now).traces.items shard.value.first now shard.value.slots.items shard.value.words.items shard.value.links) }
+    requires wait { AllAwake (arc_value machine.now) (bound bounds.now index) now slots.items }
+    requires flight { messages.now ≡ flight_at (arc_value machine.now) now }
+    ensures shard { IfOk result (λ b. IsShard (arc_value machine.now) bounds.now index b.value) }
+    ensures asleep { IfOk result (λ b. Sleeps (arc_value machine.now) now b.value) }
 {
     let first = bounds[index];
     let words = vec![in alloc; now; slots.len()]?;
@@ -174,9 +174,9 @@ fn shards_from(
     requires split { IsSplit (arc_value machine.now).config bounds.now }
     requires count { length slots.items ≡ unit_count (arc_value machine.now).config }
     requires early { now ≤ 10 ^ 12 }
-    requires wait { (k : ℕ) (d : Slot) → k < length slots.items → Waits (arc_value machine.now).config (arc_value machine.now).traces.items (unit_at (arc_value machine.now).config k) now now (sleeper (slice_index_or slots.items k d) now) }
-    requires flight { messages.now ≡ in_flight (arc_value machine.now).config (arc_value machine.now).traces.items (run (arc_value machine.now).config (arc_value machine.now).traces.items now) }
-    ensures { IfOk result (λ shards. AreShards (arc_value machine.now).config (arc_value machine.now).traces.items bounds.now now shards.items) }
+    requires wait { AllAwake (arc_value machine.now) 0 now slots.items }
+    requires flight { messages.now ≡ flight_at (arc_value machine.now) now }
+    ensures { IfOk result (λ v. AreShards (arc_value machine.now) bounds.now now v.items) }
 {
     let mut left = slots;
     let count = bounds.len() - 1;
@@ -194,8 +194,8 @@ pub(crate) fn shards_of(
     sim: Sim,
     bounds: &[usize],
 ) -> Result<Vec<Box<Shard>>, AllocError>
-    requires { IsSplit sim.machine bounds.now }
-    ensures { IfOk result (λ shards. AreShards sim.machine sim.traces bounds.now sim.now shards.items) }
+    requires { IsSplit sim.machine.config bounds.now }
+    ensures { IfOk result (λ shards. AreShards sim.machine bounds.now sim.now shards.items) }
 {
     let Sim {
         machine,
@@ -209,7 +209,8 @@ pub(crate) fn shards_of(
     shards_from(alloc, &machine, bounds, slots, now, &messages)
 }
 
-/// Puts the units of a shard, where the machine stands, behind those of a list, and what is in flight to them into links.
+/// Puts the units of a shard, where the machine stands, behind those of a list, and what is in flight to them into
+/// links.
 fn join_shard(
     alloc: Global,
     machine: &Machine,
@@ -218,12 +219,12 @@ fn join_shard(
     parts: &mut Vec<UnitState>,
     links: &mut Links,
 ) -> Result<(), AllocError>
-    requires asleep { IsAsleep machine.now.config machine.now.traces.items (length parts.old.items) now shard.value.slots.items shard.value.words.items shard.value.links }
-    requires stand { StandAt machine.now.config machine.now.traces.items now parts.old.items }
-    requires links { links.old ≡ record { channels = machine.now.config.channels; messages = among machine.now.config 0 (length parts.old.items) (in_flight machine.now.config machine.now.traces.items (run machine.now.config machine.now.traces.items now)) } }
-    ensures count { OnOk result (length parts.new.items ≡ length parts.old.items + length shard.value.slots.items) }
-    ensures stand { OnOk result (StandAt machine.now.config machine.now.traces.items now parts.new.items) }
-    ensures links { OnOk result (links.new ≡ record { channels = machine.now.config.channels; messages = among machine.now.config 0 (length parts.old.items + length shard.value.slots.items) (in_flight machine.now.config machine.now.traces.items (run machine.now.config machine.now.traces.items now)) }) }
+    requires asleep { SleepsAt machine.now (length parts.old.items) now shard.value }
+    requires stand { StandAt machine.now now parts.old.items }
+    requires links { links.old ≡ flight_to machine.now now 0 (length parts.old.items) }
+    ensures count { OnOk result (HasJoined shard.value parts.old.items parts.new.items) }
+    ensures stand { OnOk result (StandAt machine.now now parts.new.items) }
+    ensures links { OnOk result (links.new ≡ flight_to machine.now now 0 (length parts.new.items)) }
 {
     let Shard {
         slots,
@@ -237,7 +238,8 @@ fn join_shard(
     Ok(())
 }
 
-/// Puts the units of all shards, where the machine stands, into an empty list, and what is in flight to them into empty links.
+/// Puts the units of all shards, where the machine stands, into an empty list, and what is in flight to them into
+/// empty links.
 fn join_all(
     alloc: Global,
     machine: &Machine,
@@ -247,12 +249,12 @@ fn join_all(
     parts: &mut Vec<UnitState>,
     links: &mut Links,
 ) -> Result<(), AllocError>
-    requires shards { AreShards machine.now.config machine.now.traces.items bounds.now now shards.items }
+    requires shards { AreShards machine.now bounds.now now shards.items }
     requires none { parts.old.items ≡ [] }
-    requires empty { links.old ≡ record { channels = machine.now.config.channels; messages = [] } }
+    requires empty { links.old ≡ nothing_in_flight machine.now.config }
     ensures count { OnOk result (length parts.new.items ≡ unit_count machine.now.config) }
-    ensures stand { OnOk result (StandAt machine.now.config machine.now.traces.items now parts.new.items) }
-    ensures links { OnOk result (links.new ≡ record { channels = machine.now.config.channels; messages = in_flight machine.now.config machine.now.traces.items (run machine.now.config machine.now.traces.items now) }) }
+    ensures stand { OnOk result (StandAt machine.now now parts.new.items) }
+    ensures links { OnOk result (links.new ≡ links_at machine.now now) }
 {
     for shard in shards {
         join_shard(alloc, machine, shard, now, parts, links)?;
@@ -269,9 +271,9 @@ pub(crate) fn joined(
     now: Cycle,
     phase: u64,
 ) -> Result<Sim, AllocError>
-    requires shards { AreShards (arc_value machine).config (arc_value machine).traces.items bounds.now now shards.items }
+    requires shards { AreShards (arc_value machine) bounds.now now shards.items }
     requires counted { phase ≤ now }
-    ensures { IfOk result (λ sim. sim ≡ record { machine = (arc_value machine).config; traces = (arc_value machine).traces.items; now = now; phase = phase }) }
+    ensures { IfOk result (λ sim. sim ≡ sim_at (arc_value machine) now phase) }
 {
     let mut parts = Vec::with_capacity(alloc, bounds[bounds.len() - 1])?;
     let mut links = Links::start(alloc, &machine.config)?;

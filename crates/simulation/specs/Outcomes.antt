@@ -1,6 +1,9 @@
 -- What a user may rely on in the outcome of a run.
 --     HoldsUnder config law outcome      a law holds of an outcome, under the configuration that the document states
+--     HoldsUnderRead machine traces cycles workers law outcome      so it does, whatever bytes these were read from
 use Rattle.std.specs.Prelude.{◌≡◌, ℕ, List, Ok}
+use Rattle.sim_base.specs.declared.trace.Entry.{Entry}
+use Rattle.simulation.specs.Runs.{HoldsOfInput}
 use Rattle.sim_base.specs.declared.config.Config.{Config}
 use Rattle.sim_base.specs.Values.{values_of}
 use Rattle.config_reader.specs.Document.{document_of}
@@ -11,3 +14,8 @@ pub record HoldsUnder (config : List ℕ) (law : Config → RunOutcome → Type 
   pub machine : Config
   pub configured : document_of config ≡ Ok (values_of machine)
   pub holds : law machine outcome
+
+-- so it does, whatever bytes a machine and its traces were read from
+abbrev pub HoldsUnderRead : Config → List (List Entry) → ℕ → ℕ → (Config → RunOutcome → Type 0) → RunOutcome → Type 0
+HoldsUnderRead machine traces cycles workers law outcome =
+    HoldsOfInput cycles workers machine traces (λ config texts. HoldsUnder config law) outcome

@@ -1,16 +1,25 @@
 -- What a run over the bytes of a configuration and of traces gives, and why it is refused.
+--     texts_in texts      what stands in texts
+--     IsTextOf texts text core      the text of a core
 --     traces_of core texts      the entries of traces, of which the first is that of this core
 --     AreRead texts traces      the traces of the first cores are what their texts mean
 --     limits_of cores texts cycles workers      whether there is one trace per core, and so on
 --     input_of config texts cycles workers      the entries of all traces, or the first fault of a run's input
+--     IsTraceFault core text fault, IsTracesFault texts fault      why a trace, or one of them, is refused
+--     IsInputFault config texts cycles workers fault      why input is refused, where it is not for memory
+--     PassesTests config texts cycles workers traces      input passes all tests
 --     IsInput config texts cycles workers machine traces      a machine and its traces are what these bytes mean
---     HoldsOfInput cycles workers machine traces law outcome      whatever bytes they were read from, a law holds of these and an outcome
+--     HoldsOfInput cycles workers machine traces law outcome      a law holds of whatever bytes these were read from
 --     IsRefusal config texts cycles workers fault      why a run with these workers is refused
---     IsRunOf config texts cycles workers tables outcome      what the one-clock machine that the bytes describe did and left
+--     IsRunOf config texts cycles workers tables outcome      what the one-clock machine did and left
 --     HoldsOfRun config texts cycles workers tables law outcome      the same, and a law holds of the run
+--     IsRunOfInput machine traces cycles workers tables outcome      so it is, whatever these were read from
+--     IsJudgedOfInput machine traces cycles workers tables outcome      it is then judged legal
+--     HoldsOfRead machine traces cycles workers tables law outcome      a law then holds of the run
 --     IsLegalRun s traces n      `check` finds the table of the commands of a run legal
 --     IsJudgedLegal config texts cycles workers tables outcome      it finds that of this run legal
-use Rattle.std.specs.Prelude.{◌≡◌, ◌⊎◌, ℕ, ◌+◌, ◌<◌, ◌≤◌, ◌==◌, nat_le, Bool, ◌&&◌, List, [], ◌∷◌, length, slice_index_or, Result, Ok, Err, IsOk, if◌then◌else◌}
+use Rattle.std.specs.Prelude.{◌≡◌, ◌≢◌, ◌⊎◌, ℕ, ◌+◌, ◌<◌, ◌≤◌, ◌==◌, nat_le, Bool, ◌&&◌, List, [], ◌∷◌, length, map, slice_index_or, Result, Ok, Err, IsOk, if◌then◌else◌}
+use Rattle.std.specs.Borrow.{Bor}
 use Rattle.sim_base.specs.declared.config.Config.{Config}
 use Rattle.sim_base.specs.declared.fault.Fault.{Fault}
 use Rattle.sim_base.specs.declared.fault.Fault.TheVariants.{TraceCount, Workers, Cycles, Memory, WorkerStart}
@@ -27,6 +36,10 @@ use Rattle.reports.specs.Commands.{commands_text}
 use Rattle.rule_check.specs.Verdict.{records_of, verdict}
 use Rattle.rule_check.specs.declared.verdict.Verdict.TheVariants.{Legal}
 
+-- what stands in texts
+abbrev pub texts_in : List (Bor (List ℕ)) → List (List ℕ)
+texts_in texts = map (λ text. text.now) texts
+
 -- a fault, where a test is not passed
 abbrev pub unless : Bool → Fault → Result (Unit {0}) Fault
 unless passed fault = if passed then Ok tt else Err fault
@@ -41,9 +54,12 @@ traces_of core (text ∷ texts) = do
 
 -- each of these traces is what the text of its core means
 abbrev pub AreRead : List (List ℕ) → List (List Entry) → Type 0
-AreRead texts traces = (k : ℕ) (text : List ℕ) (trace : List Entry) → k < length traces → trace_answer k (slice_index_or texts k text) ≡ Ok (slice_index_or traces k trace)
+AreRead texts traces =
+    (k : ℕ) (text : List ℕ) (trace : List Entry) → k < length traces
+    → trace_answer k (slice_index_or texts k text) ≡ Ok (slice_index_or traces k trace)
 
--- what is tested between the configuration and the traces: one trace per core, 1 to 64 workers, and at most 10^12 cycles
+-- what is tested between the configuration and the traces: one trace per core, 1 to 64 workers, and at most 10^12
+-- cycles
 unfoldable pub limits_of : ℕ → ℕ → ℕ → ℕ → Result (Unit {0}) Fault
 limits_of cores texts cycles workers = do
   _ ← unless (texts == cores) TraceCount
@@ -57,6 +73,26 @@ input_of config texts cycles workers = do
   _ ← limits_of values.cores (length texts) cycles workers
   traces_of 0 texts
 
+-- the text of a core is this one
+abbrev pub IsTextOf : List (Bor (List ℕ)) → Bor (List ℕ) → ℕ → Type 0
+IsTextOf texts text core = (slice_index_or texts core text).now ≡ text.now
+
+-- a trace is refused, if not for memory, for the first fault that its text has as that of this core
+abbrev pub IsTraceFault : ℕ → List ℕ → Fault → Type 0
+IsTraceFault core text fault = fault ≢ Memory → trace_answer core text ≡ Err fault
+
+-- traces are refused, if not for memory, for the first fault that their texts have
+abbrev pub IsTracesFault : List (List ℕ) → Fault → Type 0
+IsTracesFault texts fault = fault ≢ Memory → traces_of 0 texts ≡ Err fault
+
+-- input is refused, if not for memory, for the first fault that its tests find
+abbrev pub IsInputFault : List ℕ → List (List ℕ) → ℕ → ℕ → Fault → Type 0
+IsInputFault config texts cycles workers fault = fault ≢ Memory → input_of config texts cycles workers ≡ Err fault
+
+-- the input passes all tests, and these are the entries of its traces
+abbrev pub PassesTests : List ℕ → List (List ℕ) → ℕ → ℕ → List (List Entry) → Type 0
+PassesTests config texts cycles workers traces = input_of config texts cycles workers ≡ Ok traces
+
 -- the machine is what the document states, and the traces are what the texts mean, which pass all tests
 pub record IsInput (config : List ℕ) (texts : List (List ℕ)) (cycles workers : ℕ) (machine : Config) (traces : List (List Entry)) : Type 0 where
   pub configured : document_of config ≡ Ok (values_of machine)
@@ -68,16 +104,17 @@ abbrev pub HoldsOfInput : ℕ → ℕ → Config → List (List Entry) → (List
 HoldsOfInput cycles workers machine traces law outcome =
     (config : List ℕ) (texts : List (List ℕ)) → IsInput config texts cycles workers machine traces → law config texts outcome
 
--- Memory was refused; or this is the first fault of the input; or the input has none, and one of several workers was not started.
+-- Memory was refused; or this is the first fault of the input; or the input has none, and one of several workers was
+-- not started.
 abbrev pub IsRefusal : List ℕ → List (List ℕ) → ℕ → ℕ → Fault → Type 0
 IsRefusal config texts cycles workers fault =
     (fault ≡ Memory)
     ⊎ (input_of config texts cycles workers ≡ Err fault)
     ⊎ ((fault ≡ WorkerStart) × (2 ≤ workers) × IsOk (input_of config texts cycles workers))
 
--- The configuration is what the document states, the traces are what the texts mean, and the outcome is that of the machine
--- that advances every core, link and channel one cycle at a time, up to the limit or until all is done: its commands, if their table
--- is asked for, what it counted, and the state before the next cycle.
+-- The configuration is what the document states, the traces are what the texts mean, and the outcome is that of the
+-- machine that advances every core, link and channel one cycle at a time, up to the limit or until all is done: its
+-- commands, if their table is asked for, what it counted, and the state before the next cycle.
 pub record IsRunOf (config : List ℕ) (texts : List (List ℕ)) (cycles workers : ℕ) (tables : Tables) (outcome : RunOutcome) : Type 0 where
   pub machine : Config
   pub traces : List (List Entry)
@@ -85,7 +122,8 @@ pub record IsRunOf (config : List ℕ) (texts : List (List ℕ)) (cycles workers
   pub read : input_of config texts cycles workers ≡ Ok traces
   pub outcome_is : outcome ≡ outcome_of tables machine traces (cycles_run machine traces cycles)
 
--- The outcome is that of a run, and a law holds of its machine, its traces and its cycles, whatever tables were asked for.
+-- The outcome is that of a run, and a law holds of its machine, its traces and its cycles, whatever tables were asked
+-- for.
 pub record HoldsOfRun (config : List ℕ) (texts : List (List ℕ)) (cycles workers : ℕ) (tables : Tables) (law : Config → List (List Entry) → ℕ → Type 0) (outcome : RunOutcome) : Type 0 where
   pub run_is : IsRunOf config texts cycles workers tables outcome
   pub holds : law run_is.machine run_is.traces outcome.stats.cycles
@@ -94,6 +132,22 @@ pub record HoldsOfRun (config : List ℕ) (texts : List (List ℕ)) (cycles work
 abbrev pub IsLegalRun : Config → List (List Entry) → ℕ → Type 0
 IsLegalRun s traces n = verdict s (records_of (commands_text s.ranks (commands (run s traces n)))) ≡ Ok Legal
 
--- Under the configuration that the document states, `check` finds the text of the table of the commands of the run legal.
+-- Under the configuration that the document states, `check` finds the text of the table of the commands of the run
+-- legal.
 abbrev pub IsJudgedLegal : List ℕ → List (List ℕ) → ℕ → ℕ → Tables → RunOutcome → Type 0
 IsJudgedLegal config texts cycles workers tables outcome = HoldsOfRun config texts cycles workers tables IsLegalRun outcome
+
+-- Whatever bytes a machine and its traces were read from, the outcome is that of a run over these bytes.
+abbrev pub IsRunOfInput : Config → List (List Entry) → ℕ → ℕ → Tables → RunOutcome → Type 0
+IsRunOfInput machine traces cycles workers tables outcome =
+    HoldsOfInput cycles workers machine traces (λ config texts. IsRunOf config texts cycles workers tables) outcome
+
+-- so `check` finds the table of its commands legal
+abbrev pub IsJudgedOfInput : Config → List (List Entry) → ℕ → ℕ → Tables → RunOutcome → Type 0
+IsJudgedOfInput machine traces cycles workers tables outcome =
+    HoldsOfInput cycles workers machine traces (λ config texts. IsJudgedLegal config texts cycles workers tables) outcome
+
+-- and a law holds of the run
+abbrev pub HoldsOfRead : Config → List (List Entry) → ℕ → ℕ → Tables → (Config → List (List Entry) → ℕ → Type 0) → RunOutcome → Type 0
+HoldsOfRead machine traces cycles workers tables law outcome =
+    HoldsOfInput cycles workers machine traces (λ config texts. HoldsOfRun config texts cycles workers tables law) outcome

@@ -1,10 +1,10 @@
 //! The input of a run, read and tested.
 
-ghost use Rattle.std.specs.Prelude.{◌≡◌, ◌≢◌, ◌≤◌, ◌<◌, ◌^◌, ◌==◌, ◌&&◌, nat_le, length, vec_len, map, slice_index_or, Ok, Err, IfOk, IfErr, IfSome};
+ghost use Rattle.std.specs.Prelude.{◌≡◌, ◌≤◌, ◌<◌, ◌^◌, ◌==◌, ◌&&◌, nat_le, length, vec_len, Ok, IfOk, IfErr, IfSome};
 ghost use Rattle.config_reader.specs.Document.{document_of};
 ghost use Rattle.sim_base.specs.TraceText.{trace_answer};
 ghost use Rattle.sim_base.specs.Values.{values_of};
-ghost use Rattle.simulation.specs.Runs.{unless, limits_of, traces_of, AreRead, input_of};
+ghost use Rattle.simulation.specs.Runs.{unless, limits_of, texts_in, traces_of, AreRead, IsTextOf, IsTraceFault, IsTracesFault, IsInputFault, PassesTests};
 
 use config_reader::read_config;
 use cpu_trace::reader::read_trace;
@@ -64,7 +64,7 @@ fn check_limits(cores: u16, texts: usize, cycles: Cycle, workers: u64) -> Result
 // A core before this one that is given the same text.
 fn earlier(texts: &[&[u8]], core: usize, text: &[u8]) -> Option<usize>
     ensures before { IfSome result (λ first. first < core) }
-    ensures same { IfSome result (λ first. (slice_index_or texts.now first text.entry).now ≡ text.now) }
+    ensures same { IfSome result (IsTextOf texts.now text.entry) }
 {
     for first in 0..core.min(texts.len()) {
         if texts[first] == text {
@@ -83,9 +83,9 @@ fn next_trace<R: Threads + Sync>(
     text: &[u8],
 ) -> Result<Trace, Fault>
     requires few { length traces.now < 256 }
-    requires read { AreRead (map (λ t. t.now) texts.now) traces.now }
+    requires read { AreRead (texts_in texts.now) traces.now }
     ensures answer { IfOk result (λ trace. trace_answer (length traces.now) text.now ≡ Ok trace) }
-    ensures refused { IfErr result (λ e. e ≢ Fault.Memory → trace_answer (length traces.now) text.now ≡ Err e) }
+    ensures refused { IfErr result (IsTraceFault (length traces.now) text.now) }
 {
     let core = traces.len();
     match earlier(texts, core, text) {
@@ -101,9 +101,9 @@ fn read_traces<R: Threads + Sync>(
     texts: &[&[u8]],
 ) -> Result<Vec<Trace>, Fault>
     requires { length texts.now ≤ 256 }
-    ensures ok { IfOk result (λ v. traces_of 0 (map (λ t. t.now) texts.now) ≡ Ok v.items) }
+    ensures ok { IfOk result (λ v. traces_of 0 (texts_in texts.now) ≡ Ok v.items) }
     ensures count { IfOk result (λ v. vec_len v ≡ length texts.now) }
-    ensures refused { IfErr result (λ e. e ≢ Fault.Memory → traces_of 0 (map (λ t. t.now) texts.now) ≡ Err e) }
+    ensures refused { IfErr result (IsTracesFault (texts_in texts.now)) }
 {
     let mut traces = Vec::new(alloc);
     for text in texts {
@@ -120,8 +120,9 @@ fn read_traces<R: Threads + Sync>(
 
 /// The configuration and the traces of a run, one trace per core, after all tests of its input.
 ///
-/// The input is tested in this order: the configuration, the number of traces, the number of workers (1 to 64), the limit (at
-/// most 10^12 cycles), and the traces by core. The first fault is returned. `Fault::Memory` may come at any time.
+/// The input is tested in this order: the configuration, the number of traces, the number of workers (1 to 64), the
+/// limit (at most 10^12 cycles), and the traces by core. The first fault is returned. `Fault::Memory` may come at any
+/// time.
 pub fn read_input<R: Threads + Sync>(
     rt: &R,
     alloc: Global,
@@ -131,12 +132,13 @@ pub fn read_input<R: Threads + Sync>(
     workers: u64,
 ) -> Result<(Config, Vec<Trace>), Fault>
     ensures configured { IfOk result (λ r. document_of config.now ≡ Ok (values_of r.0)) }
-    ensures traces { IfOk result (λ r. traces_of 0 (map (λ t. t.now) texts.now) ≡ Ok r.1.items) }
-    ensures input { IfOk result (λ r. input_of config.now (map (λ t. t.now) texts.now) cycles workers ≡ Ok r.1.items) }
+    ensures traces { IfOk result (λ r. traces_of 0 (texts_in texts.now) ≡ Ok r.1.items) }
+    ensures input { IfOk result
+        (λ r. PassesTests config.now (texts_in texts.now) cycles workers r.1.items) }
     ensures count { IfOk result (λ r. vec_len r.1 ≡ r.0.cores) }
     ensures workers { IfOk result (λ _. (1 ≤ workers) × (workers ≤ 64)) }
     ensures cycles { IfOk result (λ _. cycles ≤ 10 ^ 12) }
-    ensures refused { IfErr result (λ e. e ≢ Fault.Memory → input_of config.now (map (λ t. t.now) texts.now) cycles workers ≡ Err e) }
+    ensures refused { IfErr result (IsInputFault config.now (texts_in texts.now) cycles workers) }
 {
     let config = match read_config(alloc, config) {
         Ok(config) => config,

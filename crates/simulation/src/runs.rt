@@ -1,8 +1,8 @@
 //! A run of the simulator, from the bytes of its input.
 
-ghost use Rattle.std.specs.Prelude.{◌≡◌, ◌≤◌, ◌^◌, length, map, IfOk, IfErr};
-ghost use Rattle.simulation.specs.Runs.{HoldsOfInput, IsRefusal, IsRunOf, HoldsOfRun, IsJudgedLegal};
-ghost use Rattle.simulation.specs.Outcomes.{HoldsUnder};
+ghost use Rattle.std.specs.Prelude.{◌≡◌, ◌≤◌, ◌^◌, length, IfOk, IfErr};
+ghost use Rattle.simulation.specs.Runs.{IsRefusal, IsRunOf, IsRunOfInput, HoldsOfRead, HoldsOfRun, IsJudgedLegal, IsJudgedOfInput, texts_in};
+ghost use Rattle.simulation.specs.Outcomes.{HoldsUnder, HoldsUnderRead};
 ghost use Rattle.table_laws.specs.Outcomes.{OwnsDataBus, IsRefreshed, HasBoundedQueues, HoldsFewCredits, KeepsCreditsUntil};
 ghost use Rattle.workers.specs.Runs.{IsRefusedTo};
 
@@ -21,8 +21,8 @@ use workers::machine::run_machine;
 use workers::sharing::Workers;
 use workers::watch::Watch;
 
-/// Runs the machine of an input that was read, for at most `cycles` cycles, as `simulate` says. Whatever texts the input was read from, the outcome is that of
-/// their run, so that a caller need not hold them while the machine runs.
+/// Runs the machine of an input that was read, for at most `cycles` cycles, as `simulate` says. Whatever texts the
+/// input was read from, the outcome is that of their run, so that a caller need not hold them while the machine runs.
 pub fn run_input<R: Threads + Wait + Sync, G: Gate + Sync, W: Watch>(
     rt: &R,
     alloc: Global,
@@ -38,13 +38,20 @@ pub fn run_input<R: Threads + Wait + Sync, G: Gate + Sync, W: Watch>(
     requires some { 1 ≤ workers.count }
     requires few { workers.count ≤ 64 }
     requires limit { cycles ≤ 10 ^ 12 }
-    ensures run { IfOk result (HoldsOfInput cycles workers.count machine.now traces.items (λ config texts. IsRunOf config texts cycles workers.count tables)) }
-    ensures legal { IfOk result (HoldsOfInput cycles workers.count machine.now traces.items (λ config texts. IsJudgedLegal config texts cycles workers.count tables)) }
-    ensures data_bus { IfOk result (HoldsOfInput cycles workers.count machine.now traces.items (λ config texts. HoldsOfRun config texts cycles workers.count tables OwnsDataBus)) }
-    ensures refreshed { IfOk result (HoldsOfInput cycles workers.count machine.now traces.items (λ config texts. HoldsOfRun config texts cycles workers.count tables IsRefreshed)) }
-    ensures bounded { IfOk result (HoldsOfInput cycles workers.count machine.now traces.items (λ config texts. HoldsUnder config HasBoundedQueues)) }
-    ensures held { IfOk result (HoldsOfInput cycles workers.count machine.now traces.items (λ config texts. HoldsUnder config HoldsFewCredits)) }
-    ensures credits { IfOk result (HoldsOfInput cycles workers.count machine.now traces.items (λ config texts. HoldsOfRun config texts cycles workers.count tables KeepsCreditsUntil)) }
+    ensures run { IfOk result
+        (IsRunOfInput machine.now traces.items cycles workers.count tables) }
+    ensures legal { IfOk result
+        (IsJudgedOfInput machine.now traces.items cycles workers.count tables) }
+    ensures data_bus { IfOk result
+        (HoldsOfRead machine.now traces.items cycles workers.count tables OwnsDataBus) }
+    ensures refreshed { IfOk result
+        (HoldsOfRead machine.now traces.items cycles workers.count tables IsRefreshed) }
+    ensures bounded { IfOk result
+        (HoldsUnderRead machine.now traces.items cycles workers.count HasBoundedQueues) }
+    ensures held { IfOk result
+        (HoldsUnderRead machine.now traces.items cycles workers.count HoldsFewCredits) }
+    ensures credits { IfOk result
+        (HoldsOfRead machine.now traces.items cycles workers.count tables KeepsCreditsUntil) }
     ensures refused { IfErr result (IsRefusedTo workers.count) }
 {
     run_machine(
@@ -52,21 +59,22 @@ pub fn run_input<R: Threads + Wait + Sync, G: Gate + Sync, W: Watch>(
     )
 }
 
-/// Runs the machine that a configuration and one trace per core describe, for at most `cycles` cycles, and returns its commands, if
-/// their table is asked for, its statistics and the state in which it ends. At most as many workers run it as are named, 1 to 64, each in a thread of its
-/// own, and `workers.sharing` says when they share it out; one worker is the thread of the caller, which runs it in place. A worker passes the
-/// gate at the beginning and at the end of each job of a phase. The watcher is told how far the run is, and when it has ended. The result does
-/// not depend on the workers, when they share, the gate or the watcher.
+/// Runs the machine that a configuration and one trace per core describe, for at most `cycles` cycles, and returns
+/// its commands, if their table is asked for, its statistics and the state in which it ends. At most as many workers
+/// run it as are named, 1 to 64, each in a thread of its own, and `workers.sharing` says when they share it out; one
+/// worker is the thread of the caller, which runs it in place. A worker passes the gate at the beginning and at the
+/// end of each job of a phase. The watcher is told how far the run is, and when it has ended. The result does not
+/// depend on the workers, when they share, the gate or the watcher.
 ///
-/// The input is tested in this order: the configuration, the number of traces, the number of workers (1 to 64), the limit (at
-/// most 10^12 cycles), and the traces by core. The first fault is returned. `Fault::Memory` may come at any time; the run itself
-/// is refused only with this or, with two or more workers, with `Fault::WorkerStart`. The table of its commands is legal, as
-/// `check` reads it under the same configuration, whether it is asked for or not.
+/// The input is tested in this order: the configuration, the number of traces, the number of workers (1 to 64), the
+/// limit (at most 10^12 cycles), and the traces by core. The first fault is returned. `Fault::Memory` may come at any
+/// time; the run itself is refused only with this or, with two or more workers, with `Fault::WorkerStart`. The table
+/// of its commands is legal, as `check` reads it under the same configuration, whether it is asked for or not.
 ///
-/// In the run no cycle of a channel's data bus belongs to two commands. Where ranks are refreshed, the m-th REF of each stands
-/// at cycle `m * nREFI` plus the slack or earlier, if the run lasts that long. No queue was ever longer than the cores have credits
-/// for. No core is left with more credits than it began with, and at no cycle of the run had it spent more than those and the ones
-/// that came back.
+/// In the run no cycle of a channel's data bus belongs to two commands. Where ranks are refreshed, the m-th REF of
+/// each stands at cycle `m * nREFI` plus the slack or earlier, if the run lasts that long. No queue was ever longer
+/// than the cores have credits for. No core is left with more credits than it began with, and at no cycle of the run
+/// had it spent more than those and the ones that came back.
 pub fn simulate<R: Threads + Wait + Sync, G: Gate + Sync, W: Watch>(
     rt: &R,
     alloc: Global,
@@ -78,14 +86,20 @@ pub fn simulate<R: Threads + Wait + Sync, G: Gate + Sync, W: Watch>(
     workers: Workers,
     tables: Tables,
 ) -> Result<Outcome, Fault>
-    ensures run { IfOk result (IsRunOf config.now (map (λ t. t.now) texts.now) cycles workers.count tables) }
-    ensures legal { IfOk result (IsJudgedLegal config.now (map (λ t. t.now) texts.now) cycles workers.count tables) }
-    ensures data_bus { IfOk result (HoldsOfRun config.now (map (λ t. t.now) texts.now) cycles workers.count tables OwnsDataBus) }
-    ensures refreshed { IfOk result (HoldsOfRun config.now (map (λ t. t.now) texts.now) cycles workers.count tables IsRefreshed) }
+    ensures run { IfOk result
+        (IsRunOf config.now (texts_in texts.now) cycles workers.count tables) }
+    ensures legal { IfOk result
+        (IsJudgedLegal config.now (texts_in texts.now) cycles workers.count tables) }
+    ensures data_bus { IfOk result
+        (HoldsOfRun config.now (texts_in texts.now) cycles workers.count tables OwnsDataBus) }
+    ensures refreshed { IfOk result
+        (HoldsOfRun config.now (texts_in texts.now) cycles workers.count tables IsRefreshed) }
     ensures bounded { IfOk result (HoldsUnder config.now HasBoundedQueues) }
     ensures held { IfOk result (HoldsUnder config.now HoldsFewCredits) }
-    ensures credits { IfOk result (HoldsOfRun config.now (map (λ t. t.now) texts.now) cycles workers.count tables KeepsCreditsUntil) }
-    ensures refused { IfErr result (IsRefusal config.now (map (λ t. t.now) texts.now) cycles workers.count) }
+    ensures credits { IfOk result
+        (HoldsOfRun config.now (texts_in texts.now) cycles workers.count tables KeepsCreditsUntil) }
+    ensures refused { IfErr result
+        (IsRefusal config.now (texts_in texts.now) cycles workers.count) }
 {
     let (config, traces) = match read_input(rt, alloc, config, texts, cycles, workers.count) {
         Ok(input) => input,

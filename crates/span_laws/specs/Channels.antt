@@ -23,7 +23,8 @@ use Rattle.channel_step.specs.Runs.{with_more, IsDone, CanRun}
 use Rattle.channel_step.specs.declared.channel.Channel.{Channel}
 use Rattle.span_laws.specs.Mail.{mail_before, mail_in}
 
--- the requests of a run that come to a channel in a span are fit for it, after what the channel did and what arrived before
+-- the requests of a run that come to a channel in a span are fit for it, after what the channel did and what arrived
+-- before
 abbrev pub RequestsFitSpans : Config → List (List Entry) → ℕ → ℕ → Type 0
 RequestsFitSpans s traces from until =
     (channel : ℕ) → channel < s.channels → from ≤ until
@@ -36,20 +37,22 @@ ChannelsRunAlone s traces from until =
     → channel_run s channel (channel_steps_of s traces from channel) (mail_before s traces until (unit.Channel channel) from ++ mail_in s traces until (unit.Channel channel) from until) (until - from)
     ≡ channel_steps_of s traces until channel
 
--- a channel stands for what the one with this number did in the cycles of a run before one, and for what arrived at it in them
+-- a channel stands for what the one with this number did in the cycles of a run before one, and for what arrived at
+-- it in them
 abbrev pub IsChannelAt : Config → List (List Entry) → ℕ → ℕ → Channel → Type 0
 IsChannelAt s traces channel now c = StandsFor c s channel (channel_steps_of s traces now channel) (mail_before s traces now (unit.Channel channel) now)
 
--- what a channel makes of a span, and which lists it turns into which: whatever past it stands for, if these messages are fit for
--- the span after it
+-- what a channel makes of a span, and which lists it turns into which: whatever past it stands for, if these messages
+-- are fit for the span after it
 abbrev pub Gives : Channel → List Message → ℕ → ℕ → Channel → Option (List IssuedCommand) → Option (List IssuedCommand) → List Message → List Message → Type 0
 Gives c inbox from until d commands commands_then messages messages_then =
     (s : Config) (channel : ℕ) (steps : List (Option Command)) (mail : List Message)
     → StandsFor c s channel steps mail → length steps ≡ from → IsFit s channel steps mail inbox from until
     → IsDone d s channel steps mail inbox from until commands commands_then messages messages_then
 
--- A channel did what the one with this number did in a span of a run: it stands at the end of the span, and the commands,
--- where they are kept, and the messages of the run beyond those before the span were put behind what two lists held.
+-- A channel did what the one with this number did in a span of a run: it stands at the end of the span, and the
+-- commands, where they are kept, and the messages of the run beyond those before the span were put behind what two
+-- lists held.
 pub record HasGone (s : Config) (traces : List (List Entry)) (channel from until : ℕ) (c : Channel) (commands commands_then : Option (List IssuedCommand)) (messages messages_then : List Message) : Type 0 where
   pub issued : List IssuedCommand
   pub sent : List Message

@@ -37,7 +37,8 @@ CoresRunAlone s traces from until =
     → core_run s core (trace_of traces core) (core_steps_of s traces from core) (mail_before s traces until (Core core) from ++ mail_in s traces until (Core core) from until) (until - from)
     ≡ core_steps_of s traces until core
 
--- a core stands for what the one with this number did in the cycles of a run before one, and for what arrived at it in them
+-- a core stands for what the one with this number did in the cycles of a run before one, and for what arrived at it
+-- in them
 abbrev pub IsCoreAt : Config → List (List Entry) → ℕ → ℕ → CoreView → Type 0
 IsCoreAt s traces core now view = StandsFor s core (trace_of traces core) (core_steps_of s traces now core) (mail_before s traces now (Core core) now) view
 

@@ -23,11 +23,13 @@ use Rattle.span_laws.specs.Mail.{mail_before}
 abbrev pub ends_before : Config → List (List Entry) → ℕ → Bool
 ends_before s traces n = s.ends_drained && is_over s traces (run s traces n)
 
--- a run that is over before a cycle is over before each later one: nothing retires, no request is served, and nothing is sent
+-- a run that is over before a cycle is over before each later one: nothing retires, no request is served, and nothing
+-- is sent
 abbrev pub RunsStayOver : Config → List (List Entry) → ℕ → ℕ → Type 0
 RunsStayOver s traces from until = from ≤ until → is_over s traces (run s traces from) ≡ true → is_over s traces (run s traces until) ≡ true
 
--- a run is over before a cycle where each core has retired its trace, nothing is in flight, and no request is left in a queue
+-- a run is over before a cycle where each core has retired its trace, nothing is in flight, and no request is left in
+-- a queue
 abbrev pub OverIsSeen : Config → List (List Entry) → ℕ → Type 0
 OverIsSeen s traces now =
     is_over s traces (run s traces now) ≡ true
@@ -35,7 +37,8 @@ OverIsSeen s traces now =
     × (in_flight s traces (run s traces now) ≡ [])
     × ((channel : ℕ) → channel < s.channels → queue_left channel (channel_steps_of s traces now channel) (mail_before s traces now (Channel channel) now) ≡ []))
 
--- Where a run does not end before the last of n cycles, and n is the limit or the run ends before cycle n, it has n cycles.
+-- Where a run does not end before the last of n cycles, and n is the limit or the run ends before cycle n, it has n
+-- cycles.
 abbrev pub CyclesAreCounted : Config → List (List Entry) → ℕ → ℕ → Type 0
 CyclesAreCounted s traces limit n =
     n ≤ limit → ((last : ℕ) → last + 1 ≡ n → ends_before s traces last ≡ false) → (n < limit → ends_before s traces n ≡ true) → cycles_run s traces limit ≡ n
@@ -46,8 +49,8 @@ RetiresByWidth s traces from until =
     (core : ℕ) → core < s.cores → from ≤ until
     → retired_before (core_steps_of s traces until core) ≤ retired_before (core_steps_of s traces from core) + s.width * (until - from)
 
--- Of what is in flight at a cycle, all that arrives at a later one or after it is in flight there too: of any kind of such messages
--- there are then no fewer.
+-- Of what is in flight at a cycle, all that arrives at a later one or after it is in flight there too: of any kind of
+-- such messages there are then no fewer.
 abbrev pub FlightStays : Config → List (List Entry) → ℕ → ℕ → Type 0
 FlightStays s traces from until =
     (p : Message → Bool) → from ≤ until → ((m : Message) → p m ≡ true → until ≤ m.arrival)

@@ -20,7 +20,8 @@ use Rattle.sim_base.specs.declared.trace.Entry.{Entry}
 use Rattle.links.specs.InFlight.{InFlight, is_due}
 use Rattle.span_laws.specs.Mail.{mail_in}
 
--- The links hold what is in flight at a cycle of a run: what was sent before the cycle and arrives in it or later, by age.
+-- The links hold what is in flight at a cycle of a run: what was sent before the cycle and arrives in it or later, by
+-- age.
 pub record IsFlightAt (s : Config) (traces : List (List Entry)) (now : ℕ) (flight : InFlight) : Type 0 where
   pub channels_are : flight.channels ≡ s.channels
   pub messages_are : flight.messages ≡ in_flight s traces (run s traces now)
@@ -37,8 +38,8 @@ left_after channels from until units ms = fold (λ rest unit. filter (λ m. not 
 abbrev pub LinksStart : Config → List (List Entry) → Type 0
 LinksStart s traces = IsFlightAt s traces 0 (record { channels = s.channels; messages = [] })
 
--- what is due at a unit in a span, even after what is due at other units was taken out, is what arrives at the unit in the run, of
--- what was sent before the span
+-- what is due at a unit in a span, even after what is due at other units was taken out, is what arrives at the unit
+-- in the run, of what was sent before the span
 abbrev pub LinksBring : Config → List (List Entry) → ℕ → ℕ → Type 0
 LinksBring s traces from until =
     (flight : InFlight) (units : List MachineUnit) (unit : MachineUnit) → IsFlightAt s traces from flight → has_unit units unit ≡ false
@@ -51,8 +52,8 @@ SentIsLate s traces from until =
     → ((core : ℕ) → core < s.cores → messages_of_core s traces (run s traces until) core ≡ messages_of_core s traces (run s traces from) core ++ sent → All (λ m. until ≤ m.arrival) sent)
     × ((channel : ℕ) → channel < s.channels → messages_of_channel s (run s traces until) channel ≡ messages_of_channel s (run s traces from) channel ++ sent → All (λ m. until ≤ m.arrival) sent)
 
--- Where what is due in a span is taken out for each unit, and what the units send in it is taken up, which arrives at its end or
--- later, the links hold what is in flight at its end.
+-- Where what is due in a span is taken out for each unit, and what the units send in it is taken up, which arrives at
+-- its end or later, the links hold what is in flight at its end.
 abbrev pub LinksGoOn : Config → List (List Entry) → ℕ → ℕ → Type 0
 LinksGoOn s traces from until =
     (flight : InFlight) (units : List MachineUnit) (core_sent channel_sent : ℕ → List Message) → from ≤ until → IsFlightAt s traces from flight

@@ -1,3 +1,4 @@
+pub mod Everywhere
 pub mod Mail
 pub mod Channels
 pub mod Cores

@@ -19,8 +19,9 @@ abbrev pub RestsAlone : Config → List (List Entry) → ℕ → ℕ → Machine
 RestsAlone s traces from until (Core core) = Rests s core (trace_of traces core) (core_steps_of s traces from core) (mail_before s traces from (Core core) from) (until - from)
 RestsAlone s traces from until (Channel channel) = IsIdle s channel (channel_steps_of s traces from channel) (mail_before s traces from (Channel channel) from) (until - from)
 
--- Alone, from what it did before a cycle and what arrived at it, a unit would send nothing before another, if nothing arrived. It may
--- retire and issue, or issue commands that move no data: a unit that rests is silent, but not the other way round.
+-- Alone, from what it did before a cycle and what arrived at it, a unit would send nothing before another, if nothing
+-- arrived. It may retire and issue, or issue commands that move no data: a unit that rests is silent, but not the
+-- other way round.
 abbrev pub IsSilent : Config → List (List Entry) → ℕ → ℕ → MachineUnit → Type 0
 IsSilent s traces from until (Core core) =
     (n : ℕ) → from + n ≤ until

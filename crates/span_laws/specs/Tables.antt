@@ -14,8 +14,8 @@ use Rattle.laws.specs.Tables.{rows_on, IsOrdered}
 abbrev pub TablesStart : Config → List (List Entry) → Type 0
 TablesStart s traces = commands (run s traces 0) ≡ []
 
--- Rows of channels of the machine, in order, among which those of each channel are its commands in a span, are the rows by which
--- the table grows in the span.
+-- Rows of channels of the machine, in order, among which those of each channel are its commands in a span, are the
+-- rows by which the table grows in the span.
 abbrev pub TablesGoOn : Config → List (List Entry) → ℕ → ℕ → Type 0
 TablesGoOn s traces from until =
     (more : List IssuedCommand) → from ≤ until → IsOrdered more → All (λ row. row.channel < s.channels) more

@@ -1,7 +1,7 @@
 -- What a user may rely on in the outcome of a run.
 --     OwnsDataBus s traces n      in no cycle do two commands of a channel have data on its bus
 --     refreshes_until rank cycle table      how many REFs of a rank stand in a cycle or before it
---     IsRefreshed s traces n      a rank's REF for each interval of nREFI cycles comes no later than the slack after its end
+--     IsRefreshed s traces n      a rank's REF for each interval of nREFI cycles comes in time, with its slack
 --     most_queued s      the requests for which the cores have credits at one channel
 --     HasBoundedQueues s outcome      no channel ever had more of them in its queue
 --     HoldsFewCredits s outcome      no core is left with more credits than it began with
@@ -29,8 +29,8 @@ OwnsDataBus s traces n =
 abbrev pub refreshes_until : ℕ → ℕ → List IssuedCommand → ℕ
 refreshes_until rank cycle table = count_by (λ row. refreshes rank row.command && nat_le row.cycle cycle) table
 
--- Where there are refreshes, at least m REFs of each rank stand at m * nREFI + refresh_slack or before it, if that cycle is one of
--- the run.
+-- Where there are refreshes, at least m REFs of each rank stand at m * nREFI + refresh_slack or before it, if that
+-- cycle is one of the run.
 abbrev pub IsRefreshed : Config → List (List Entry) → ℕ → Type 0
 IsRefreshed s traces n =
     (channel rank m : ℕ) → channel < s.channels → rank < s.ranks → 0 < s.timing.n_refi →
@@ -50,8 +50,8 @@ pub record HasBoundedQueues (s : Config) (outcome : RunOutcome) : Type 0 where
 abbrev pub HoldsFewCredits : Config → RunOutcome → Type 0
 HoldsFewCredits s outcome = All (λ c. All (λ held. held.read ≤ s.read_credits × held.write ≤ s.write_credits) c.credits) outcome.last.cores
 
--- By the beginning of a cycle, each core has sent each channel no more requests of a kind than the credits that it began with and
--- those that came back, and no more came back than it sent.
+-- By the beginning of a cycle, each core has sent each channel no more requests of a kind than the credits that it
+-- began with and those that came back, and no more came back than it sent.
 pub record KeepsCredits (s : Config) (traces : List (List Entry)) (cycle : ℕ) : Type 0 where
   pub spent : CreditsAreNeverOverspent s traces cycle
   pub back : CreditsComeBackOnce s traces cycle

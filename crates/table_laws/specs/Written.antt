@@ -1,13 +1,15 @@
 -- Rows of commands that a table can hold.
 --     SourceIsOf s source, BankIsOf s bank, CommandIsOf s command      what a command names is of the configuration
 --     RowIsOf s row      a row is one of the configuration's, in a cycle below the limit of numbers
-use Rattle.std.specs.Prelude.{◌<◌, ◌^◌}
+--     AreShort traces      each entry of a trace has a number in that limit
+use Rattle.std.specs.Prelude.{◌<◌, ◌≤◌, ◌^◌, List, length, All}
 use Rattle.sim_base.specs.declared.config.Config.{Config}
 use Rattle.sim_base.specs.declared.place.BankId.{BankId}
 use Rattle.sim_base.specs.declared.command.Command.{Command}
 use Rattle.sim_base.specs.declared.command.Command.TheVariants.{Act, Rd, Wr, Pre, Prea, Ref}
 use Rattle.sim_base.specs.declared.command.IssuedCommand.{IssuedCommand}
 use Rattle.sim_base.specs.declared.command.Source.{Source}
+use Rattle.sim_base.specs.declared.trace.Entry.{Entry}
 
 -- an entry of a core of the machine, with a number below the limit
 pub record SourceIsOf (s : Config) (source : Source) : Type 0 where
@@ -34,3 +36,7 @@ pub record RowIsOf (s : Config) (row : IssuedCommand) : Type 0 where
   pub cycle : row.cycle < 2 ^ 62
   pub channel : row.channel < s.channels
   pub command : CommandIsOf s row.command
+
+-- no trace has more than 2^62 entries, so that each entry has a number below the limit
+abbrev pub AreShort : List (List Entry) → Type 0
+AreShort traces = All (λ t. length t ≤ 2 ^ 62) traces

@@ -12,20 +12,21 @@ use Rattle.statistics.specs.Values.{RunStats}
 use Rattle.units.specs.Units.{unit_count}
 use Rattle.units.specs.Parts.{IsPart, StandAt}
 use Rattle.units.specs.declared.part.UnitState.{UnitState}
+use Rattle.units.specs.declared.machine.Machine.{Machine}
 use Rattle.units.proofs.Standing.{core-at_place, channel-at_place, places-more}
 
-pub core-stands : (s : Config) (traces : List (List Entry)) (now : ℕ) (parts : List UnitState) (core : ℕ) (d : UnitState) → StandAt s traces now parts → length parts ≡ unit_count s
-    → core < s.cores → IsPart s traces (unit.Core core) now (get_or parts core d)
-core-stands s traces now parts core d h e l =
+pub core-stands : (machine : Machine) (now : ℕ) (parts : List UnitState) (core : ℕ) (d : UnitState) → StandAt machine now parts → length parts ≡ unit_count machine.config
+    → core < machine.config.cores → IsPart machine (unit.Core core) now (get_or parts core d)
+core-stands machine now parts core d h e l =
     let k : core < length parts = omega (arith, e, l) in
-    subst (λ u. IsPart s traces u now (get_or parts core d)) (core-at_place s core l) (h core (get_or parts core d) (slice_get-get_or parts core d k))
+    subst (λ u. IsPart machine u now (get_or parts core d)) (core-at_place machine.config core l) (h core (get_or parts core d) (slice_get-get_or parts core d k))
 
-pub channel-stands : (s : Config) (traces : List (List Entry)) (now : ℕ) (parts : List UnitState) (channel : ℕ) (d : UnitState) → StandAt s traces now parts → length parts ≡ unit_count s
-    → channel < s.channels → IsPart s traces (unit.Channel channel) now (get_or parts (s.cores + channel) d)
-channel-stands s traces now parts channel d h e l =
-    let k : s.cores + channel < length parts = omega (arith, e, l) in
-    subst (λ u. IsPart s traces u now (get_or parts (s.cores + channel) d)) (channel-at_place s (s.cores + channel) channel refl)
-    (h (s.cores + channel) (get_or parts (s.cores + channel) d) (slice_get-get_or parts (s.cores + channel) d k))
+pub channel-stands : (machine : Machine) (now : ℕ) (parts : List UnitState) (channel : ℕ) (d : UnitState) → StandAt machine now parts → length parts ≡ unit_count machine.config
+    → channel < machine.config.channels → IsPart machine (unit.Channel channel) now (get_or parts (machine.config.cores + channel) d)
+channel-stands machine now parts channel d h e l =
+    let k : machine.config.cores + channel < length parts = omega (arith, e, l) in
+    subst (λ u. IsPart machine u now (get_or parts (machine.config.cores + channel) d)) (channel-at_place machine.config (machine.config.cores + channel) channel refl)
+    (h (machine.config.cores + channel) (get_or parts (machine.config.cores + channel) d) (slice_get-get_or parts (machine.config.cores + channel) d k))
 
 pub places-then : {X : Type 0} (f : ℕ → X) (k : ℕ) (xs : List X) (x : X) → xs ≡ map f (below k) → x ≡ f k → xs ++ x ∷ [] ≡ map f (below (k + 1))
 places-then f k xs x e h = ap₂ (λ ys y. ys ++ y ∷ []) e h ∙ places-more f k ∙ ap (λ n. map f (below n)) (sym (add-one k))

@@ -26,6 +26,8 @@ use Rattle.units.specs.Units.{unit_at, unit_count}
 use Rattle.units.proofs.Due.{place-at, place_of_unit, exists-at}
 use Rattle.units.proofs.Filters.{filter-filter, filter-same, filter-all, implied}
 use Rattle.units.proofs.Standing.{core-at_place, channel-at_place}
+use Rattle.units.specs.declared.machine.Machine.{Machine}
+use Rattle.units.specs.Runs.{run_of, flight_at, sent_at}
 use Rattle.units.proofs.Travelling.{late-added}
 
 drop-append : {X : Type 0} (xs ys : List X) → drop (length xs) (xs ++ ys) ≡ ys
@@ -33,24 +35,24 @@ drop-append [] ys = refl
 drop-append (x ∷ xs) ys = drop-append xs ys
 
 -- what a unit sent in a span is what is fresh of it
-pub fresh-is : (s : Config) (traces : List (List Entry)) (from until place : ℕ) (ms : List Message)
-    → sent_of s traces until (unit_at s place) ≡ sent_of s traces from (unit_at s place) ++ ms → fresh s traces from until place ≡ ms
+pub fresh-is : (machine : Machine) (from until place : ℕ) (ms : List Message)
+    → sent_at machine until (unit_at machine.config place) ≡ sent_at machine from (unit_at machine.config place) ++ ms → fresh machine from until place ≡ ms
 unfolding fresh
-fresh-is s traces from until place ms e =
-    let old = sent_of s traces from (unit_at s place) in
+fresh-is machine from until place ms e =
+    let old = sent_at machine from (unit_at machine.config place) in
     ap (drop (length old)) e ∙ drop-append old ms
 
-fresh-grows : (s : Config) (traces : List (List Entry)) (from until place : ℕ) → place < unit_count s → from ≤ until → TravelsFor s (until - from)
-    → sent_of s traces until (unit_at s place) ≡ sent_of s traces from (unit_at s place) ++ fresh s traces from until place
-fresh-grows s traces from until place l k t =
-    let a = late-added s traces from until (unit_at s place) (exists-at s place l) k t in
-    a.are ∙ ap (λ z. sent_of s traces from (unit_at s place) ++ z) (sym (fresh-is s traces from until place a.more a.are))
+fresh-grows : (machine : Machine) (from until place : ℕ) → place < unit_count machine.config → from ≤ until → TravelsFor machine.config (until - from)
+    → sent_at machine until (unit_at machine.config place) ≡ sent_at machine from (unit_at machine.config place) ++ fresh machine from until place
+fresh-grows machine from until place l k t =
+    let a = late-added machine.config machine.traces.items from until (unit_at machine.config place) (exists-at machine.config place l) k t in
+    a.are ∙ ap (λ z. sent_at machine from (unit_at machine.config place) ++ z) (sym (fresh-is machine from until place a.more a.are))
 
-pub fresh-late : (s : Config) (traces : List (List Entry)) (from until place : ℕ) → place < unit_count s → from ≤ until → TravelsFor s (until - from)
-    → Each (λ m. until ≤ m.arrival) (fresh s traces from until place)
-fresh-late s traces from until place l k t =
-    let a = late-added s traces from until (unit_at s place) (exists-at s place l) k t in
-    subst (Each (λ m. until ≤ m.arrival)) (sym (fresh-is s traces from until place a.more a.are)) a.each
+pub fresh-late : (machine : Machine) (from until place : ℕ) → place < unit_count machine.config → from ≤ until → TravelsFor machine.config (until - from)
+    → Each (λ m. until ≤ m.arrival) (fresh machine from until place)
+fresh-late machine from until place l k t =
+    let a = late-added machine.config machine.traces.items from until (unit_at machine.config place) (exists-at machine.config place l) k t in
+    subst (Each (λ m. until ≤ m.arrival)) (sym (fresh-is machine from until place a.more a.are)) a.each
 
 pub flat-split : {X : Type 0} (f : ℕ → List X) (c k : ℕ) → flat_map f (below (c + k)) ≡ flat_map f (below c) ++ flat_map (λ i. f (c + i)) (below k)
 flat-split f c zero = ap (λ n. flat_map f (below n)) (add-zero c) ∙ sym (append-nil (flat_map f (below c)))
@@ -78,12 +80,12 @@ Each-behind : {X : Type 0} (P : X → Type 0) (xs ys : List X) → Each P (xs ++
 Each-behind P [] ys h = h
 Each-behind P (x ∷ xs) ys h = Each-behind P xs ys h.1
 
-fresh-by : (s : Config) (traces : List (List Entry)) (from until place : ℕ) → place < unit_count s → from ≤ until → TravelsFor s (until - from)
-    → SentBy s (unit_at s place) (fresh s traces from until place)
-fresh-by s traces from until place l k t =
-    let u = unit_at s place in
-    Each-behind _ (sent_of s traces from u) (fresh s traces from until place)
-    (subst (SentBy s u) (fresh-grows s traces from until place l k t) (sent-by s traces until u (exists-at s place l)))
+fresh-by : (machine : Machine) (from until place : ℕ) → place < unit_count machine.config → from ≤ until → TravelsFor machine.config (until - from)
+    → SentBy machine.config (unit_at machine.config place) (fresh machine from until place)
+fresh-by machine from until place l k t =
+    let u = unit_at machine.config place in
+    Each-behind _ (sent_at machine from u) (fresh machine from until place)
+    (subst (SentBy machine.config u) (fresh-grows machine from until place l k t) (sent-by machine.config machine.traces.items until u (exists-at machine.config place l)))
 
 apart : (s : Config) (a b : MachineUnit) → (a ≡ b → ⊥) → (xs ys : List Message) → SentBy s a xs → SentBy s b ys → Apart xs ys
 apart s a b h xs ys j k =
@@ -114,15 +116,15 @@ grow s f g acc (suc n) hf hg =
     ∙ ap₂ (λ y z. puts y z) (sym (puts-append acc old (f n)) ∙ ap (puts acc) (sym (flat_map_below_more f n))) (sym (flat_map_below_more g n))
 
 -- all messages of a run, with those that are sent in a span put in last
-all-grow : (s : Config) (traces : List (List Entry)) (from until : ℕ) → from ≤ until → TravelsFor s (until - from)
-    → by_age (messages s traces (run s traces until)) ≡ puts (by_age (messages s traces (run s traces from))) (flat_map (fresh s traces from until) (below (unit_count s)))
-all-grow s traces from until k t =
-    let n = unit_count s in
-    by_age-puts (messages s traces (run s traces until))
-    ∙ ap (puts []) (sym (all-sent s traces until) ∙ flat_map_below_same _ (λ i. sent_of s traces from (unit_at s i) ++ fresh s traces from until i) n (λ i l. fresh-grows s traces from until i l k t))
-    ∙ grow s (λ i. sent_of s traces from (unit_at s i)) (fresh s traces from until) [] n
-    (λ i l. sent-by s traces from (unit_at s i) (exists-at s i l)) (λ i l. fresh-by s traces from until i l k t)
-    ∙ ap (λ z. puts z (flat_map (fresh s traces from until) (below n))) (ap (puts []) (all-sent s traces from) ∙ sym (by_age-puts (messages s traces (run s traces from))))
+all-grow : (machine : Machine) (from until : ℕ) → from ≤ until → TravelsFor machine.config (until - from)
+    → by_age (messages machine.config machine.traces.items (run_of machine until)) ≡ puts (by_age (messages machine.config machine.traces.items (run_of machine from))) (flat_map (fresh machine from until) (below (unit_count machine.config)))
+all-grow machine from until k t =
+    let n = unit_count machine.config in
+    by_age-puts (messages machine.config machine.traces.items (run_of machine until))
+    ∙ ap (puts []) (sym (all-sent machine.config machine.traces.items until) ∙ flat_map_below_same _ (λ i. sent_at machine from (unit_at machine.config i) ++ fresh machine from until i) n (λ i l. fresh-grows machine from until i l k t))
+    ∙ grow machine.config (λ i. sent_at machine from (unit_at machine.config i)) (fresh machine from until) [] n
+    (λ i l. sent-by machine.config machine.traces.items from (unit_at machine.config i) (exists-at machine.config i l)) (λ i l. fresh-by machine from until i l k t)
+    ∙ ap (λ z. puts z (flat_map (fresh machine from until) (below n))) (ap (puts []) (all-sent machine.config machine.traces.items from) ∙ sym (by_age-puts (messages machine.config machine.traces.items (run_of machine from))))
 
 flight-late : (s : Config) (traces : List (List Entry)) (n : ℕ) → in_flight s traces (run s traces n) ≡ late n (by_age (messages s traces (run s traces n)))
 unfolding in_flight
@@ -141,29 +143,29 @@ late-late from until l ms =
     filter-filter (λ m. not (ltb m.arrival until)) (λ m. not (ltb m.arrival from)) ms
     ∙ filter-same _ _ ms (Each-all _ (λ m. implied (not (ltb m.arrival from)) (not (ltb m.arrival until)) (later m.arrival from until l)) ms)
 
-pub join-flight : (s : Config) (traces : List (List Entry)) (from until : ℕ) → from ≤ until → TravelsFor s (until - from)
-    → fold insert_by_age (late until (in_flight s traces (run s traces from))) (flat_map (fresh s traces from until) (below (unit_count s))) ≡ in_flight s traces (run s traces until)
-join-flight s traces from until k t =
-    let n = unit_count s in
-    let old = by_age (messages s traces (run s traces from)) in
-    let new = flat_map (fresh s traces from until) (below n) in
+pub join-flight : (machine : Machine) (from until : ℕ) → from ≤ until → TravelsFor machine.config (until - from)
+    → fold insert_by_age (late until (flight_at machine from)) (flat_map (fresh machine from until) (below (unit_count machine.config))) ≡ flight_at machine until
+join-flight machine from until k t =
+    let n = unit_count machine.config in
+    let old = by_age (messages machine.config machine.traces.items (run_of machine from)) in
+    let new = flat_map (fresh machine from until) (below n) in
     let p = λ (m : Message). not (ltb m.arrival until) in
     let all : Each (λ m. p m ≡ true) new =
-    Each-flat_map_below (λ (m : Message). p m ≡ true) (fresh s traces from until) n
-    (λ i l. Each-weaker (λ (m : Message). until ≤ m.arrival) (λ (m : Message). p m ≡ true) (λ m h. since m.arrival until h) _ (fresh-late s traces from until i l k t)) in
-    fold-puts (late until (in_flight s traces (run s traces from))) new
-    ∙ ap (λ z. puts (late until z) new) (flight-late s traces from)
+    Each-flat_map_below (λ (m : Message). p m ≡ true) (fresh machine from until) n
+    (λ i l. Each-weaker (λ (m : Message). until ≤ m.arrival) (λ (m : Message). p m ≡ true) (λ m h. since m.arrival until h) _ (fresh-late machine from until i l k t)) in
+    fold-puts (late until (flight_at machine from)) new
+    ∙ ap (λ z. puts (late until z) new) (flight-late machine.config machine.traces.items from)
     ∙ ap (λ z. puts z new) (late-late from until k old)
     ∙ ap (puts (late until old)) (sym (filter-all p new all))
-    ∙ sym (filter-puts p old new (subst Sorted (sym (by_age-puts (messages s traces (run s traces from)))) (Sorted-puts [] (messages s traces (run s traces from)) tt)))
-    ∙ ap (late until) (sym (all-grow s traces from until k t))
-    ∙ sym (flight-late s traces until)
+    ∙ sym (filter-puts p old new (subst Sorted (sym (by_age-puts (messages machine.config machine.traces.items (run_of machine from)))) (Sorted-puts [] (messages machine.config machine.traces.items (run_of machine from)) tt)))
+    ∙ ap (late until) (sym (all-grow machine from until k t))
+    ∙ sym (flight-late machine.config machine.traces.items until)
 
 -- the links when one more unit's messages are put in
-pub fresh-more : (s : Config) (traces : List (List Entry)) (from until place : ℕ) (acc ms : List Message)
-    → sent_of s traces until (unit_at s place) ≡ sent_of s traces from (unit_at s place) ++ ms
-    → fold insert_by_age (fold insert_by_age acc (flat_map (fresh s traces from until) (below place))) ms ≡ fold insert_by_age acc (flat_map (fresh s traces from until) (below (suc place)))
-fresh-more s traces from until place acc ms e =
-    let old = flat_map (fresh s traces from until) (below place) in
+pub fresh-more : (machine : Machine) (from until place : ℕ) (acc ms : List Message)
+    → sent_at machine until (unit_at machine.config place) ≡ sent_at machine from (unit_at machine.config place) ++ ms
+    → fold insert_by_age (fold insert_by_age acc (flat_map (fresh machine from until) (below place))) ms ≡ fold insert_by_age acc (flat_map (fresh machine from until) (below (suc place)))
+fresh-more machine from until place acc ms e =
+    let old = flat_map (fresh machine from until) (below place) in
     sym (fold-append insert_by_age acc old ms)
-    ∙ ap (fold insert_by_age acc) (ap (λ z. old ++ z) (sym (fresh-is s traces from until place ms e)) ∙ sym (flat_map_below_more (fresh s traces from until) place))
+    ∙ ap (fold insert_by_age acc) (ap (λ z. old ++ z) (sym (fresh-is machine from until place ms e)) ∙ sym (flat_map_below_more (fresh machine from until) place))

@@ -11,23 +11,24 @@ use Rattle.units.specs.Kept.{AreHeld}
 use Rattle.units.specs.Parts.{IsPart}
 use Rattle.units.specs.Units.{unit_at, unit_count}
 use Rattle.units.specs.declared.part.UnitState.{UnitState}
+use Rattle.units.specs.declared.machine.Machine.{Machine}
 use Rattle.units.proofs.Standing.{core-at_place, channel-at_place, places-more}
 
-pub held-more : {A : Type 0} (s : Config) (traces : List (List Entry)) (now place : ℕ) (p : UnitState) (list : ℕ → A) (old new : Option (Vec A Global)) → IsPart s traces (unit_at s place) now p → place < unit_count s
-    → ((core : ℕ) → IsPart s traces (unit.Core core) now p → new ≡ old)
-    → ((channel : ℕ) (rows : List A) → channel < s.channels → IsPart s traces (unit.Channel channel) now p → AreHeld old rows → AreHeld new (rows ++ list channel ∷ []))
-    → AreHeld old (map list (below (place - s.cores))) → AreHeld new (map list (below (suc place - s.cores)))
-held-more {A} s traces now place p list old new stands within core channel was = go (cases_lt place s.cores)
+pub held-more : {A : Type 0} (machine : Machine) (now place : ℕ) (p : UnitState) (list : ℕ → A) (old new : Option (Vec A Global)) → IsPart machine (unit_at machine.config place) now p → place < unit_count machine.config
+    → ((core : ℕ) → IsPart machine (unit.Core core) now p → new ≡ old)
+    → ((channel : ℕ) (rows : List A) → channel < machine.config.channels → IsPart machine (unit.Channel channel) now p → AreHeld old rows → AreHeld new (rows ++ list channel ∷ []))
+    → AreHeld old (map list (below (place - machine.config.cores))) → AreHeld new (map list (below (suc place - machine.config.cores)))
+held-more {A} machine now place p list old new stands within core channel was = go (cases_lt place machine.config.cores)
   where
-    go : (place < s.cores) ⊎ (s.cores ≤ place) → AreHeld new (map list (below (suc place - s.cores)))
+    go : (place < machine.config.cores) ⊎ (machine.config.cores ≤ place) → AreHeld new (map list (below (suc place - machine.config.cores)))
     go (inl l) =
-        let none : place - s.cores ≡ suc place - s.cores = omega arith in
-        subst (λ (lists : Option (Vec A Global)). AreHeld lists (map list (below (suc place - s.cores)))) (sym (core place (subst (λ u. IsPart s traces u now p) (core-at_place s place l) stands)))
+        let none : place - machine.config.cores ≡ suc place - machine.config.cores = omega arith in
+        subst (λ (lists : Option (Vec A Global)). AreHeld lists (map list (below (suc place - machine.config.cores)))) (sym (core place (subst (λ u. IsPart machine u now p) (core-at_place machine.config place l) stands)))
         (subst (λ n. AreHeld old (map list (below n))) none was)
     go (inr l) =
-        let k = place - s.cores in
-        let at : place ≡ s.cores + k = omega arith in
-        let next : suc k ≡ suc place - s.cores = omega arith in
-        let inside : k < s.channels = omega (arith, l, within) in
-        let more : map list (below k) ++ list k ∷ [] ≡ map list (below (suc place - s.cores)) = places-more list k ∙ ap (λ n. map list (below n)) next in
-        subst (AreHeld new) more (channel k (map list (below k)) inside (subst (λ u. IsPart s traces u now p) (channel-at_place s place k at) stands) was)
+        let k = place - machine.config.cores in
+        let at : place ≡ machine.config.cores + k = omega arith in
+        let next : suc k ≡ suc place - machine.config.cores = omega arith in
+        let inside : k < machine.config.channels = omega (arith, l, within) in
+        let more : map list (below k) ++ list k ∷ [] ≡ map list (below (suc place - machine.config.cores)) = places-more list k ∙ ap (λ n. map list (below n)) next in
+        subst (AreHeld new) more (channel k (map list (below k)) inside (subst (λ u. IsPart machine u now p) (channel-at_place machine.config place k at) stands) was)

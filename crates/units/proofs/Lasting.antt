@@ -27,6 +27,8 @@ use Rattle.units.specs.Parts.{IsPart, StandAt}
 use Rattle.units.specs.Drained.{HasFinished, AllFinished, GoesOn}
 use Rattle.units.specs.declared.part.UnitState.{UnitState}
 use Rattle.units.specs.declared.part.UnitState.TheVariants as part
+use Rattle.units.specs.declared.machine.Machine.{Machine}
+use Rattle.units.specs.Runs.{flight_at, is_over_at}
 use Rattle.units.proofs.Standing.{core-at_place, channel-at_place}
 
 -- the number of a core at a place
@@ -34,14 +36,14 @@ pub record IsCorePlace (s : Config) (traces : List (List Entry)) (now place : �
   pub below : place < s.cores
   pub stands : IsCoreAt s traces place now (view_of c)
 
-pub core-place : (s : Config) (traces : List (List Entry)) (now place : ℕ) (c : Core) → IsPart s traces (unit_at s place) now (part.Core c) → IsCorePlace s traces now place c
-core-place s traces now place c h = go (cases_lt place s.cores)
+pub core-place : (machine : Machine) (now place : ℕ) (c : Core) → IsPart machine (unit_at machine.config place) now (part.Core c) → IsCorePlace machine.config machine.traces.items now place c
+core-place machine now place c h = go (cases_lt place machine.config.cores)
   where
-    go : (place < s.cores) ⊎ (s.cores ≤ place) → IsCorePlace s traces now place c
-    go (inl l) = record { below = l; stands = subst (λ u. IsPart s traces u now (part.Core c)) (core-at_place s place l) h }
+    go : (place < machine.config.cores) ⊎ (machine.config.cores ≤ place) → IsCorePlace machine.config machine.traces.items now place c
+    go (inl l) = record { below = l; stands = subst (λ u. IsPart machine u now (part.Core c)) (core-at_place machine.config place l) h }
     go (inr l) =
-        let e : place ≡ s.cores + (place - s.cores) = omega arith in
-        let wrong : ⊥ = subst (λ u. IsPart s traces u now (part.Core c)) (channel-at_place s place (place - s.cores) e) h in
+        let e : place ≡ machine.config.cores + (place - machine.config.cores) = omega arith in
+        let wrong : ⊥ = subst (λ u. IsPart machine u now (part.Core c)) (channel-at_place machine.config place (place - machine.config.cores) e) h in
         absurd wrong
 
 -- the number of a channel at a place
@@ -50,15 +52,15 @@ pub record IsChannelPlace (s : Config) (traces : List (List Entry)) (now place :
   pub is : place ≡ s.cores + channel
   pub stands : IsChannelAt s traces channel now c
 
-pub channel-place : (s : Config) (traces : List (List Entry)) (now place : ℕ) (c : Channel) (rows : Option (List IssuedCommand)) → IsPart s traces (unit_at s place) now (part.Channel c rows)
-    → IsChannelPlace s traces now place c
-channel-place s traces now place c rows h = go (cases_lt place s.cores)
+pub channel-place : (machine : Machine) (now place : ℕ) (c : Channel) (rows : Option (List IssuedCommand)) → IsPart machine (unit_at machine.config place) now (part.Channel c rows)
+    → IsChannelPlace machine.config machine.traces.items now place c
+channel-place machine now place c rows h = go (cases_lt place machine.config.cores)
   where
-    go : (place < s.cores) ⊎ (s.cores ≤ place) → IsChannelPlace s traces now place c
-    go (inl l) = let wrong : ⊥ = subst (λ u. IsPart s traces u now (part.Channel c rows)) (core-at_place s place l) h in absurd wrong
+    go : (place < machine.config.cores) ⊎ (machine.config.cores ≤ place) → IsChannelPlace machine.config machine.traces.items now place c
+    go (inl l) = let wrong : ⊥ = subst (λ u. IsPart machine u now (part.Channel c rows)) (core-at_place machine.config place l) h in absurd wrong
     go (inr l) =
-        let e : place ≡ s.cores + (place - s.cores) = omega arith in
-        record { channel = place - s.cores; is = e; stands = (subst (λ u. IsPart s traces u now (part.Channel c rows)) (channel-at_place s place (place - s.cores) e) h).0 }
+        let e : place ≡ machine.config.cores + (place - machine.config.cores) = omega arith in
+        record { channel = place - machine.config.cores; is = e; stands = (subst (λ u. IsPart machine u now (part.Channel c rows)) (channel-at_place machine.config place (place - machine.config.cores) e) h).0 }
 
 -- what a core counted as retired
 pub core-retired : (s : Config) (traces : List (List Entry)) (core now : ℕ) (view : CoreView) → IsCoreAt s traces core now view
@@ -67,23 +69,23 @@ unfolding core_stats
 core-retired s traces core now view h = ap (λ (x : CoreStats). x.retired) h.stats
 
 -- where all have finished and nothing is in flight the run is over
-pub over-from_units : (s : Config) (traces : List (List Entry)) (now : ℕ) → in_flight s traces (run s traces now) ≡ [] → AllFinished s traces now → is_over s traces (run s traces now) ≡ true
-over-from_units s traces now none all =
-    (over-is_seen s traces now).1 (
-      λ core l. subst (HasFinished s traces now) (core-at_place s core l) (all core (omega arith)),
+pub over-from_units : (machine : Machine) (now : ℕ) → flight_at machine now ≡ [] → AllFinished machine now → is_over_at machine now ≡ true
+over-from_units machine now none all =
+    (over-is_seen machine.config machine.traces.items now).1 (
+      λ core l. subst (HasFinished machine now) (core-at_place machine.config core l) (all core (omega arith)),
       none,
-      λ channel l. subst (HasFinished s traces now) (channel-at_place s (s.cores + channel) channel refl) (all (s.cores + channel) (omega arith)),
+      λ channel l. subst (HasFinished machine now) (channel-at_place machine.config (machine.config.cores + channel) channel refl) (all (machine.config.cores + channel) (omega arith)),
     )
 
 -- and only there
-pub units-from_over : (s : Config) (traces : List (List Entry)) (now : ℕ) → is_over s traces (run s traces now) ≡ true → AllFinished s traces now
-units-from_over s traces now over place l = go (cases_lt place s.cores)
+pub units-from_over : (machine : Machine) (now : ℕ) → is_over_at machine now ≡ true → AllFinished machine now
+units-from_over machine now over place l = go (cases_lt place machine.config.cores)
   where
-    go : (place < s.cores) ⊎ (s.cores ≤ place) → HasFinished s traces now (unit_at s place)
-    go (inl k) = subst (HasFinished s traces now) (sym (core-at_place s place k)) (((over-is_seen s traces now).0 over).0 place k)
+    go : (place < machine.config.cores) ⊎ (machine.config.cores ≤ place) → HasFinished machine now (unit_at machine.config place)
+    go (inl k) = subst (HasFinished machine now) (sym (core-at_place machine.config place k)) (((over-is_seen machine.config machine.traces.items now).0 over).0 place k)
     go (inr k) =
-        let e : place ≡ s.cores + (place - s.cores) = omega arith in
-        subst (HasFinished s traces now) (sym (channel-at_place s place (place - s.cores) e)) (((over-is_seen s traces now).0 over).2 (place - s.cores) (omega arith))
+        let e : place ≡ machine.config.cores + (place - machine.config.cores) = omega arith in
+        subst (HasFinished machine now) (sym (channel-at_place machine.config place (place - machine.config.cores) e)) (((over-is_seen machine.config machine.traces.items now).0 over).2 (place - machine.config.cores) (omega arith))
 
 pub flight-from_over : (s : Config) (traces : List (List Entry)) (now : ℕ) → is_over s traces (run s traces now) ≡ true → in_flight s traces (run s traces now) ≡ []
 flight-from_over s traces now over = ((over-is_seen s traces now).0 over).1
@@ -102,23 +104,23 @@ work-left left width k some l =
     let e : suc k * width ≡ width * k + width = grind arith in
     omega (arith, up.1, more, e)
 
-pub core-goes_on : (s : Config) (traces : List (List Entry)) (now core : ℕ) (c : Core) (until : ℕ) → IsCorePlace s traces now core c → 0 < s.width
-    → let left = length (trace_of traces core) - c.stats.retired in
-    until ≤ now + (left / s.width + min 1 (left % s.width)) → GoesOn s traces now until
-core-goes_on s traces now core c until h some l t m k =
-    let left = length (trace_of traces core) - c.stats.retired in
-    let before : t - now < left / s.width + min 1 (left % s.width) = omega arith in
-    let short = work-left left s.width (t - now) some before in
-    let same = core-retired s traces core now (view_of c) h.stands in
-    lasts-for_trace s traces now t core h.below m (omega (arith, short, same))
+pub core-goes_on : (machine : Machine) (now core : ℕ) (c : Core) (until : ℕ) → IsCorePlace machine.config machine.traces.items now core c → 0 < machine.config.width
+    → let left = length (trace_of machine.traces.items core) - c.stats.retired in
+    until ≤ now + (left / machine.config.width + min 1 (left % machine.config.width)) → GoesOn machine now until
+core-goes_on machine now core c until h some l t m k =
+    let left = length (trace_of machine.traces.items core) - c.stats.retired in
+    let before : t - now < left / machine.config.width + min 1 (left % machine.config.width) = omega arith in
+    let short = work-left left machine.config.width (t - now) some before in
+    let same = core-retired machine.config machine.traces.items core now (view_of c) h.stands in
+    lasts-for_trace machine.config machine.traces.items now t core h.below m (omega (arith, short, same))
 
-pub flight-goes_on : (s : Config) (traces : List (List Entry)) (now arrival until : ℕ) (ms : List Message) → Any (λ m. m.arrival ≡ arrival) ms → ms ≡ in_flight s traces (run s traces now)
-    → until ≤ arrival + 1 → GoesOn s traces now until
-flight-goes_on s traces now arrival until ms some e l t m k =
+pub flight-goes_on : (machine : Machine) (now arrival until : ℕ) (ms : List Message) → Any (λ m. m.arrival ≡ arrival) ms → ms ≡ flight_at machine now
+    → until ≤ arrival + 1 → GoesOn machine now until
+flight-goes_on machine now arrival until ms some e l t m k =
     let there : t ≤ some.1.arrival = omega (arith, some.4) in
-    lasts-for_flight s traces now t m (subst (Any (λ (x : Message). t ≤ x.arrival)) e (some.0, some.1, some.2, some.3, there))
+    lasts-for_flight machine.config machine.traces.items now t m (subst (Any (λ (x : Message). t ≤ x.arrival)) e (some.0, some.1, some.2, some.3, there))
 
 -- the unit at a place of those that stand for their parts
-pub stands-there : (s : Config) (traces : List (List Entry)) (now : ℕ) (parts : List UnitState) (place : ℕ) (p : UnitState) → StandAt s traces now parts → place < length parts
-    → p ≡ get_or parts place p → IsPart s traces (unit_at s place) now p
-stands-there s traces now parts place p h l e = h place p (slice_get-get_or parts place p l ∙ ap Some (sym e))
+pub stands-there : (machine : Machine) (now : ℕ) (parts : List UnitState) (place : ℕ) (p : UnitState) → StandAt machine now parts → place < length parts
+    → p ≡ get_or parts place p → IsPart machine (unit_at machine.config place) now p
+stands-there machine now parts place p h l e = h place p (slice_get-get_or parts place p l ∙ ap Some (sym e))

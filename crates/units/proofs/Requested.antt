@@ -37,21 +37,23 @@ use Rattle.request_laws.proofs.Dated.{requests_arrive_as_issued}
 use Rattle.request_laws.proofs.Serving.{KeepsCycles, run-keeps, are_timed, are_by_cycle, channel_by_cycle}
 use Rattle.span_laws.specs.Mail.{mail_before}
 use Rattle.units.specs.Kept.{served_of}
+use Rattle.units.specs.declared.machine.Machine.{Machine}
+use Rattle.units.specs.Runs.{run_of, commands_at}
 use Rattle.units.proofs.Tabled.{lists_below, table-is}
 
 -- the requests that the channels below a number served
-abbrev pub served_below : Config → List (List Entry) → ℕ → ℕ → List (List ServedRequest)
-served_below s traces now n = map (served_of s traces now) (below n)
+abbrev pub served_below : Machine → ℕ → ℕ → List (List ServedRequest)
+served_below machine now n = map (served_of machine now) (below n)
 
 -- each of these lists stands by cycle
-pub served-rise : (s : Config) (traces : List (List Entry)) (now : ℕ) (channels : List ℕ) → All (AreServed 0 now) (map (served_of s traces now) channels)
-served-rise s traces now channels = All-from_recursion (AreServed 0 now) _ (each channels)
+pub served-rise : (machine : Machine) (now : ℕ) (channels : List ℕ) → All (AreServed 0 now) (map (served_of machine now) channels)
+served-rise machine now channels = All-from_recursion (AreServed 0 now) _ (each channels)
   where
-    each : (channels : List ℕ) → Each (AreServed 0 now) (map (served_of s traces now) channels)
+    each : (channels : List ℕ) → Each (AreServed 0 now) (map (served_of machine now) channels)
     each [] = tt
     each (channel ∷ channels) = (
-      subst (λ n. AreServed 0 n (served_of s traces now channel)) (length-channel_steps_of s traces now channel)
-          (channel_by_cycle (arrival_of s (run s traces now) channel) channel (channel_steps_of s traces now channel)),
+      subst (λ n. AreServed 0 n (served_of machine now channel)) (length-channel_steps_of machine.config machine.traces.items now channel)
+          (channel_by_cycle (arrival_of machine.config (run_of machine now) channel) channel (channel_steps_of machine.config machine.traces.items now channel)),
       each channels,
     )
 
@@ -79,47 +81,47 @@ of-channel g channel cycle (None ∷ steps) = of-channel g channel (cycle + 1) s
 of-channel g channel cycle (Some c ∷ steps) = ap (cons_option (g channel (record { cycle = cycle; channel = channel; command = c }))) (of-channel g channel (cycle + 1) steps)
 
 -- what a channel serves
-own-serving : (s : Config) (traces : List (List Entry)) (now channel : ℕ) → filter_map (served_in_run s (run s traces now)) (history_of s traces now channel) ≡ served_of s traces now channel
+own-serving : (machine : Machine) (now channel : ℕ) → filter_map (served_in_run machine.config (run_of machine now)) (commands_at machine now channel) ≡ served_of machine now channel
 unfolding served_requests issued_commands
-own-serving s traces now channel =
-    let history = run s traces now in
-    of-channel (λ k i. served_in (arrival_of s history k) (history_of s traces now k) i) channel 0 (channel_steps_of s traces now channel)
+own-serving machine now channel =
+    let history = run_of machine now in
+    of-channel (λ k i. served_in (arrival_of machine.config history k) (commands_at machine now k) i) channel 0 (channel_steps_of machine.config machine.traces.items now channel)
 
 -- in a cycle
-lists-at : (s : Config) (traces : List (List Entry)) (now t : ℕ) (channels : List ℕ)
-    → at t (filter_map (served_in_run s (run s traces now)) (flat_map (λ rows. rows) (map (history_of s traces now) channels))) ≡ served_at (map (served_of s traces now) channels) t
-lists-at s traces now t [] = refl
-lists-at s traces now t (channel ∷ channels) =
-    let f = served_in_run s (run s traces now) in
-    let rest = flat_map (λ rows. rows) (map (history_of s traces now) channels) in
-    ap (at t) (filter_map-append f (history_of s traces now channel) rest)
-    ∙ filter-append (λ (r : ServedRequest). eqb r.served t) (filter_map f (history_of s traces now channel)) (filter_map f rest)
-    ∙ ap₂ (λ xs ys. xs ++ ys) (ap (at t) (own-serving s traces now channel)) (lists-at s traces now t channels)
+lists-at : (machine : Machine) (now t : ℕ) (channels : List ℕ)
+    → at t (filter_map (served_in_run machine.config (run_of machine now)) (flat_map (λ rows. rows) (map (commands_at machine now) channels))) ≡ served_at (map (served_of machine now) channels) t
+lists-at machine now t [] = refl
+lists-at machine now t (channel ∷ channels) =
+    let f = served_in_run machine.config (run_of machine now) in
+    let rest = flat_map (λ rows. rows) (map (commands_at machine now) channels) in
+    ap (at t) (filter_map-append f (commands_at machine now channel) rest)
+    ∙ filter-append (λ (r : ServedRequest). eqb r.served t) (filter_map f (commands_at machine now channel)) (filter_map f rest)
+    ∙ ap₂ (λ xs ys. xs ++ ys) (ap (at t) (own-serving machine now channel)) (lists-at machine now t channels)
 
-cycle-is : (s : Config) (traces : List (List Entry)) (now t : ℕ)
-    → at t (filter_map (served_in_run s (run s traces now)) (commands (run s traces now))) ≡ served_at (served_below s traces now s.channels) t
-cycle-is s traces now t =
-    let f = served_in_run s (run s traces now) in
-    let lists = lists_below s traces now s.channels in
-    let same : rows_in t (commands (run s traces now)) ≡ rows_in t (flat_map (λ rows. rows) lists) = ap (rows_in t) (sym (table-is s traces now)) ∙ by_cycle-same (flat_map (λ rows. rows) lists) t in
-    at-serving f (run-keeps s (run s traces now)) t (commands (run s traces now))
+cycle-is : (machine : Machine) (now t : ℕ)
+    → at t (filter_map (served_in_run machine.config (run_of machine now)) (commands (run_of machine now))) ≡ served_at (served_below machine now machine.config.channels) t
+cycle-is machine now t =
+    let f = served_in_run machine.config (run_of machine now) in
+    let lists = lists_below machine.config machine.traces.items now machine.config.channels in
+    let same : rows_in t (commands (run_of machine now)) ≡ rows_in t (flat_map (λ rows. rows) lists) = ap (rows_in t) (sym (table-is machine.config machine.traces.items now)) ∙ by_cycle-same (flat_map (λ rows. rows) lists) t in
+    at-serving f (run-keeps machine.config (run_of machine now)) t (commands (run_of machine now))
     ∙ ap (filter_map f) same
-    ∙ sym (at-serving f (run-keeps s (run s traces now)) t (flat_map (λ rows. rows) lists))
-    ∙ lists-at s traces now t (below s.channels)
+    ∙ sym (at-serving f (run-keeps machine.config (run_of machine now)) t (flat_map (λ rows. rows) lists))
+    ∙ lists-at machine now t (below machine.config.channels)
 
 -- read by cycle they are the requests of the run
-pub requests-are : (s : Config) (traces : List (List Entry)) (now : ℕ) → times_by_cycle s now (served_below s traces now s.channels) ≡ requests_of s (run s traces now)
+pub requests-are : (machine : Machine) (now : ℕ) → times_by_cycle machine.config now (served_below machine now machine.config.channels) ≡ requests_of machine.config (run_of machine now)
 unfolding by_cycle
-requests-are s traces now =
-    let history = run s traces now in
-    let served = filter_map (served_in_run s history) (commands history) in
-    let long : length history ≡ now = length-run s traces now in
-    let stand : AreServed 0 now served = subst (λ n. AreServed 0 n served) long (are_by_cycle s history) in
-    let same : by_cycle now (served ∷ []) ≡ by_cycle now (served_below s traces now s.channels) =
-    flat-same (served_at (served ∷ [])) (served_at (served_below s traces now s.channels)) 0 now (λ t l. append-nil (at t served) ∙ cycle-is s traces now t) in
-    ap (map (times_of s now)) (sym same ∙ own-table now served stand)
-    ∙ ap (λ n. map (times_of s n) served) (sym long)
-    ∙ sym (are_timed s history)
+requests-are machine now =
+    let history = run_of machine now in
+    let served = filter_map (served_in_run machine.config history) (commands history) in
+    let long : length history ≡ now = length-run machine.config machine.traces.items now in
+    let stand : AreServed 0 now served = subst (λ n. AreServed 0 n served) long (are_by_cycle machine.config history) in
+    let same : by_cycle now (served ∷ []) ≡ by_cycle now (served_below machine now machine.config.channels) =
+    flat-same (served_at (served ∷ [])) (served_at (served_below machine now machine.config.channels)) 0 now (λ t l. append-nil (at t served) ∙ cycle-is machine now t) in
+    ap (map (times_of machine.config now)) (sym same ∙ own-table now served stand)
+    ∙ ap (λ n. map (times_of machine.config n) served) (sym long)
+    ∙ sym (are_timed machine.config history)
 
 -- what a channel keeps is what it served in the run
 dated : (s : Config) (history : List MachineStep) (channel : ℕ) (mail : List Message)
@@ -132,12 +134,12 @@ dated s history channel (m ∷ mail) h = by (request_in m.load) h.0 (dated s his
     by None k rest = rest
     by (Some r) k rest = (k, rest)
 
-pub kept-is : (s : Config) (traces : List (List Entry)) (now channel : ℕ) (kept : Option (Vec ServedRequest Global)) → channel < s.channels
-    → KeepsServed kept (history_of s traces now channel) (mail_before s traces now (unit.Channel channel) now) → IfSome kept (λ rows. rows.items ≡ served_of s traces now channel)
-kept-is s traces now channel None l h = tt
-kept-is s traces now channel (Some rows) l h =
-    let history = run s traces now in
-    let P = λ (m : Message). IfSome (request_in m.load) (λ r. r.arrival ≡ arrival_of s history channel (source_of r)) in
-    h (arrival_of s history channel)
-    (dated s history channel (mail_before s traces now (unit.Channel channel) now)
-    (Each-filter P _ (inbox s traces history (unit.Channel channel)) (recursion_from_All P (inbox s traces history (unit.Channel channel)) (requests_arrive_as_issued s traces now channel l))))
+pub kept-is : (machine : Machine) (now channel : ℕ) (kept : Option (Vec ServedRequest Global)) → channel < machine.config.channels
+    → KeepsServed kept (commands_at machine now channel) (mail_before machine.config machine.traces.items now (unit.Channel channel) now) → IfSome kept (λ rows. rows.items ≡ served_of machine now channel)
+kept-is machine now channel None l h = tt
+kept-is machine now channel (Some rows) l h =
+    let history = run_of machine now in
+    let P = λ (m : Message). IfSome (request_in m.load) (λ r. r.arrival ≡ arrival_of machine.config history channel (source_of r)) in
+    h (arrival_of machine.config history channel)
+    (dated machine.config history channel (mail_before machine.config machine.traces.items now (unit.Channel channel) now)
+    (Each-filter P _ (inbox machine.config machine.traces.items history (unit.Channel channel)) (recursion_from_All P (inbox machine.config machine.traces.items history (unit.Channel channel)) (requests_arrive_as_issued machine.config machine.traces.items now channel l))))

@@ -29,6 +29,7 @@ use Rattle.span_laws.specs.Mail.{mail_before}
 use Rattle.span_laws.specs.Quiet.{RestsAlone}
 use Rattle.units.specs.Parts.{IsPart}
 use Rattle.units.specs.Quiet.{IsNextActOf}
+use Rattle.units.specs.declared.machine.Machine.{Machine}
 use Rattle.units.specs.declared.part.UnitState.TheVariants as part
 
 pub core-rows_length : (s : Config) (traces : List (List Entry)) (now core : ℕ) → length (core_steps_of s traces now core) ≡ now
@@ -46,18 +47,18 @@ some-not : {X : Type 0} (o : Option X) → is_some o ≡ true → o ≡ None →
 some-not o e f = false≢true (sym (ap is_some f) ∙ e)
 
 -- the first cycle in which a channel acts
-channel-next_act : (s : Config) (traces : List (List Entry)) (channel from : ℕ) (next : Option ℕ)
-    → IsFirstCycle (λ cycle. is_some (choice s channel (channel_steps_of s traces from channel ++ replicate (cycle - from) None) (mail_before s traces from (unit.Channel channel) from))) from next
-    → IsNextActOf s traces (unit.Channel channel) from next
-channel-next_act s traces channel from next = go next
+channel-next_act : (machine : Machine) (channel from : ℕ) (next : Option ℕ)
+    → IsFirstCycle (λ cycle. is_some (choice machine.config channel (channel_steps_of machine.config machine.traces.items from channel ++ replicate (cycle - from) None) (mail_before machine.config machine.traces.items from (unit.Channel channel) from))) from next
+    → IsNextActOf machine (unit.Channel channel) from next
+channel-next_act machine channel from next = go next
   where
     at : ℕ → Option Command
-    at k = choice s channel (channel_steps_of s traces from channel ++ replicate k None) (mail_before s traces from (unit.Channel channel) from)
+    at k = choice machine.config channel (channel_steps_of machine.config machine.traces.items from channel ++ replicate k None) (mail_before machine.config machine.traces.items from (unit.Channel channel) from)
 
     moved : (k : ℕ) (b : Bool) → is_some (at (from + k - from)) ≡ b → is_some (at k) ≡ b
     moved k b e = let same : from + k - from ≡ k = omega arith in subst (λ i. is_some (at i) ≡ b) same e
 
-    go : (o : Option ℕ) → IsFirstCycle (λ cycle. is_some (at (cycle - from))) from o → IsNextActOf s traces (unit.Channel channel) from o
+    go : (o : Option ℕ) → IsFirstCycle (λ cycle. is_some (at (cycle - from))) from o → IsNextActOf machine (unit.Channel channel) from o
     go None h = λ until l k m. none-from (at k) (moved k false (h (from + k) (omega arith)))
     go (Some act) h =
         record {
@@ -67,28 +68,28 @@ channel-next_act s traces channel from next = go next
         }
 
 -- a core of a simulator may be asked
-pub core-may_rest : (s : Config) (traces : List (List Entry)) (u : MachineUnit) (c : Core) (now : ℕ) → IsPart s traces u now (part.Core c) → MayRest (view_of c)
-core-may_rest s traces (unit.Core core) c now h =
-    record { s = s; core = core; trace = trace_of traces core; steps = core_steps_of s traces now core; mail = mail_before s traces now (unit.Core core) now; stands = h }
-core-may_rest s traces (unit.Channel channel) c now h = absurd h
+pub core-may_rest : (machine : Machine) (u : MachineUnit) (c : Core) (now : ℕ) → IsPart machine u now (part.Core c) → MayRest (view_of c)
+core-may_rest machine (unit.Core core) c now h =
+    record { s = machine.config; core = core; trace = trace_of machine.traces.items core; steps = core_steps_of machine.config machine.traces.items now core; mail = mail_before machine.config machine.traces.items now (unit.Core core) now; stands = h }
+core-may_rest machine (unit.Channel channel) c now h = absurd h
 
-pub core-cycle : (s : Config) (traces : List (List Entry)) (u : MachineUnit) (c : Core) (now : ℕ) → IsPart s traces u now (part.Core c) → c.cycle ≡ now
-core-cycle s traces (unit.Core core) c now h = h.now ∙ core-rows_length s traces now core
-core-cycle s traces (unit.Channel channel) c now h = absurd h
+pub core-cycle : (machine : Machine) (u : MachineUnit) (c : Core) (now : ℕ) → IsPart machine u now (part.Core c) → c.cycle ≡ now
+core-cycle machine (unit.Core core) c now h = h.now ∙ core-rows_length machine.config machine.traces.items now core
+core-cycle machine (unit.Channel channel) c now h = absurd h
 
 -- a channel of a simulator may be asked
-pub channel-stands_at : (s : Config) (traces : List (List Entry)) (u : MachineUnit) (c : Channel) (rows : Option (List IssuedCommand)) (now : ℕ) → IsPart s traces u now (part.Channel c rows)
+pub channel-stands_at : (machine : Machine) (u : MachineUnit) (c : Channel) (rows : Option (List IssuedCommand)) (now : ℕ) → IsPart machine u now (part.Channel c rows)
     → StandsAt c now
-channel-stands_at s traces (unit.Channel channel) c rows now h =
+channel-stands_at machine (unit.Channel channel) c rows now h =
     record {
-      s = s;
+      s = machine.config;
       channel = channel;
-      steps = channel_steps_of s traces now channel;
-      mail = mail_before s traces now (unit.Channel channel) now;
+      steps = channel_steps_of machine.config machine.traces.items now channel;
+      mail = mail_before machine.config machine.traces.items now (unit.Channel channel) now;
       stands = h.0;
-      at = length-channel_steps_of s traces now channel;
+      at = length-channel_steps_of machine.config machine.traces.items now channel;
     }
-channel-stands_at s traces (unit.Core core) c rows now h = absurd h
+channel-stands_at machine (unit.Core core) c rows now h = absurd h
 
 -- what a channel tells when it acts next
 abbrev pub ChannelTells : Channel → ℕ → Option ℕ → Type 0
@@ -96,12 +97,12 @@ ChannelTells c now next =
     (s : Config) (channel : ℕ) (rows : List (Option Command)) (mail : List Message) → ChannelStandsFor c s channel rows mail → length rows ≡ now
     → IsFirstCycle (λ cycle. is_some (choice s channel (rows ++ replicate (cycle - now) None) mail)) now next
 
-pub channel-tells : (s : Config) (traces : List (List Entry)) (u : MachineUnit) (c : Channel) (rows : Option (List IssuedCommand)) (now : ℕ) (next : Option ℕ)
-    → IsPart s traces u now (part.Channel c rows) → ChannelTells c now next → IsNextActOf s traces u now next
-channel-tells s traces (unit.Channel channel) c rows now next h tells =
-    channel-next_act s traces channel now next
-    (tells s channel (channel_steps_of s traces now channel) (mail_before s traces now (unit.Channel channel) now) h.0 (length-channel_steps_of s traces now channel))
-channel-tells s traces (unit.Core core) c rows now next h tells = absurd h
+pub channel-tells : (machine : Machine) (u : MachineUnit) (c : Channel) (rows : Option (List IssuedCommand)) (now : ℕ) (next : Option ℕ)
+    → IsPart machine u now (part.Channel c rows) → ChannelTells c now next → IsNextActOf machine u now next
+channel-tells machine (unit.Channel channel) c rows now next h tells =
+    channel-next_act machine channel now next
+    (tells machine.config channel (channel_steps_of machine.config machine.traces.items now channel) (mail_before machine.config machine.traces.items now (unit.Channel channel) now) h.0 (length-channel_steps_of machine.config machine.traces.items now channel))
+channel-tells machine (unit.Core core) c rows now next h tells = absurd h
 
 -- a unit rests in no cycles
 pub rests-in_none : (s : Config) (traces : List (List Entry)) (now : ℕ) (u : MachineUnit) → RestsAlone s traces now now u

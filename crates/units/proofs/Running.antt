@@ -18,44 +18,46 @@ use Rattle.span_laws.specs.Channels.{Gives}
 use Rattle.span_laws.proofs.ChannelsOn.{channels-may_run, channels-go_on}
 use Rattle.span_laws.proofs.CoresOn.{cores-may_run, cores-go_on}
 use Rattle.units.specs.Parts.{IsReadyFor, HasRunOnto}
+use Rattle.units.specs.declared.machine.Machine.{Machine}
+use Rattle.units.specs.Runs.{run_of}
 use Rattle.units.specs.declared.part.UnitState.TheVariants as part
 
-pub core-at : (s : Config) (traces : List (List Entry)) (unit : MachineUnit) (c : Core) (inbox : List Message) (from until : ℕ)
-    → IsReadyFor s traces unit (part.Core c) inbox from until → c.cycle ≡ from
-core-at s traces (unit.Core core) c inbox from until h = h.stands.now ∙ length-steps_of_core core (run s traces from) ∙ length-run s traces from
-core-at s traces (unit.Channel channel) c inbox from until h = absurd h.stands
+pub core-at : (machine : Machine) (unit : MachineUnit) (c : Core) (inbox : List Message) (from until : ℕ)
+    → IsReadyFor machine unit (part.Core c) inbox from until → c.cycle ≡ from
+core-at machine (unit.Core core) c inbox from until h = h.stands.now ∙ length-steps_of_core core (run_of machine from) ∙ length-run machine.config machine.traces.items from
+core-at machine (unit.Channel channel) c inbox from until h = absurd h.stands
 
-pub core-may_run : (s : Config) (traces : List (List Entry)) (unit : MachineUnit) (c : Core) (inbox : List Message) (from until : ℕ)
-    → IsReadyFor s traces unit (part.Core c) inbox from until → MayRun (view_of c) from until inbox
-core-may_run s traces (unit.Core core) c inbox from until h =
-    subst (MayRun (view_of c) from until) (sym h.mail) (cores-may_run s traces from until core (view_of c) h.exists h.order h.stands)
-core-may_run s traces (unit.Channel channel) c inbox from until h = absurd h.stands
+pub core-may_run : (machine : Machine) (unit : MachineUnit) (c : Core) (inbox : List Message) (from until : ℕ)
+    → IsReadyFor machine unit (part.Core c) inbox from until → MayRun (view_of c) from until inbox
+core-may_run machine (unit.Core core) c inbox from until h =
+    subst (MayRun (view_of c) from until) (sym h.mail) (cores-may_run machine.config machine.traces.items from until core (view_of c) h.exists h.order h.stands)
+core-may_run machine (unit.Channel channel) c inbox from until h = absurd h.stands
 
-pub core-has_run : (s : Config) (traces : List (List Entry)) (unit : MachineUnit) (c d : Core) (inbox held holds : List Message) (from until : ℕ)
-    → IsReadyFor s traces unit (part.Core c) inbox from until → RunsOnto (view_of c) from until inbox (view_of d) held holds
-    → HasRunOnto s traces unit from until (part.Core d) held holds
-core-has_run s traces (unit.Core core) c d inbox held holds from until h runs =
-    let goes = cores-go_on s traces from until core (view_of c) (view_of d) runs.sent h.exists h.order h.stands
+pub core-has_run : (machine : Machine) (unit : MachineUnit) (c d : Core) (inbox held holds : List Message) (from until : ℕ)
+    → IsReadyFor machine unit (part.Core c) inbox from until → RunsOnto (view_of c) from until inbox (view_of d) held holds
+    → HasRunOnto machine unit from until (part.Core d) held holds
+core-has_run machine (unit.Core core) c d inbox held holds from until h runs =
+    let goes = cores-go_on machine.config machine.traces.items from until core (view_of c) (view_of d) runs.sent h.exists h.order h.stands
     (subst (λ mail. Runs (view_of c) from until mail (view_of d) runs.sent) h.mail runs.runs) in
     record { messages = runs.sent; behind = runs.behind; ran = record { exists = h.exists; stands = goes.0; sent = goes.1 } }
-core-has_run s traces (unit.Channel channel) c d inbox held holds from until h runs = absurd h.stands
+core-has_run machine (unit.Channel channel) c d inbox held holds from until h runs = absurd h.stands
 
-pub channel-can_run : (s : Config) (traces : List (List Entry)) (unit : MachineUnit) (c : Channel) (rows : Option (List IssuedCommand)) (inbox : List Message) (from until : ℕ)
-    → IsReadyFor s traces unit (part.Channel c rows) inbox from until → CanRun c inbox from until
-channel-can_run s traces (unit.Channel channel) c rows inbox from until h =
-    subst (λ mail. CanRun c mail from until) (sym h.mail) (channels-may_run s traces from until channel c h.exists h.order h.stands.0)
-channel-can_run s traces (unit.Core core) c rows inbox from until h = absurd h.stands
+pub channel-can_run : (machine : Machine) (unit : MachineUnit) (c : Channel) (rows : Option (List IssuedCommand)) (inbox : List Message) (from until : ℕ)
+    → IsReadyFor machine unit (part.Channel c rows) inbox from until → CanRun c inbox from until
+channel-can_run machine (unit.Channel channel) c rows inbox from until h =
+    subst (λ mail. CanRun c mail from until) (sym h.mail) (channels-may_run machine.config machine.traces.items from until channel c h.exists h.order h.stands.0)
+channel-can_run machine (unit.Core core) c rows inbox from until h = absurd h.stands
 
 -- a list that is kept has more behind it
 kept-more : {X : Type 0} (kept then : Option (List X)) (xs ys more : List X) → then ≡ with_more kept more → ys ≡ xs ++ more → IfSome kept (λ rows. rows ≡ xs) → IfSome then (λ rows. rows ≡ ys)
 kept-more None then xs ys more e f h = subst (λ kept. IfSome kept (λ rows. rows ≡ ys)) (sym e) tt
 kept-more (Some rows) then xs ys more e f h = subst (λ kept. IfSome kept (λ rows. rows ≡ ys)) (sym e) (ap (λ x. x ++ more) h ∙ sym f)
 
-pub channel-has_run : (s : Config) (traces : List (List Entry)) (unit : MachineUnit) (c d : Channel) (rows more : Option (List IssuedCommand)) (inbox held holds : List Message) (from until : ℕ)
-    → IsReadyFor s traces unit (part.Channel c rows) inbox from until → Gives c inbox from until d rows more held holds
-    → HasRunOnto s traces unit from until (part.Channel d more) held holds
-channel-has_run s traces (unit.Channel channel) c d rows more inbox held holds from until h gives =
-    let goes = channels-go_on s traces from until channel c d rows more held holds h.exists h.order h.stands.0
+pub channel-has_run : (machine : Machine) (unit : MachineUnit) (c d : Channel) (rows more : Option (List IssuedCommand)) (inbox held holds : List Message) (from until : ℕ)
+    → IsReadyFor machine unit (part.Channel c rows) inbox from until → Gives c inbox from until d rows more held holds
+    → HasRunOnto machine unit from until (part.Channel d more) held holds
+channel-has_run machine (unit.Channel channel) c d rows more inbox held holds from until h gives =
+    let goes = channels-go_on machine.config machine.traces.items from until channel c d rows more held holds h.exists h.order h.stands.0
     (subst (λ mail. Gives c mail from until d rows more held holds) h.mail gives) in
     record {
       messages = goes.sent;
@@ -66,4 +68,4 @@ channel-has_run s traces (unit.Channel channel) c d rows more inbox held holds f
         sent = goes.messages_are;
       };
     }
-channel-has_run s traces (unit.Core core) c d rows more inbox held holds from until h gives = absurd h.stands
+channel-has_run machine (unit.Core core) c d rows more inbox held holds from until h gives = absurd h.stands

@@ -24,6 +24,8 @@ use Rattle.span_laws.proofs.CoresOn.{cores-start}
 use Rattle.units.specs.Units.{unit_at}
 use Rattle.units.specs.Parts.{IsPart, StandAt}
 use Rattle.units.specs.declared.part.UnitState.{UnitState}
+use Rattle.units.specs.declared.machine.Machine.{Machine}
+use Rattle.units.specs.Runs.{commands_at}
 use Rattle.units.specs.declared.part.UnitState.TheVariants as part
 
 pub get-push : {X : Type 0} (xs : List X) (x : X) (i : ℕ) (y : X) → slice_get (xs ++ x ∷ []) i ≡ Some y → (slice_get xs i ≡ Some y) ⊎ ((i ≡ length xs) × (x ≡ y))
@@ -40,16 +42,16 @@ get-push (z ∷ xs) x (suc i) y e = step (get-push xs x i y e)
 pub same-default : {X : Type 0} (xs : List X) (i : ℕ) (d e : X) → i < length xs → get_or xs i d ≡ get_or xs i e
 same-default xs i d e l = sym (get_or_from_slice_get xs i (get_or xs i d) e (slice_get-get_or xs i d l))
 
-pub stand-none : (s : Config) (traces : List (List Entry)) (now : ℕ) → StandAt s traces now []
-stand-none s traces now place p e = cc
+pub stand-none : (machine : Machine) (now : ℕ) → StandAt machine now []
+stand-none machine now place p e = cc
 
-pub stand-push : (s : Config) (traces : List (List Entry)) (now : ℕ) (parts : List UnitState) (p : UnitState) → StandAt s traces now parts
-    → IsPart s traces (unit_at s (length parts)) now p → StandAt s traces now (parts ++ p ∷ [])
-stand-push s traces now parts p h k place q e = by_case (get-push parts p place q e)
+pub stand-push : (machine : Machine) (now : ℕ) (parts : List UnitState) (p : UnitState) → StandAt machine now parts
+    → IsPart machine (unit_at machine.config (length parts)) now p → StandAt machine now (parts ++ p ∷ [])
+stand-push machine now parts p h k place q e = by_case (get-push parts p place q e)
   where
-    by_case : (slice_get parts place ≡ Some q) ⊎ ((place ≡ length parts) × (p ≡ q)) → IsPart s traces (unit_at s place) now q
+    by_case : (slice_get parts place ≡ Some q) ⊎ ((place ≡ length parts) × (p ≡ q)) → IsPart machine (unit_at machine.config place) now q
     by_case (inl f) = h place q f
-    by_case (inr f) = subst (IsPart s traces (unit_at s place) now) f.1 (subst (λ i. IsPart s traces (unit_at s i) now p) (sym f.0) k)
+    by_case (inr f) = subst (IsPart machine (unit_at machine.config place) now) f.1 (subst (λ i. IsPart machine (unit_at machine.config i) now p) (sym f.0) k)
 
 pub core-at_place : (s : Config) (place : ℕ) → place < s.cores → unit_at s place ≡ unit.Core place
 core-at_place s place l = let e : ltb place s.cores ≡ true = grind (arith, nat_tests) in cond-true _ _ _ e
@@ -60,12 +62,12 @@ channel-at_place s place channel f =
     let g : place - s.cores ≡ channel = omega arith in
     cond-false _ _ _ e ∙ ap unit.Channel g
 
-pub first-core : (s : Config) (traces : List (List Entry)) (parts : List UnitState) (core : ℕ) (c : Core) → StandAt s traces 0 parts → length parts ≡ core → core < s.cores
-    → CoreStandsFor s core (trace_of traces core) [] [] (view_of c) → StandAt s traces 0 (parts ++ part.Core c ∷ [])
-first-core s traces parts core c h e l k =
-    stand-push s traces 0 parts (part.Core c) h
-    (subst (λ i. IsPart s traces (unit_at s i) 0 (part.Core c)) (sym e)
-    (subst (λ u. IsPart s traces u 0 (part.Core c)) (sym (core-at_place s core l)) (cores-start s traces core (view_of c) k)))
+pub first-core : (machine : Machine) (parts : List UnitState) (core : ℕ) (c : Core) → StandAt machine 0 parts → length parts ≡ core → core < machine.config.cores
+    → CoreStandsFor machine.config core (trace_of machine.traces.items core) [] [] (view_of c) → StandAt machine 0 (parts ++ part.Core c ∷ [])
+first-core machine parts core c h e l k =
+    stand-push machine 0 parts (part.Core c) h
+    (subst (λ i. IsPart machine (unit_at machine.config i) 0 (part.Core c)) (sym e)
+    (subst (λ u. IsPart machine u 0 (part.Core c)) (sym (core-at_place machine.config core l)) (cores-start machine.config machine.traces.items core (view_of c) k)))
 
 history-none : (s : Config) (traces : List (List Entry)) (channel : ℕ) → history_of s traces 0 channel ≡ []
 unfolding run steps_of_channel issued_commands
@@ -76,12 +78,12 @@ kept-same : {X : Type 0} (kept : Option (List X)) (xs ys : List X) → xs ≡ ys
 kept-same None xs ys e h = tt
 kept-same (Some rows) xs ys e h = h ∙ e
 
-pub first-channel : (s : Config) (traces : List (List Entry)) (parts : List UnitState) (channel : ℕ) (c : Channel) (rows : Option (List IssuedCommand)) → StandAt s traces 0 parts
-    → length parts ≡ s.cores + channel → ChannelStandsFor c s channel [] [] → IfSome rows (λ r. r ≡ []) → StandAt s traces 0 (parts ++ part.Channel c rows ∷ [])
-first-channel s traces parts channel c rows h e k none =
-    stand-push s traces 0 parts (part.Channel c rows) h
-    (subst (λ u. IsPart s traces u 0 (part.Channel c rows)) (sym (channel-at_place s (length parts) channel e))
-    (channels-start s traces channel c k, kept-same rows [] (history_of s traces 0 channel) (sym (history-none s traces channel)) none))
+pub first-channel : (machine : Machine) (parts : List UnitState) (channel : ℕ) (c : Channel) (rows : Option (List IssuedCommand)) → StandAt machine 0 parts
+    → length parts ≡ machine.config.cores + channel → ChannelStandsFor c machine.config channel [] [] → IfSome rows (λ r. r ≡ []) → StandAt machine 0 (parts ++ part.Channel c rows ∷ [])
+first-channel machine parts channel c rows h e k none =
+    stand-push machine 0 parts (part.Channel c rows) h
+    (subst (λ u. IsPart machine u 0 (part.Channel c rows)) (sym (channel-at_place machine.config (length parts) channel e))
+    (channels-start machine.config machine.traces.items channel c k, kept-same rows [] (commands_at machine 0 channel) (sym (history-none machine.config machine.traces.items channel)) none))
 
 -- the elements that come before one are fewer than all
 pub seam-within : {X : Type 0} (xs ys rest : List X) (x : X) (n : ℕ) → ys ++ x ∷ rest ≡ xs → length xs ≡ n → length ys < n
@@ -92,9 +94,9 @@ get-seam [] rest x = refl
 get-seam (y ∷ ys) rest x = get-seam ys rest x
 
 -- the unit that comes after some stands for its part
-pub stand-seam : (s : Config) (traces : List (List Entry)) (now : ℕ) (parts ys rest : List UnitState) (p : UnitState) → StandAt s traces now parts
-    → ys ++ p ∷ rest ≡ parts → IsPart s traces (unit_at s (length ys)) now p
-stand-seam s traces now parts ys rest p h e = h (length ys) p (ap (λ z. slice_get z (length ys)) (sym e) ∙ get-seam ys rest p)
+pub stand-seam : (machine : Machine) (now : ℕ) (parts ys rest : List UnitState) (p : UnitState) → StandAt machine now parts
+    → ys ++ p ∷ rest ≡ parts → IsPart machine (unit_at machine.config (length ys)) now p
+stand-seam machine now parts ys rest p h e = h (length ys) p (ap (λ z. slice_get z (length ys)) (sym e) ∙ get-seam ys rest p)
 
 pub length-places : {X : Type 0} (f : ℕ → X) (n : ℕ) → length (map f (below n)) ≡ n
 length-places f n = length-map (below n) f ∙ length-range_with_len 0 n

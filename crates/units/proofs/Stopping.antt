@@ -8,6 +8,7 @@ use Rattle.span_laws.specs.Ends.{ends_before}
 use Rattle.span_laws.proofs.Over.{cycles-are_counted}
 use Rattle.units.specs.Drained.{NotEnded}
 use Rattle.units.specs.Stops.{stop_of}
+use Rattle.units.specs.Runs.{ends_at}
 use Rattle.units.specs.Views.{SimView}
 
 cycles-next : (s : Config) (traces : List (List Entry)) (n : ℕ) → cycles_run s traces (suc n) ≡ cond (ends_before s traces (cycles_run s traces n)) (cycles_run s traces n) (suc n)
@@ -56,20 +57,20 @@ cycles-within s traces (suc n) = subst (λ c. c ≤ suc n) (sym (cycles-next s t
     by false l = omega arith
 
 -- A run that did not end on the way, and ends where it stands or is at the limit there, stands where it stops.
-pub stands-at_stop : (sim : SimView) (limit now : ℕ) → sim.now ≤ now → now ≤ limit → NotEnded sim.machine sim.traces sim.now now
-    → (now < limit → ends_before sim.machine sim.traces now ≡ true) → now ≡ stop_of sim limit
+pub stands-at_stop : (sim : SimView) (limit now : ℕ) → sim.now ≤ now → now ≤ limit → NotEnded sim.machine sim.now now
+    → (now < limit → ends_at sim.machine now ≡ true) → now ≡ stop_of sim limit
 stands-at_stop sim limit now l m on ended = go (cases_lt sim.now now)
   where
     cycles : ℕ
-    cycles = cycles_run sim.machine sim.traces limit
+    cycles = cycles_run sim.machine.config sim.machine.traces.items limit
 
     few : (now < limit) ⊎ (limit ≤ now) → cycles ≤ now
-    few (inl k) = cycles-at_most sim.machine sim.traces now limit (ended k)
-    few (inr k) = let far : cycles ≤ limit = cycles-within sim.machine sim.traces limit in omega (arith, far, k)
+    few (inl k) = cycles-at_most sim.machine.config sim.machine.traces.items now limit (ended k)
+    few (inr k) = let far : cycles ≤ limit = cycles-within sim.machine.config sim.machine.traces.items limit in omega (arith, far, k)
 
     go : (sim.now < now) ⊎ (now ≤ sim.now) → now ≡ stop_of sim limit
     go (inl k) =
-        let counted : cycles ≡ now = cycles-are_counted sim.machine sim.traces limit now m (λ last e. on last (omega (arith, k, e)) (omega (arith, e))) ended in
+        let counted : cycles ≡ now = cycles-are_counted sim.machine.config sim.machine.traces.items limit now m (λ last e. on last (omega (arith, k, e)) (omega (arith, e))) ended in
         sym (cond-true _ _ _ (lt-ltb sim.now cycles (subst (λ c. sim.now < c) (sym counted) k)) ∙ counted)
     go (inr k) =
         let same : now ≡ sim.now = omega (arith, l, k) in

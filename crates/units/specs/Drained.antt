@@ -1,35 +1,39 @@
 -- The end of a run, as its units and links show it.
---     HasFinished s traces now unit      a core has retired its trace, or a channel has no request left in its queue
---     AllFinished s traces now      so has each unit
---     GoesOn s traces from until      a run is not over before a cycle of a span
---     NotEnded s traces from until      a run does not end before a cycle of a span
-use Rattle.std.specs.Prelude.{◌≡◌, ℕ, ◌<◌, ◌≤◌, false, List, [], length}
-use Rattle.sim_base.specs.declared.config.Config.{Config}
+--     HasFinished machine now unit      a core has retired its trace, or a channel has no request left in its queue
+--     AllFinished machine now      so has each unit
+--     GoesOn machine from until      a run is not over before a cycle of a span
+--     NotEnded machine from until      a run does not end before a cycle of a span
+use Rattle.std.specs.Prelude.{◌≡◌, ℕ, ◌<◌, ◌≤◌, false, [], length}
 use Rattle.sim_base.specs.Final.{queue_left}
 use Rattle.sim_base.specs.History.{trace_of, retired_before}
-use Rattle.sim_base.specs.Machine.{run, is_over}
 use Rattle.sim_base.specs.declared.message.Unit.{Unit as MachineUnit}
 use Rattle.sim_base.specs.declared.message.Unit.TheVariants.{Core, Channel}
-use Rattle.sim_base.specs.declared.trace.Entry.{Entry}
 use Rattle.laws.specs.Commands.{channel_steps_of}
 use Rattle.span_laws.specs.Cores.{core_steps_of}
-use Rattle.span_laws.specs.Ends.{ends_before}
 use Rattle.span_laws.specs.Mail.{mail_before}
+use Rattle.units.specs.Runs.{ends_at, is_over_at}
 use Rattle.units.specs.Units.{unit_at, unit_count}
+use Rattle.units.specs.declared.machine.Machine.{Machine}
 
 -- before a cycle of a run a core has retired its trace, and a channel has no request left in its queue
-abbrev pub HasFinished : Config → List (List Entry) → ℕ → MachineUnit → Type 0
-HasFinished s traces now (Core core) = retired_before (core_steps_of s traces now core) ≡ length (trace_of traces core)
-HasFinished s traces now (Channel channel) = queue_left channel (channel_steps_of s traces now channel) (mail_before s traces now (Channel channel) now) ≡ []
+abbrev pub HasFinished : Machine → ℕ → MachineUnit → Type 0
+HasFinished machine now (Core core) =
+    let steps = core_steps_of machine.config machine.traces.items now core in
+    retired_before steps ≡ length (trace_of machine.traces.items core)
+HasFinished machine now (Channel channel) =
+    let steps = channel_steps_of machine.config machine.traces.items now channel in
+    let arrived = mail_before machine.config machine.traces.items now (Channel channel) now in
+    queue_left channel steps arrived ≡ []
 
 -- so it is with each unit
-abbrev pub AllFinished : Config → List (List Entry) → ℕ → Type 0
-AllFinished s traces now = (place : ℕ) → place < unit_count s → HasFinished s traces now (unit_at s place)
+abbrev pub AllFinished : Machine → ℕ → Type 0
+AllFinished machine now =
+    (place : ℕ) → place < unit_count machine.config → HasFinished machine now (unit_at machine.config place)
 
 -- a run is not over before any of the cycles from one on and before another
-abbrev pub GoesOn : Config → List (List Entry) → ℕ → ℕ → Type 0
-GoesOn s traces from until = (t : ℕ) → from ≤ t → t < until → is_over s traces (run s traces t) ≡ false
+abbrev pub GoesOn : Machine → ℕ → ℕ → Type 0
+GoesOn machine from until = (t : ℕ) → from ≤ t → t < until → is_over_at machine t ≡ false
 
 -- a run does not end before any of these cycles: it is not over, or it goes on up to the limit all the same
-abbrev pub NotEnded : Config → List (List Entry) → ℕ → ℕ → Type 0
-NotEnded s traces from until = (t : ℕ) → from ≤ t → t < until → ends_before s traces t ≡ false
+abbrev pub NotEnded : Machine → ℕ → ℕ → Type 0
+NotEnded machine from until = (t : ℕ) → from ≤ t → t < until → ends_at machine t ≡ false

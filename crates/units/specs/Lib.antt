@@ -1,4 +1,6 @@
 pub mod Units
+pub mod Runs
+pub mod Rows
 pub mod Views
 pub mod Spans
 pub mod Parts

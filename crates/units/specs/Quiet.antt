@@ -1,29 +1,37 @@
 -- When a unit acts next, as it tells.
---     IsFirstActOf s traces unit from act      a unit acts first in a cycle, if nothing arrives
---     IsNextActOf s traces unit from act      the first cycle in which a unit acts, if there is one
+--     IsFirstActOf machine unit from act      a unit acts first in a cycle, if nothing arrives
+--     IsNextActOf machine unit from act      the first cycle in which a unit acts, if there is one
 --     IsInSomeRun part now      a unit stands for its part of some run
-use Rattle.std.specs.Prelude.{ℕ, suc, ◌≤◌, List, Option, Some, None}
-use Rattle.sim_base.specs.declared.config.Config.{Config}
+--     MayRest machine from until unit      a unit would do nothing in a span, if nothing arrived at it
+--     SendsNothing machine from until unit      it would send nothing
+use Rattle.std.specs.Prelude.{ℕ, suc, ◌≤◌, Option, Some, None}
 use Rattle.sim_base.specs.declared.message.Unit.{Unit as MachineUnit}
-use Rattle.sim_base.specs.declared.trace.Entry.{Entry}
-use Rattle.span_laws.specs.Quiet.{RestsAlone}
+use Rattle.span_laws.specs.Quiet.{RestsAlone, IsSilent}
 use Rattle.units.specs.Parts.{IsPart}
+use Rattle.units.specs.declared.machine.Machine.{Machine}
 use Rattle.units.specs.declared.part.UnitState.{UnitState}
 
+-- if nothing arrived from a cycle on, a unit would do nothing before another
+abbrev pub MayRest : Machine → ℕ → ℕ → MachineUnit → Type 0
+MayRest machine from until unit = RestsAlone machine.config machine.traces.items from until unit
+
+-- if nothing arrived from a cycle on, a unit would send nothing before another; it may retire and issue Plain entries
+abbrev pub SendsNothing : Machine → ℕ → ℕ → MachineUnit → Type 0
+SendsNothing machine from until unit = IsSilent machine.config machine.traces.items from until unit
+
 -- if nothing arrives from a cycle on, a unit would do nothing before another, and something in it
-pub record IsFirstActOf (s : Config) (traces : List (List Entry)) (unit : MachineUnit) (from act : ℕ) : Type 0 where
+pub record IsFirstActOf (machine : Machine) (unit : MachineUnit) (from act : ℕ) : Type 0 where
   pub since : from ≤ act
-  pub rests : (until : ℕ) → from ≤ until → until ≤ act → RestsAlone s traces from until unit
-  pub acts : RestsAlone s traces from (suc act) unit → ⊥
+  pub rests : (until : ℕ) → from ≤ until → until ≤ act → MayRest machine from until unit
+  pub acts : MayRest machine from (suc act) unit → ⊥
 
 -- the first cycle in which a unit acts, if nothing arrives from a cycle on; none, where it never does
-abbrev pub IsNextActOf : Config → List (List Entry) → MachineUnit → ℕ → Option ℕ → Type 0
-IsNextActOf s traces unit from (Some act) = IsFirstActOf s traces unit from act
-IsNextActOf s traces unit from None = (until : ℕ) → from ≤ until → RestsAlone s traces from until unit
+abbrev pub IsNextActOf : Machine → MachineUnit → ℕ → Option ℕ → Type 0
+IsNextActOf machine unit from (Some act) = IsFirstActOf machine unit from act
+IsNextActOf machine unit from None = (until : ℕ) → from ≤ until → MayRest machine from until unit
 
 -- a unit stands for its part of some run
 pub record IsInSomeRun (part : UnitState) (now : ℕ) : Type 0 where
-  pub s : Config
-  pub traces : List (List Entry)
+  pub machine : Machine
   pub unit : MachineUnit
-  pub stands : IsPart s traces unit now part
+  pub stands : IsPart machine unit now part

@@ -1,12 +1,10 @@
 //! Whether the units of a simulator have anything left to do, and for how long.
 
-ghost use Rattle.std.specs.Prelude.{◌≡◌, ◌<◌, ◌↔◌, ℕ, List, length, IsTrue};
-ghost use Rattle.sim_base.specs.Counts.{in_flight};
-ghost use Rattle.sim_base.specs.Machine.{run};
-ghost use Rattle.sim_base.specs.declared.config.Config.{Config};
-ghost use Rattle.sim_base.specs.declared.trace.Entry.{Entry};
+ghost use Rattle.std.specs.Prelude.{◌≡◌, ◌<◌, ◌↔◌, ℕ, length, IsTrue};
+ghost use Rattle.units.specs.Runs.{flight_at};
 ghost use Rattle.units.specs.Units.{unit_at, unit_count};
-ghost use Rattle.units.specs.Parts.{IsPart, StandAt};
+ghost use Rattle.units.specs.declared.machine.Machine.{Machine};
+ghost use Rattle.units.specs.Parts.{IsPartAt, StandAt};
 ghost use Rattle.units.specs.Drained.{HasFinished, AllFinished, GoesOn};
 
 use crate::machine::Machine;
@@ -16,8 +14,8 @@ use sim_base::message::Cycle;
 
 /// Whether the unit at a place has retired its trace, or has no request left in its queue.
 fn has_finished(machine: &Machine, place: usize, part: &UnitState) -> bool
-    ensures { (now : ℕ) → IsPart machine.now.config machine.now.traces.items (unit_at machine.now.config place) now part.now
-        → IsTrue result ↔ HasFinished machine.now.config machine.now.traces.items now (unit_at machine.now.config place) }
+    ensures { (now : ℕ) → IsPartAt machine.now place now part.now
+        → IsTrue result ↔ HasFinished machine.now now (unit_at machine.now.config place) }
 {
     match part {
         UnitState::Core(core) => core.stats().retired == machine.trace_len(place),
@@ -28,8 +26,8 @@ fn has_finished(machine: &Machine, place: usize, part: &UnitState) -> bool
 /// Whether each unit has. It looks at none after the first that has not.
 pub(crate) fn all_finished(machine: &Machine, parts: &[UnitState]) -> bool
     requires count { length parts.now ≡ unit_count machine.now.config }
-    ensures { (now : ℕ) → StandAt machine.now.config machine.now.traces.items now parts.now
-        → IsTrue result ↔ AllFinished machine.now.config machine.now.traces.items now }
+    ensures { (now : ℕ) → StandAt machine.now now parts.now
+        → IsTrue result ↔ AllFinished machine.now now }
 {
     for (place, part) in parts.iter().enumerate() {
         if !has_finished(machine, place, part) {
@@ -39,11 +37,11 @@ pub(crate) fn all_finished(machine: &Machine, parts: &[UnitState]) -> bool
     true
 }
 
-/// The first cycle before which the unit at a place may have retired its trace, if it is a core, by its width in each cycle.
+/// The first cycle before which the unit at a place may have retired its trace, if it is a core, by its width in each
+/// cycle.
 fn unit_until(machine: &Machine, now: Cycle, place: usize, part: &UnitState) -> Cycle
     requires place { place < unit_count machine.now.config }
-    ensures { IsPart machine.now.config machine.now.traces.items (unit_at machine.now.config place) now part.now
-        → GoesOn machine.now.config machine.now.traces.items now result }
+    ensures { IsPartAt machine.now place now part.now → GoesOn machine.now now result }
 {
     match part {
         UnitState::Core(core) => {
@@ -59,8 +57,7 @@ fn unit_until(machine: &Machine, now: Cycle, place: usize, part: &UnitState) -> 
 /// The first cycle before which all cores may have retired their traces.
 pub(crate) fn cores_until(machine: &Machine, now: Cycle, parts: &[UnitState]) -> Cycle
     requires count { length parts.now ≡ unit_count machine.now.config }
-    ensures { StandAt machine.now.config machine.now.traces.items now parts.now
-        → GoesOn machine.now.config machine.now.traces.items now result }
+    ensures { StandAt machine.now now parts.now → GoesOn machine.now now result }
 {
     let mut until = now;
     for (place, part) in parts.iter().enumerate() {
@@ -71,8 +68,8 @@ pub(crate) fn cores_until(machine: &Machine, now: Cycle, parts: &[UnitState]) ->
 
 /// The cycle after the first in which a message arrives, if one is in flight.
 pub(crate) fn flight_until(links: &Links, now: Cycle) -> Cycle
-    ensures { (s : Config) (traces : List (List Entry)) → links.now.messages ≡ in_flight s traces (run s traces now)
-        → GoesOn s traces now result }
+    ensures { (machine : Machine) → links.now.messages ≡ flight_at machine now
+        → GoesOn machine now result }
 {
     match links.next_arrival() {
         Some(arrival) => arrival.saturating_add(1),

@@ -1,21 +1,20 @@
 //! The state in which the units of a simulator are left.
 
-ghost use Rattle.std.specs.Prelude.{◌≡◌, ◌<◌, ◌++◌, map, filter_map, length, IfOk, OnOk};
+ghost use Rattle.std.specs.Prelude.{◌≡◌, ◌<◌, ◌++◌, ℕ, length, IfOk, OnOk};
 ghost use Rattle.std.specs.Option.{option_to_list};
-ghost use Rattle.sim_base.specs.History.{below};
-ghost use Rattle.sim_base.specs.Final.{banks, banks_of_group, banks_of_rank};
-ghost use Rattle.sim_base.specs.Machine.{run};
-ghost use Rattle.sim_base.specs.Scheduling.{due};
+ghost use Rattle.sim_base.specs.Final.{banks_of_group, banks_of_rank};
 ghost use Rattle.sim_base.specs.declared.message.Unit.TheVariants as unit;
-ghost use Rattle.statistics.specs.Runs.{row_of_bank, last_of_core, last_of_channel};
-ghost use Rattle.laws.specs.Commands.{history_of};
-ghost use Rattle.span_laws.specs.Channels.{IsChannelAt};
+ghost use Rattle.channel_step.specs.Channels.{HasBank};
+ghost use Rattle.units.specs.declared.machine.Machine.{Machine};
+ghost use Rattle.units.specs.Rows.{HasGroup, AddsRows};
+ghost use Rattle.units.specs.Runs.{HasChannelAt, core_last_at, channel_last_at, each_core_last, each_channel_last, each_due, open_rows_at, row_at};
 ghost use Rattle.units.specs.Units.{unit_count};
 ghost use Rattle.units.specs.Parts.{IsPart, StandAt};
 
 use crate::machine::Machine;
 use crate::part::UnitState;
 use channel_step::channel::Channel;
+use sim_base::config::Config;
 use sim_base::message::{ChannelId, CoreId, Cycle};
 use sim_base::place::BankId;
 use statistics::final_state::{ChannelState, CoreState, OpenRow};
@@ -29,8 +28,8 @@ fn core_left(
     core: CoreId,
     part: &UnitState,
 ) -> Result<CoreState, AllocError>
-    requires stands { IsPart machine.now.config machine.now.traces.items (unit.Core core) now part.now }
-    ensures { IfOk result (λ left. left ≡ last_of_core machine.now.config machine.now.traces.items (run machine.now.config machine.now.traces.items now) core) }
+    requires stands { IsPart machine.now (unit.Core core) now part.now }
+    ensures { IfOk result (λ left. left ≡ core_last_at machine.now now core) }
 {
     match part {
         UnitState::Core(core) => {
@@ -53,8 +52,8 @@ fn all_due(
     number: ChannelId,
     channel: &Channel,
 ) -> Result<Vec<u64>, AllocError>
-    requires stands { IsChannelAt machine.now.config machine.now.traces.items number now channel.now }
-    ensures { IfOk result (λ v. v.items ≡ map (λ rank. due machine.now.config rank (history_of machine.now.config machine.now.traces.items now number) now) (below machine.now.config.ranks)) }
+    requires stands { HasChannelAt machine.now number now channel.now }
+    ensures { IfOk result (λ v. v.items ≡ each_due machine.now now number) }
 {
     let mut all = Vec::new(alloc);
     for rank in 0..machine.config.ranks {
@@ -65,18 +64,13 @@ fn all_due(
 
 /// Puts the row that is open in a bank of a channel, if one is, at the end of a list.
 fn add_row_of_bank(
-    machine: &Machine,
-    now: Cycle,
-    number: ChannelId,
     channel: &Channel,
     bank: BankId,
     rows: &mut Vec<OpenRow>,
 ) -> Result<(), AllocError>
-    requires stands { IsChannelAt machine.now.config machine.now.traces.items number now channel.now }
-    requires rank { bank.rank < machine.now.config.ranks }
-    requires group { bank.group < machine.now.config.groups }
-    requires bank { bank.bank < 4 }
-    ensures { OnOk result (rows.new.items ≡ rows.old.items ++ option_to_list (row_of_bank (history_of machine.now.config machine.now.traces.items now number) bank)) }
+    requires { HasBank channel.now bank }
+    ensures { (machine : Machine) (number now : ℕ) → HasChannelAt machine number now channel.now
+        → OnOk result (rows.new.items ≡ rows.old.items ++ option_to_list (row_at machine now number bank)) }
 {
     if let Some(row) = channel.open_row(bank) {
         rows.push(OpenRow { bank, row })?;
@@ -86,41 +80,34 @@ fn add_row_of_bank(
 
 /// Puts the rows that are open in the banks of a group at the end of a list.
 fn add_rows_of_group(
-    machine: &Machine,
-    now: Cycle,
-    number: ChannelId,
     channel: &Channel,
     rank: u32,
     group: u32,
     rows: &mut Vec<OpenRow>,
 ) -> Result<(), AllocError>
-    requires stands { IsChannelAt machine.now.config machine.now.traces.items number now channel.now }
-    requires rank { rank < machine.now.config.ranks }
-    requires group { group < machine.now.config.groups }
-    ensures { OnOk result (rows.new.items ≡ rows.old.items ++ filter_map (row_of_bank (history_of machine.now.config machine.now.traces.items now number)) (banks_of_group rank group)) }
+    requires { HasGroup channel.now rank group }
+    ensures { (machine : Machine) (number now : ℕ) → HasChannelAt machine number now channel.now
+        → OnOk result (AddsRows machine now number (banks_of_group rank group) rows.old.items rows.new.items) }
 {
     for bank in 0..4 {
-        let bank = BankId { rank, group, bank };
-        add_row_of_bank(machine, now, number, channel, bank, rows)?;
+        add_row_of_bank(channel, BankId { rank, group, bank }, rows)?;
     }
     Ok(())
 }
 
 /// Puts the rows that are open in the banks of a rank at the end of a list.
 fn add_rows_of_rank(
-    machine: &Machine,
-    now: Cycle,
-    number: ChannelId,
+    config: &Config,
     channel: &Channel,
     rank: u32,
     rows: &mut Vec<OpenRow>,
 ) -> Result<(), AllocError>
-    requires stands { IsChannelAt machine.now.config machine.now.traces.items number now channel.now }
-    requires rank { rank < machine.now.config.ranks }
-    ensures { OnOk result (rows.new.items ≡ rows.old.items ++ filter_map (row_of_bank (history_of machine.now.config machine.now.traces.items now number)) (banks_of_rank machine.now.config rank)) }
+    requires { (group : ℕ) → group < config.now.groups → HasGroup channel.now rank group }
+    ensures { (machine : Machine) (number now : ℕ) → HasChannelAt machine number now channel.now
+        → OnOk result (AddsRows machine now number (banks_of_rank config.now rank) rows.old.items rows.new.items) }
 {
-    for group in 0..machine.config.groups {
-        add_rows_of_group(machine, now, number, channel, rank, group, rows)?;
+    for group in 0..config.groups {
+        add_rows_of_group(channel, rank, group, rows)?;
     }
     Ok(())
 }
@@ -133,12 +120,12 @@ fn open_rows(
     number: ChannelId,
     channel: &Channel,
 ) -> Result<Vec<OpenRow>, AllocError>
-    requires stands { IsChannelAt machine.now.config machine.now.traces.items number now channel.now }
-    ensures { IfOk result (λ v. v.items ≡ filter_map (row_of_bank (history_of machine.now.config machine.now.traces.items now number)) (banks machine.now.config)) }
+    requires stands { HasChannelAt machine.now number now channel.now }
+    ensures { IfOk result (λ v. v.items ≡ open_rows_at machine.now now number) }
 {
     let mut rows = Vec::new(alloc);
     for rank in 0..machine.config.ranks {
-        add_rows_of_rank(machine, now, number, channel, rank, &mut rows)?;
+        add_rows_of_rank(&machine.config, channel, rank, &mut rows)?;
     }
     Ok(rows)
 }
@@ -151,8 +138,8 @@ fn channel_left(
     number: ChannelId,
     part: &UnitState,
 ) -> Result<ChannelState, AllocError>
-    requires stands { IsPart machine.now.config machine.now.traces.items (unit.Channel number) now part.now }
-    ensures { IfOk result (λ left. left ≡ last_of_channel machine.now.config machine.now.traces.items (run machine.now.config machine.now.traces.items now) number) }
+    requires stands { IsPart machine.now (unit.Channel number) now part.now }
+    ensures { IfOk result (λ left. left ≡ channel_last_at machine.now now number) }
 {
     match part {
         UnitState::Core(..) => unreachable!(),
@@ -172,8 +159,8 @@ pub(crate) fn cores_left(
     parts: &[UnitState],
 ) -> Result<Vec<CoreState>, AllocError>
     requires count { length parts.now ≡ unit_count machine.now.config }
-    requires stand { StandAt machine.now.config machine.now.traces.items now parts.now }
-    ensures { IfOk result (λ v. v.items ≡ map (last_of_core machine.now.config machine.now.traces.items (run machine.now.config machine.now.traces.items now)) (below machine.now.config.cores)) }
+    requires stand { StandAt machine.now now parts.now }
+    ensures { IfOk result (λ v. v.items ≡ each_core_last machine.now now) }
 {
     let mut left = Vec::new(alloc);
     for core in 0..machine.config.cores {
@@ -191,8 +178,8 @@ pub(crate) fn channels_left(
     parts: &[UnitState],
 ) -> Result<Vec<ChannelState>, AllocError>
     requires count { length parts.now ≡ unit_count machine.now.config }
-    requires stand { StandAt machine.now.config machine.now.traces.items now parts.now }
-    ensures { IfOk result (λ v. v.items ≡ map (last_of_channel machine.now.config machine.now.traces.items (run machine.now.config machine.now.traces.items now)) (below machine.now.config.channels)) }
+    requires stand { StandAt machine.now now parts.now }
+    ensures { IfOk result (λ v. v.items ≡ each_channel_last machine.now now) }
 {
     let mut left = Vec::new(alloc);
     for channel in 0..machine.config.channels {

@@ -1,5 +1,5 @@
-//! The units of a machine, cores and channels, and what they stand for: each for its part of the one-clock machine's run, and all
-//! together, with the messages in flight between them, for the run.
+//! The units of a machine, cores and channels, and what they stand for: each for its part of the one-clock machine's
+//! run, and all together, with the messages in flight between them, for the run.
 #![tactic(auto)]
 
 mod counts;

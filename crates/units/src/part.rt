@@ -1,10 +1,9 @@
 //! A unit of a machine, with what is kept of it.
 
-ghost use Rattle.std.specs.Prelude.{List, OnOk};
-ghost use Rattle.sim_base.specs.declared.config.Config.{Config};
-ghost use Rattle.sim_base.specs.declared.trace.Entry.{Entry};
+ghost use Rattle.std.specs.Prelude.{OnOk};
 ghost use Rattle.sim_base.specs.declared.message.Unit.{Unit as MachineUnit};
 ghost use Rattle.units.specs.Parts.{IsReady, IsReadyFor, HasRunOnto};
+ghost use Rattle.units.specs.declared.machine.Machine.{Machine};
 
 use channel_step::channel::Channel;
 use command_table::list::CommandList;
@@ -20,7 +19,8 @@ pub enum UnitState {
 }
 
 impl UnitState {
-    /// Runs the unit over a span, in which these messages arrive at it, and puts what it sends behind what a list holds.
+    /// Runs the unit over a span, in which these messages arrive at it, and puts what it sends behind what a list
+    /// holds.
     #[inline(always)]
     pub fn run(
         &mut self,
@@ -30,8 +30,9 @@ impl UnitState {
         sent: &mut Vec<Message>,
     ) -> Result<(), AllocError>
         requires ready { IsReady self.old inbox.now from until }
-        ensures { (s : Config) (traces : List (List Entry)) (unit : MachineUnit) → IsReadyFor s traces unit self.old inbox.now from until
-            → OnOk result (HasRunOnto s traces unit from until self.new sent.old.items sent.new.items) }
+        ensures { (machine : Machine) (unit : MachineUnit)
+            → IsReadyFor machine unit self.old inbox.now from until
+            → OnOk result (HasRunOnto machine unit from until self.new sent.old.items sent.new.items) }
     {
         match self {
             UnitState::Core(core) => core.run(inbox, from, until, sent),

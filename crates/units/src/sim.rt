@@ -1,16 +1,12 @@
 //! All units of a machine between two spans.
 
 ghost use Rattle.std.specs.Prelude.{◌≡◌, ◌<◌, ◌≤◌, ◌+◌, true, false, List, length, is_some, [], IfOk, OnOk, IfSome, IfNone};
-ghost use Rattle.sim_base.specs.declared.trace.Entry.{Entry};
-ghost use Rattle.sim_base.specs.Counts.{in_flight};
-ghost use Rattle.sim_base.specs.Machine.{run, is_over};
-ghost use Rattle.span_laws.specs.Ends.{ends_before};
-ghost use Rattle.run_outcome.specs.Outcomes.{outcome_of};
-ghost use Rattle.statistics.specs.Runs.{stats_of, final_of};
 ghost use Rattle.channel_step.specs.Channels.{StandsFor as ChannelStandsFor};
-ghost use Rattle.units.specs.Units.{unit_count};
-ghost use Rattle.units.specs.Parts.{StandAt, IsSim};
 ghost use Rattle.units.specs.Drained.{GoesOn, NotEnded};
+ghost use Rattle.units.specs.Parts.{StandAt};
+ghost use Rattle.units.specs.Stops.{IsWholeUnlessDrained, HasNoMore};
+ghost use Rattle.units.specs.Units.{unit_count};
+ghost use Rattle.units.specs.Views.{first_view, machine_with, is_over_now, flight_now, stats_now, last_now, outcome_now};
 
 use crate::counts::{stats_of_channels, stats_of_cores};
 use crate::drained::{all_finished, cores_until, flight_until};
@@ -33,8 +29,8 @@ use std::alloc::{AllocError, Global};
 use std::marker::Model;
 use std::sync::Arc;
 
-/// All units of a machine, and the messages in flight between them, when some cycles of its run are over. Its fields are open to the crates that
-/// run it: whoever makes one has to prove that it stands for its run.
+/// All units of a machine, and the messages in flight between them, when some cycles of its run are over. Its fields
+/// are open to the crates that run it: whoever makes one has to prove that it stands for its run.
 #[derive(Drop)]
 pub struct Sim {
     pub machine: Arc<Machine>,
@@ -57,24 +53,21 @@ impl Model for Sim {
 
     ghost use Rattle.units.specs.Parts.{IsSim};
 
-    ghost view = { λ m. record { machine = (arc_value m.machine).config; traces = (arc_value m.machine).traces.items; now = m.now; phase = m.phase } };
+    ghost view = { λ m. record { machine = arc_value m.machine; now = m.now; phase = m.phase } };
 
-    ghost invariant = { λ m. IsSim (arc_value m.machine).config (arc_value m.machine).traces.items m.now m.phase m.parts.items m.links };
+    ghost invariant = { λ m. IsSim (arc_value m.machine) m.now m.phase m.parts.items m.links };
 }
 
 /// The cores of a machine before the first cycle.
-fn first_cores(
-    alloc: Global,
-    config: &Config,
-    traces: &[Trace],
-) -> Result<Vec<UnitState>, AllocError>
-    requires one_each { length traces.now ≡ config.now.cores }
-    ensures count { IfOk result (λ parts. length parts.items ≡ config.now.cores) }
-    ensures stand { IfOk result (λ parts. StandAt config.now traces.now 0 parts.items) }
+fn first_cores(alloc: Global, machine: &Machine) -> Result<Vec<UnitState>, AllocError>
+    requires one_each { length machine.now.traces.items ≡ machine.now.config.cores }
+    ensures count { IfOk result (λ parts. length parts.items ≡ machine.now.config.cores) }
+    ensures stand { IfOk result (λ parts. StandAt machine.now 0 parts.items) }
 {
+    let config = &machine.config;
     let mut parts = Vec::new(alloc);
     for core in 0..config.cores {
-        let trace = traces[core as usize].copy()?;
+        let trace = machine.traces[core as usize].copy()?;
         parts.push(UnitState::Core(Core::start(alloc, config, core, trace)?))?;
     }
     Ok(parts)
@@ -111,44 +104,26 @@ fn first_channel(
 /// Puts the channels of a machine before the first cycle behind its cores. They keep what these tables hold.
 fn add_channels(
     alloc: Global,
-    config: &Config,
+    machine: &Machine,
     tables: Tables,
     parts: &mut Vec<UnitState>,
 ) -> Result<(), AllocError>
-    requires cores { length parts.old.items ≡ config.now.cores }
-    ensures count { OnOk result (length parts.new.items ≡ unit_count config.now) }
-    ensures stand { OnOk result ((traces : List (List Entry)) → StandAt config.now traces 0 parts.old.items → StandAt config.now traces 0 parts.new.items) }
+    requires cores { length parts.old.items ≡ machine.now.config.cores }
+    requires stand { StandAt machine.now 0 parts.old.items }
+    ensures count { OnOk result (length parts.new.items ≡ unit_count machine.now.config) }
+    ensures stand { OnOk result (StandAt machine.now 0 parts.new.items) }
 {
-    for number in 0..u32::from(config.channels) {
-        let channel = first_channel(alloc, config, number, tables.requests)?;
+    for number in 0..u32::from(machine.config.channels) {
+        let channel = first_channel(alloc, &machine.config, number, tables.requests)?;
         let list = list_for(alloc, tables.commands);
         parts.push(UnitState::Channel(channel, list))?;
     }
     Ok(())
 }
 
-/// The state in which a machine is left: that of each unit, and the messages in flight.
-fn final_state(
-    alloc: Global,
-    machine: &Machine,
-    now: Cycle,
-    phase: u64,
-    parts: &[UnitState],
-    links: &Links,
-) -> Result<FinalState, AllocError>
-    requires { IsSim machine.now.config machine.now.traces.items now phase parts.now links.now }
-    ensures { IfOk result (λ last. last ≡ final_of machine.now.config machine.now.traces.items (run machine.now.config machine.now.traces.items now)) }
-{
-    Ok(FinalState {
-        cores: cores_left(alloc, machine, now, parts)?,
-        channels: channels_left(alloc, machine, now, parts)?,
-        in_flight: links.messages(alloc)?,
-    })
-}
-
 impl Sim {
-    /// A machine before its first cycle, with a trace for each core, which keeps what these tables of its run hold. The only error is out of
-    /// memory.
+    /// A machine before its first cycle, with a trace for each core, which keeps what these tables of its run hold.
+    /// The only error is out of memory.
     pub fn start(
         alloc: Global,
         config: &Config,
@@ -156,14 +131,15 @@ impl Sim {
         tables: Tables,
     ) -> Result<Sim, AllocError>
         requires one_each { length traces.items ≡ config.now.cores }
-        ensures { IfOk result (λ sim. sim ≡ record { machine = config.now; traces = traces.items; now = 0; phase = 0 }) }
+        ensures { IfOk result (λ sim. sim ≡ first_view (machine_with config.now traces)) }
     {
-        let mut parts = first_cores(alloc, config, &traces)?;
-        add_channels(alloc, config, tables, &mut parts)?;
-        let links = Links::start(alloc, config)?;
         let config = config.copy(alloc)?;
+        let machine = Machine { config, traces };
+        let mut parts = first_cores(alloc, &machine)?;
+        add_channels(alloc, &machine, tables, &mut parts)?;
+        let links = Links::start(alloc, &machine.config)?;
         Ok(Sim {
-            machine: Arc::new(alloc, Machine { config, traces })?,
+            machine: Arc::new(alloc, machine)?,
             now: 0,
             phase: 0,
             parts,
@@ -180,41 +156,42 @@ impl Sim {
 
     /// Whether the run is over: each trace is retired, each message has arrived, and each request is served.
     pub fn is_over(&self) -> bool
-        ensures { result ≡ is_over self.entry.now.machine self.entry.now.traces (run self.entry.now.machine self.entry.now.traces self.entry.now.now) }
+        ensures { result ≡ is_over_now self.entry.now }
     {
         self.links.is_empty() && all_finished(&self.machine, &self.parts)
     }
 
     /// How many messages are in flight. The only error is out of memory.
     pub fn in_flight(&self, alloc: Global) -> Result<usize, AllocError>
-        ensures { IfOk result (λ count. count ≡ length (in_flight self.entry.now.machine self.entry.now.traces (run self.entry.now.machine self.entry.now.traces self.entry.now.now))) }
+        ensures { IfOk result (λ count. count ≡ length (flight_now self.entry.now)) }
     {
         Ok(self.links.messages(alloc)?.len())
     }
 
-    /// A later cycle, at most the limit, before whose last cycle the run is surely not over. A run lasts at least as long as each core
-    /// needs to retire what is left of its trace, at its width in each cycle, and, if anything is in flight, up to the first
-    /// arrival.
+    /// A later cycle, at most the limit, before whose last cycle the run is surely not over. A run lasts at least as
+    /// long as each core needs to retire what is left of its trace, at its width in each cycle, and, if anything is
+    /// in flight, up to the first arrival.
     pub fn surely_until(&self, limit: Cycle) -> Cycle
         requires before { self.now.now < limit }
-        requires goes_on { is_over self.now.machine self.now.traces (run self.now.machine self.now.traces self.now.now) ≡ false }
+        requires goes_on { is_over_now self.now ≡ false }
         ensures some { self.entry.now.now < result }
         ensures within { result ≤ limit }
-        ensures goes_on { GoesOn self.entry.now.machine self.entry.now.traces self.entry.now.now result }
+        ensures goes_on { GoesOn self.entry.now.machine self.entry.now.now result }
     {
         let cores = cores_until(&self.machine, self.now, &self.parts);
         let flight = flight_until(&self.links, self.now);
         cores.max(flight).max(self.now + 1).min(limit)
     }
 
-    /// A later cycle, at most the limit, up to which the run can be taken: it surely does not end before the last cycle up to there. None
-    /// where the run has no more cycles, at the limit, or where it is over and the configuration ends it drained.
+    /// A later cycle, at most the limit, up to which the run can be taken: it surely does not end before the last
+    /// cycle up to there. None where the run has no more cycles, at the limit, or where it is over and the
+    /// configuration ends it drained.
     pub fn next_stop(&self, limit: Cycle) -> Option<Cycle>
         ensures later { IfSome result (λ stop. self.entry.now.now < stop) }
         ensures within { IfSome result (λ stop. stop ≤ limit) }
-        ensures undrained { IfSome result (λ stop. self.entry.now.machine.ends_drained ≡ false → stop ≡ limit) }
-        ensures goes_on { IfSome result (NotEnded self.entry.now.machine self.entry.now.traces self.entry.now.now) }
-        ensures ended { IfNone result (self.entry.now.now < limit → ends_before self.entry.now.machine self.entry.now.traces self.entry.now.now ≡ true) }
+        ensures undrained { IfSome result (IsWholeUnlessDrained self.entry.now limit) }
+        ensures goes_on { IfSome result (NotEnded self.entry.now.machine self.entry.now.now) }
+        ensures ended { IfNone result (HasNoMore self.entry.now limit) }
     {
         if self.now >= limit {
             return None;
@@ -230,30 +207,42 @@ impl Sim {
 
     /// The statistics of the cycles that are over. The only error is out of memory.
     pub fn stats(&self, alloc: Global) -> Result<Stats, AllocError>
-        ensures { IfOk result (λ stats. stats ≡ stats_of self.entry.now.machine self.entry.now.traces (run self.entry.now.machine self.entry.now.traces self.entry.now.now)) }
+        ensures { IfOk result (λ stats. stats ≡ stats_now self.entry.now) }
     {
-        let config = &self.machine.config;
-        let cores = stats_of_cores(alloc, config, &self.parts)?;
-        let channels = stats_of_channels(alloc, config, &self.parts)?;
+        let machine: &Machine = &self.machine;
+        let cores = stats_of_cores(alloc, machine, &self.parts)?;
+        let channels = stats_of_channels(alloc, machine, &self.parts)?;
         let stats = Stats::of_parts(alloc, self.now, &cores, &channels)?;
         Ok(stats)
     }
 
-    /// What the run of the cycles that are over did and left: the commands of all channels by cycle and then by channel, and the requests that
-    /// they serve, if their table is asked for, the statistics, and the state before the cycle where the simulator stands. The only error is out
-    /// of memory; a table that is asked for here and was not at the start is refused in the same way.
+    /// The state in which the machine is left: that of each unit, and the messages in flight.
+    fn final_state(&self, alloc: Global) -> Result<FinalState, AllocError>
+        ensures { IfOk result (λ last. last ≡ last_now self.entry.now) }
+    {
+        let machine: &Machine = &self.machine;
+        Ok(FinalState {
+            cores: cores_left(alloc, machine, self.now, &self.parts)?,
+            channels: channels_left(alloc, machine, self.now, &self.parts)?,
+            in_flight: self.links.messages(alloc)?,
+        })
+    }
+
+    /// What the run of the cycles that are over did and left: the commands of all channels by cycle and then by
+    /// channel, and the requests that they serve, if their table is asked for, the statistics, and the state before
+    /// the cycle where the simulator stands. The only error is out of memory; a table that is asked for here and was
+    /// not at the start is refused in the same way.
     pub fn outcome(self, alloc: Global, tables: Tables) -> Result<Outcome, AllocError>
-        ensures { IfOk result (λ outcome. outcome ≡ outcome_of tables self.machine self.traces self.now) }
+        ensures { IfOk result (λ outcome. outcome ≡ outcome_now tables self) }
     {
         let stats = self.stats(alloc)?;
+        let last = self.final_state(alloc)?;
         let Sim {
             machine,
             now,
-            phase,
             parts,
-            links,
+            ..
         } = self;
-        let last = final_state(alloc, &machine, now, phase, &parts, &links)?;
         let Kept { commands, served } = kept_by_channel(alloc, &machine, now, parts, tables)?;
         Ok(Outcome {
             tables,

@@ -1,20 +1,14 @@
 //! The tables of all commands and of all requests of a machine.
 
-ghost use Rattle.std.specs.Prelude.{◌≡◌, ◌<◌, ◌++◌, ℕ, List, [], ◌∷◌, length, map, is_some, All, IfOk, IfSome, OnOk};
-ghost use Rattle.run_outcome.specs.Outcomes.{if_asked};
-ghost use Rattle.sim_base.specs.History.{below, commands};
-ghost use Rattle.sim_base.specs.Machine.{run};
-ghost use Rattle.sim_base.specs.declared.config.Config.{Config};
+ghost use Rattle.std.specs.Prelude.{◌≡◌, ◌<◌, ◌++◌, ℕ, List, [], ◌∷◌, length, is_some, IfOk, IfSome, OnOk};
 ghost use Rattle.sim_base.specs.declared.message.Unit.TheVariants as unit;
-ghost use Rattle.sim_base.specs.declared.trace.Entry.{Entry};
-ghost use Rattle.laws.specs.Commands.{history_of};
 ghost use Rattle.served_requests.specs.declared.ServedRequest.{ServedRequest};
 ghost use Rattle.sim_base.specs.declared.command.IssuedCommand.{IssuedCommand};
-ghost use Rattle.span_laws.specs.Channels.{IsChannelAt};
-ghost use Rattle.request_table.specs.Requests.{requests_of};
-ghost use Rattle.units.specs.Kept.{AreHeld, served_of};
+ghost use Rattle.units.specs.Kept.{AreHeld, served_of, command_lists, served_lists, command_table_if, request_table_if};
+ghost use Rattle.units.specs.Runs.{HasChannelAt, commands_at};
 ghost use Rattle.units.specs.Units.{unit_count};
 ghost use Rattle.units.specs.Parts.{IsPart, StandAt};
+ghost use Rattle.units.specs.declared.machine.Machine.{Machine};
 
 use crate::machine::Machine;
 use crate::part::UnitState;
@@ -27,7 +21,8 @@ use run_outcome::tables::Tables;
 use sim_base::message::Cycle;
 use std::alloc::{AllocError, Global};
 
-/// What the channels of a machine kept, by number: the commands of each, and the requests that it served, where a table is asked for.
+/// What the channels of a machine kept, by number: the commands of each, and the requests that it served, where a
+/// table is asked for.
 #[derive(Drop)]
 pub(crate) struct Kept {
     pub(crate) commands: Option<Vec<CommandList>>,
@@ -42,11 +37,12 @@ fn lists_if<T: Drop>(alloc: Global, asked: bool) -> Option<Vec<T>>
     if asked { Some(Vec::new(alloc)) } else { None }
 }
 
-/// Adds the list of a channel to those of the channels before it, where they are asked for. A channel that kept none is refused as if there was
-/// no memory to keep it.
+/// Adds the list of a channel to those of the channels before it, where they are asked for. A channel that kept none
+/// is refused as if there was no memory to keep it.
 fn add<T: Drop>(lists: &mut Option<Vec<T>>, list: Option<T>) -> Result<(), AllocError>
     ensures asked { OnOk result (is_some lists.new ≡ is_some lists.old) }
-    ensures held { (rows : List T) (row : T) → AreHeld lists.old rows → IfSome list (λ own. own ≡ row) → OnOk result (AreHeld lists.new (rows ++ row ∷ [])) }
+    ensures held { (rows : List T) (row : T) → AreHeld lists.old rows
+        → IfSome list (λ own. own ≡ row) → OnOk result (AreHeld lists.new (rows ++ row ∷ [])) }
 {
     match lists {
         None => Ok(()),
@@ -59,8 +55,8 @@ fn add<T: Drop>(lists: &mut Option<Vec<T>>, list: Option<T>) -> Result<(), Alloc
 
 /// The requests that a channel served, as a list, if they were kept.
 fn list_of(channel: Channel) -> Option<ServedList>
-    ensures { (s : Config) (traces : List (List Entry)) (number now : ℕ) → number < s.channels → IsChannelAt s traces number now channel
-        → IfSome result (λ list. list ≡ served_of s traces now number) }
+    ensures { (machine : Machine) (number now : ℕ) → number < machine.config.channels
+        → HasChannelAt machine number now channel → IfSome result (λ list. list ≡ served_of machine now number) }
 {
     Some(ServedList::of(channel.into_served()?))
 }
@@ -69,11 +65,15 @@ fn list_of(channel: Channel) -> Option<ServedList>
 fn add_part(kept: &mut Kept, part: UnitState) -> Result<(), AllocError>
     ensures commands_asked { OnOk result (is_some kept.new.commands ≡ is_some kept.old.commands) }
     ensures served_asked { OnOk result (is_some kept.new.served ≡ is_some kept.old.served) }
-    ensures core { (s : Config) (traces : List (List Entry)) (core now : ℕ) → IsPart s traces (unit.Core core) now part → OnOk result (kept.new ≡ kept.old) }
-    ensures commands { (s : Config) (traces : List (List Entry)) (channel now : ℕ) (rows : List (List IssuedCommand)) → IsPart s traces (unit.Channel channel) now part
-        → AreHeld kept.old.commands rows → OnOk result (AreHeld kept.new.commands (rows ++ history_of s traces now channel ∷ [])) }
-    ensures served { (s : Config) (traces : List (List Entry)) (channel now : ℕ) (rows : List (List ServedRequest)) → channel < s.channels → IsPart s traces (unit.Channel channel) now part
-        → AreHeld kept.old.served rows → OnOk result (AreHeld kept.new.served (rows ++ served_of s traces now channel ∷ [])) }
+    ensures core { (machine : Machine) (core now : ℕ) → IsPart machine (unit.Core core) now part
+        → OnOk result (kept.new ≡ kept.old) }
+    ensures commands { (machine : Machine) (channel now : ℕ) (rows : List (List IssuedCommand))
+        → IsPart machine (unit.Channel channel) now part → AreHeld kept.old.commands rows
+        → OnOk result (AreHeld kept.new.commands (rows ++ commands_at machine now channel ∷ [])) }
+    ensures served { (machine : Machine) (channel now : ℕ) (rows : List (List ServedRequest))
+        → channel < machine.config.channels → IsPart machine (unit.Channel channel) now part
+        → AreHeld kept.old.served rows
+        → OnOk result (AreHeld kept.new.served (rows ++ served_of machine now channel ∷ [])) }
 {
     match part {
         UnitState::Core(_) => Ok(()),
@@ -84,7 +84,8 @@ fn add_part(kept: &mut Kept, part: UnitState) -> Result<(), AllocError>
     }
 }
 
-/// What each channel kept, by number, where these tables are asked for. A channel that did not keep what is asked for is refused as if there was no memory to keep it.
+/// What each channel kept, by number, where these tables are asked for. A channel that did not keep what is asked for
+/// is refused as if there was no memory to keep it.
 pub(crate) fn kept_by_channel(
     alloc: Global,
     machine: &Machine,
@@ -93,11 +94,11 @@ pub(crate) fn kept_by_channel(
     tables: Tables,
 ) -> Result<Kept, AllocError>
     requires count { length parts.items ≡ unit_count machine.now.config }
-    requires stand { StandAt machine.now.config machine.now.traces.items now parts.items }
+    requires stand { StandAt machine.now now parts.items }
     ensures commands_asked { IfOk result (λ kept. is_some kept.commands ≡ tables.commands) }
     ensures served_asked { IfOk result (λ kept. is_some kept.served ≡ tables.requests) }
-    ensures commands { IfOk result (λ kept. AreHeld kept.commands (map (history_of machine.now.config machine.now.traces.items now) (below machine.now.config.channels))) }
-    ensures served { IfOk result (λ kept. AreHeld kept.served (map (served_of machine.now.config machine.now.traces.items now) (below machine.now.config.channels))) }
+    ensures commands { IfOk result (λ kept. AreHeld kept.commands (command_lists machine.now now)) }
+    ensures served { IfOk result (λ kept. AreHeld kept.served (served_lists machine.now now)) }
 {
     let mut kept = Kept {
         commands: lists_if(alloc, tables.commands),
@@ -109,28 +110,29 @@ pub(crate) fn kept_by_channel(
     Ok(kept)
 }
 
-/// The commands of all channels, by cycle and then by channel, if they were kept. They stay where they are: no list is copied, and none is sorted.
+/// The commands of all channels, by cycle and then by channel, if they were kept. They stay where they are: no list
+/// is copied, and none is sorted.
 pub(crate) fn command_table(
     machine: &Machine,
     now: Cycle,
     lists: Option<Vec<CommandList>>,
 ) -> Option<CommandTable>
-    requires { AreHeld lists (map (history_of machine.now.config machine.now.traces.items now) (below machine.now.config.channels)) }
-    ensures { result ≡ if_asked (is_some lists) (commands (run machine.now.config machine.now.traces.items now)) }
+    requires { AreHeld lists (command_lists machine.now now) }
+    ensures { result ≡ command_table_if (is_some lists) machine.now now }
 {
     Some(CommandTable::of(lists?))
 }
 
-/// The requests of all channels, by the cycle of their command and then by channel, if they were kept. They stay where they are as well. The only
-/// error is out of memory.
+/// The requests of all channels, by the cycle of their command and then by channel, if they were kept. They stay
+/// where they are as well. The only error is out of memory.
 pub(crate) fn request_table(
     alloc: Global,
     machine: &Machine,
     now: Cycle,
     lists: Option<Vec<ServedList>>,
 ) -> Result<Option<RequestTable>, AllocError>
-    requires { AreHeld lists (map (served_of machine.now.config machine.now.traces.items now) (below machine.now.config.channels)) }
-    ensures { IfOk result (λ table. table ≡ if_asked (is_some lists) (requests_of machine.now.config (run machine.now.config machine.now.traces.items now))) }
+    requires { AreHeld lists (served_lists machine.now now) }
+    ensures { IfOk result (λ table. table ≡ request_table_if (is_some lists) machine.now now) }
 {
     match lists {
         Some(lists) => Ok(Some(RequestTable::of(alloc, &machine.config, now, lists)?)),

@@ -1,9 +1,11 @@
 //! The banks of a run whose commands were written out by hand.
 
-use crate::page_runs::{bank_of, list_of, row_of, stats_of};
+use crate::expect::expect;
+use crate::page_runs::{list_of, stats_of};
 use show::options::Options;
 use show::show_banks;
 use sim_base::command::{Command, IssuedCommand, Source};
+use sim_base::place::BankId;
 use std::test::Fail;
 
 const PLAIN: Options = Options {
@@ -11,60 +13,117 @@ const PLAIN: Options = Options {
     khz: None,
 };
 
-fn of_entry(entry: u64) -> Source {
-    Source { core: 0, entry }
-}
+const BANK: BankId = BankId {
+    rank: 0,
+    group: 0,
+    bank: 0,
+};
 
-fn act(row: u32, entry: u64) -> Command {
-    Command::Act {
-        bank: bank_of(0, 0),
-        row,
-        source: of_entry(entry),
-    }
-}
+const OTHER: BankId = BankId {
+    rank: 1,
+    group: 0,
+    bank: 1,
+};
 
-fn rd(row: u32, entry: u64) -> Command {
-    Command::Rd {
-        bank: bank_of(0, 0),
-        row,
-        column: 5,
-        source: of_entry(entry),
-    }
-}
-
-// Bank 0 of rank 0: entry 0 opens row 7 and reads it, entry 1 hits it, entry 2 closes it for row 8, which a refresh closes before entry 2 is
-// served; entry 3 opens row 8 again, and entry 2 writes to it, which is no hit: it had an ACT of its own. Bank 1 of rank 1 is opened and not read.
-fn commands() -> [IssuedCommand; 11] {
-    let bank = bank_of(0, 0);
-    let wr = Command::Wr {
-        bank,
-        row: 8,
-        column: 6,
-        source: of_entry(2),
-    };
-    let pre = Command::Pre {
-        bank,
-        source: of_entry(2),
-    };
-    let other = Command::Act {
-        bank: bank_of(1, 1),
-        row: 1,
-        source: of_entry(4),
-    };
-    [
-        row_of(10, act(7, 0)),
-        row_of(13, rd(7, 0)),
-        row_of(17, rd(7, 1)),
-        row_of(30, pre),
-        row_of(33, act(8, 2)),
-        row_of(40, Command::Prea { rank: 0 }),
-        row_of(43, Command::Ref { rank: 0 }),
-        row_of(60, act(8, 3)),
-        row_of(63, wr),
-        row_of(67, rd(8, 3)),
-        row_of(90, other),
-    ]
-}
+// Bank 0 of rank 0: entry 0 opens row 7 and reads it, entry 1 hits it, entry 2 closes it for row 8, which a refresh
+// closes before entry 2 is served; entry 3 opens row 8 again, and entry 2 writes to it, which is no hit: it had an ACT
+// of its own. Bank 1 of rank 1 is opened and not read.
+static COMMANDS: [IssuedCommand; 11] = [
+    IssuedCommand {
+        cycle: 10,
+        channel: 0,
+        command: Command::Act {
+            bank: BANK,
+            row: 7,
+            source: Source { core: 0, entry: 0 },
+        },
+    },
+    IssuedCommand {
+        cycle: 13,
+        channel: 0,
+        command: Command::Rd {
+            bank: BANK,
+            row: 7,
+            column: 5,
+            source: Source { core: 0, entry: 0 },
+        },
+    },
+    IssuedCommand {
+        cycle: 17,
+        channel: 0,
+        command: Command::Rd {
+            bank: BANK,
+            row: 7,
+            column: 5,
+            source: Source { core: 0, entry: 1 },
+        },
+    },
+    IssuedCommand {
+        cycle: 30,
+        channel: 0,
+        command: Command::Pre {
+            bank: BANK,
+            source: Source { core: 0, entry: 2 },
+        },
+    },
+    IssuedCommand {
+        cycle: 33,
+        channel: 0,
+        command: Command::Act {
+            bank: BANK,
+            row: 8,
+            source: Source { core: 0, entry: 2 },
+        },
+    },
+    IssuedCommand {
+        cycle: 40,
+        channel: 0,
+        command: Command::Prea { rank: 0 },
+    },
+    IssuedCommand {
+        cycle: 43,
+        channel: 0,
+        command: Command::Ref { rank: 0 },
+    },
+    IssuedCommand {
+        cycle: 60,
+        channel: 0,
+        command: Command::Act {
+            bank: BANK,
+            row: 8,
+            source: Source { core: 0, entry: 3 },
+        },
+    },
+    IssuedCommand {
+        cycle: 63,
+        channel: 0,
+        command: Command::Wr {
+            bank: BANK,
+            row: 8,
+            column: 6,
+            source: Source { core: 0, entry: 2 },
+        },
+    },
+    IssuedCommand {
+        cycle: 67,
+        channel: 0,
+        command: Command::Rd {
+            bank: BANK,
+            row: 8,
+            column: 5,
+            source: Source { core: 0, entry: 3 },
+        },
+    },
+    IssuedCommand {
+        cycle: 90,
+        channel: 0,
+        command: Command::Act {
+            bank: OTHER,
+            row: 1,
+            source: Source { core: 0, entry: 4 },
+        },
+    },
+];
 
 // Of 4 RDs and WRs one is a hit. The row was closed by a PRE, for entry 2, and by the PREA.
 const BANKS: &str = "
@@ -78,9 +137,14 @@ r1 g0 b1      1      0      0      0       -          0
 fn banks_below_the_screen(rt: HostRuntime) -> Result<(), Fail> {
     let alloc = rt.alloc();
     let stats = stats_of(alloc, 1000)?;
-    let list = list_of(alloc, &commands())?;
+    let list = list_of(alloc, &COMMANDS)?;
     let text = show_banks(alloc, &stats, &list, PLAIN, None)?;
-    assert!(rt; text.starts_with("cycles 1000\n\nChannels (1): "));
-    assert!(rt; text.ends_with(BANKS), "{text}");
+    let text = text.as_str();
+    let screen = text.starts_with("cycles 1000\n\nChannels (1): ");
+    expect(
+        &rt,
+        &(screen, text.strip_suffix(BANKS).is_some()),
+        &(true, true),
+    );
     Ok(())
 }

@@ -1,17 +1,20 @@
 //! Comparisons that were worked out by hand.
 
-use crate::expect::expect;
+use crate::expect::expect_at;
 use compare::compare_text;
 use compare::layout::Layout;
+use fixtures::none::{NO_CHANNEL, NO_CORE};
+use sim_base::message::Cycle;
 use statistics::channels::ChannelStats;
 use statistics::cores::CoreStats;
 use statistics::stats::Stats;
 use std::alloc::{AllocError, Global};
 use std::test::Fail;
 
-// Of the first run 800 entries in 1,000 cycles are 0.8, 10 hits of 25 are 40 %, 4 * 25 cycles 10 %, 1,200 / 20 is 60. Of the second 710 / 800 is
-// 0.8875, 10.9375 % above 0.8, 210 / 800 is 0.2625, 12.5 % below 0.3, and 6 is a seventh below 7; 41 / 800 is 5.125 %. The third has a core and a channel more, whose
-// cycles count: 4 * 25 of 2,000 are 5 %, 1,500 / 2,000 is 0.75; no read is answered, and no core that the first run has gains or loses.
+// Of the first run 800 entries in 1,000 cycles are 0.8, 10 hits of 25 are 40 %, 4 * 25 cycles 10 %, 1,200 / 20 is 60.
+// Of the second 710 / 800 is 0.8875, 10.9375 % above 0.8, 210 / 800 is 0.2625, 12.5 % below 0.3, and 6 is a seventh
+// below 7; 41 / 800 is 5.125 %. The third has a core and a channel more, whose cycles count: 4 * 25 of 2,000 are 5 %,
+// 1,500 / 2,000 is 0.75; no read is answered, and no core that the first run has gains or loses.
 const THREE: &str = "run 1: base
 run 2: wide
 run 3: out/two channels
@@ -74,78 +77,6 @@ core that gained most              -             -           -
 core that lost most                -             -           -
 ";
 
-fn core_of(retired: u64, replies: u64, latency: u128) -> CoreStats {
-    CoreStats {
-        retired,
-        replies,
-        read_latency: latency,
-        ..CoreStats::new()
-    }
-}
-
-fn first(alloc: Global) -> Result<Stats, AllocError> {
-    let channel = ChannelStats {
-        rd: 20,
-        wr: 5,
-        hits: 10,
-        queued: 2_500,
-        queued_max: 7,
-        refreshing: 50,
-        ..ChannelStats::new()
-    };
-    let cores = [core_of(500, 10, 500), core_of(300, 10, 700)];
-    Stats::of_parts(alloc, 1_000, &cores, &[channel])
-}
-
-fn second(alloc: Global) -> Result<Stats, AllocError> {
-    let channel = ChannelStats {
-        rd: 21,
-        wr: 4,
-        hits: 15,
-        queued: 2_000,
-        queued_max: 6,
-        refreshing: 41,
-        draining: Some(8),
-        ..ChannelStats::new()
-    };
-    let cores = [core_of(500, 8, 400), core_of(210, 8, 512)];
-    Stats::of_parts(alloc, 800, &cores, &[channel])
-}
-
-fn third(alloc: Global) -> Result<Stats, AllocError> {
-    let one = ChannelStats {
-        rd: 10,
-        wr: 2,
-        hits: 3,
-        queued: 1_000,
-        queued_max: 3,
-        ..ChannelStats::new()
-    };
-    let two = ChannelStats {
-        rd: 10,
-        wr: 3,
-        hits: 7,
-        queued: 500,
-        queued_max: 9,
-        refreshing: 100,
-        ..ChannelStats::new()
-    };
-    let cores = [core_of(500, 0, 0), core_of(300, 0, 0), core_of(100, 0, 0)];
-    Stats::of_parts(alloc, 1_000, &cores, &[one, two])
-}
-
-#[test]
-fn three_runs(rt: HostRuntime) -> Result<(), Fail> {
-    let alloc = rt.alloc();
-    let runs = vec![in alloc; first(alloc)?, second(alloc)?, third(alloc)?]?;
-    let names = ["base", "wide", "out/two channels"];
-    for (layout, want) in [(Layout::Screen, THREE), (Layout::Csv, THREE_CSV)] {
-        let text = compare_text(alloc, layout, &names, &runs, &[])?;
-        expect(&rt, &text.as_str(), &want);
-    }
-    Ok(())
-}
-
 // 21 / 99 is 21.21 per cent. No read of the third run was answered.
 const TAIL: &str = "
 read latency p99                  99           120       +21.2             -           -
@@ -155,25 +86,156 @@ const TAIL_CSV: &str = "
 read latency p99,99,120,+21.2,,
 queue mean,";
 
+// The cycles, the cores and the channels of a run.
+type Run = (Cycle, &'static [CoreStats], &'static [ChannelStats]);
+
+const MOST: CoreStats = CoreStats {
+    retired: 500,
+    ..NO_CORE
+};
+
+const FEWER: CoreStats = CoreStats {
+    retired: 300,
+    ..NO_CORE
+};
+
+// A run of no cycles, and three others.
+static RUNS: [Run; 4] = [
+    (0, &[NO_CORE], &[NO_CHANNEL]),
+    (
+        1_000,
+        &[
+            CoreStats {
+                replies: 10,
+                read_latency: 500,
+                ..MOST
+            },
+            CoreStats {
+                replies: 10,
+                read_latency: 700,
+                ..FEWER
+            },
+        ],
+        &[ChannelStats {
+            rd: 20,
+            wr: 5,
+            hits: 10,
+            queued: 2_500,
+            queued_max: 7,
+            refreshing: 50,
+            ..NO_CHANNEL
+        }],
+    ),
+    (
+        800,
+        &[
+            CoreStats {
+                replies: 8,
+                read_latency: 400,
+                ..MOST
+            },
+            CoreStats {
+                retired: 210,
+                replies: 8,
+                read_latency: 512,
+                ..NO_CORE
+            },
+        ],
+        &[ChannelStats {
+            rd: 21,
+            wr: 4,
+            hits: 15,
+            queued: 2_000,
+            queued_max: 6,
+            refreshing: 41,
+            draining: Some(8),
+            ..NO_CHANNEL
+        }],
+    ),
+    (
+        1_000,
+        &[
+            MOST,
+            FEWER,
+            CoreStats {
+                retired: 100,
+                ..NO_CORE
+            },
+        ],
+        &[
+            ChannelStats {
+                rd: 10,
+                wr: 2,
+                hits: 3,
+                queued: 1_000,
+                queued_max: 3,
+                ..NO_CHANNEL
+            },
+            ChannelStats {
+                rd: 10,
+                wr: 3,
+                hits: 7,
+                queued: 500,
+                queued_max: 9,
+                refreshing: 100,
+                ..NO_CHANNEL
+            },
+        ],
+    ),
+];
+
+fn all_runs(alloc: Global) -> Result<Vec<Stats>, AllocError> {
+    let mut runs = Vec::new(alloc);
+    for (cycles, cores, channels) in &RUNS {
+        runs.push(Stats::of_parts(alloc, *cycles, cores, channels)?)?;
+    }
+    Ok(runs)
+}
+
+static NAMES: [&str; 3] = ["base", "wide", "out/two channels"];
+
+const TAILS: [Option<Cycle>; 3] = [Some(99), Some(120), None];
+
+// Comparisons of the three runs: whole, or in part, with percentiles of their latencies.
+static CASES: [(Layout, &[Option<Cycle>], &str); 4] = [
+    (Layout::Screen, &[], THREE),
+    (Layout::Csv, &[], THREE_CSV),
+    (Layout::Screen, &TAILS, TAIL),
+    (Layout::Csv, &TAILS, TAIL_CSV),
+];
+
 #[test]
-fn p99_behind_the_mean(rt: HostRuntime) -> Result<(), Fail> {
-    let alloc = rt.alloc();
-    let runs = vec![in alloc; first(alloc)?, second(alloc)?, third(alloc)?]?;
-    let names = ["base", "wide", "out/two channels"];
-    let tails = [Some(99), Some(120), None];
-    for (layout, want) in [(Layout::Screen, TAIL), (Layout::Csv, TAIL_CSV)] {
-        let text = compare_text(alloc, layout, &names, &runs, &tails)?;
-        assert!(rt; text.contains(want), "{text}");
+fn three_runs(rt: HostRuntime) -> Result<(), Fail> {
+    let runs = all_runs(rt.alloc())?;
+    for (layout, tails, want) in &CASES {
+        let text = compare_text(
+            rt.alloc(),
+            *layout,
+            &NAMES,
+            runs.get(1..4).unwrap_or(&[]),
+            tails,
+        )?;
+        let text = text.as_str();
+        let is_right = if tails.is_empty() {
+            text == *want
+        } else {
+            text.contains(*want)
+        };
+        expect_at(&rt, &text, &is_right, &true);
     }
     Ok(())
 }
 
 #[test]
 fn a_first_run_of_no_cycles(rt: HostRuntime) -> Result<(), Fail> {
-    let alloc = rt.alloc();
-    let none = Stats::of_parts(alloc, 0, &[CoreStats::new()], &[ChannelStats::new()])?;
-    let runs = vec![in alloc; none, first(alloc)?]?;
-    let text = compare_text(alloc, Layout::Screen, &["none", "base"], &runs, &[])?;
-    expect(&rt, &text.as_str(), &NO_CYCLES);
+    let runs = all_runs(rt.alloc())?;
+    let text = compare_text(
+        rt.alloc(),
+        Layout::Screen,
+        &["none", "base"],
+        runs.get(..2).unwrap_or(&[]),
+        &[],
+    )?;
+    expect_at(&rt, &"", &text.as_str(), &NO_CYCLES);
     Ok(())
 }

@@ -1,70 +1,83 @@
 //! Numbers, shares, scales and axes, with what they print worked out by hand.
 
+use crate::expect::{expect, expect_at, expect_parts};
 use drawing::axes::{Quantity, put_cycle_ticks, put_value_ticks};
 use drawing::markup::{LegendEntry, Piece, put, put_legend};
 use drawing::scales::{axis_end, share_of, tick_step};
 use std::test::Fail;
 
+static PIECES: [(Piece, &str); 9] = [
+    (Piece::Text("a <b>"), "a <b>"),
+    (Piece::Number(1_234_567), "1234567"),
+    (Piece::Tenths(123), "12.3"),
+    (Piece::Hundredths(105), "1.05"),
+    (Piece::Grouped(0), "0"),
+    (Piece::Grouped(999), "999"),
+    (Piece::Grouped(1_000), "1,000"),
+    (Piece::Grouped(1_000_007), "1,000,007"),
+    (Piece::Grouped(u64::MAX), "18,446,744,073,709,551,615"),
+];
+
 #[test]
 fn pieces_print(rt: HostRuntime) -> Result<(), Fail> {
-    for (piece, want) in [
-        (Piece::Text("a <b>"), "a <b>"),
-        (Piece::Number(1_234_567), "1234567"),
-        (Piece::Tenths(123), "12.3"),
-        (Piece::Hundredths(105), "1.05"),
-        (Piece::Grouped(0), "0"),
-        (Piece::Grouped(999), "999"),
-        (Piece::Grouped(1_000), "1,000"),
-        (Piece::Grouped(1_000_007), "1,000,007"),
-        (Piece::Grouped(u64::MAX), "18,446,744,073,709,551,615"),
-    ] {
+    for (piece, want) in &PIECES {
         let mut text = String::new(rt.alloc());
-        put(&[piece], &mut text)?;
-        assert_eq!(rt; text.as_str(), want);
+        put(&[*piece], &mut text)?;
+        expect(&rt, &text.as_str(), want);
     }
-    let mut text = String::new(rt.alloc());
-    let entry = LegendEntry {
-        class: "act",
-        text: "ACT",
-    };
-    put_legend(&[entry], &mut text)?;
-    assert!(rt;
-        text.as_str().contains(
-            "<rect class=\"act\" width=\"10\" height=\"10\"/></svg>ACT</li></ul>"
-        )
-    );
     Ok(())
 }
 
+// A part, a whole, the units of the whole, and the share. A half is rounded up.
+static SHARES: [(u128, u64, u64, u64); 8] = [
+    (1, 3, 1000, 333),
+    (2, 3, 1000, 667),
+    (1, 2, 1, 1),
+    (1, 8, 100, 13),
+    (3, 3, 1000, 1000),
+    (5, 0, 1000, 0),
+    (0, 7, 1000, 0),
+    (u128::MAX, 1, 1, u64::MAX),
+];
+
+// A span, the distance between its ticks, and the end of its axis.
+static STEPS: [(u64, u64, u64); 6] = [
+    (0, 1, 0),
+    (4, 1, 4),
+    (6, 2, 6),
+    (37, 10, 40),
+    (1000, 200, 1000),
+    (4604, 1000, 5000),
+];
+
 #[test]
 fn shares_and_steps(rt: HostRuntime) {
-    for (part, whole, units, want) in [
-        (1u128, 3u64, 1000u64, 333u64),
-        (2, 3, 1000, 667),
-        // A half is rounded up.
-        (1, 2, 1, 1),
-        (1, 8, 100, 13),
-        (3, 3, 1000, 1000),
-        (5, 0, 1000, 0),
-        (0, 7, 1000, 0),
-        (u128::MAX, 1, 1, u64::MAX),
-    ] {
-        assert_eq!(rt; share_of(part, whole, units), want);
+    for (part, whole, units, want) in &SHARES {
+        expect_at(&rt, part, &share_of(*part, *whole, *units), want);
     }
-    for (span, step, end) in [
-        (0, 1, 0),
-        (4, 1, 4),
-        (6, 2, 6),
-        (37, 10, 40),
-        (1000, 200, 1000),
-        (4604, 1000, 5000),
-    ] {
-        assert_eq!(rt; tick_step(span, 5), step, "over {span}");
-        assert_eq!(rt; axis_end(span, 5), end, "for {span}");
+    for (span, step, end) in &STEPS {
+        let found = (tick_step(*span, 5), axis_end(*span, 5));
+        expect_at(&rt, span, &found, &(*step, *end));
     }
 }
 
-// The label of a tick, and how far it is from the begin of its axis.
+// The label of a tick, and how far it is from the begin of its axis; and the entry of a legend.
+const PUT: &str = r#"<i class="y" style="bottom:41.67%"><b>1.0</b></i>
+
+<i class="y" style="bottom:25.00%"><b>20</b></i>
+
+<i class="y" style="bottom:75.00%"><b>15</b></i>
+
+<i class="x" style="left:0.00%"><b>0</b></i>
+
+<i class="x" style="left:40.00%"><b>1,000k</b></i>
+
+<i class="x" style="left:100.00%"><b>2,500k</b></i>
+
+<i class="x" style="left:50.00%"><b>1,200</b></i>
+
+<rect class="act" width="10" height="10"/></svg>ACT</li></ul>"#;
+
 #[test]
 fn ticks_have_one_unit(rt: HostRuntime) -> Result<(), Fail> {
     let mut text = String::new(rt.alloc());
@@ -74,16 +87,11 @@ fn ticks_have_one_unit(rt: HostRuntime) -> Result<(), Fail> {
     put_value_ticks(Quantity::Count, 20, &mut text)?;
     put_cycle_ticks(0, 2_500_000, &mut text)?;
     put_cycle_ticks(1_100, 200, &mut text)?;
-    for want in [
-        r#"<i class="y" style="bottom:41.67%"><b>1.0</b></i>"#,
-        r#"<i class="y" style="bottom:25.00%"><b>20</b></i>"#,
-        r#"<i class="y" style="bottom:75.00%"><b>15</b></i>"#,
-        r#"<i class="x" style="left:0.00%"><b>0</b></i>"#,
-        r#"<i class="x" style="left:40.00%"><b>1,000k</b></i>"#,
-        r#"<i class="x" style="left:100.00%"><b>2,500k</b></i>"#,
-        r#"<i class="x" style="left:50.00%"><b>1,200</b></i>"#,
-    ] {
-        assert!(rt; text.as_str().contains(want), "no {want}");
-    }
+    let entry = LegendEntry {
+        class: "act",
+        text: "ACT",
+    };
+    put_legend(&[entry], &mut text)?;
+    expect_parts(&rt, text.as_str(), PUT, true);
     Ok(())
 }

@@ -18,3 +18,13 @@ pub fn expect_at<T: PartialEq + Debug, N: Debug>(rt: &impl Abort, case: &N, foun
 {
     assert_eq!(rt; found, want, "at {case:?}");
 }
+
+/// Ends the test where one of some parts of a text, with a blank line between two, is not there, or is where none is
+/// wanted.
+pub fn expect_parts(rt: &impl Abort, text: &str, parts: &str, are_there: bool) {
+    for part in parts.split("\n\n") {
+        if !part.is_empty() {
+            expect_at(rt, &part, &text.contains(part), &are_there);
+        }
+    }
+}

@@ -1,9 +1,13 @@
-//! Which text is asked for, and assertions of it.
+//! Texts that explain a fault, and those that are wanted.
 
+use crate::expect::expect;
+use crate::explained_configs::OF_CONFIGS;
+use crate::explained_others::OF_OTHERS;
 use explain::{TableKind, of_config, of_host, of_numbers, of_table, of_traces};
 use sim_base::fault::{Fault, LineCause};
 use std::alloc::{AllocError, Global};
 use std::process::Abort;
+use std::test::Fail;
 
 /// What is to be explained.
 #[derive(Clone, Copy)]
@@ -18,7 +22,8 @@ pub(crate) enum Asked {
     FirstLine(&'static [u8]),
     /// A trace that is too long.
     TooLong,
-    /// A fault of a run with 65 workers and a limit of 1000000000001 cycles: how many cores the configuration has, and how many traces there are.
+    /// A fault of a run with 65 workers and a limit of 1000000000001 cycles: how many cores the configuration has, and
+    /// how many traces there are.
     Numbers(Fault, Option<u16>, usize),
     /// A row of a table.
     Row(TableKind, u64, &'static str),
@@ -62,14 +67,17 @@ fn text_of(alloc: Global, asked: Asked) -> Result<String, AllocError> {
 }
 
 /// Ends the test where a text is not the one that is wanted, and prints both.
-pub(crate) fn expect_texts(
-    rt: &impl Abort,
-    alloc: Global,
-    cases: &[Case],
-) -> Result<(), AllocError> {
+fn expect_texts(rt: &impl Abort, alloc: Global, cases: &[Case]) -> Result<(), AllocError> {
     for (asked, want) in cases {
         let text = text_of(alloc, *asked)?;
-        assert_eq!(rt; text.as_str(), *want);
+        expect(rt, &text.as_str(), want);
     }
+    Ok(())
+}
+
+#[test]
+fn faults_are_explained(rt: HostRuntime) -> Result<(), Fail> {
+    expect_texts(&rt, rt.alloc(), &OF_CONFIGS)?;
+    expect_texts(&rt, rt.alloc(), &OF_OTHERS)?;
     Ok(())
 }

@@ -1,11 +1,10 @@
 //! Why configurations are refused.
 
-use crate::explained::{Asked, Case, expect_texts};
+use crate::explained::{Asked, Case};
 use sim_base::fault::Fault;
 use sim_base::key::Key;
-use std::test::Fail;
 
-static OF_CONFIGS: [Case; 46] = [
+pub(crate) static OF_CONFIGS: [Case; 46] = [
     (
         Asked::Config(Fault::ConfigSyntax, "cores = 4\n\tcores = 8\n"),
         "c.toml: line 2, column 2: duplicate key\ncores = 8\n",
@@ -237,9 +236,3 @@ c.toml: the key nRDC is not known: did you mean nRCD?\n",
         "c.toml: line 2, column 8: this is no UTF-8\nend = \"?\\u{1b}[2J\"\n",
     ),
 ];
-
-#[test]
-fn faults_of_configurations(rt: HostRuntime) -> Result<(), Fail> {
-    expect_texts(&rt, rt.alloc(), &OF_CONFIGS)?;
-    Ok(())
-}

@@ -1,15 +1,14 @@
 //! Why traces, numbers and tables are refused, and what to do where the host refuses.
 
-use crate::explained::{Asked, Case, expect_texts};
+use crate::explained::{Asked, Case};
 use explain::TableKind;
 use sim_base::fault::{Fault, LineCause};
-use std::test::Fail;
 
 /// A table of commands with what may be wrong in its rows.
 const COMMANDS: &str =
     "cycle,channel,command,group,bank,row,column,core,entry\n0,0,REF,,,,,,\n\n1,0,ref,,,,,,\n2,0,\"A\u{7}CT\"\n3,0,REF,,,,,,0x4\n3,9,REF,,,,,,\n";
 
-static OF_OTHERS: [Case; 30] = [
+pub(crate) static OF_OTHERS: [Case; 30] = [
     (
         Asked::Line(LineCause::TooFew, "1 2\n\n 100 \r\n1 2\n"),
         "b.trace:3: 100\nit has one number, where 'COUNT READ' or 'COUNT READ WRITE' may stand\n",
@@ -132,9 +131,3 @@ the header must be cycle,channel,command,group,bank,row,column,core,entry, with 
     ),
     (Asked::Host(Fault::Write), ""),
 ];
-
-#[test]
-fn other_faults(rt: HostRuntime) -> Result<(), Fail> {
-    expect_texts(&rt, rt.alloc(), &OF_OTHERS)?;
-    Ok(())
-}

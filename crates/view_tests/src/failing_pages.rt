@@ -1,9 +1,9 @@
 //! Writers that fail.
 
-use crate::page_runs::{ALONE, list_of, one_read, stats_of};
+use crate::expect::expect_at;
+use crate::page_runs::{ALONE, ONE_READ, WHOLE, list_of, stats_of};
 use page::fault::PageFault;
 use page::page::write_page;
-use page::window::{View, Window};
 use std::io;
 use std::io::{ErrorKind, Write};
 use std::test::Fail;
@@ -32,32 +32,32 @@ impl Write for Failing {
     }
 }
 
+// How many writes are taken, whether the next one fails, and how the writing ends.
+static ENDS: [(u64, bool, Result<(), PageFault>); 11] = [
+    (0, false, Err(PageFault::Write)),
+    (0, true, Err(PageFault::Write)),
+    (1, false, Err(PageFault::Write)),
+    (1, true, Err(PageFault::Write)),
+    (2, false, Err(PageFault::Write)),
+    (2, true, Err(PageFault::Write)),
+    (5, false, Err(PageFault::Write)),
+    (5, true, Err(PageFault::Write)),
+    (9, false, Err(PageFault::Write)),
+    (9, true, Err(PageFault::Write)),
+    (u64::MAX, true, Ok(())),
+];
+
 #[test]
 fn a_writer_that_fails_is_told(rt: HostRuntime) -> Result<(), Fail> {
-    let alloc = rt.alloc();
-    let stats = stats_of(alloc, 1000)?;
-    let commands = list_of(alloc, &one_read())?;
-    let view = View {
-        window: Window {
-            from: 0,
-            cycles: 1000,
-        },
-        khz: None,
-    };
-    for left in [0, 1, 2, 5, 9] {
-        for fails in [false, true] {
-            let mut writer = Failing { left, fails };
-            let ended = write_page(alloc, &stats, &commands, ALONE, view, &mut writer);
-            assert_eq!(rt; ended, Err(PageFault::Write), "after {left} writes");
-        }
+    let stats = stats_of(rt.alloc(), 1000)?;
+    let commands = list_of(rt.alloc(), &ONE_READ)?;
+    for (left, fails, want) in &ENDS {
+        let mut writer = Failing {
+            left: *left,
+            fails: *fails,
+        };
+        let ended = write_page(rt.alloc(), &stats, &commands, ALONE, WHOLE, &mut writer);
+        expect_at(&rt, left, &ended, want);
     }
-    let mut writer = Failing {
-        left: u64::MAX,
-        fails: true,
-    };
-    assert_eq!(rt;
-        write_page(alloc, &stats, &commands, ALONE, view, &mut writer),
-        Ok(())
-    );
     Ok(())
 }

@@ -1,5 +1,5 @@
-//! Tests of what users see: what is read of a run's tables and how it is shown, the page of a run and its pictures, the line that tells how far
-//! a run is, and the texts that explain a refusal. The texts were written by hand.
+//! Tests of what users see: what is read of a run's tables and how it is shown, the page of a run and its pictures, the
+//! line that tells how far a run is, and the texts that explain a refusal. The texts were written by hand.
 #![tactic(auto)]
 
 #[cfg(test)]

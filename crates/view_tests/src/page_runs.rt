@@ -1,11 +1,13 @@
 //! Small runs for tests, and their pages.
 
+use crate::expect::{expect_at, expect_parts};
 use command_table::list::CommandList;
+use fixtures::none::{NO_CHANNEL, NO_CORE};
 use page::fault::PageFault;
 use page::page::write_page;
 use page::window::{Beside, View, Window};
 use sim_base::command::{Command, IssuedCommand, Source};
-use sim_base::config::Config;
+use sim_base::message::Cycle;
 use sim_base::place::BankId;
 use statistics::channels::ChannelStats;
 use statistics::cores::CoreStats;
@@ -20,74 +22,87 @@ pub(crate) const ALONE: Beside<'static> = Beside {
     requests: None,
 };
 
-/// A bank of a rank, in group 0.
-pub(crate) fn bank_of(rank: u32, bank: u32) -> BankId {
-    BankId {
-        rank,
-        group: 0,
-        bank,
-    }
-}
+/// A window of a thousand cycles, without a clock.
+pub(crate) const WHOLE: View = View {
+    window: Window {
+        from: 0,
+        cycles: 1000,
+    },
+    khz: None,
+};
+
+/// Bank 0 of rank 0.
+pub(crate) const BANK: BankId = BankId {
+    rank: 0,
+    group: 0,
+    bank: 0,
+};
 
 /// The request of core 0 that a test's commands are issued for.
 pub(crate) const SOURCE: Source = Source { core: 0, entry: 3 };
 
-/// A command of channel 0.
-pub(crate) fn row_of(cycle: u64, command: Command) -> IssuedCommand {
-    IssuedCommand {
-        cycle,
-        channel: 0,
-        command,
-    }
-}
-
-/// ACT of row 7 in cycle 10, RD of column 5 in cycle 26 and PRE in cycle 60, in bank 0 of rank 0.
-pub(crate) fn one_read() -> [IssuedCommand; 3] {
-    let bank = bank_of(0, 0);
-    let act = Command::Act {
-        bank,
+/// ACT of row 7 in cycle 10, RD of column 5 in cycle 26 and PRE in cycle 60.
+pub(crate) const ACT: IssuedCommand = IssuedCommand {
+    cycle: 10,
+    channel: 0,
+    command: Command::Act {
+        bank: BANK,
         row: 7,
         source: SOURCE,
-    };
-    let rd = Command::Rd {
-        bank,
+    },
+};
+
+pub(crate) const RD: IssuedCommand = IssuedCommand {
+    cycle: 26,
+    channel: 0,
+    command: Command::Rd {
+        bank: BANK,
         row: 7,
         column: 5,
         source: SOURCE,
-    };
-    let pre = Command::Pre {
-        bank,
+    },
+};
+
+pub(crate) const PRE: IssuedCommand = IssuedCommand {
+    cycle: 60,
+    channel: 0,
+    command: Command::Pre {
+        bank: BANK,
         source: SOURCE,
-    };
-    [row_of(10, act), row_of(26, rd), row_of(60, pre)]
-}
+    },
+};
+
+/// The three of them.
+pub(crate) const ONE_READ: [IssuedCommand; 3] = [ACT, RD, PRE];
+
+static CORE: [CoreStats; 1] = [CoreStats {
+    retired: 1235,
+    reads: 1,
+    replies: 1,
+    read_latency: 50,
+    stop_end: 900,
+    stop_width: 50,
+    stop_window: 25,
+    stop_memory: 20,
+    stop_credit: 5,
+    finish: Some(799),
+    ..NO_CORE
+}];
+
+static CHANNEL: [ChannelStats; 1] = [ChannelStats {
+    act: 1,
+    rd: 1,
+    pre: 1,
+    refs: 1,
+    queued: 40,
+    queued_max: 1,
+    idle: 960,
+    ..NO_CHANNEL
+}];
 
 /// The statistics of a run of one core and one channel over `cycles` cycles, with a refresh.
-pub(crate) fn stats_of(alloc: Global, cycles: u64) -> Result<Stats, AllocError> {
-    let core = CoreStats {
-        retired: 1235,
-        reads: 1,
-        replies: 1,
-        read_latency: 50,
-        stop_end: 900,
-        stop_width: 50,
-        stop_window: 25,
-        stop_memory: 20,
-        stop_credit: 5,
-        finish: Some(799),
-        ..CoreStats::new()
-    };
-    let channel = ChannelStats {
-        act: 1,
-        rd: 1,
-        pre: 1,
-        refs: 1,
-        queued: 40,
-        queued_max: 1,
-        idle: 960,
-        ..ChannelStats::new()
-    };
-    Stats::of_parts(alloc, cycles, &[core], &[channel])
+pub(crate) fn stats_of(alloc: Global, cycles: Cycle) -> Result<Stats, AllocError> {
+    Stats::of_parts(alloc, cycles, &CORE, &CHANNEL)
 }
 
 /// A list of commands.
@@ -99,49 +114,52 @@ pub(crate) fn list_of(alloc: Global, rows: &[IssuedCommand]) -> Result<CommandLi
     Ok(list)
 }
 
-/// The page of a run of `cycles` cycles with these commands, and how the call ended.
-pub(crate) fn page_of(
-    alloc: Global,
-    cycles: u64,
-    rows: &[IssuedCommand],
-    window: Window,
-    config: Option<&Config>,
-) -> Result<(Vec<u8>, Result<(), PageFault>), AllocError> {
-    let stats = stats_of(alloc, cycles)?;
-    let list = list_of(alloc, rows)?;
-    let mut text = Vec::new(alloc);
-    let view = View { window, khz: None };
-    let ended = write_page(
-        alloc,
-        &stats,
-        &list,
-        Beside {
-            config,
-            requests: None,
-        },
-        view,
-        &mut text,
-    );
-    Ok((text, ended))
+/// A run, its commands, and what is shown of it.
+#[derive(Clone, Copy)]
+pub(crate) struct Shown<'a> {
+    pub(crate) stats: &'a Stats,
+    pub(crate) rows: &'a [IssuedCommand],
+    pub(crate) beside: Beside<'a>,
+    pub(crate) view: View,
 }
 
-/// Asserts that the page of such a run has these fragments, and none of those.
+/// The page of a run, and how the call ended.
+pub(crate) fn page_of(
+    alloc: Global,
+    shown: &Shown<'_>,
+) -> Result<(Vec<u8>, Result<(), PageFault>), AllocError> {
+    let list = list_of(alloc, shown.rows)?;
+    let mut page = Vec::new(alloc);
+    let ended = write_page(
+        alloc,
+        shown.stats,
+        &list,
+        shown.beside,
+        shown.view,
+        &mut page,
+    );
+    Ok((page, ended))
+}
+
+/// Parts that a page has, and others that it has not, with a blank line between two.
+pub(crate) type Parts<'x> = (&'x str, &'x str);
+
+/// Asserts what the page of a run has.
 pub(crate) fn assert_page(
     rt: &impl Abort,
     alloc: Global,
-    (cycles, rows, window, config): (u64, &[IssuedCommand], Window, Option<&Config>),
-    present: &[&str],
-    absent: &[&str],
+    shown: &Shown<'_>,
+    (present, absent): Parts<'_>,
 ) -> Result<(), Fail> {
-    let (text, ended) = page_of(alloc, cycles, rows, window, config)?;
-    assert_eq!(rt; ended, Ok(()));
-    let page = str::from_utf8(text.as_slice())?;
-    assert!(rt; page.ends_with("</html>\n"));
-    for fragment in present {
-        assert!(rt; page.contains(*fragment), "no {fragment}");
-    }
-    for fragment in absent {
-        assert!(rt; !page.contains(*fragment), "there is {fragment}");
-    }
+    let (page, ended) = page_of(alloc, shown)?;
+    let page = str::from_utf8(page.as_slice())?;
+    expect_at(
+        rt,
+        &(),
+        &(ended, page.ends_with("</html>\n")),
+        &(Ok(()), true),
+    );
+    expect_parts(rt, page, present, true);
+    expect_parts(rt, page, absent, false);
     Ok(())
 }

@@ -1,6 +1,6 @@
 //! The line that tells how far a run is: its texts, and when it is drawn, worked out by hand.
 
-use crate::expect::{expect, expect_at};
+use crate::expect::expect_at;
 use progress::figures::Figures;
 use progress::line::line_of;
 use progress::pace::next_stretch;
@@ -65,48 +65,54 @@ fn figures_are_told(rt: HostRuntime) -> Result<(), Fail> {
     Ok(())
 }
 
-/// A quarter of the limit is done in 4 seconds, so 12 more are left; a third of the entries has retired, so 8 are left where the run
-/// ends drained.
-#[test]
-fn figures_are_those_of_a_stage(rt: HostRuntime) {
-    for (ends_drained, left) in [(false, 12), (true, 8)] {
-        let stage = Stage {
-            now: 1_000_000,
-            limit: 4_000_000,
-            ends_drained,
-            retired: Some(200),
-            entries: 600,
-        };
-        let want = Figures {
-            cycles: 1_000_000,
-            percent: Some(33),
-            rate: Some(250_000),
-            left: Some(left),
-        };
-        let found = Figures::of(stage, Duration::from_millis(4_000));
-        expect_at(&rt, &ends_drained, &found, &want);
-    }
-}
+/// A stage of a run, the milliseconds up to it, and its figures. A quarter of the limit is done in 4 seconds, so 12
+/// more are left; a third of the entries has retired, so 8 are left where the run ends drained. Before its first cycle
+/// nothing is known of a run without entries.
+static STAGES: [(Stage, u64, Figures); 3] = [
+    (QUARTER, 4_000, THIRD),
+    (
+        Stage {
+            ends_drained: true,
+            ..QUARTER
+        },
+        4_000,
+        Figures {
+            left: Some(8),
+            ..THIRD
+        },
+    ),
+    (
+        Stage {
+            now: 0,
+            limit: 100,
+            ends_drained: true,
+            retired: Some(0),
+            entries: 0,
+        },
+        0,
+        Figures {
+            cycles: 0,
+            percent: None,
+            rate: None,
+            left: None,
+        },
+    ),
+];
 
-/// Before its first cycle nothing is known of a run without entries.
-#[test]
-fn nothing_is_known_of_no_cycles(rt: HostRuntime) {
-    let stage = Stage {
-        now: 0,
-        limit: 100,
-        ends_drained: true,
-        retired: Some(0),
-        entries: 0,
-    };
-    let want = Figures {
-        cycles: 0,
-        percent: None,
-        rate: None,
-        left: None,
-    };
-    let found = Figures::of(stage, Duration::from_millis(0));
-    expect(&rt, &found, &want);
-}
+const QUARTER: Stage = Stage {
+    now: 1_000_000,
+    limit: 4_000_000,
+    ends_drained: false,
+    retired: Some(200),
+    entries: 600,
+};
+
+const THIRD: Figures = Figures {
+    cycles: 1_000_000,
+    percent: Some(33),
+    rate: Some(250_000),
+    left: Some(12),
+};
 
 /// How many cycles, in how many milliseconds, and how many come next.
 static STRETCHES: [(Cycle, u64, Cycle); 7] = [
@@ -120,7 +126,11 @@ static STRETCHES: [(Cycle, u64, Cycle); 7] = [
 ];
 
 #[test]
-fn stretches_take_a_tenth_of_a_second(rt: HostRuntime) {
+fn figures_and_stretches(rt: HostRuntime) {
+    for (stage, millis, want) in &STAGES {
+        let found = Figures::of(*stage, Duration::from_millis(*millis));
+        expect_at(&rt, stage, &found, want);
+    }
     for (stretch, millis, next) in &STRETCHES {
         let found = next_stretch(*stretch, Duration::from_millis(*millis));
         expect_at(&rt, &(stretch, millis), &found, next);
@@ -162,7 +172,8 @@ fn stage_at(now: Cycle) -> Stage {
     }
 }
 
-/// What is drawn of a run that is looked at in each of these cycles, by a clock that shows these times, and how far it goes each time.
+/// What is drawn of a run that is looked at in each of these cycles, by a clock that shows these times, and how far it
+/// goes each time.
 fn drawn(
     alloc: Global,
     times: &[u64],
@@ -183,40 +194,49 @@ fn drawn(
     Ok((lines, stretches))
 }
 
-/// The lines of these texts, and a carriage return.
+/// The lines of these texts, and a carriage return; nothing where there are none.
 fn lines_of(alloc: Global, texts: &[&str]) -> Result<Vec<u8>, AllocError> {
     let mut lines = Vec::new(alloc);
     for text in texts {
         let line = line_of(alloc, text)?;
         lines.extend_from_slice(line.as_bytes())?;
     }
-    lines.push(b'\r')?;
+    if !texts.is_empty() {
+        lines.push(b'\r')?;
+    }
     Ok(lines)
 }
 
-/// The run is looked at when it begins, and after 900, 1,000, 1,499 and 1,500 ms. It is drawn the third and the fifth time, and then
-/// cleared. The stretch of 900 ms is cut in half; those of 100 and 499 ms are kept and cut, and that of 1 ms is doubled.
+/// The times that a clock shows, the cycles in which a run is looked at, the texts that are drawn of it, if any is, and
+/// the stretches.
+///
+/// The first run is looked at when it begins, and after 900, 1,000, 1,499 and 1,500 ms. It is drawn the third and the
+/// fifth time, and then cleared. The stretch of 900 ms is cut in half; those of 100 and 499 ms are kept and cut, and
+/// that of 1 ms is doubled. A run that ends before a second is over leaves nothing, and neither does one whose clock
+/// fails.
+static DRAWN: [(&[u64], &[Cycle], &[&str], &[Cycle]); 3] = [
+    (
+        &[5_000, 5_900, 6_000, 6_499, 6_500],
+        &[0, 100_000, 200_000, 250_000, 300_000],
+        &[
+            "200,000 cycles, 0 % of the traces, 200.0 k cycles/s, 0:04 left",
+            "300,000 cycles, 0 % of the traces, 200.0 k cycles/s, 0:03 left",
+            "",
+        ],
+        &[2_000, 1_000, 1_000, 500, 1_000],
+    ),
+    (&[0, 999], &[0, 100], &[], &[2_000, 1_000]),
+    (&[], &[0, 100], &[], &[Cycle::MAX, Cycle::MAX]),
+];
+
 #[test]
 fn the_line_is_drawn_twice_a_second(rt: HostRuntime) -> Result<(), Fail> {
-    let times = [5_000, 5_900, 6_000, 6_499, 6_500];
-    let cycles = [0, 100_000, 200_000, 250_000, 300_000];
-    let (lines, stretches) = drawn(rt.alloc(), &times, &cycles)?;
-    let first = "200,000 cycles, 0 % of the traces, 200.0 k cycles/s, 0:04 left";
-    let second = "300,000 cycles, 0 % of the traces, 200.0 k cycles/s, 0:03 left";
-    let want = lines_of(rt.alloc(), &[first, second, ""])?;
-    expect(&rt, &lines.as_slice(), &want.as_slice());
-    let want = [2_000, 1_000, 1_000, 500, 1_000];
-    expect(&rt, &stretches.as_slice(), &want.as_slice());
-    Ok(())
-}
-
-/// A run that ends before a second is over leaves nothing, and neither does one whose clock fails.
-#[test]
-fn nothing_is_drawn_of_a_short_run(rt: HostRuntime) -> Result<(), Fail> {
-    let (lines, _) = drawn(rt.alloc(), &[0, 999], &[0, 100])?;
-    let (blind, stretches) = drawn(rt.alloc(), &[], &[0, 100])?;
-    expect(&rt, &(lines.len(), blind.len()), &(0, 0));
-    expect(&rt, &stretches.as_slice(), &[Cycle::MAX; 2].as_slice());
+    for (times, cycles, texts, stretches) in &DRAWN {
+        let found = drawn(rt.alloc(), times, cycles)?;
+        let lines = lines_of(rt.alloc(), texts)?;
+        expect_at(&rt, times, &found.0, &lines);
+        expect_at(&rt, times, &found.1.as_slice(), stretches);
+    }
     Ok(())
 }
 

@@ -2,6 +2,7 @@
 
 use crate::expect::expect;
 use crate::stats_read::two_cores;
+use fixtures::none::{NO_CHANNEL, NO_CORE};
 use fixtures::small::small;
 use run_tables::read_stats;
 use show::options::Options;
@@ -12,8 +13,8 @@ use statistics::stats::Stats;
 use std::alloc::{AllocError, Global};
 use std::test::Fail;
 
-// Core 0 has not finished. 12,345 of 20,000 cycles are 0.61725, 612 hits of 649 are 94.299 %, 4 * 649 cycles 12.98 %, 123,456 / 20,000 is 6.1728, 45,678 / 637 is
-// 71.708; 20.05 and 1.25 are rounded up.
+// Core 0 has not finished. 12,345 of 20,000 cycles are 0.61725, 612 hits of 649 are 94.299 %, 4 * 649 cycles 12.98 %,
+// 123,456 / 20,000 is 6.1728, 45,678 / 637 is 71.708; 20.05 and 1.25 are rounded up.
 const TWO_CORES: &str = "cycles 20000
 
 Channels (1): row hits in % of rd and wr, all else in % of the cycles
@@ -38,7 +39,8 @@ Cores (1): finish and latency in cycles, why no more was issued in % of the cycl
        0        0          -       -        -      0        -      -      -       -       -       -
 ";
 
-// Two REFs of 20 cycles are 4 % of 1,000. Each core finishes in cycle 499, the 500th. Of 17 cores the ninth is the median; the first has no reply, so that the median latency is the eighth of 16.
+// Two REFs of 20 cycles are 4 % of 1,000. Each core finishes in cycle 499, the 500th. Of 17 cores the ninth is the
+// median; the first has no reply, so that the median latency is the eighth of 16.
 const SEVENTEEN: &str = "cycles 1000
 
 Channels (1): row hits in % of rd and wr, all else in % of the cycles
@@ -80,8 +82,8 @@ Cores (17): finish and latency in cycles, why no more was issued in % of the cyc
       16    16.0k       16.0     499     32.0     16      160   84.0   16.0     0.0     0.0     0.0
 ";
 
-// With a clock of 1,250 MHz a cycle takes 0.8 ns: 20,000 are 16,000 ns, 17 are 13.6, and 45,678 / 637 of them 57.366. 649 RDs and WRs of 64 bytes are
-// 41,536 bytes in 16,000 ns, which is 2.596 GB/s.
+// With a clock of 1,250 MHz a cycle takes 0.8 ns: 20,000 are 16,000 ns, 17 are 13.6, and 45,678 / 637 of them 57.366.
+// 649 RDs and WRs of 64 bytes are 41,536 bytes in 16,000 ns, which is 2.596 GB/s.
 const CLOCKED: &str = "cycles 20000
 
 Channels (1): row hits in % of rd and wr, all else in % of the cycles
@@ -113,37 +115,16 @@ const AT_1250_MHZ: Options = Options {
 
 #[test]
 fn two_cores_and_a_channel(rt: HostRuntime) -> Result<(), Fail> {
-    let alloc = rt.alloc();
-    let Ok(stats) = read_stats(alloc, two_cores(alloc)?.as_str().as_bytes()) else {
-        panic!(rt; "refused");
-    };
-    expect(
-        &rt,
-        &show_text(alloc, &stats, PLAIN, None)?.as_str(),
-        &TWO_CORES,
-    );
-    expect(
-        &rt,
-        &show_text(alloc, &stats, EACH, None)?.as_str(),
-        &TWO_CORES,
-    );
-    expect(
-        &rt,
-        &show_text(alloc, &stats, AT_1250_MHZ, None)?.as_str(),
-        &CLOCKED,
-    );
-    Ok(())
-}
-
-#[test]
-fn no_cycles(rt: HostRuntime) -> Result<(), Fail> {
-    let alloc = rt.alloc();
-    let stats = Stats::of_parts(alloc, 0, &[CoreStats::new()], &[ChannelStats::new()])?;
-    expect(
-        &rt,
-        &show_text(alloc, &stats, PLAIN, None)?.as_str(),
-        &NO_CYCLES,
-    );
+    let table = two_cores(rt.alloc())?;
+    let stats = read_stats(rt.alloc(), table.as_bytes())?;
+    for (options, want) in [
+        (PLAIN, TWO_CORES),
+        (EACH, TWO_CORES),
+        (AT_1250_MHZ, CLOCKED),
+    ] {
+        let text = show_text(rt.alloc(), &stats, options, None)?;
+        expect(&rt, &text.as_str(), &want);
+    }
     Ok(())
 }
 
@@ -158,7 +139,7 @@ fn core_of(k: u8) -> CoreStats {
         stop_width: 10 * k,
         stop_end: 1_000 - 10 * k,
         finish: Some(499),
-        ..CoreStats::new()
+        ..NO_CORE
     }
 }
 
@@ -170,25 +151,34 @@ fn run_of(alloc: Global, order: &[u8]) -> Result<Stats, AllocError> {
     let channel = ChannelStats {
         idle: 1_000,
         refs: 2,
-        ..ChannelStats::new()
+        ..NO_CHANNEL
     };
     Stats::of_parts(alloc, 1_000, &cores, &[channel])
 }
 
+static BY_NUMBER: [u8; 17] = [0, 1, 2, 3, 4, 5, 6, 7, 8, 9, 10, 11, 12, 13, 14, 15, 16];
+
+static MIXED: [u8; 17] = [3, 16, 1, 0, 2, 5, 4, 7, 6, 9, 8, 11, 10, 13, 12, 15, 14];
+
 #[test]
 fn seventeen_cores(rt: HostRuntime) -> Result<(), Fail> {
-    let alloc = rt.alloc();
-    let config = small(alloc, &[], "")?;
-    let by_number = [0, 1, 2, 3, 4, 5, 6, 7, 8, 9, 10, 11, 12, 13, 14, 15, 16];
-    let mixed = [3, 16, 1, 0, 2, 5, 4, 7, 6, 9, 8, 11, 10, 13, 12, 15, 14];
+    let config = small(rt.alloc(), &[], "")?;
     for (order, options, want) in [
-        (by_number, PLAIN, SEVENTEEN),
-        (by_number, EACH, ALL_SEVENTEEN),
-        (mixed, PLAIN, SEVENTEEN),
+        (&BY_NUMBER, PLAIN, SEVENTEEN),
+        (&BY_NUMBER, EACH, ALL_SEVENTEEN),
+        (&MIXED, PLAIN, SEVENTEEN),
     ] {
-        let stats = run_of(alloc, &order)?;
-        let text = show_text(alloc, &stats, options, Some(&config))?;
+        let stats = run_of(rt.alloc(), order)?;
+        let text = show_text(rt.alloc(), &stats, options, Some(&config))?;
         expect(&rt, &text.as_str(), &want);
     }
+    Ok(())
+}
+
+#[test]
+fn no_cycles(rt: HostRuntime) -> Result<(), Fail> {
+    let stats = Stats::of_parts(rt.alloc(), 0, &[NO_CORE], &[NO_CHANNEL])?;
+    let text = show_text(rt.alloc(), &stats, PLAIN, None)?;
+    expect(&rt, &text.as_str(), &NO_CYCLES);
     Ok(())
 }

@@ -1,6 +1,7 @@
 //! What is read of a table of statistics, and what is refused.
 
-use crate::expect::{expect, expect_at};
+use crate::expect::expect_at;
+use fixtures::none::NO_CORE;
 use run_tables::read_stats;
 use sim_base::fault::Fault;
 use statistics::channels::ChannelStats;
@@ -57,18 +58,24 @@ channel,0,refreshing,1999
 
 const DRAINING: &str = "channel,0,draining,250\n";
 
-/// The table of two cores and a channel.
-pub(crate) fn two_cores(alloc: Global) -> Result<String, AllocError> {
-    format!(in alloc; "{HEADER}{CYCLES}{CORE_0}{CORE_1}{FINISH_1}{CHANNEL}{DRAINING}")
+// The pieces of the table of two cores and a channel.
+const WHOLE: &[&str] = &[HEADER, CYCLES, CORE_0, CORE_1, FINISH_1, CHANNEL, DRAINING];
+
+fn joined(alloc: Global, pieces: &[&str]) -> Result<String, AllocError> {
+    let mut text = String::new(alloc);
+    for piece in pieces {
+        text.push_str(piece)?;
+    }
+    Ok(text)
 }
 
-#[test]
-fn each_count(rt: HostRuntime) -> Result<(), Fail> {
-    let alloc = rt.alloc();
-    let Ok(stats) = read_stats(alloc, two_cores(alloc)?.as_str().as_bytes()) else {
-        panic!(rt; "refused");
-    };
-    let first = CoreStats {
+/// The table of two cores and a channel.
+pub(crate) fn two_cores(alloc: Global) -> Result<String, AllocError> {
+    joined(alloc, WHOLE)
+}
+
+static CORES: [CoreStats; 2] = [
+    CoreStats {
         issued: 12_350,
         retired: 12_345,
         reads: 640,
@@ -81,102 +88,112 @@ fn each_count(rt: HostRuntime) -> Result<(), Fail> {
         stop_memory: 1,
         stop_credit: 5_999,
         finish: None,
-    };
-    let second = CoreStats {
+    },
+    CoreStats {
         stop_end: 20_000,
         finish: Some(17),
-        ..CoreStats::new()
-    };
-    let channel = ChannelStats {
-        act: 10,
-        rd: 637,
-        wr: 12,
-        pre: 9,
-        prea: 1,
-        refs: 2,
-        hits: 612,
-        queued: 123_456,
-        queued_max: 31,
-        idle: 4_010,
-        refreshing: 1_999,
-        draining: Some(250),
-    };
-    expect(&rt, &stats.cycles, &20_000);
-    expect(&rt, &stats.cores.as_slice(), &[first, second].as_slice());
-    expect(&rt, &stats.channels.as_slice(), &[channel].as_slice());
-    Ok(())
-}
+        ..NO_CORE
+    },
+];
 
-// The row because of which a table is refused.
-fn refused(alloc: Global, table: &str) -> Option<u64> {
-    match read_stats(alloc, table.as_bytes()) {
-        Err(Fault::CheckRow(row)) => Some(row),
-        _ => None,
-    }
-}
+const COUNTED: ChannelStats = ChannelStats {
+    act: 10,
+    rd: 637,
+    wr: 12,
+    pre: 9,
+    prea: 1,
+    refs: 2,
+    hits: 612,
+    queued: 123_456,
+    queued_max: 31,
+    idle: 4_010,
+    refreshing: 1_999,
+    draining: Some(250),
+};
 
-#[test]
-fn without_draining(rt: HostRuntime) -> Result<(), Fail> {
-    let alloc = rt.alloc();
-    let table = format!(in alloc; "{HEADER}{CYCLES}{CORE_0}{CHANNEL}")?;
-    let Ok(stats) = read_stats(alloc, table.as_str().as_bytes()) else {
-        panic!(rt; "refused");
-    };
-    expect(
-        &rt,
-        &stats.channels.first().and_then(|channel| channel.draining),
-        &None,
-    );
-    Ok(())
-}
+// The same where it is not counted how long the channel drained its writes.
+const UNDRAINED: ChannelStats = ChannelStats {
+    draining: None,
+    ..COUNTED
+};
+
+// The pieces of a table, how many of the cores it has, and its channel.
+static READ: [(&[&str], usize, ChannelStats); 2] = [
+    (WHOLE, 2, COUNTED),
+    (&[HEADER, CYCLES, CORE_0, CHANNEL], 1, UNDRAINED),
+];
 
 #[test]
-fn wrong_beginnings(rt: HostRuntime) -> Result<(), Fail> {
-    let alloc = rt.alloc();
-    for (table, row) in [
-        ("", 0),
-        ("scope,id,name\n", 0),
-        ("scope,id,name,values\n", 0),
-        ("scope,id,name,value,\n", 0),
-        ("run,0,cycles,20000\n", 0),
-        ("scope,id,name,value\n", 1),
-        ("scope,id,name,value\nrun,0,cycles\n", 1),
-        ("scope,id,name,value\nrun,1,cycles,5\n", 1),
-        ("scope,id,name,value\nrun,0,cycles,\n", 1),
-        ("scope,id,name,value\nrun,0,cycles,2x\n", 1),
-        ("scope,id,name,value\nrun,0,cycles,05\n", 1),
-        ("scope,id,name,value\nrun,0,cycles,+5\n", 1),
-        ("scope,id,name,value\nrun,0,cycles,-5\n", 1),
-        (
-            "scope,id,name,value\nrun,0,cycles,18446744073709551616\n",
-            1,
-        ),
-        (
-            "scope,id,name,value\nrun,0,cycles,18446744073709551615\n",
-            2,
-        ),
-    ] {
-        expect_at(&rt, &table, &refused(alloc, table), &Some(row));
+fn each_count(rt: HostRuntime) -> Result<(), Fail> {
+    for (pieces, cores, channel) in &READ {
+        let table = joined(rt.alloc(), pieces)?;
+        let stats = read_stats(rt.alloc(), table.as_bytes())?;
+        expect_at(
+            &rt,
+            cores,
+            &(
+                stats.cycles,
+                stats.cores.as_slice(),
+                stats.channels.as_slice(),
+            ),
+            &(
+                20_000,
+                CORES.get(..*cores).unwrap_or(&[]),
+                [*channel].as_slice(),
+            ),
+        );
     }
     Ok(())
 }
 
+// The pieces of a table, and the row because of which it is refused. The second core's rows are 14 to 25, and the
+// channel's 26 to 37.
+static REFUSED: [(&[&str], u64); 21] = [
+    (&[""], 0),
+    (&["scope,id,name\n"], 0),
+    (&["scope,id,name,values\n"], 0),
+    (&["scope,id,name,value,\n"], 0),
+    (&["run,0,cycles,20000\n"], 0),
+    (&["scope,id,name,value\n"], 1),
+    (&["scope,id,name,value\nrun,0,cycles\n"], 1),
+    (&["scope,id,name,value\nrun,1,cycles,5\n"], 1),
+    (&["scope,id,name,value\nrun,0,cycles,\n"], 1),
+    (&["scope,id,name,value\nrun,0,cycles,2x\n"], 1),
+    (&["scope,id,name,value\nrun,0,cycles,05\n"], 1),
+    (&["scope,id,name,value\nrun,0,cycles,+5\n"], 1),
+    (&["scope,id,name,value\nrun,0,cycles,-5\n"], 1),
+    (
+        &["scope,id,name,value\nrun,0,cycles,18446744073709551616\n"],
+        1,
+    ),
+    (
+        &["scope,id,name,value\nrun,0,cycles,18446744073709551615\n"],
+        2,
+    ),
+    (&[HEADER, CYCLES, CORE_0, CORE_1, FINISH_1], 26),
+    (&[HEADER, CYCLES, CORE_0, CORE_1, CHANNEL], 25),
+    (&[HEADER, CYCLES, CORE_1, FINISH_1, CHANNEL], 2),
+    (&[HEADER, CYCLES, CORE_0, "channel,0,act,10\n"], 15),
+    (
+        &[
+            HEADER, CYCLES, CORE_0, CORE_1, FINISH_1, CHANNEL, DRAINING, DRAINING,
+        ],
+        38,
+    ),
+    (
+        &[
+            HEADER, CYCLES, CORE_0, CORE_1, FINISH_1, CHANNEL, DRAINING, CORE_0,
+        ],
+        38,
+    ),
+];
+
 #[test]
-fn wrong_units(rt: HostRuntime) -> Result<(), Fail> {
-    let alloc = rt.alloc();
-    // The second core's rows are 14 to 25, and the channel's 26 to 37.
-    let no_channel = format!(in alloc; "{HEADER}{CYCLES}{CORE_0}{CORE_1}{FINISH_1}")?;
-    expect(&rt, &refused(alloc, no_channel.as_str()), &Some(26));
-    let no_finish = format!(in alloc; "{HEADER}{CYCLES}{CORE_0}{CORE_1}{CHANNEL}")?;
-    expect(&rt, &refused(alloc, no_finish.as_str()), &Some(25));
-    let no_first_core = format!(in alloc; "{HEADER}{CYCLES}{CORE_1}{FINISH_1}{CHANNEL}")?;
-    expect(&rt, &refused(alloc, no_first_core.as_str()), &Some(2));
-    let cut = format!(in alloc; "{HEADER}{CYCLES}{CORE_0}channel,0,act,10\n")?;
-    expect(&rt, &refused(alloc, cut.as_str()), &Some(15));
-    let all = two_cores(alloc)?;
-    let drained_twice = format!(in alloc; "{all}{DRAINING}")?;
-    expect(&rt, &refused(alloc, drained_twice.as_str()), &Some(38));
-    let core_at_the_end = format!(in alloc; "{all}{CORE_0}")?;
-    expect(&rt, &refused(alloc, core_at_the_end.as_str()), &Some(38));
+fn wrong_tables(rt: HostRuntime) -> Result<(), Fail> {
+    for (pieces, row) in &REFUSED {
+        let table = joined(rt.alloc(), pieces)?;
+        let refused = read_stats(rt.alloc(), table.as_bytes()).err();
+        expect_at(&rt, &table.as_str(), &refused, &Some(Fault::CheckRow(*row)));
+    }
     Ok(())
 }

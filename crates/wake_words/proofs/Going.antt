@@ -19,6 +19,7 @@ use Rattle.units.specs.Flight.{is_at_places}
 use Rattle.units.specs.Units.{unit_at}
 use Rattle.wake_words.specs.Wakes.{Sleeper, Waits, IsBrought, units_from, links_after}
 use Rattle.wake_words.proofs.Sharing.{at-places, not_there}
+use Rattle.units.specs.declared.machine.Machine.{Machine}
 use Rattle.wake_words.proofs.Waiting.{untouched-none, none-taken}
 
 or-false : (b : Bool) → (b || false) ≡ b
@@ -69,10 +70,10 @@ unfolding units_from
 after-more s from until first k ms = sym (left-then s.channels from until (units_from s first k) (unit_at s (first + k)) ms)
 
 -- what links hold for a unit they hold still when those before it have taken theirs
-pub left-brought : (s : Config) (traces : List (List Entry)) (first here there until k : ℕ) (old links : InFlight) → IsBrought s traces here there until (unit_at s (first + k)) old
-    → links ≡ links_after s here until first k old → IsBrought s traces here there until (unit_at s (first + k)) links
-left-brought s traces first here there until k old links h e =
-    subst (IsBrought s traces here there until u) (sym e)
+pub left-brought : (machine : Machine) (first here there until k : ℕ) (old links : InFlight) → IsBrought machine here there until (unit_at machine.config (first + k)) old
+    → links ≡ links_after machine.config here until first k old → IsBrought machine here there until (unit_at machine.config (first + k)) links
+left-brought machine first here there until k old links h e =
+    subst (IsBrought machine here there until u) (sym e)
     (record {
       channels_are = h.channels_are;
       overdue = same 0 here ∙ h.overdue;
@@ -81,35 +82,35 @@ left-brought s traces first here there until k old links h e =
     })
   where
     u : MachineUnit
-    u = unit_at s (first + k)
+    u = unit_at machine.config (first + k)
 
-    same : (a b : ℕ) → filter (is_due s.channels u a b) (left_after s.channels here until (units_from s first k) old.messages) ≡ filter (is_due s.channels u a b) old.messages
-    same a b = due-left s.channels here until a b u (units_from s first k) old.messages (not-yet s first k)
+    same : (a b : ℕ) → filter (is_due machine.config.channels u a b) (left_after machine.config.channels here until (units_from machine.config first k) old.messages) ≡ filter (is_due machine.config.channels u a b) old.messages
+    same a b = due-left machine.config.channels here until a b u (units_from machine.config first k) old.messages (not-yet machine.config first k)
 
 -- for a unit that they are brought to, what links give before a cycle is what is due from where its kind stands
-pub held-due : (s : Config) (traces : List (List Entry)) (here there until : ℕ) (u : MachineUnit) (links : InFlight) → IsBrought s traces here there until u links
-    → (filter (is_due_before s.channels u until) links.messages ≡ filter (is_due s.channels u here until) links.messages)
-    × (filter (λ m. not (is_due_before s.channels u until m)) links.messages ≡ filter (λ m. not (is_due s.channels u here until m)) links.messages)
-held-due s traces here there until u links h = none_overdue s.channels here until u links.messages h.overdue
+pub held-due : (machine : Machine) (here there until : ℕ) (u : MachineUnit) (links : InFlight) → IsBrought machine here there until u links
+    → (filter (is_due_before machine.config.channels u until) links.messages ≡ filter (is_due machine.config.channels u here until) links.messages)
+    × (filter (λ m. not (is_due_before machine.config.channels u until m)) links.messages ≡ filter (λ m. not (is_due machine.config.channels u here until m)) links.messages)
+held-due machine here there until u links h = none_overdue machine.config.channels here until u links.messages h.overdue
 
 -- what a unit takes out of them is its mail
-pub held-mail : (s : Config) (traces : List (List Entry)) (here there until : ℕ) (u unit : MachineUnit) (links : InFlight) (inbox : List Message)
-    → IsBrought s traces here there until u links → unit ≡ u → inbox ≡ filter (is_due_before links.channels unit until) links.messages → inbox ≡ mail_in s traces there u here until
-held-mail s traces here there until u unit links inbox h e m =
+pub held-mail : (machine : Machine) (here there until : ℕ) (u unit : MachineUnit) (links : InFlight) (inbox : List Message)
+    → IsBrought machine here there until u links → unit ≡ u → inbox ≡ filter (is_due_before links.channels unit until) links.messages → inbox ≡ mail_in machine.config machine.traces.items there u here until
+held-mail machine here there until u unit links inbox h e m =
     m
     ∙ ap (λ c. filter (is_due_before c unit until) links.messages) h.channels_are
-    ∙ ap {A = MachineUnit} (λ v. filter (is_due_before s.channels v until) links.messages) e
-    ∙ (held-due s traces here there until u links h).0
+    ∙ ap {A = MachineUnit} (λ v. filter (is_due_before machine.config.channels v until) links.messages) e
+    ∙ (held-due machine here there until u links h).0
     ∙ h.due here until (omega arith)
 
-pub held-links : (s : Config) (traces : List (List Entry)) (here there until : ℕ) (u unit : MachineUnit) (links after : InFlight) → IsBrought s traces here there until u links → unit ≡ u
+pub held-links : (machine : Machine) (here there until : ℕ) (u unit : MachineUnit) (links after : InFlight) → IsBrought machine here there until u links → unit ≡ u
     → after ≡ record links { messages = filter (λ m. not (is_due_before links.channels unit until m)) links.messages }
-    → after ≡ record links { messages = filter (λ m. not (is_due s.channels u here until m)) links.messages }
-held-links s traces here there until u unit links after h e a =
+    → after ≡ record links { messages = filter (λ m. not (is_due machine.config.channels u here until m)) links.messages }
+held-links machine here there until u unit links after h e a =
     a
     ∙ ap {B = InFlight} (λ c. record links { messages = filter (λ m. not (is_due_before c unit until m)) links.messages }) h.channels_are
-    ∙ ap {A = MachineUnit} {B = InFlight} (λ v. record links { messages = filter (λ m. not (is_due_before s.channels v until m)) links.messages }) e
-    ∙ ap {B = InFlight} (λ ms. record links { messages = ms }) (held-due s traces here there until u links h).1
+    ∙ ap {A = MachineUnit} {B = InFlight} (λ v. record links { messages = filter (λ m. not (is_due_before machine.config.channels v until m)) links.messages }) e
+    ∙ ap {B = InFlight} (λ ms. record links { messages = ms }) (held-due machine here there until u links h).1
 
 -- and leaves the others
 pub taken-links : (s : Config) (first here until k : ℕ) (old links after : InFlight) → links ≡ links_after s here until first k old
@@ -120,11 +121,11 @@ taken-links s first here until k old links after e a =
     ∙ ap {B = InFlight} (λ z. record old { messages = z }) (after-more s here until first k old.messages)
 
 -- a unit that is left alone has nothing in them that is due
-pub left-alone : (s : Config) (traces : List (List Entry)) (first here there until k : ℕ) (old : InFlight) (slot : Sleeper) → here ≤ until → IsBrought s traces here there until (unit_at s (first + k)) old
-    → until ≤ slot.wake → Waits s traces (unit_at s (first + k)) here there slot → links_after s here until first k old ≡ links_after s here until first (suc k) old
-left-alone s traces first here there until k old slot l brought w h =
-    let u = unit_at s (first + k) in
-    let left = left_after s.channels here until (units_from s first k) old.messages in
-    let none : filter (is_due s.channels u here until) left ≡ [] =
-    (left-brought s traces first here there until k old (links_after s here until first k old) brought refl).due here until (omega arith) ∙ untouched-none s traces u here there until slot w h in
-    ap {B = InFlight} (λ z. record old { messages = z }) (sym (none-taken (is_due s.channels u here until) left none) ∙ after-more s here until first k old.messages)
+pub left-alone : (machine : Machine) (first here there until k : ℕ) (old : InFlight) (slot : Sleeper) → here ≤ until → IsBrought machine here there until (unit_at machine.config (first + k)) old
+    → until ≤ slot.wake → Waits machine (unit_at machine.config (first + k)) here there slot → links_after machine.config here until first k old ≡ links_after machine.config here until first (suc k) old
+left-alone machine first here there until k old slot l brought w h =
+    let u = unit_at machine.config (first + k) in
+    let left = left_after machine.config.channels here until (units_from machine.config first k) old.messages in
+    let none : filter (is_due machine.config.channels u here until) left ≡ [] =
+    (left-brought machine first here there until k old (links_after machine.config here until first k old) brought refl).due here until (omega arith) ∙ untouched-none machine u here there until slot w h in
+    ap {B = InFlight} (λ z. record old { messages = z }) (sym (none-taken (is_due machine.config.channels u here until) left none) ∙ after-more machine.config here until first k old.messages)

@@ -30,6 +30,8 @@ use Rattle.wake_words.specs.Wakes.{IsAsleep, IsStill, HasGoneOn, AreSlots, Sleep
 use Rattle.wake_words.specs.declared.slot.Slot.{Slot}
 use Rattle.wake_words.proofs.Sharing.{among-all}
 use Rattle.units.proofs.Standing.{same-default}
+use Rattle.units.specs.declared.machine.Machine.{Machine}
+use Rattle.units.specs.Runs.{run_of, flight_at, sent_at}
 use Rattle.wake_words.proofs.Waiting.{awake-waits, due-flight, known-phase, none-taken, untouched, untouched-none}
 
 -- a unit of a machine that has one
@@ -42,90 +44,90 @@ all-none f zero h = refl
 all-none f (suc n) h = flat_map_below_more f n ∙ ap₂ (λ x y. x ++ y) (all-none f n (λ i l. h i (omega (arith, l)))) (h n (omega arith))
 
 -- A unit waits, and may be left alone up to a cycle.
-pub record RestsTo (s : Config) (traces : List (List Entry)) (now until : ℕ) (u : MachineUnit) : Type 0 where
+pub record RestsTo (machine : Machine) (now until : ℕ) (u : MachineUnit) : Type 0 where
   pub slot : Sleeper
   pub wakes : until ≤ slot.wake
-  pub waits : Waits s traces u now now slot
+  pub waits : Waits machine u now now slot
 
 -- so do all units of a machine
-abbrev pub AllRest : Config → List (List Entry) → ℕ → ℕ → Type 0
-AllRest s traces now until = (place : ℕ) → place < unit_count s → RestsTo s traces now until (unit_at s place)
+abbrev pub AllRest : Machine → ℕ → ℕ → Type 0
+AllRest machine now until = (place : ℕ) → place < unit_count machine.config → RestsTo machine now until (unit_at machine.config place)
 
 -- where nothing is sent, all messages are those that were there before
-still-messages : (s : Config) (traces : List (List Entry)) (now then : ℕ) → IsStill s traces now then → messages s traces (run s traces then) ≡ messages s traces (run s traces now)
-still-messages s traces now then h =
-    sym (all-sent s traces then)
-    ∙ flat_map_below_same (λ i. sent_of s traces then (unit_at s i)) (λ i. sent_of s traces now (unit_at s i)) (unit_count s) h.sent
-    ∙ all-sent s traces now
+still-messages : (machine : Machine) (now then : ℕ) → IsStill machine now then → messages machine.config machine.traces.items (run_of machine then) ≡ messages machine.config machine.traces.items (run_of machine now)
+still-messages machine now then h =
+    sym (all-sent machine.config machine.traces.items then)
+    ∙ flat_map_below_same (λ i. sent_at machine then (unit_at machine.config i)) (λ i. sent_at machine now (unit_at machine.config i)) (unit_count machine.config) h.sent
+    ∙ all-sent machine.config machine.traces.items now
 
 -- a unit that waits waits on, up to its word, where nothing is sent
-pub still-waits : (s : Config) (traces : List (List Entry)) (u : MachineUnit) (now then : ℕ) (slot : Sleeper) → Waits s traces u now now slot → IsStill s traces now then → now ≤ then → then ≤ slot.wake
-    → Waits s traces u then then slot
-still-waits s traces u now then slot h still l w =
+pub still-waits : (machine : Machine) (u : MachineUnit) (now then : ℕ) (slot : Sleeper) → Waits machine u now now slot → IsStill machine now then → now ≤ then → then ≤ slot.wake
+    → Waits machine u then then slot
+still-waits machine u now then slot h still l w =
     record {
       behind = omega (arith, h.behind, l);
       ahead = w;
       stands = h.stands;
       may = record {
         silent = h.may.silent;
-        none = mail-sent s traces slot.at slot.wake u then
-            ∙ ap (λ ms. by_age (arriving slot.at slot.wake (filter (is_to s u) ms))) (still-messages s traces now then still)
-            ∙ sym (mail-sent s traces slot.at slot.wake u now)
+        none = mail-sent machine.config machine.traces.items slot.at slot.wake u then
+            ∙ ap (λ ms. by_age (arriving slot.at slot.wake (filter (is_to machine.config u) ms))) (still-messages machine now then still)
+            ∙ sym (mail-sent machine.config machine.traces.items slot.at slot.wake u now)
             ∙ h.may.none;
       };
     }
 
 -- a phase in which no unit is woken
-sleep-span : (s : Config) (traces : List (List Entry)) (now then until : ℕ) → AllRest s traces now until → now ≤ then → then ≤ until → TravelsFor s (then - now) → IsStill s traces now then
-sleep-span s traces now then until h l m t =
-    record { sent = λ k less. (gone k less).sent ∙ append-nil (sent_of s traces now (unit_at s k)); flight = same }
+sleep-span : (machine : Machine) (now then until : ℕ) → AllRest machine now until → now ≤ then → then ≤ until → TravelsFor machine.config (then - now) → IsStill machine now then
+sleep-span machine now then until h l m t =
+    record { sent = λ k less. (gone k less).sent ∙ append-nil (sent_at machine now (unit_at machine.config k)); flight = same }
   where
     flying : List Message
-    flying = in_flight s traces (run s traces now)
+    flying = flight_at machine now
 
-    gone : (k : ℕ) (less : k < unit_count s) → HasGoneOn s traces (unit_at s k) now now then (h k less).slot []
-    gone k less = untouched s traces (unit_at s k) now now then (h k less).slot (exists-at s k less) l (known-phase s traces now then (unit_at s k) l t) (omega (arith, m, (h k less).wakes)) (h k less).waits
+    gone : (k : ℕ) (less : k < unit_count machine.config) → HasGoneOn machine (unit_at machine.config k) now now then (h k less).slot []
+    gone k less = untouched machine (unit_at machine.config k) now now then (h k less).slot (exists-at machine.config k less) l (known-phase machine now then (unit_at machine.config k) l t) (omega (arith, m, (h k less).wakes)) (h k less).waits
 
-    sends-none : (k : ℕ) → k < unit_count s → fresh s traces now then k ≡ []
-    sends-none k less = fresh-is s traces now then k [] (gone k less).sent
+    sends-none : (k : ℕ) → k < unit_count machine.config → fresh machine now then k ≡ []
+    sends-none k less = fresh-is machine now then k [] (gone k less).sent
 
-    none-comes : (k : ℕ) → k < unit_count s → filter (is_due s.channels (unit_at s k) now then) flying ≡ []
-    none-comes k less = due-flight s traces now now then (unit_at s k) (omega arith) ∙ untouched-none s traces (unit_at s k) now now then (h k less).slot (omega (arith, m, (h k less).wakes)) (h k less).waits
+    none-comes : (k : ℕ) → k < unit_count machine.config → filter (is_due machine.config.channels (unit_at machine.config k) now then) flying ≡ []
+    none-comes k less = due-flight machine.config machine.traces.items now now then (unit_at machine.config k) (omega arith) ∙ untouched-none machine (unit_at machine.config k) now now then (h k less).slot (omega (arith, m, (h k less).wakes)) (h k less).waits
 
-    none-left : (k : ℕ) → k ≤ unit_count s → left s now then k flying ≡ flying
-    none-left zero less = left-none s now then flying
+    none-left : (k : ℕ) → k ≤ unit_count machine.config → left machine.config now then k flying ≡ flying
+    none-left zero less = left-none machine.config now then flying
     none-left (suc k) less =
-        sym (left-more s now then k flying)
+        sym (left-more machine.config now then k flying)
         ∙ ap (filter _) (none-left k (omega (arith, less)))
-        ∙ none-taken (is_due s.channels (unit_at s k) now then) flying (none-comes k (omega (arith, less)))
+        ∙ none-taken (is_due machine.config.channels (unit_at machine.config k) now then) flying (none-comes k (omega (arith, less)))
 
-    same : in_flight s traces (run s traces then) ≡ flying
+    same : flight_at machine then ≡ flying
     same =
-        sym (join-flight s traces now then l t)
-        ∙ ap (fold insert_by_age (late then flying)) (all-none (fresh s traces now then) (unit_count s) sends-none)
-        ∙ sym (left-all s traces now then)
-        ∙ none-left (unit_count s) (omega arith)
+        sym (join-flight machine now then l t)
+        ∙ ap (fold insert_by_age (late then flying)) (all-none (fresh machine now then) (unit_count machine.config) sends-none)
+        ∙ sym (left-all machine.config machine.traces.items now then)
+        ∙ none-left (unit_count machine.config) (omega arith)
 
 -- and any number of cycles, one after the other
-sleep-cycles : (s : Config) (traces : List (List Entry)) (now until : ℕ) → AllRest s traces now until → (n : ℕ) → now + n ≤ until → IsStill s traces now (now + n)
-sleep-cycles s traces now until h zero m = subst (IsStill s traces now) (sym (add-zero now)) (record { sent = λ k less. refl; flight = refl })
-sleep-cycles s traces now until h (suc n) m =
-    let before = sleep-cycles s traces now until h n (omega (arith, m)) in
+sleep-cycles : (machine : Machine) (now until : ℕ) → AllRest machine now until → (n : ℕ) → now + n ≤ until → IsStill machine now (now + n)
+sleep-cycles machine now until h zero m = subst (IsStill machine now) (sym (add-zero now)) (record { sent = λ k less. refl; flight = refl })
+sleep-cycles machine now until h (suc n) m =
+    let before = sleep-cycles machine now until h n (omega (arith, m)) in
     let one : (now + suc n) - (now + n) ≡ 1 = omega arith in
-    let rest : AllRest s traces (now + n) until = λ k less.
+    let rest : AllRest machine (now + n) until = λ k less.
     let r = h k less in
-    record { slot = r.slot; wakes = r.wakes; waits = still-waits s traces (unit_at s k) now (now + n) r.slot r.waits before (omega arith) (omega (arith, m, r.wakes)) } in
-    let then = sleep-span s traces (now + n) (now + suc n) until rest (omega arith) m (subst (TravelsFor s) (sym one) (travels s)) in
+    record { slot = r.slot; wakes = r.wakes; waits = still-waits machine (unit_at machine.config k) now (now + n) r.slot r.waits before (omega arith) (omega (arith, m, r.wakes)) } in
+    let then = sleep-span machine (now + n) (now + suc n) until rest (omega arith) m (subst (TravelsFor machine.config) (sym one) (travels machine.config)) in
     record { sent = λ k less. then.sent k less ∙ before.sent k less; flight = then.flight ∙ before.flight }
 
-pub sleep-on : (s : Config) (traces : List (List Entry)) (now then : ℕ) → AllRest s traces now then → now ≤ then → IsStill s traces now then
-sleep-on s traces now then h l =
+pub sleep-on : (machine : Machine) (now then : ℕ) → AllRest machine now then → now ≤ then → IsStill machine now then
+sleep-on machine now then h l =
     let e : now + (then - now) ≡ then = omega (arith, l) in
-    subst (IsStill s traces now) e (sleep-cycles s traces now then h (then - now) (omega (arith, l)))
+    subst (IsStill machine now) e (sleep-cycles machine now then h (then - now) (omega (arith, l)))
 
 -- the cycle where units stand is not past any word
-pub asleep-until : (s : Config) (traces : List (List Entry)) (first now : ℕ) (slots : List Slot) (words : List ℕ) (links : InFlight) → IsAsleep s traces first now slots words links → All (λ w. now ≤ w) words
-asleep-until s traces first now slots words links h k d less =
+pub asleep-until : (machine : Machine) (first now : ℕ) (slots : List Slot) (words : List ℕ) (links : InFlight) → IsAsleep machine first now slots words links → All (λ w. now ≤ w) words
+asleep-until machine first now slots words links h k d less =
     let i : k < length slots = omega (arith, less, h.words_count) in
     let e : get_or words k 0 ≡ get_or words k d = same-default words k 0 d less in
     subst (λ w. now ≤ w) e (h.wait k (some-slot slots (omega (arith, i))) i).ahead
@@ -134,9 +136,9 @@ none-first_of : (k : ℕ) → 0 + k ≡ k
 none-first_of k = omega arith
 
 -- all units stand where the machine does, and are asked in the next phase
-pub awake-sim : (s : Config) (traces : List (List Entry)) (now phase : ℕ) (parts : List UnitState) (links : InFlight) (slots : List Slot) (words : List ℕ) → IsSim s traces now phase parts links
-    → AreSlots now parts slots → words ≡ replicate (length parts) now → IsAsleep s traces 0 now slots words links
-awake-sim s traces now phase parts links slots words h e f =
+pub awake-sim : (machine : Machine) (now phase : ℕ) (parts : List UnitState) (links : InFlight) (slots : List Slot) (words : List ℕ) → IsSim machine now phase parts links
+    → AreSlots now parts slots → words ≡ replicate (length parts) now → IsAsleep machine 0 now slots words links
+awake-sim machine now phase parts links slots words h e f =
     record {
       early = h.early;
       within = omega (arith, e.count, h.count);
@@ -145,12 +147,12 @@ awake-sim s traces now phase parts links slots words h e f =
           let less : k < length parts = omega (arith, l, e.count) in
           let p = some-part parts (omega (arith, less)) in
           let word : get_or words k 0 ≡ now = ap (λ z. get_or z k 0) f ∙ get_or-replicate (length parts) k now 0 less in
-          let stands = subst (IsPart s traces (unit_at s k) now) (sym (e.parts_are k d p less)) (h.stand k (get_or parts k p) (slice_get-get_or parts k p less)) in
-          subst (λ i. Waits s traces (unit_at s i) now now (sleeper_at slots words k d)) (sym (none-first_of k))
-          (awake-waits s traces (unit_at s k) now (sleeper (get_or slots k d) (get_or words k 0)) stands (e.stand k d less) word);
+          let stands = subst (IsPart machine (unit_at machine.config k) now) (sym (e.parts_are k d p less)) (h.stand k (get_or parts k p) (slice_get-get_or parts k p less)) in
+          subst (λ i. Waits machine (unit_at machine.config i) now now (sleeper_at slots words k d)) (sym (none-first_of k))
+          (awake-waits machine (unit_at machine.config k) now (sleeper (get_or slots k d) (get_or words k 0)) stands (e.stand k d less) word);
       flight = h.flight
-          ∙ ap {B = InFlight} (λ z. record { channels = s.channels; messages = z }) (sym (among-all s traces now))
-          ∙ ap {B = InFlight} (λ n. record { channels = s.channels; messages = among s 0 n (in_flight s traces (run s traces now)) }) (sym (none-first_of (length slots) ∙ e.count ∙ h.count));
+          ∙ ap {B = InFlight} (λ z. record { channels = machine.config.channels; messages = z }) (sym (among-all machine.config machine.traces.items now))
+          ∙ ap {B = InFlight} (λ n. record { channels = machine.config.channels; messages = among machine.config 0 n (flight_at machine now) }) (sym (none-first_of (length slots) ∙ e.count ∙ h.count));
     }
   where
     some-part : (xs : List UnitState) → 0 < length xs → UnitState

@@ -28,66 +28,68 @@ use Rattle.units.proofs.Filters.{filter-filter, filter-same, implied}
 use Rattle.units.proofs.Joining.{join-flight, fresh-late}
 use Rattle.wake_words.proofs.Sharing.{due-among, filters-commute, flight-sorted}
 use Rattle.span_laws.proofs.Silent.{silent-sooner, none-part, none-first}
+use Rattle.units.specs.declared.machine.Machine.{Machine}
+use Rattle.units.specs.Runs.{flight_at}
 use Rattle.wake_words.proofs.Waiting.{none-due, due-flight, known-mail, known-phase}
 
 -- what is sent in a phase arrives no sooner than at its end
-pub sent-late : (s : Config) (traces : List (List Entry)) (now until : ℕ) → now ≤ until → TravelsFor s (until - now) → All (λ m. until ≤ m.arrival) (sent_in s traces now until)
-sent-late s traces now until l t =
-    All-from_recursion (λ (m : Message). until ≤ m.arrival) (sent_in s traces now until)
-    (Each-flat_map_below (λ (m : Message). until ≤ m.arrival) (fresh s traces now until) (unit_count s) (λ place k. fresh-late s traces now until place k l t))
+pub sent-late : (machine : Machine) (now until : ℕ) → now ≤ until → TravelsFor machine.config (until - now) → All (λ m. until ≤ m.arrival) (sent_in machine now until)
+sent-late machine now until l t =
+    All-from_recursion (λ (m : Message). until ≤ m.arrival) (sent_in machine now until)
+    (Each-flat_map_below (λ (m : Message). until ≤ m.arrival) (fresh machine now until) (unit_count machine.config) (λ place k. fresh-late machine now until place k l t))
 
 -- a unit waits on, once its word is lowered to what was sent to it in the phase
-pub lowered-waits : (s : Config) (traces : List (List Entry)) (u : MachineUnit) (now until : ℕ) (slot after : Sleeper) → now ≤ until → TravelsFor s (until - now)
-    → Waits s traces u until now slot → after.part ≡ slot.part → after.at ≡ slot.at → until ≤ after.wake → after.wake ≤ slot.wake
-    → filter (is_due s.channels u until after.wake) (sent_in s traces now until) ≡ [] → Waits s traces u until until after
-lowered-waits s traces u now until slot after l t h part at since within none-new =
-    let old = in_flight s traces (run s traces now) in
-    let new = sent_in s traces now until in
+pub lowered-waits : (machine : Machine) (u : MachineUnit) (now until : ℕ) (slot after : Sleeper) → now ≤ until → TravelsFor machine.config (until - now)
+    → Waits machine u until now slot → after.part ≡ slot.part → after.at ≡ slot.at → until ≤ after.wake → after.wake ≤ slot.wake
+    → filter (is_due machine.config.channels u until after.wake) (sent_in machine now until) ≡ [] → Waits machine u until until after
+lowered-waits machine u now until slot after l t h part at since within none-new =
+    let old = flight_at machine now in
+    let new = sent_in machine now until in
     let w = after.wake in
-    let p = is_due s.channels u until w in
-    let none-old : filter p old ≡ [] = due-flight s traces now until w u l ∙ none-part s traces now slot.at slot.wake until w u h.behind within h.may.none in
-    let none-before : mail_in s traces until u slot.at until ≡ [] =
-    known-mail s traces now slot.at until u (known-phase s traces now until u l t) ∙ none-part s traces now slot.at slot.wake slot.at until u (omega arith) h.ahead h.may.none in
+    let p = is_due machine.config.channels u until w in
+    let none-old : filter p old ≡ [] = due-flight machine.config machine.traces.items now until w u l ∙ none-part machine.config machine.traces.items now slot.at slot.wake until w u h.behind within h.may.none in
+    let none-before : mail_in machine.config machine.traces.items until u slot.at until ≡ [] =
+    known-mail machine now slot.at until u (known-phase machine now until u l t) ∙ none-part machine.config machine.traces.items now slot.at slot.wake slot.at until u (omega arith) h.ahead h.may.none in
     let none-late : filter p (late until old) ≡ [] = filters-commute p (λ m. not (ltb m.arrival until)) old ∙ ap (late until) none-old in
-    let none : filter p (in_flight s traces (run s traces until)) ≡ [] =
-    ap (filter p) (sym (join-flight s traces now until l t) ∙ fold-puts (late until old) new)
-    ∙ filter-puts p (late until old) new (Sorted-filter (λ m. not (ltb m.arrival until)) old (flight-sorted s traces now))
+    let none : filter p (flight_at machine until) ≡ [] =
+    ap (filter p) (sym (join-flight machine now until l t) ∙ fold-puts (late until old) new)
+    ∙ filter-puts p (late until old) new (Sorted-filter (λ m. not (ltb m.arrival until)) old (flight-sorted machine.config machine.traces.items now))
     ∙ ap₂ puts none-late none-new in
     record {
       behind = omega (arith, at, h.behind);
       ahead = since;
-      stands = subst (λ n. IsPart s traces u n after.part) (sym at) (subst (IsPart s traces u slot.at) (sym part) h.stands);
+      stands = subst (λ n. IsPart machine u n after.part) (sym at) (subst (IsPart machine u slot.at) (sym part) h.stands);
       may = record {
-        silent = subst (λ n. IsSilent s traces n w u) (sym at) (silent-sooner s traces slot.at w slot.wake u within h.may.silent);
+        silent = subst (λ n. IsSilent machine.config machine.traces.items n w u) (sym at) (silent-sooner machine.config machine.traces.items slot.at w slot.wake u within h.may.silent);
         none = ap (λ n. mail n w) at
-            ∙ none-first s traces until slot.at until w u h.behind since none-before
-            ∙ sym (due-flight s traces until until w u (omega arith))
+            ∙ none-first machine.config machine.traces.items until slot.at until w u h.behind since none-before
+            ∙ sym (due-flight machine.config machine.traces.items until until w u (omega arith))
             ∙ none;
       };
     }
   where
     mail : ℕ → ℕ → List Message
-    mail a b = mail_in s traces until u a b
+    mail a b = mail_in machine.config machine.traces.items until u a b
 
 -- so do all units, once their words are lowered to what goes to them of what was sent
-pub lowered-wait_all : (s : Config) (traces : List (List Entry)) (first now until : ℕ) (slots : List Slot) (old new : List ℕ) (sent : List Message) → now ≤ until → TravelsFor s (until - now)
-    → length old ≡ length slots → WaitAll s traces first until now slots old → sent ≡ among s first (first + length slots) (sent_in s traces now until)
-    → AreLowered s first sent old new → WaitAll s traces first until until slots new
-lowered-wait_all s traces first now until slots old new sent l t words between are low k d less =
+pub lowered-wait_all : (machine : Machine) (first now until : ℕ) (slots : List Slot) (old new : List ℕ) (sent : List Message) → now ≤ until → TravelsFor machine.config (until - now)
+    → length old ≡ length slots → WaitAll machine first until now slots old → sent ≡ among machine.config first (first + length slots) (sent_in machine now until)
+    → AreLowered machine.config first sent old new → WaitAll machine first until until slots new
+lowered-wait_all machine first now until slots old new sent l t words between are low k d less =
     let b = between k d less in
     let i : k < length old = omega (arith, less, words) in
-    let u = unit_at s (first + k) in
-    let all = sent_in s traces now until in
+    let u = unit_at machine.config (first + k) in
+    let all = sent_in machine now until in
     let late-sent : All (λ m. until ≤ m.arrival) sent =
     All-from_recursion (λ (m : Message). until ≤ m.arrival) sent
     (subst (Each (λ (m : Message). until ≤ m.arrival)) (sym are)
-    (Each-filter (λ (m : Message). until ≤ m.arrival) (goes_among s first (first + length slots)) all (recursion_from_All (λ (m : Message). until ≤ m.arrival) all (sent-late s traces now until l t)))) in
+    (Each-filter (λ (m : Message). until ≤ m.arrival) (goes_among machine.config first (first + length slots)) all (recursion_from_All (λ (m : Message). until ≤ m.arrival) all (sent-late machine now until l t)))) in
     let since = low.since until late-sent k i b.ahead in
-    let none : filter (is_due s.channels u until (get_or new k 0)) sent ≡ [] =
-    none-due s.channels until (get_or new k 0) (get_or new k 0) u sent (λ j e m to. low.arrivals k j e i m to) (omega arith) in
-    lowered-waits s traces u now until (sleeper_at slots old k d) (sleeper_at slots new k d) l t b refl refl since (low.less k i)
-    (sym (due-among s first (first + length slots) until (get_or new k 0) (first + k) all (omega arith) (omega (arith, less)))
-    ∙ ap (filter (is_due s.channels u until (get_or new k 0))) (sym are)
+    let none : filter (is_due machine.config.channels u until (get_or new k 0)) sent ≡ [] =
+    none-due machine.config.channels until (get_or new k 0) (get_or new k 0) u sent (λ j e m to. low.arrivals k j e i m to) (omega arith) in
+    lowered-waits machine u now until (sleeper_at slots old k d) (sleeper_at slots new k d) l t b refl refl since (low.less k i)
+    (sym (due-among machine.config first (first + length slots) until (get_or new k 0) (first + k) all (omega arith) (omega (arith, less)))
+    ∙ ap (filter (is_due machine.config.channels u until (get_or new k 0))) (sym are)
     ∙ none)
 
 late-kept : (from until word arrival : ℕ) (b c : Bool) → (b && (leb until arrival && ltb arrival word)) ≡ true → not (c && (leb from arrival && ltb arrival until)) ≡ true

@@ -16,28 +16,29 @@ use Rattle.units.proofs.Due.{exists-at}
 use Rattle.wake_words.proofs.Going.{after-none, left-alone}
 use Rattle.units.proofs.Joining.{fresh-is}
 use Rattle.wake_words.proofs.Jumping.{some-slot}
+use Rattle.units.specs.declared.machine.Machine.{Machine}
 use Rattle.wake_words.proofs.Waiting.{untouched}
 
 -- Of so many units, at places from one on, the first have gone over the span, and the others wait; what those sent stands in the list, and
 -- what was due at them is out of the links.
-pub record AreTaken (s : Config) (traces : List (List Entry)) (first count here there until : ℕ) (slots : List Slot) (words : List ℕ) (sent : List Message) (old links : InFlight) (place : ℕ) : Type 0 where
-  pub exist : first + count ≤ unit_count s
+pub record AreTaken (machine : Machine) (first count here there until : ℕ) (slots : List Slot) (words : List ℕ) (sent : List Message) (old links : InFlight) (place : ℕ) : Type 0 where
+  pub exist : first + count ≤ unit_count machine.config
   pub slots_count : length slots ≡ count
   pub words_count : length words ≡ count
   pub within : place ≤ count
-  pub gone : (k : ℕ) (d : Slot) → k < place → Waits s traces (unit_at s (first + k)) until there (sleeper_at slots words k d)
-  pub wait : (k : ℕ) (d : Slot) → place ≤ k → k < length slots → Waits s traces (unit_at s (first + k)) here there (sleeper_at slots words k d)
-  pub sent_so_far : sent ≡ sent_by s traces here until first place
-  pub links_so_far : links ≡ links_after s here until first place old
+  pub gone : (k : ℕ) (d : Slot) → k < place → Waits machine (unit_at machine.config (first + k)) until there (sleeper_at slots words k d)
+  pub wait : (k : ℕ) (d : Slot) → place ≤ k → k < length slots → Waits machine (unit_at machine.config (first + k)) here there (sleeper_at slots words k d)
+  pub sent_so_far : sent ≡ sent_by machine here until first place
+  pub links_so_far : links ≡ links_after machine.config here until first place old
 
-sent-more : (s : Config) (traces : List (List Entry)) (here until first place : ℕ) → sent_by s traces here until first (suc place) ≡ sent_by s traces here until first place ++ fresh s traces here until (first + place)
-sent-more s traces here until first place = flat_map_below_more (λ i. fresh s traces here until (first + i)) place
+sent-more : (machine : Machine) (here until first place : ℕ) → sent_by machine here until first (suc place) ≡ sent_by machine here until first place ++ fresh machine here until (first + place)
+sent-more machine here until first place = flat_map_below_more (λ i. fresh machine here until (first + i)) place
 
 -- at the beginning none is taken
-pub taken-none : (s : Config) (traces : List (List Entry)) (first here there until : ℕ) (slots : List Slot) (words : List ℕ) (sent : List Message) (links : InFlight)
-    → first + length slots ≤ unit_count s → length words ≡ length slots → WaitAll s traces first here there slots words → sent ≡ []
-    → AreTaken s traces first (length slots) here there until slots words sent links links 0
-taken-none s traces first here there until slots words sent links within count h none =
+pub taken-none : (machine : Machine) (first here there until : ℕ) (slots : List Slot) (words : List ℕ) (sent : List Message) (links : InFlight)
+    → first + length slots ≤ unit_count machine.config → length words ≡ length slots → WaitAll machine first here there slots words → sent ≡ []
+    → AreTaken machine first (length slots) here there until slots words sent links links 0
+taken-none machine first here there until slots words sent links within count h none =
     record {
       exist = within;
       slots_count = refl;
@@ -46,14 +47,14 @@ taken-none s traces first here there until slots words sent links within count h
       gone = λ k d l. absurd (omega (arith, l));
       wait = λ k d l m. h k d m;
       sent_so_far = none;
-      links_so_far = after-none s here until first links;
+      links_so_far = after-none machine.config here until first links;
     }
 
 -- a unit that is passed over has gone over the span too, untouched: its word is not before the end
-passed-one : (s : Config) (traces : List (List Entry)) (first count here there until : ℕ) (slots : List Slot) (words : List ℕ) (sent : List Message) (old links : InFlight) (place : ℕ) → here ≤ until
-    → AllBrought s traces first count here there until old → place < count → until ≤ get_or words place 0
-    → AreTaken s traces first count here there until slots words sent old links place → AreTaken s traces first count here there until slots words sent old links (suc place)
-passed-one s traces first count here there until slots words sent old links place l brought inside w h =
+passed-one : (machine : Machine) (first count here there until : ℕ) (slots : List Slot) (words : List ℕ) (sent : List Message) (old links : InFlight) (place : ℕ) → here ≤ until
+    → AllBrought machine first count here there until old → place < count → until ≤ get_or words place 0
+    → AreTaken machine first count here there until slots words sent old links place → AreTaken machine first count here there until slots words sent old links (suc place)
+passed-one machine first count here there until slots words sent old links place l brought inside w h =
     record {
       exist = h.exist;
       slots_count = h.slots_count;
@@ -62,56 +63,56 @@ passed-one s traces first count here there until slots words sent old links plac
       gone = λ k d m. goes k d (omega (arith, m)) (cases_lt k place);
       wait = λ k d m less. h.wait k d (omega (arith, m)) less;
       sent_so_far = h.sent_so_far
-          ∙ sym (append-nil (sent_by s traces here until first place))
-          ∙ ap (λ z. sent_by s traces here until first place ++ z) (sym (fresh-is s traces here until (first + place) [] (on some).sent))
-          ∙ sym (sent-more s traces here until first place);
-      links_so_far = h.links_so_far ∙ left-alone s traces first here there until place old (sleeper_at slots words place some) l (brought place inside) w (h.wait place some (omega arith) there_is);
+          ∙ sym (append-nil (sent_by machine here until first place))
+          ∙ ap (λ z. sent_by machine here until first place ++ z) (sym (fresh-is machine here until (first + place) [] (on some).sent))
+          ∙ sym (sent-more machine here until first place);
+      links_so_far = h.links_so_far ∙ left-alone machine first here there until place old (sleeper_at slots words place some) l (brought place inside) w (h.wait place some (omega arith) there_is);
     }
   where
     there_is : place < length slots
     there_is = omega (arith, inside, h.slots_count)
 
-    exists : Exists s (unit_at s (first + place))
-    exists = exists-at s (first + place) (omega (arith, inside, h.exist))
+    exists : Exists machine.config (unit_at machine.config (first + place))
+    exists = exists-at machine.config (first + place) (omega (arith, inside, h.exist))
 
     some : Slot
     some = some-slot slots (omega (arith, there_is))
 
-    on : (d : Slot) → HasGoneOn s traces (unit_at s (first + place)) here there until (sleeper_at slots words place d) []
-    on d = untouched s traces (unit_at s (first + place)) here there until (sleeper_at slots words place d) exists l (brought place inside).known w (h.wait place d (omega arith) there_is)
+    on : (d : Slot) → HasGoneOn machine (unit_at machine.config (first + place)) here there until (sleeper_at slots words place d) []
+    on d = untouched machine (unit_at machine.config (first + place)) here there until (sleeper_at slots words place d) exists l (brought place inside).known w (h.wait place d (omega arith) there_is)
 
-    goes : (k : ℕ) (d : Slot) → k ≤ place → (k < place) ⊎ (place ≤ k) → Waits s traces (unit_at s (first + k)) until there (sleeper_at slots words k d)
+    goes : (k : ℕ) (d : Slot) → k ≤ place → (k < place) ⊎ (place ≤ k) → Waits machine (unit_at machine.config (first + k)) until there (sleeper_at slots words k d)
     goes k d m (inl e) = h.gone k d e
     goes k d m (inr e) =
         let same : place ≡ k = omega (arith, m, e) in
-        subst (λ i. Waits s traces (unit_at s (first + i)) until there (sleeper_at slots words i d)) same (on d).waits
+        subst (λ i. Waits machine (unit_at machine.config (first + i)) until there (sleeper_at slots words i d)) same (on d).waits
 
-passed-some : (s : Config) (traces : List (List Entry)) (first count here there until : ℕ) (slots : List Slot) (words : List ℕ) (sent : List Message) (old links : InFlight) (from : ℕ) → here ≤ until
-    → AllBrought s traces first count here there until old → AreTaken s traces first count here there until slots words sent old links from → (n : ℕ) → from + n ≤ count
-    → ((k : ℕ) → from ≤ k → k < from + n → until ≤ get_or words k 0) → AreTaken s traces first count here there until slots words sent old links (from + n)
-passed-some s traces first count here there until slots words sent old links from l brought h zero within sleep =
-    subst (AreTaken s traces first count here there until slots words sent old links) (sym (add-zero from)) h
-passed-some s traces first count here there until slots words sent old links from l brought h (suc n) within sleep =
+passed-some : (machine : Machine) (first count here there until : ℕ) (slots : List Slot) (words : List ℕ) (sent : List Message) (old links : InFlight) (from : ℕ) → here ≤ until
+    → AllBrought machine first count here there until old → AreTaken machine first count here there until slots words sent old links from → (n : ℕ) → from + n ≤ count
+    → ((k : ℕ) → from ≤ k → k < from + n → until ≤ get_or words k 0) → AreTaken machine first count here there until slots words sent old links (from + n)
+passed-some machine first count here there until slots words sent old links from l brought h zero within sleep =
+    subst (AreTaken machine first count here there until slots words sent old links) (sym (add-zero from)) h
+passed-some machine first count here there until slots words sent old links from l brought h (suc n) within sleep =
     let e : suc (from + n) ≡ from + suc n = omega arith in
-    let before = passed-some s traces first count here there until slots words sent old links from l brought h n (omega (arith, within)) (λ k m less. sleep k m (omega (arith, less))) in
-    subst (AreTaken s traces first count here there until slots words sent old links) e
-    (passed-one s traces first count here there until slots words sent old links (from + n) l brought (omega (arith, within)) (sleep (from + n) (omega arith) (omega arith)) before)
+    let before = passed-some machine first count here there until slots words sent old links from l brought h n (omega (arith, within)) (λ k m less. sleep k m (omega (arith, less))) in
+    subst (AreTaken machine first count here there until slots words sent old links) e
+    (passed-one machine first count here there until slots words sent old links (from + n) l brought (omega (arith, within)) (sleep (from + n) (omega arith) (omega arith)) before)
 
 -- so have all between two places
-pub passed-over : (s : Config) (traces : List (List Entry)) (first count here there until : ℕ) (slots : List Slot) (words : List ℕ) (sent : List Message) (old links : InFlight) (from to : ℕ) → here ≤ until
-    → AllBrought s traces first count here there until old → AreTaken s traces first count here there until slots words sent old links from → from ≤ to → to ≤ length words
-    → ((k : ℕ) → from ≤ k → k < to → until ≤ get_or words k 0) → AreTaken s traces first count here there until slots words sent old links to
-passed-over s traces first count here there until slots words sent old links from to l brought h m within sleep =
+pub passed-over : (machine : Machine) (first count here there until : ℕ) (slots : List Slot) (words : List ℕ) (sent : List Message) (old links : InFlight) (from to : ℕ) → here ≤ until
+    → AllBrought machine first count here there until old → AreTaken machine first count here there until slots words sent old links from → from ≤ to → to ≤ length words
+    → ((k : ℕ) → from ≤ k → k < to → until ≤ get_or words k 0) → AreTaken machine first count here there until slots words sent old links to
+passed-over machine first count here there until slots words sent old links from to l brought h m within sleep =
     let e : from + (to - from) ≡ to = omega (arith, m) in
-    subst (AreTaken s traces first count here there until slots words sent old links) e
-    (passed-some s traces first count here there until slots words sent old links from l brought h (to - from) (omega (arith, e, within, h.words_count)) (λ k o less. sleep k o (omega (arith, less, e))))
+    subst (AreTaken machine first count here there until slots words sent old links) e
+    (passed-some machine first count here there until slots words sent old links from l brought h (to - from) (omega (arith, e, within, h.words_count)) (λ k o less. sleep k o (omega (arith, less, e))))
 
 -- a unit that is woken
-pub taken-one : (s : Config) (traces : List (List Entry)) (first count here there until : ℕ) (slots : List Slot) (words : List ℕ) (sent holds : List Message) (old links after : InFlight) (place : ℕ) (slot : Slot) (wake : ℕ)
-    → place < length slots → AddsWhatItSent s traces (unit_at s (first + place)) here there until (sleeper slot wake) sent holds → after ≡ links_after s here until first (suc place) old
-    → AreTaken s traces first count here there until slots words sent old links place
-    → AreTaken s traces first count here there until (set slots place slot) (set words place wake) holds old after (place + 1)
-taken-one s traces first count here there until slots words sent holds old links after place slot wake inside adds out h =
+pub taken-one : (machine : Machine) (first count here there until : ℕ) (slots : List Slot) (words : List ℕ) (sent holds : List Message) (old links after : InFlight) (place : ℕ) (slot : Slot) (wake : ℕ)
+    → place < length slots → AddsWhatItSent machine (unit_at machine.config (first + place)) here there until (sleeper slot wake) sent holds → after ≡ links_after machine.config here until first (suc place) old
+    → AreTaken machine first count here there until slots words sent old links place
+    → AreTaken machine first count here there until (set slots place slot) (set words place wake) holds old after (place + 1)
+taken-one machine first count here there until slots words sent holds old links after place slot wake inside adds out h =
     record {
       exist = h.exist;
       slots_count = length-set slots place slot ∙ h.slots_count;
@@ -120,38 +121,38 @@ taken-one s traces first count here there until slots words sent holds old links
       gone = λ k d m. goes k d (omega (arith, m)) (cases_lt k place);
       wait = λ k d m less.
           let other : k ≢ place = omega (arith, m) in
-          subst (Waits s traces (unit_at s (first + k)) here there) (sym (ap₂ sleeper (get_or-set_other slots place k slot d other) (get_or-set_other words place k wake 0 other)))
+          subst (Waits machine (unit_at machine.config (first + k)) here there) (sym (ap₂ sleeper (get_or-set_other slots place k slot d other) (get_or-set_other words place k wake 0 other)))
           (h.wait k d (omega (arith, m)) (omega (arith, less, length-set slots place slot)));
       sent_so_far = adds.added
           ∙ ap (λ z. z ++ adds.messages) h.sent_so_far
-          ∙ ap (λ z. sent_by s traces here until first place ++ z) (sym (fresh-is s traces here until (first + place) adds.messages adds.gone.sent))
-          ∙ sym (sent-more s traces here until first place)
-          ∙ ap (sent_by s traces here until first) (sym (add-one place));
-      links_so_far = out ∙ ap {B = InFlight} (λ k. links_after s here until first k old) (sym (add-one place));
+          ∙ ap (λ z. sent_by machine here until first place ++ z) (sym (fresh-is machine here until (first + place) adds.messages adds.gone.sent))
+          ∙ sym (sent-more machine here until first place)
+          ∙ ap (sent_by machine here until first) (sym (add-one place));
+      links_so_far = out ∙ ap {B = InFlight} (λ k. links_after machine.config here until first k old) (sym (add-one place));
     }
   where
-    goes : (k : ℕ) (d : Slot) → k ≤ place → (k < place) ⊎ (place ≤ k) → Waits s traces (unit_at s (first + k)) until there (sleeper_at (set slots place slot) (set words place wake) k d)
+    goes : (k : ℕ) (d : Slot) → k ≤ place → (k < place) ⊎ (place ≤ k) → Waits machine (unit_at machine.config (first + k)) until there (sleeper_at (set slots place slot) (set words place wake) k d)
     goes k d m (inl e) =
         let other : k ≢ place = omega (arith, e) in
-        subst (Waits s traces (unit_at s (first + k)) until there)
+        subst (Waits machine (unit_at machine.config (first + k)) until there)
         (sym (ap₂ sleeper (get_or-set_other slots place k slot d other) (get_or-set_other words place k wake 0 other)))
         (h.gone k d e)
     goes k d m (inr e) =
         let same : k ≡ place = omega (arith, m, e) in
         let within : place < length words = omega (arith, inside, h.slots_count, h.words_count) in
-        subst (λ j. Waits s traces (unit_at s (first + j)) until there (sleeper_at (set slots place slot) (set words place wake) k d)) (sym same)
-        (subst (Waits s traces (unit_at s (first + place)) until there)
+        subst (λ j. Waits machine (unit_at machine.config (first + j)) until there (sleeper_at (set slots place slot) (set words place wake) k d)) (sym same)
+        (subst (Waits machine (unit_at machine.config (first + place)) until there)
         (sym (ap₂ sleeper (get_or-set_at slots place k slot d same inside) (get_or-set_at words place k wake 0 same within)))
         adds.gone.waits)
 
 -- when all are taken
-pub taken-all : (s : Config) (traces : List (List Entry)) (first count here there until : ℕ) (slots : List Slot) (words : List ℕ) (sent : List Message) (old links : InFlight) (place : ℕ)
-    → AreTaken s traces first count here there until slots words sent old links place → length slots ≤ place
-    → WaitAll s traces first until there slots words × (links ≡ links_after s here until first count old) × (sent ≡ sent_by s traces here until first count)
-taken-all s traces first count here there until slots words sent old links place h l = (
+pub taken-all : (machine : Machine) (first count here there until : ℕ) (slots : List Slot) (words : List ℕ) (sent : List Message) (old links : InFlight) (place : ℕ)
+    → AreTaken machine first count here there until slots words sent old links place → length slots ≤ place
+    → WaitAll machine first until there slots words × (links ≡ links_after machine.config here until first count old) × (sent ≡ sent_by machine here until first count)
+taken-all machine first count here there until slots words sent old links place h l = (
   λ k d less. h.gone k d (omega (arith, less, l)),
-  h.links_so_far ∙ ap {B = InFlight} (λ n. links_after s here until first n old) end,
-  h.sent_so_far ∙ ap (sent_by s traces here until first) end,
+  h.links_so_far ∙ ap {B = InFlight} (λ n. links_after machine.config here until first n old) end,
+  h.sent_so_far ∙ ap (sent_by machine here until first) end,
 )
   where
     end : place ≡ count

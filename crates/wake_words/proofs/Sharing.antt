@@ -26,6 +26,8 @@ use Rattle.units.proofs.Due.{same_unit, flight-each}
 use Rattle.wake_words.specs.Wakes.{sent_in}
 use Rattle.units.proofs.Filters.{filter-filter, filter-same, filter-all, implied}
 use Rattle.units.proofs.Joining.{join-flight}
+use Rattle.units.specs.declared.machine.Machine.{Machine}
+use Rattle.units.specs.Runs.{flight_at}
 use Rattle.units.proofs.Travelling.{Goes}
 
 -- a unit of a place stands among places where the place is one of them
@@ -88,12 +90,12 @@ flight-sorted s traces now =
     subst Sorted (sym (in_flight-late s traces now ∙ by_age-puts sent)) (Sorted-puts [] sent tt)
 
 -- what is in flight to some units at the end of a phase is what was left for them and what was sent to them
-pub among-joins : (s : Config) (traces : List (List Entry)) (first past now until : ℕ) → now ≤ until → TravelsFor s (until - now)
-    → fold insert_by_age (among s first past (late until (in_flight s traces (run s traces now)))) (among s first past (sent_in s traces now until))
-    ≡ among s first past (in_flight s traces (run s traces until))
-among-joins s traces first past now until l t =
-    let old = late until (in_flight s traces (run s traces now)) in
-    let new = sent_in s traces now until in
-    fold-puts (among s first past old) (among s first past new)
-    ∙ sym (filter-puts (goes_among s first past) old new (Sorted-filter (λ m. not (ltb m.arrival until)) _ (flight-sorted s traces now)))
-    ∙ ap (among s first past) (sym (fold-puts old new) ∙ join-flight s traces now until l t)
+pub among-joins : (machine : Machine) (first past now until : ℕ) → now ≤ until → TravelsFor machine.config (until - now)
+    → fold insert_by_age (among machine.config first past (late until (flight_at machine now))) (among machine.config first past (sent_in machine now until))
+    ≡ among machine.config first past (flight_at machine until)
+among-joins machine first past now until l t =
+    let old = late until (flight_at machine now) in
+    let new = sent_in machine now until in
+    fold-puts (among machine.config first past old) (among machine.config first past new)
+    ∙ sym (filter-puts (goes_among machine.config first past) old new (Sorted-filter (λ m. not (ltb m.arrival until)) _ (flight-sorted machine.config machine.traces.items now)))
+    ∙ ap (among machine.config first past) (sym (fold-puts old new) ∙ join-flight machine now until l t)

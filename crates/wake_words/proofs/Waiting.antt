@@ -37,6 +37,8 @@ use Rattle.units.specs.Parts.{IsPart, IsReadyFor, HasRun}
 use Rattle.units.specs.Quiet.{IsNextActOf}
 use Rattle.units.specs.declared.part.UnitState.TheVariants as part
 use Rattle.units.proofs.Resting.{core-rows_length, rests-in_none}
+use Rattle.units.specs.declared.machine.Machine.{Machine}
+use Rattle.units.specs.Runs.{run_of, sent_at}
 use Rattle.wake_words.specs.Wakes.{Sleeper, Waits, IsKnown, HasGoneOn}
 
 -- who rests is silent
@@ -55,61 +57,61 @@ rests-silent s traces from until (Channel channel) h = λ n l.
     ∙ idle-messages s channel steps n
 
 -- what arrives up to the end of a phase is known at its beginning
-pub known-phase : (s : Config) (traces : List (List Entry)) (now until : ℕ) (u : MachineUnit) → now ≤ until → TravelsFor s (until - now) → IsKnown s traces now until u
-known-phase s traces now until u l t =
+pub known-phase : (machine : Machine) (now until : ℕ) (u : MachineUnit) → now ≤ until → TravelsFor machine.config (until - now) → IsKnown machine now until u
+known-phase machine now until u l t =
     let e : until ≡ now + (until - now) = omega arith in
-    ap (λ i. arrived (inbox s traces (run s traces i) u) until) e ∙ inbox-run s traces now (until - now) u until (has_channels s) t (omega arith) (until - now)
+    ap (λ i. arrived (inbox machine.config machine.traces.items (run_of machine i) u) until) e ∙ inbox-run machine.config machine.traces.items now (until - now) u until (has_channels machine.config) t (omega arith) (until - now)
 
 -- what is known up to a cycle is known up to each before it
-pub known-sooner : (s : Config) (traces : List (List Entry)) (there here until : ℕ) (u : MachineUnit) → here ≤ until → IsKnown s traces there until u → IsKnown s traces there here u
-known-sooner s traces there here until u l h =
-    sym (mail-settled s traces here until u l) ∙ arrived-sooner here until l (inbox s traces (run s traces until) u) (inbox s traces (run s traces there) u) h
+pub known-sooner : (machine : Machine) (there here until : ℕ) (u : MachineUnit) → here ≤ until → IsKnown machine there until u → IsKnown machine there here u
+known-sooner machine there here until u l h =
+    sym (mail-settled machine.config machine.traces.items here until u l) ∙ arrived-sooner here until l (inbox machine.config machine.traces.items (run_of machine until) u) (inbox machine.config machine.traces.items (run_of machine there) u) h
 
 -- so is what arrives in a span
-pub known-mail : (s : Config) (traces : List (List Entry)) (there from until : ℕ) (u : MachineUnit) → IsKnown s traces there until u → mail_in s traces until u from until ≡ mail_in s traces there u from until
-known-mail s traces there from until u h =
-    sym (arriving-arrived from until (inbox s traces (run s traces until) u)) ∙ ap (arriving from until) h ∙ arriving-arrived from until (inbox s traces (run s traces there) u)
+pub known-mail : (machine : Machine) (there from until : ℕ) (u : MachineUnit) → IsKnown machine there until u → mail_in machine.config machine.traces.items until u from until ≡ mail_in machine.config machine.traces.items there u from until
+known-mail machine there from until u h =
+    sym (arriving-arrived from until (inbox machine.config machine.traces.items (run_of machine until) u)) ∙ ap (arriving from until) h ∙ arriving-arrived from until (inbox machine.config machine.traces.items (run_of machine there) u)
 
 -- as far as is known nothing arrived at a unit that waits
-pub waits-none : (s : Config) (traces : List (List Entry)) (u : MachineUnit) (here there : ℕ) (slot : Sleeper) → Waits s traces u here there slot → mail_in s traces there u slot.at here ≡ []
-waits-none s traces u here there slot h = none-part s traces there slot.at slot.wake slot.at here u (omega arith) h.ahead h.may.none
+pub waits-none : (machine : Machine) (u : MachineUnit) (here there : ℕ) (slot : Sleeper) → Waits machine u here there slot → mail_in machine.config machine.traces.items there u slot.at here ≡ []
+waits-none machine u here there slot h = none-part machine.config machine.traces.items there slot.at slot.wake slot.at here u (omega arith) h.ahead h.may.none
 
 -- it has sent nothing since the cycle where it stands
-pub waits-sent : (s : Config) (traces : List (List Entry)) (u : MachineUnit) (here there : ℕ) (slot : Sleeper) → Exists s u → IsKnown s traces there here u → Waits s traces u here there slot
-    → sent_of s traces here u ≡ sent_of s traces slot.at u
-waits-sent s traces u here there slot k known h =
-    silent-sent s traces slot.at here u k h.behind (silent-sooner s traces slot.at here slot.wake u h.ahead h.may.silent)
-    (known-mail s traces there slot.at here u known ∙ waits-none s traces u here there slot h)
+pub waits-sent : (machine : Machine) (u : MachineUnit) (here there : ℕ) (slot : Sleeper) → Exists machine.config u → IsKnown machine there here u → Waits machine u here there slot
+    → sent_at machine here u ≡ sent_at machine slot.at u
+waits-sent machine u here there slot k known h =
+    silent-sent machine.config machine.traces.items slot.at here u k h.behind (silent-sooner machine.config machine.traces.items slot.at here slot.wake u h.ahead h.may.silent)
+    (known-mail machine there slot.at here u known ∙ waits-none machine u here there slot h)
 
 -- it goes on, untouched, up to a cycle that is not past its word: it sends nothing, and nothing arrives at it
-pub untouched : (s : Config) (traces : List (List Entry)) (u : MachineUnit) (here there until : ℕ) (slot : Sleeper) → Exists s u → here ≤ until → IsKnown s traces there until u
-    → until ≤ slot.wake → Waits s traces u here there slot → HasGoneOn s traces u here there until slot []
-untouched s traces u here there until slot k l known w h =
-    let none : mail_in s traces until u slot.at until ≡ [] =
-    known-mail s traces there slot.at until u known ∙ none-part s traces there slot.at slot.wake slot.at until u (omega arith) w h.may.none in
+pub untouched : (machine : Machine) (u : MachineUnit) (here there until : ℕ) (slot : Sleeper) → Exists machine.config u → here ≤ until → IsKnown machine there until u
+    → until ≤ slot.wake → Waits machine u here there slot → HasGoneOn machine u here there until slot []
+untouched machine u here there until slot k l known w h =
+    let none : mail_in machine.config machine.traces.items until u slot.at until ≡ [] =
+    known-mail machine there slot.at until u known ∙ none-part machine.config machine.traces.items there slot.at slot.wake slot.at until u (omega arith) w h.may.none in
     record {
       waits = record { behind = omega (arith, h.behind, l); ahead = w; stands = h.stands; may = h.may };
-      sent = silent-sent s traces slot.at until u k (omega (arith, h.behind, l)) (silent-sooner s traces slot.at until slot.wake u w h.may.silent) none
-          ∙ sym (waits-sent s traces u here there slot k (known-sooner s traces there here until u l known) h) ∙ sym (append-nil (sent_of s traces here u));
+      sent = silent-sent machine.config machine.traces.items slot.at until u k (omega (arith, h.behind, l)) (silent-sooner machine.config machine.traces.items slot.at until slot.wake u w h.may.silent) none
+          ∙ sym (waits-sent machine u here there slot k (known-sooner machine there here until u l known) h) ∙ sym (append-nil (sent_at machine here u));
     }
 
 -- nothing arrives at it in the span
-pub untouched-none : (s : Config) (traces : List (List Entry)) (u : MachineUnit) (here there until : ℕ) (slot : Sleeper) → until ≤ slot.wake → Waits s traces u here there slot
-    → mail_in s traces there u here until ≡ []
-untouched-none s traces u here there until slot w h = none-part s traces there slot.at slot.wake here until u h.behind w h.may.none
+pub untouched-none : (machine : Machine) (u : MachineUnit) (here there until : ℕ) (slot : Sleeper) → until ≤ slot.wake → Waits machine u here there slot
+    → mail_in machine.config machine.traces.items there u here until ≡ []
+untouched-none machine u here there until slot w h = none-part machine.config machine.traces.items there slot.at slot.wake here until u h.behind w h.may.none
 
 -- a unit that is woken is run from its own cycle, however far back that is, with what arrives at it from where its kind stands
-pub woken-ready : (s : Config) (traces : List (List Entry)) (u : MachineUnit) (here there until : ℕ) (slot : Sleeper) (inbox : List Message) → Exists s u → here ≤ until → until ≤ 10 ^ 12
-    → IsKnown s traces there until u → Waits s traces u here there slot → inbox ≡ mail_in s traces there u here until → IsReadyFor s traces u slot.part inbox slot.at until
-woken-ready s traces u here there until slot mail k l early known h e =
+pub woken-ready : (machine : Machine) (u : MachineUnit) (here there until : ℕ) (slot : Sleeper) (inbox : List Message) → Exists machine.config u → here ≤ until → until ≤ 10 ^ 12
+    → IsKnown machine there until u → Waits machine u here there slot → inbox ≡ mail_in machine.config machine.traces.items there u here until → IsReadyFor machine u slot.part inbox slot.at until
+woken-ready machine u here there until slot mail k l early known h e =
     record {
       exists = k;
       order = omega (arith, h.behind, l);
       early = early;
       stands = h.stands;
       mail = e
-          ∙ sym (none-first s traces there slot.at here until u h.behind l (waits-none s traces u here there slot h))
-          ∙ sym (known-mail s traces there slot.at until u known);
+          ∙ sym (none-first machine.config machine.traces.items there slot.at here until u h.behind l (waits-none machine u here there slot h))
+          ∙ sym (known-mail machine there slot.at until u known);
     }
 
 empty-span : (until arrival : ℕ) → (leb until arrival && ltb arrival until) ≡ true → (leb until arrival && ltb arrival until) ≡ false
@@ -124,18 +126,18 @@ span-none until (m ∷ ms) = go (leb until m.arrival && ltb m.arrival until) ref
     go false e rest = rest
 
 -- and it then stands at the end of the span
-pub woken-gone : (s : Config) (traces : List (List Entry)) (u : MachineUnit) (here there until : ℕ) (before after : Sleeper) (sent : List Message) → Exists s u → here ≤ until → IsKnown s traces there until u
-    → Waits s traces u here there before → HasRun s traces u before.at until after.part sent → after.at ≡ until → until ≤ after.wake → IsSilent s traces until after.wake u
-    → mail_in s traces there u until after.wake ≡ [] → HasGoneOn s traces u here there until after sent
-woken-gone s traces u here there until before after sent k l known h ran at w silent none =
+pub woken-gone : (machine : Machine) (u : MachineUnit) (here there until : ℕ) (before after : Sleeper) (sent : List Message) → Exists machine.config u → here ≤ until → IsKnown machine there until u
+    → Waits machine u here there before → HasRun machine u before.at until after.part sent → after.at ≡ until → until ≤ after.wake → IsSilent machine.config machine.traces.items until after.wake u
+    → mail_in machine.config machine.traces.items there u until after.wake ≡ [] → HasGoneOn machine u here there until after sent
+woken-gone machine u here there until before after sent k l known h ran at w silent none =
     record {
       waits = record {
         behind = omega (arith, at);
         ahead = w;
-        stands = subst (λ n. IsPart s traces u n after.part) (sym at) ran.stands;
-        may = record { silent = subst (λ n. IsSilent s traces n after.wake u) (sym at) silent; none = ap (λ n. mail_in s traces there u n after.wake) at ∙ none };
+        stands = subst (λ n. IsPart machine u n after.part) (sym at) ran.stands;
+        may = record { silent = subst (λ n. IsSilent machine.config machine.traces.items n after.wake u) (sym at) silent; none = ap (λ n. mail_in machine.config machine.traces.items there u n after.wake) at ∙ none };
       };
-      sent = ran.sent ∙ ap (λ z. z ++ sent) (sym (waits-sent s traces u here there before k (known-sooner s traces there here until u l known) h));
+      sent = ran.sent ∙ ap (λ z. z ++ sent) (sym (waits-sent machine u here there before k (known-sooner machine there here until u l known) h));
     }
 
 -- of what is in flight, what is due at a unit later on is what arrives at it of what was sent so far
@@ -147,30 +149,30 @@ due-flight s traces now from until (Channel channel) l =
     ap (filter (is_due s.channels (Channel channel) from until)) (sym (flights-meet s traces now)) ∙ unit-due s traces now now from until (Channel channel) l
 
 -- what a unit tells of its next act is a word before which it is silent
-pub acts-silent : (s : Config) (traces : List (List Entry)) (u : MachineUnit) (from word : ℕ) → IsNextActOf s traces u from None → from ≤ word → IsSilent s traces from word u
-acts-silent s traces u from word h l = rests-silent s traces from word u (h word l)
+pub acts-silent : (machine : Machine) (u : MachineUnit) (from word : ℕ) → IsNextActOf machine u from None → from ≤ word → IsSilent machine.config machine.traces.items from word u
+acts-silent machine u from word h l = rests-silent machine.config machine.traces.items from word u (h word l)
 
-pub acts-silent_then : (s : Config) (traces : List (List Entry)) (u : MachineUnit) (from act : ℕ) → IsNextActOf s traces u from (Some act) → IsSilent s traces from act u
-acts-silent_then s traces u from act h = rests-silent s traces from act u (h.rests act h.since (omega arith))
+pub acts-silent_then : (machine : Machine) (u : MachineUnit) (from act : ℕ) → IsNextActOf machine u from (Some act) → IsSilent machine.config machine.traces.items from act u
+acts-silent_then machine u from act h = rests-silent machine.config machine.traces.items from act u (h.rests act h.since (omega arith))
 
 -- so is the cycle itself, or the last of all words
-pub word-silent : (s : Config) (traces : List (List Entry)) (u : MachineUnit) (from most : ℕ) (next : Option ℕ) → IsNextActOf s traces u from next → from ≤ most → IsSilent s traces from (unwrap_or next most) u
-word-silent s traces u from most None h l = acts-silent s traces u from most h l
-word-silent s traces u from most (Some act) h l = acts-silent_then s traces u from act h
+pub word-silent : (machine : Machine) (u : MachineUnit) (from most : ℕ) (next : Option ℕ) → IsNextActOf machine u from next → from ≤ most → IsSilent machine.config machine.traces.items from (unwrap_or next most) u
+word-silent machine u from most None h l = acts-silent machine u from most h l
+word-silent machine u from most (Some act) h l = acts-silent_then machine u from act h
 
-pub word-since : (s : Config) (traces : List (List Entry)) (u : MachineUnit) (from most : ℕ) (next : Option ℕ) → IsNextActOf s traces u from next → from ≤ most → from ≤ unwrap_or next most
-word-since s traces u from most None h l = l
-word-since s traces u from most (Some act) h l = h.since
+pub word-since : (machine : Machine) (u : MachineUnit) (from most : ℕ) (next : Option ℕ) → IsNextActOf machine u from next → from ≤ most → from ≤ unwrap_or next most
+word-since machine u from most None h l = l
+word-since machine u from most (Some act) h l = h.since
 
 -- what a core tells of its silence
 abbrev pub CoreKeepsSilent : CoreUnit → ℕ → Type 0
 CoreKeepsSilent c until =
     (s : Config) (core : ℕ) (trace : List Entry) (rows : List CoreStep) (mail : List Message) → CoreStandsFor s core trace rows mail (view_of c) → IsSilentUntil s core trace rows mail until
 
-pub core-silent : (s : Config) (traces : List (List Entry)) (u : MachineUnit) (c : CoreUnit) (from until : ℕ) → IsPart s traces u from (part.Core c) → CoreKeepsSilent c until → IsSilent s traces from until u
-core-silent s traces (Core core) c from until h keeps = λ n l.
-    keeps s core (trace_of traces core) (core_steps_of s traces from core) (mail_before s traces from (Core core) from) h n (omega (arith, core-rows_length s traces from core, l))
-core-silent s traces (Channel channel) c from until h keeps = absurd h
+pub core-silent : (machine : Machine) (u : MachineUnit) (c : CoreUnit) (from until : ℕ) → IsPart machine u from (part.Core c) → CoreKeepsSilent c until → IsSilent machine.config machine.traces.items from until u
+core-silent machine (Core core) c from until h keeps = λ n l.
+    keeps machine.config core (trace_of machine.traces.items core) (core_steps_of machine.config machine.traces.items from core) (mail_before machine.config machine.traces.items from (Core core) from) h n (omega (arith, core-rows_length machine.config machine.traces.items from core, l))
+core-silent machine (Channel channel) c from until h keeps = absurd h
 
 -- where none passes, none is taken out
 pub none-taken : (p : Message → Bool) (ms : List Message) → filter p ms ≡ [] → filter (λ m. not (p m)) ms ≡ ms
@@ -196,20 +198,20 @@ none-due channels from word least u (m ∷ ms) h l =
     ∙ none-due channels from word least u ms (λ k d i. h (suc k) d (omega (arith, i))) l
 
 -- a unit that waits may be run up to the cycle where the machine stands, where nothing arrives at it
-pub waits-ready : (s : Config) (traces : List (List Entry)) (u : MachineUnit) (now : ℕ) (slot : Sleeper) (none : List Message) → Exists s u → now ≤ 10 ^ 12 → Waits s traces u now now slot → none ≡ []
-    → IsReadyFor s traces u slot.part none slot.at now
-waits-ready s traces u now slot none k early h e =
-    record { exists = k; order = h.behind; early = early; stands = h.stands; mail = e ∙ sym (waits-none s traces u now now slot h) }
+pub waits-ready : (machine : Machine) (u : MachineUnit) (now : ℕ) (slot : Sleeper) (none : List Message) → Exists machine.config u → now ≤ 10 ^ 12 → Waits machine u now now slot → none ≡ []
+    → IsReadyFor machine u slot.part none slot.at now
+waits-ready machine u now slot none k early h e =
+    record { exists = k; order = h.behind; early = early; stands = h.stands; mail = e ∙ sym (waits-none machine u now now slot h) }
 
 -- a unit that stands where the machine does may be woken at once
-pub awake-waits : (s : Config) (traces : List (List Entry)) (u : MachineUnit) (now : ℕ) (slot : Sleeper) → IsPart s traces u now slot.part → slot.at ≡ now → slot.wake ≡ now → Waits s traces u now now slot
-awake-waits s traces u now slot h at wake =
+pub awake-waits : (machine : Machine) (u : MachineUnit) (now : ℕ) (slot : Sleeper) → IsPart machine u now slot.part → slot.at ≡ now → slot.wake ≡ now → Waits machine u now now slot
+awake-waits machine u now slot h at wake =
     record {
       behind = omega (arith, at);
       ahead = omega (arith, wake);
-      stands = subst (λ n. IsPart s traces u n slot.part) (sym at) h;
+      stands = subst (λ n. IsPart machine u n slot.part) (sym at) h;
       may = record {
-        silent = subst (λ n. IsSilent s traces n slot.wake u) (sym at) (subst (λ n. IsSilent s traces now n u) (sym wake) (rests-silent s traces now now u (rests-in_none s traces now u)));
-        none = ap₂ (λ m n. mail_in s traces now u m n) at wake ∙ span-none now _;
+        silent = subst (λ n. IsSilent machine.config machine.traces.items n slot.wake u) (sym at) (subst (λ n. IsSilent machine.config machine.traces.items now n u) (sym wake) (rests-silent machine.config machine.traces.items now now u (rests-in_none machine.config machine.traces.items now u)));
+        none = ap₂ (λ m n. mail_in machine.config machine.traces.items now u m n) at wake ∙ span-none now _;
       };
     }

@@ -1,1 +1,2 @@
 pub mod Wakes
+pub mod GoingOn

@@ -1,15 +1,13 @@
 //! A unit that stands at a cycle of its own.
 
-ghost use Rattle.std.specs.Prelude.{◌≡◌, ◌<◌, ◌≤◌, ◌^◌, ℕ, List, [], IfOk, OnOk, filter, not};
-ghost use Rattle.sim_base.specs.declared.config.Config.{Config};
+ghost use Rattle.std.specs.Prelude.{◌≡◌, ◌<◌, ◌≤◌, ◌^◌, IfOk, OnOk};
 ghost use Rattle.sim_base.specs.declared.message.Unit.{Unit as MachineUnit};
-ghost use Rattle.sim_base.specs.declared.trace.Entry.{Entry};
-ghost use Rattle.links.specs.InFlight.{is_due};
-ghost use Rattle.units.specs.Parts.{IsPart, IsReady, IsReadyFor};
-ghost use Rattle.units.specs.Quiet.{IsInSomeRun};
-ghost use Rattle.units.specs.Units.{unit_at, unit_count};
-ghost use Rattle.span_laws.specs.Quiet.{IsSilent};
-ghost use Rattle.wake_words.specs.Wakes.{HasRunAndTells, IsBrought, Waits, AddsWhatItSent, sleeper};
+ghost use Rattle.units.specs.Parts.{IsPart, IsPartAt, IsReady, IsReadyFor};
+ghost use Rattle.units.specs.Quiet.{IsInSomeRun, SendsNothing};
+ghost use Rattle.units.specs.Units.{unit_count};
+ghost use Rattle.units.specs.declared.machine.Machine.{Machine};
+ghost use Rattle.wake_words.specs.GoingOn.{WaitsAt, WaitsNow, IsBroughtTo, GoesOnOver, NothingArrives, links_taken};
+ghost use Rattle.wake_words.specs.Wakes.{HasRunAndTells, sleeper};
 
 use links::flight::Links;
 use sim_base::message::{Cycle, Message, Unit};
@@ -18,7 +16,8 @@ use units::machine::{Machine, unit_at};
 use units::mail::Mail;
 use units::part::UnitState;
 
-/// A span over which units of a kind go on: from where they stand up to a cycle, while those that send to them stand at a cycle of theirs.
+/// A span over which units of a kind go on: from where they stand up to a cycle, while those that send to them stand
+/// at a cycle of theirs.
 #[derive(Clone, Copy)]
 pub struct Span {
     pub here: Cycle,
@@ -33,13 +32,14 @@ pub struct Slot {
     pub at: Cycle,
 }
 
-/// A cycle, not before `from`, where the unit stands, before which it sends nothing, if nothing arrives at it; the last of all words,
-/// where it never does.
+/// A cycle, not before `from`, where the unit stands, before which it sends nothing, if nothing arrives at it; the
+/// last of all words, where it never does.
 fn send_word(part: &mut UnitState, from: Cycle) -> Cycle
     requires stands { IsInSomeRun part.old from }
     ensures same { part.new ≡ part.old }
-    ensures silent { (s : Config) (traces : List (List Entry)) (unit : MachineUnit) → IsPart s traces unit from part.old → IsSilent s traces from result unit }
-    ensures since { (s : Config) (traces : List (List Entry)) (unit : MachineUnit) → IsPart s traces unit from part.old → from ≤ result }
+    ensures silent { (machine : Machine) (unit : MachineUnit) → IsPart machine unit from part.old
+        → SendsNothing machine from result unit }
+    ensures since { from ≤ result }
 {
     match part {
         UnitState::Core(core) => core.silent_until(from),
@@ -47,8 +47,8 @@ fn send_word(part: &mut UnitState, from: Cycle) -> Cycle
     }
 }
 
-/// Runs a unit over a span, in which these messages arrive at it, and puts what it sends behind what a list holds. Gives a cycle,
-/// not before the end of the span, before which it sends nothing more, if nothing arrives at it.
+/// Runs a unit over a span, in which these messages arrive at it, and puts what it sends behind what a list holds.
+/// Gives a cycle, not before the end of the span, before which it sends nothing more, if nothing arrives at it.
 fn run_and_tell(
     part: &mut UnitState,
     inbox: &[Message],
@@ -57,8 +57,9 @@ fn run_and_tell(
     sent: &mut Vec<Message>,
 ) -> Result<Cycle, AllocError>
     requires ready { IsReady part.old inbox.now from until }
-    ensures { (s : Config) (traces : List (List Entry)) (unit : MachineUnit) → IsReadyFor s traces unit part.old inbox.now from until
-        → IfOk result (HasRunAndTells s traces unit from until part.new sent.old.items sent.new.items) }
+    ensures { (machine : Machine) (unit : MachineUnit)
+        → IsReadyFor machine unit part.old inbox.now from until
+        → IfOk result (HasRunAndTells machine unit from until part.new sent.old.items sent.new.items) }
 {
     part.run(inbox, from, until, sent)?;
     Ok(send_word(part, until))
@@ -69,7 +70,7 @@ fn arrival_word(links: &Links, unit: Unit, from: Cycle, send: Cycle) -> Cycle
     requires { from ≤ send }
     ensures since { from ≤ result }
     ensures within { result ≤ send }
-    ensures first { (word : ℕ) → word ≤ result → filter (is_due links.now.channels unit from word) links.now.messages ≡ [] }
+    ensures first { NothingArrives links.now unit from result }
 {
     match links.next_arrival_at(unit) {
         Some(arrival) => arrival.max(from).min(send),
@@ -78,8 +79,8 @@ fn arrival_word(links: &Links, unit: Unit, from: Cycle, send: Cycle) -> Cycle
 }
 
 impl Slot {
-    /// Runs the unit at a place, whose kind stands at a cycle, up to another, with what arrives at it, and puts what it sends at the end of
-    /// a list. Gives its next word.
+    /// Runs the unit at a place, whose kind stands at a cycle, up to another, with what arrives at it, and puts what
+    /// it sends at the end of a list. Gives its next word.
     pub fn woken(
         &mut self,
         machine: &Machine,
@@ -92,10 +93,11 @@ impl Slot {
         requires place { place < unit_count machine.now.config }
         requires order { span.now.here ≤ span.now.until }
         requires early { span.now.until ≤ 10 ^ 12 }
-        requires waits { Waits machine.now.config machine.now.traces.items (unit_at machine.now.config place) span.now.here span.now.there (sleeper self.old word) }
-        requires brought { IsBrought machine.now.config machine.now.traces.items span.now.here span.now.there span.now.until (unit_at machine.now.config place) links.old }
-        ensures gone { IfOk result (λ wake. AddsWhatItSent machine.now.config machine.now.traces.items (unit_at machine.now.config place) span.now.here span.now.there span.now.until (sleeper self.new wake) mail.old.sent.items mail.new.sent.items) }
-        ensures links { OnOk result (links.new ≡ record links.old { messages = filter (λ m. not (is_due machine.now.config.channels (unit_at machine.now.config place) span.now.here span.now.until m)) links.old.messages }) }
+        requires waits { WaitsAt machine.now place span.now (sleeper self.old word) }
+        requires brought { IsBroughtTo machine.now place span.now links.old }
+        ensures gone { IfOk result (λ wake.
+            GoesOnOver machine.now place span.now (sleeper self.new wake) mail.old.sent.items mail.new.sent.items) }
+        ensures links { OnOk result (links.new ≡ links_taken machine.now place span.now links.old) }
     {
         let until = span.until;
         let unit = unit_at(&machine.config, place);
@@ -118,8 +120,8 @@ impl Slot {
     ) -> Result<UnitState, AllocError>
         requires place { place < unit_count machine.now.config }
         requires early { now ≤ 10 ^ 12 }
-        requires waits { Waits machine.now.config machine.now.traces.items (unit_at machine.now.config place) now now (sleeper self word) }
-        ensures { IfOk result (λ part. IsPart machine.now.config machine.now.traces.items (unit_at machine.now.config place) now part) }
+        requires waits { WaitsNow machine.now place now (sleeper self word) }
+        ensures { IfOk result (IsPartAt machine.now place now) }
     {
         let Slot { mut part, at, .. } = self;
         mail.inbox.clear();

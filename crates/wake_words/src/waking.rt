@@ -1,10 +1,10 @@
 //! Units that stand at cycles of their own, taken over a span: only those that wake in it are touched.
 
 ghost use Rattle.std.specs.Prelude.{◌≡◌, ◌<◌, ◌≤◌, ◌^◌, ◌+◌, ℕ, [], length, IfOk, OnOk, slice_index_or};
-ghost use Rattle.units.specs.Flight.{sent_by};
 ghost use Rattle.units.specs.Parts.{StandAt};
 ghost use Rattle.units.specs.Units.{unit_count};
-ghost use Rattle.wake_words.specs.Wakes.{WaitAll, AllBrought, AreSlots, links_after};
+ghost use Rattle.wake_words.specs.GoingOn.{WaitAllAt, WaitAllPast, AllBroughtTo, GrowsBy, links_taken_by, sent_over};
+ghost use Rattle.wake_words.specs.Wakes.{WaitAll, AreSlots};
 
 use crate::slot::{Slot, Span};
 use lane_scan::first_below;
@@ -29,7 +29,8 @@ fn next_waking(words: &[Cycle], from: usize, until: Cycle) -> usize
     }
 }
 
-/// Takes units, at places from one on, over a span: those whose word is before its end are run, the others are left as they are.
+/// Takes units, at places from one on, over a span: those whose word is before its end are run, the others are left
+/// as they are.
 pub fn go_on(
     machine: &Machine,
     links: &mut Links,
@@ -43,14 +44,16 @@ pub fn go_on(
     requires words { length words.old ≡ length slots.old }
     requires order { span.now.here ≤ span.now.until }
     requires early { span.now.until ≤ 10 ^ 12 }
-    requires wait { WaitAll machine.now.config machine.now.traces.items first span.now.here span.now.there slots.old words.old }
-    requires brought { AllBrought machine.now.config machine.now.traces.items first (length slots.old) span.now.here span.now.there span.now.until links.old }
+    requires wait { WaitAllAt machine.now first span.now slots.old words.old }
+    requires brought { AllBroughtTo machine.now first (length slots.old) span.now links.old }
     requires sent { mail.old.sent.items ≡ [] }
     ensures count { length slots.new ≡ length slots.old }
     ensures words { length words.new ≡ length words.old }
-    ensures wait { OnOk result (WaitAll machine.now.config machine.now.traces.items first span.now.until span.now.there slots.new words.new) }
-    ensures links { OnOk result (links.new ≡ links_after machine.now.config span.now.here span.now.until first (length slots.old) links.old) }
-    ensures sent { OnOk result (mail.new.sent.items ≡ sent_by machine.now.config machine.now.traces.items span.now.here span.now.until first (length slots.old)) }
+    ensures wait { OnOk result (WaitAllPast machine.now first span.now slots.new words.new) }
+    ensures links { OnOk result (
+        links.new ≡ links_taken_by machine.now first (length slots.old) span.now links.old) }
+    ensures sent { OnOk result (
+        mail.new.sent.items ≡ sent_over machine.now first (length slots.old) span.now) }
 {
     let mut place = next_waking(words, 0, span.until);
     while place < slots.len() {
@@ -73,10 +76,10 @@ pub fn bring_up(
     requires within { length parts.old.items + length slots.items ≤ unit_count machine.now.config }
     requires words { length words.now ≡ length slots.items }
     requires early { now ≤ 10 ^ 12 }
-    requires wait { WaitAll machine.now.config machine.now.traces.items (length parts.old.items) now now slots.items words.now }
-    requires stand { StandAt machine.now.config machine.now.traces.items now parts.old.items }
-    ensures count { OnOk result (length parts.new.items ≡ length parts.old.items + length slots.items) }
-    ensures stand { OnOk result (StandAt machine.now.config machine.now.traces.items now parts.new.items) }
+    requires wait { WaitAll machine.now (length parts.old.items) now now slots.items words.now }
+    requires stand { StandAt machine.now now parts.old.items }
+    ensures count { OnOk result (GrowsBy (length slots.items) parts.old.items parts.new.items) }
+    ensures stand { OnOk result (StandAt machine.now now parts.new.items) }
 {
     let first = parts.len();
     for slot in slots {

@@ -1,18 +1,17 @@
 //! Wake words, lowered to the arrivals of what is sent.
 
-ghost use Rattle.std.specs.Prelude.{◌≡◌, ◌<◌, ◌≤◌, ◌+◌, ℕ, true, false, length, IfSome, IfNone, slice_index_or};
-ghost use Rattle.sim_base.specs.History.{is_unit};
-ghost use Rattle.links.specs.InFlight.{receiver_of};
-ghost use Rattle.units.specs.Units.{unit_at, unit_count};
-ghost use Rattle.wake_words.specs.Wakes.{AreLowered};
+ghost use Rattle.std.specs.Prelude.{◌≡◌, ◌≤◌, ◌+◌, length, IfSome, IfNone};
+ghost use Rattle.units.specs.Units.{unit_count};
+ghost use Rattle.wake_words.specs.GoingOn.{IsReceiver, HasNoReceiver};
+ghost use Rattle.wake_words.specs.Wakes.{AreLowered, NoneIsLater, HeedsArrival, IsNoneSooner};
 
 use sim_base::config::Config;
 use sim_base::message::{Cycle, LinkId, Message};
 
 /// The place of the unit that a link leads to, if the machine has it.
 pub fn receiver_place(config: &Config, link: LinkId) -> Option<usize>
-    ensures some { IfSome result (λ place. (place < unit_count config.now) × (unit_at config.now place ≡ receiver_of config.now.channels link)) }
-    ensures none { IfNone result ((place : ℕ) → place < unit_count config.now → is_unit (receiver_of config.now.channels link) (unit_at config.now place) ≡ false) }
+    ensures some { IfSome result (IsReceiver config.now link) }
+    ensures none { IfNone result (HasNoReceiver config.now link) }
 {
     let pair = link / 3;
     let cores = u64::from(config.cores);
@@ -30,10 +29,9 @@ pub fn receiver_place(config: &Config, link: LinkId) -> Option<usize>
 fn lower(config: &Config, first: usize, words: &mut [Cycle], message: &Message)
     requires { first + length words.old ≤ unit_count config.now }
     ensures count { length words.new ≡ length words.old }
-    ensures less { (k : ℕ) → k < length words.old → slice_index_or words.new k 0 ≤ slice_index_or words.old k 0 }
-    ensures arrival { (k : ℕ) → k < length words.old → is_unit (receiver_of config.now.channels message.now.link) (unit_at config.now (first + k)) ≡ true
-        → slice_index_or words.new k 0 ≤ message.now.arrival }
-    ensures since { (cycle k : ℕ) → k < length words.old → cycle ≤ slice_index_or words.old k 0 → cycle ≤ message.now.arrival → cycle ≤ slice_index_or words.new k 0 }
+    ensures less { NoneIsLater words.old words.new }
+    ensures arrival { HeedsArrival config.now first (length words.old) message.now words.new }
+    ensures since { IsNoneSooner words.old words.new message.now.arrival }
 {
     if let Some(place) = receiver_place(config, message.link) {
         if first <= place && place - first < words.len() {

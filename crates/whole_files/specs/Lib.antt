@@ -2,3 +2,4 @@ pub mod Files
 pub mod WholeFile
 pub mod Tables
 pub mod Planned
+pub mod HostAnswers

@@ -1,7 +1,9 @@
--- How the tables of a run come into a folder. Each is written under a name of its own, and gets its place there when all are whole.
+-- How the tables of a run come into a folder. Each is written under a name of its own, and gets its place there when
+-- all are whole.
 --     path_in folder name      the path of a name in a folder
---     tables_in run      the tables of an outcome that are asked for, each with its name, in the order in which they get their places
+--     tables_in run      the tables of an outcome that are asked for, in the order in which they get their places
 --     others_in run      the names of the tables that are not asked for
+--     path_unless asked folder name      the path of a table that is not asked for
 --     planned_in folder table      the paths of a table, while it is written and in its place, and its text
 --     parts folder run      the paths under which the tables are written
 --     SameOutside paths old new      no path has changed but these
@@ -87,6 +89,10 @@ tables_in run =
 -- a name, where its table is not asked for
 abbrev pub name_unless : Bool → List ℕ → List (List ℕ)
 name_unless asked name = if asked then [] else name ∷ []
+
+-- its path in a folder, where it is not asked for
+abbrev pub path_unless : Bool → List ℕ → List ℕ → List (List ℕ)
+path_unless asked folder name = map (path_in folder) (name_unless asked name)
 
 -- the names of the tables that are not asked for
 abbrev pub others_in : RunOutcome → List (List ℕ)
@@ -184,8 +190,9 @@ pub record ArePut (planned : List PlannedText) (old new : Held) : Type 0 where
   pub in_place : Each (IsIn new) planned
   pub others : SameOutside (paths_of planned) old new
 
--- The first tables got their places, at least one of them, and the others did not, since a file could not be renamed: each table is the
--- earlier one or the whole new one, and where it is the earlier one, the whole new one stands beside it.
+-- The first tables got their places, at least one of them, and the others did not, since a file could not be renamed:
+-- each table is the earlier one or the whole new one, and where it is the earlier one, the whole new one stands beside
+-- it.
 pub record AreTorn (planned : List PlannedText) (old new : Held) : Type 0 where
   pub count : ℕ
   pub some : 0 < count
@@ -208,8 +215,8 @@ IsLeftUnplaced (Torn fault) planned old new = AreTorn planned old new
 abbrev pub other_paths : List ℕ → RunOutcome → List (List ℕ)
 other_paths folder run = map (path_in folder) (others_in run)
 
--- The tables of an outcome that are asked for are in their places, nothing is left beside them, none of the other tables is there, and
--- nothing else has changed.
+-- The tables of an outcome that are asked for are in their places, nothing is left beside them, none of the other
+-- tables is there, and nothing else has changed.
 pub record IsWritten (folder : List ℕ) (run : RunOutcome) (old new : Held) : Type 0 where
   pub in_place : Each (IsIn new) (plan_in folder run)
   pub none_else : AreRemoved (other_paths folder run) new

@@ -1,12 +1,27 @@
--- How one file comes to its path: it is written under that path with `.part` appended, and gets its place when it is whole.
+-- How one file comes to its path: it is written under that path with `.part` appended, and gets its place when it is
+-- whole.
+--     from_path move, to_path move      the paths of a file's way
+--     GetsPlace move old new      a file goes that way
 --     part_of path      the path under which it is written
 --     IsMoveTo path move      its way
 --     IsWhole path text old new      it is in its place
 --     IsGone path old new      it is not, and nothing is left of it
 --     IsUnwritten path old new before after      nothing was touched, or it is not in its place
 use Rattle.std.specs.Prelude.{◌≡◌, ◌⊎◌, ℕ, List, ◌++◌, codes, Some, None, string_bytes}
-use Rattle.whole_files.specs.Files.{Held, SameBut, SameButTwo, IsUntouched}
+use Rattle.whole_files.specs.Files.{Held, SameBut, SameButTwo, IsRenamed, IsUntouched}
 use Rattle.whole_files.specs.declared.moves.Move.{Move}
+
+-- the path under which a file is written, by its way
+abbrev pub from_path : Move → List ℕ
+from_path move = string_bytes move.from
+
+-- the path that it gets
+abbrev pub to_path : Move → List ℕ
+to_path move = string_bytes move.to
+
+-- the file goes that way: it replaces what stood in its place, and nothing else changes
+abbrev pub GetsPlace : Move → Held → Held → Type 0
+GetsPlace move old new = IsRenamed (from_path move) (to_path move) old new
 
 -- the path under which a file is written
 abbrev pub part_of : List ℕ → List ℕ

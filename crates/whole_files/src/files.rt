@@ -17,9 +17,9 @@ use std::rt::Files;
 
 /// Files by their paths, as the program sees them. Tests put memory in their place.
 ///
-/// A set that *tells* says by its clauses what each path holds, and what was opened to be written. It reads whatever it holds, and
-/// removes whatever it is told to. The files of the host do not tell, since no clause can say what a file system gives: for them only
-/// the faults are claimed here.
+/// A set that *tells* says by its clauses what each path holds, and what was opened to be written. It reads whatever it
+/// holds, and removes whatever it is told to. The files of the host do not tell, since no clause can say what a file
+/// system gives: for them only the faults are claimed here.
 pub trait FileSet {
     /// A file that is being written.
     type Out: Write + Drop;
@@ -43,12 +43,13 @@ pub trait FileSet {
         ensures same { tells → SameFiles (held self.old) (held self.new) }
         ensures unopened { tells → opened self.new ≡ opened self.old };
 
-    /// Opens a file to be written from its beginning; what it held is gone. Refuses by `Fault::Write` where it cannot be
-    /// opened, and by `Fault::Memory`.
+    /// Opens a file to be written from its beginning; what it held is gone. Refuses by `Fault::Write` where it cannot
+    /// be opened, and by `Fault::Memory`.
     fn create(&mut self, alloc: Global, path: &str) -> Result<Self::Out, Reason>
         ensures empty { IfOk result (λ out. tells → Self.Out.contents out ≡ Some []) }
         ensures fault { IfErr result (λ e. IsWriteFault e) }
-        ensures noted { OnOk result (tells → opened self.new ≡ opened self.old ++ path.now ∷ []) }
+        ensures noted { OnOk result (tells
+            → opened self.new ≡ opened self.old ++ path.now ∷ []) }
         ensures others { tells → SameBut path.now (held self.old) (held self.new) };
 
     /// Why a file that is being written is refused, with the host's cause where the set knows it.
@@ -58,30 +59,34 @@ pub trait FileSet {
         Reason::from(fault)
     }
 
-    /// Ends the writing of a file. Refuses by `Fault::Write` where what is left cannot be written, and by `Fault::Memory`.
+    /// Ends the writing of a file. Refuses by `Fault::Write` where what is left cannot be written, and by
+    /// `Fault::Memory`.
     fn close(&mut self, alloc: Global, path: &str, out: Self::Out) -> Result<(), Reason>
         ensures written { OnOk result (tells → held self.new path.now ≡ Self.Out.contents out) }
         ensures fault { IfErr result (λ e. IsWriteFault e) }
         ensures others { tells → SameBut path.now (held self.old) (held self.new) }
         ensures unopened { tells → opened self.new ≡ opened self.old };
 
-    /// Tests whether a file could be given this path. Refuses by `Fault::Write` where something stands there that no file can
-    /// replace, such as a folder, or that must not be replaced, such as a file that may not be written, or where that cannot be told.
+    /// Tests whether a file could be given this path. Refuses by `Fault::Write` where something stands there that no
+    /// file can replace, such as a folder, or that must not be replaced, such as a file that may not be written, or
+    /// where that cannot be told.
     fn test_place(&mut self, path: &str) -> Result<(), Reason>
         ensures fault { IfErr result (λ e. IsWriteFault e) }
         ensures same { tells → SameFiles (held self.old) (held self.new) }
         ensures unopened { tells → opened self.new ≡ opened self.old };
 
-    /// Tests whether a folder stands at a path. Refuses by `Fault::Write` where none does, or where that cannot be told.
+    /// Tests whether a folder stands at a path. Refuses by `Fault::Write` where none does, or where that cannot be
+    /// told.
     fn test_folder(&self, path: &str) -> Result<(), Reason>
         ensures there { OnOk result (tells → has_folder self.now path.now ≡ true) }
         ensures none { OnErr result (tells → has_folder self.now path.now ≡ false) }
         ensures fault { IfErr result (λ e. e ≡ Fault.Write) };
 
-    /// Gives a file another path, in one step: what that path held is gone, or, where it refuses, nothing has changed. Refuses by
-    /// `Fault::Write`, and by `Fault::Memory`.
+    /// Gives a file another path, in one step: what that path held is gone, or, where it refuses, nothing has changed.
+    /// Refuses by `Fault::Write`, and by `Fault::Memory`.
     fn rename(&mut self, alloc: Global, from: &str, to: &str) -> Result<(), Reason>
-        ensures renamed { OnOk result (tells → IsRenamed from.now to.now (held self.old) (held self.new)) }
+        ensures renamed { OnOk result (tells
+            → IsRenamed from.now to.now (held self.old) (held self.new)) }
         ensures refused { OnErr result (tells → SameFiles (held self.old) (held self.new)) }
         ensures fault { IfErr result (λ e. IsWriteFault e) }
         ensures unopened { tells → opened self.new ≡ opened self.old };
@@ -99,7 +104,8 @@ pub struct HostFiles<'a, R> {
     pub rt: &'a R,
 }
 
-// Opens a file as if to write it, and leaves it as it is: one that is protected, for example by its mode or its folder's, refuses that.
+// Opens a file as if to write it, and leaves it as it is: one that is protected, for example by its mode or its
+// folder's, refuses that.
 fn test_writing(alloc: Global, files: &impl Files, path: &str) -> Result<(), Reason>
     ensures { IfErr result (λ e. e ≡ Fault.Write) }
 {
@@ -126,7 +132,8 @@ impl<W: Write + Drop> HostOut<W> {
 
     // Writes what is left, and gives the file back.
     fn finish(self) -> io::Result<W>
-        ensures whole { IfOk result (λ file. Keeps (writer_contents W.contents self.out) (W.contents file)) }
+        ensures whole { IfOk result (λ file.
+            Keeps (writer_contents W.contents self.out) (W.contents file)) }
     {
         let mut file = self.out.into_inner()?;
         file.flush()?;
@@ -139,7 +146,8 @@ impl<W: Write + Drop> Write for HostOut<W> {
 
     fn write(&mut self, buf: &[u8]) -> io::Result<usize>
         ensures bound { WritesAtMost result buf.now }
-        ensures bytes { WriteAppends (writer_contents W.contents self.old.out) (writer_contents W.contents self.new.out) result buf.now }
+        ensures bytes { WriteAppends (writer_contents W.contents self.old.out)
+            (writer_contents W.contents self.new.out) result buf.now }
         ensures noted { IfErr result (λ e. self.new.code ≡ raw_os_error e) }
     {
         let answer = self.out.write(buf);
@@ -150,7 +158,8 @@ impl<W: Write + Drop> Write for HostOut<W> {
     }
 
     fn flush(&mut self) -> io::Result<()>
-        ensures bytes { Keeps (writer_contents W.contents self.old.out) (writer_contents W.contents self.new.out) }
+        ensures bytes { Keeps (writer_contents W.contents self.old.out)
+            (writer_contents W.contents self.new.out) }
         ensures noted { IfErr result (λ e. self.new.code ≡ raw_os_error e) }
     {
         let answer = self.out.flush();

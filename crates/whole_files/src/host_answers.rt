@@ -1,8 +1,7 @@
 //! What the host's answers about files mean to the program.
 
-ghost use Rattle.std.specs.Prelude.{◌≡◌, ◌≢◌, Ok, Err, IfOk, IfErr, IsOk, IsErr};
-ghost use Rattle.std.specs.Fs.{file_type, IsDir, IsFile};
-ghost use Rattle.std.specs.IoError.{error_kind};
+ghost use Rattle.std.specs.Prelude.{◌≡◌, Ok, Err, IfOk, IfErr, IsOk, IsErr};
+ghost use Rattle.whole_files.specs.HostAnswers.{IsFolder, IsPlainFile, IsMissing, LacksMemory};
 
 use refusal::reason::Reason;
 use sim_base::fault::Fault;
@@ -11,8 +10,8 @@ use std::fs::Metadata;
 use std::io::{self, ErrorKind};
 
 fn read_fault(error: &io::Error) -> Fault
-    ensures memory { error_kind error.now ≡ ErrorKind.OutOfMemory → result ≡ Fault.Memory }
-    ensures read { error_kind error.now ≢ ErrorKind.OutOfMemory → result ≡ Fault.Read }
+    ensures memory { LacksMemory error.now → result ≡ Fault.Memory }
+    ensures read { (¬ LacksMemory error.now) → result ≡ Fault.Read }
 {
     match error.kind() {
         ErrorKind::OutOfMemory => Fault::Memory,
@@ -20,16 +19,16 @@ fn read_fault(error: &io::Error) -> Fault
     }
 }
 
-/// The bytes of a file that the host was asked to read. Refuses by `Fault::Memory` where the host lacked memory, and otherwise by
-/// `Fault::Read` where it gave no bytes.
+/// The bytes of a file that the host was asked to read. Refuses by `Fault::Memory` where the host lacked memory, and
+/// otherwise by `Fault::Read` where it gave no bytes.
 pub(crate) fn bytes_read(
     alloc: Global,
     path: &str,
     answer: io::Result<Vec<u8>>,
 ) -> Result<Vec<u8>, Reason>
     ensures bytes { IfOk answer (λ bytes. result ≡ Ok bytes) }
-    ensures memory { IfErr answer (λ e. error_kind e ≡ ErrorKind.OutOfMemory → result ≡ Err Fault.Memory) }
-    ensures read { IfErr answer (λ e. error_kind e ≢ ErrorKind.OutOfMemory → result ≡ Err Fault.Read) }
+    ensures memory { IfErr answer (λ e. LacksMemory e → result ≡ Err Fault.Memory) }
+    ensures read { IfErr answer (λ e. (¬ LacksMemory e) → result ≡ Err Fault.Read) }
 {
     match answer {
         Ok(bytes) => Ok(bytes),
@@ -37,7 +36,8 @@ pub(crate) fn bytes_read(
     }
 }
 
-/// What the host gave that was asked to open, write, move or remove a file. Refuses by `Fault::Write` just where the host did.
+/// What the host gave that was asked to open, write, move or remove a file. Refuses by `Fault::Write` just where the
+/// host did.
 pub(crate) fn written<T>(alloc: Global, path: &str, answer: io::Result<T>) -> Result<T, Reason>
     ensures given { IfOk answer (λ value. result ≡ Ok value) }
     ensures refused { IfErr answer (λ _. result ≡ Err Fault.Write) }
@@ -49,7 +49,7 @@ pub(crate) fn written<T>(alloc: Global, path: &str, answer: io::Result<T>) -> Re
 }
 
 /// What stands at a path and may give way to a file.
-#[derive(Clone, Copy, PartialEq, Eq, Debug)]
+#[derive(Clone, Copy)]
 pub(crate) enum Standing {
     Nothing,
     /// A file, if it may be written.
@@ -58,18 +58,19 @@ pub(crate) enum Standing {
     Other,
 }
 
-/// What stands at a path, according to the host's answer. Refuses by `Fault::Write` where a folder stands there, and where the host
-/// does not tell.
+/// What stands at a path, according to the host's answer. Refuses by `Fault::Write` where a folder stands there, and
+/// where the host does not tell.
 pub(crate) fn stands_at(
     alloc: Global,
     path: &str,
     answer: io::Result<Metadata>,
 ) -> Result<Standing, Reason>
-    ensures folder { IfOk answer (λ found. IsDir (file_type found) → result ≡ Err Fault.Write) }
-    ensures file { IfOk answer (λ found. IsFile (file_type found) → result ≡ Ok Standing.File) }
-    ensures other { IfOk answer (λ found. (¬ IsDir (file_type found)) → (¬ IsFile (file_type found)) → result ≡ Ok Standing.Other) }
-    ensures nothing { IfErr answer (λ e. error_kind e ≡ ErrorKind.NotFound → result ≡ Ok Standing.Nothing) }
-    ensures untold { IfErr answer (λ e. error_kind e ≢ ErrorKind.NotFound → result ≡ Err Fault.Write) }
+    ensures folder { IfOk answer (λ found. IsFolder found → result ≡ Err Fault.Write) }
+    ensures file { IfOk answer (λ found. IsPlainFile found → result ≡ Ok Standing.File) }
+    ensures other { IfOk answer (λ found. (¬ IsFolder found) → (¬ IsPlainFile found)
+        → result ≡ Ok Standing.Other) }
+    ensures nothing { IfErr answer (λ e. IsMissing e → result ≡ Ok Standing.Nothing) }
+    ensures untold { IfErr answer (λ e. (¬ IsMissing e) → result ≡ Err Fault.Write) }
     ensures fault { IfErr result (λ e. e ≡ Fault.Write) }
 {
     match answer {
@@ -86,15 +87,15 @@ pub(crate) fn stands_at(
     }
 }
 
-/// Whether a folder stands at a path, or at what a symbolic link there names, according to the host's answer. Refuses by `Fault::Write` where
-/// none does, and where the host does not tell.
+/// Whether a folder stands at a path, or at what a symbolic link there names, according to the host's answer. Refuses
+/// by `Fault::Write` where none does, and where the host does not tell.
 pub(crate) fn folder_at(
     alloc: Global,
     path: &str,
     answer: io::Result<Metadata>,
 ) -> Result<(), Reason>
-    ensures folder { IfOk answer (λ found. IsDir (file_type found) → IsOk result) }
-    ensures other { IfOk answer (λ found. (¬ IsDir (file_type found)) → IsErr result) }
+    ensures folder { IfOk answer (λ found. IsFolder found → IsOk result) }
+    ensures other { IfOk answer (λ found. (¬ IsFolder found) → IsErr result) }
     ensures untold { IfErr answer (λ _. IsErr result) }
     ensures fault { IfErr result (λ e. e ≡ Fault.Write) }
 {

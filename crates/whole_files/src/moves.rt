@@ -1,9 +1,9 @@
 //! The way of a file to its place: it is written under a name of its own, and gets its place once it is whole.
 
 ghost use Rattle.std.specs.Prelude.{◌≡◌, None, IfOk, IfErr, OnOk, OnErr, string_bytes};
-ghost use Rattle.whole_files.specs.Files.{SameFiles, SameBut, IsRenamed, IsWriteFault};
+ghost use Rattle.whole_files.specs.Files.{SameFiles, SameBut, IsWriteFault};
 ghost use Rattle.whole_files.specs.Tables.{path_in, IsMoveIn};
-ghost use Rattle.whole_files.specs.WholeFile.{IsMoveTo};
+ghost use Rattle.whole_files.specs.WholeFile.{from_path, IsMoveTo, GetsPlace};
 
 use crate::files::FileSet;
 use refusal::reason::Reason;
@@ -49,7 +49,8 @@ pub(crate) fn move_to(alloc: Global, path: &str) -> Result<Move, Fault>
 
 /// Gives a file its place.
 pub(crate) fn place_one<F: FileSet>(alloc: Global, files: &mut F, way: &Move) -> Result<(), Reason>
-    ensures renamed { OnOk result (F.tells → IsRenamed (string_bytes way.now.from) (string_bytes way.now.to) (F.held files.old) (F.held files.new)) }
+    ensures renamed { OnOk result (F.tells
+        → GetsPlace way.now (F.held files.old) (F.held files.new)) }
     ensures refused { OnErr result (F.tells → SameFiles (F.held files.old) (F.held files.new)) }
     ensures fault { IfErr result (λ e. IsWriteFault e) }
     ensures unopened { F.tells → F.opened files.new ≡ F.opened files.old }
@@ -59,8 +60,8 @@ pub(crate) fn place_one<F: FileSet>(alloc: Global, files: &mut F, way: &Move) ->
 
 /// Removes what was written and did not get its place, if possible.
 pub(crate) fn discard_one<F: FileSet>(files: &mut F, way: &Move)
-    ensures gone { F.tells → F.held files.new (string_bytes way.now.from) ≡ None }
-    ensures others { F.tells → SameBut (string_bytes way.now.from) (F.held files.old) (F.held files.new) }
+    ensures gone { F.tells → F.held files.new (from_path way.now) ≡ None }
+    ensures others { F.tells → SameBut (from_path way.now) (F.held files.old) (F.held files.new) }
 {
     let _ = files.remove(way.from.as_str());
 }

@@ -1,13 +1,14 @@
-//! The tables of a run in a folder: each that was asked for is written under a name of its own, and gets its place once all are whole.
+//! The tables of a run in a folder: each that was asked for is written under a name of its own, and gets its place once
+//! all are whole.
 
 ghost use Rattle.std.specs.Prelude.{◌≡◌, ◌++◌, ◌∷◌, [], map, true, false, Some, option_map, IfOk, IfErr, OnOk, string_bytes};
-ghost use Rattle.std.specs.Io.KnownBytes.{Appends};
 ghost use Rattle.refusal.specs.Refusals.{fault_of, IsKept, IsTornRefusal};
-ghost use Rattle.reports.specs.Rows.{IsReportFault};
+ghost use Rattle.reports.specs.Rows.{IsReportFault, WritesOnOk};
 ghost use Rattle.run_outcome.specs.Outcomes.{if_asked};
 ghost use Rattle.whole_files.specs.Files.{SameFiles, SameBut, IsWriteFault};
-ghost use Rattle.whole_files.specs.Tables.{path_in, table_named, name_unless, commands_of, requests_of, planned_in, from_paths, tables_in, others_in, parts, SameOutside, AreApart, AreStaged, AreGone, ArePlaced, ArePartlyPlaced, AreRemoved, ArePut, IsLeftUnplaced, IsWritten, IsLeftBy};
-ghost use Rattle.whole_files.specs.Planned.{text_in, planned_of};
+ghost use Rattle.whole_files.specs.Tables.{commands_of, requests_of, plan_in, from_paths, path_unless, other_paths, parts, SameOutside, AreApart, AreStaged, AreGone, ArePlaced, ArePartlyPlaced, AreRemoved, ArePut, IsLeftUnplaced, IsWritten, IsLeftBy};
+ghost use Rattle.whole_files.specs.Planned.{text_in, plans_of, plan_for};
+ghost use Rattle.whole_files.specs.WholeFile.{from_path};
 
 use crate::files::FileSet;
 use crate::moves::{Move, discard_one, move_in, path_of, place_one};
@@ -49,46 +50,55 @@ struct Planned<'a> {
     way: Move,
 }
 
-// Writes what a table holds.
-fn write_contents<R: Threads + Sync, W: Write>(
-    rt: &R,
+// Who puts tables together: at most so many threads of the host, with this memory.
+#[derive(Drop)]
+struct Crew<'a, R> {
+    rt: &'a R,
     alloc: Global,
     threads: usize,
+}
+
+// Writes what a table holds.
+fn write_contents<R: Threads + Sync, W: Write>(
+    crew: &Crew<'_, R>,
     contents: &Contents<'_>,
     writer: &mut W,
 ) -> Result<(), Fault>
-    ensures written { OnOk result (Appends (W.contents writer.old) (W.contents writer.new) (text_in contents.now)) }
+    ensures written { WritesOnOk result W.contents writer.old writer.new (text_in contents.now) }
     ensures refused { IfErr result (λ e. IsReportFault e) }
 {
     match contents {
         Contents::Commands(ranks, commands) => {
-            write_commands_by(rt, alloc, threads, *ranks, commands, writer)
+            write_commands_by(crew.rt, crew.alloc, crew.threads, *ranks, commands, writer)
         }
-        Contents::Stats(stats) => write_stats(alloc, stats, writer),
-        Contents::Final(ranks, last) => write_final(alloc, last, *ranks, writer),
-        Contents::Requests(requests) => write_requests_by(rt, alloc, threads, requests, writer),
+        Contents::Stats(stats) => write_stats(crew.alloc, stats, writer),
+        Contents::Final(ranks, last) => write_final(crew.alloc, last, *ranks, writer),
+        Contents::Requests(requests) => {
+            write_requests_by(crew.rt, crew.alloc, crew.threads, requests, writer)
+        }
     }
 }
 
 // Writes a table under the name that ends in `.part`.
 fn stage_one<R: Threads + Sync, F: FileSet>(
-    rt: &R,
-    alloc: Global,
-    threads: usize,
+    crew: &Crew<'_, R>,
     files: &mut F,
     table: &Planned<'_>,
 ) -> Result<(), Reason>
-    ensures whole { OnOk result (F.tells → F.held files.new (string_bytes table.now.way.from) ≡ Some (text_in table.now.contents)) }
-    ensures noted { OnOk result (F.tells → F.opened files.new ≡ F.opened files.old ++ string_bytes table.now.way.from ∷ []) }
+    ensures whole { OnOk result (F.tells
+        → F.held files.new (from_path table.now.way) ≡ Some (text_in table.now.contents)) }
+    ensures noted { OnOk result (F.tells
+        → F.opened files.new ≡ F.opened files.old ++ from_path table.now.way ∷ []) }
     ensures fault { IfErr result (λ e. IsWriteFault e) }
-    ensures others { F.tells → SameBut (string_bytes table.now.way.from) (F.held files.old) (F.held files.new) }
+    ensures others { F.tells
+        → SameBut (from_path table.now.way) (F.held files.old) (F.held files.new) }
 {
     let path = table.way.from.as_str();
-    let mut out = files.create(alloc, path)?;
-    if let Err(fault) = write_contents(rt, alloc, threads, &table.contents, &mut out) {
-        return Err(files.cause(alloc, path, &out, fault));
+    let mut out = files.create(crew.alloc, path)?;
+    if let Err(fault) = write_contents(crew, &table.contents, &mut out) {
+        return Err(files.cause(crew.alloc, path, &out, fault));
     }
-    files.close(alloc, path, out)
+    files.close(crew.alloc, path, out)
 }
 
 // Adds a table to those that are to be written, if there is one.
@@ -99,7 +109,8 @@ fn plan<'a>(
     contents: Option<Contents<'a>>,
     planned: &mut Vec<Planned<'a>>,
 ) -> Result<(), Fault>
-    ensures planned { OnOk result (map planned_of planned.new.items ≡ map planned_of planned.old.items ++ map (planned_in folder.now) (table_named name.now (option_map text_in contents.entry))) }
+    ensures planned { OnOk result (plans_of planned.new.items
+        ≡ plans_of planned.old.items ++ plan_for folder.now name.now contents.entry) }
     ensures fault { IfErr result (λ e. e ≡ Fault.Memory) }
 {
     let Some(contents) = contents else {
@@ -140,7 +151,8 @@ fn requests_in(run: &Outcome) -> Option<Contents<'_>>
 
 // The tables of an outcome that are asked for, with their ways to their places in a folder.
 fn plan_all<'a>(alloc: Global, folder: &str, run: &'a Outcome) -> Result<Vec<Planned<'a>>, Fault>
-    ensures planned { IfOk result (λ planned. map planned_of planned.items ≡ map (planned_in folder.now) (tables_in run.entry.now)) }
+    ensures planned { IfOk result (λ planned.
+        plans_of planned.items ≡ plan_in folder.now run.entry.now) }
     ensures fault { IfErr result (λ e. e ≡ Fault.Memory) }
 {
     let mut planned = Vec::new(alloc);
@@ -161,7 +173,8 @@ fn add_other(
     asked: bool,
     paths: &mut Vec<String>,
 ) -> Result<(), Fault>
-    ensures paths { OnOk result (map string_bytes paths.new.items ≡ map string_bytes paths.old.items ++ map (path_in folder.now) (name_unless asked name.now)) }
+    ensures paths { OnOk result (map string_bytes paths.new.items
+        ≡ map string_bytes paths.old.items ++ path_unless asked folder.now name.now) }
     ensures fault { IfErr result (λ e. e ≡ Fault.Memory) }
 {
     if asked {
@@ -175,7 +188,8 @@ fn add_other(
 
 // The paths of the tables that are not asked for.
 fn others_of(alloc: Global, folder: &str, run: &Outcome) -> Result<Vec<String>, Fault>
-    ensures paths { IfOk result (λ paths. map string_bytes paths.items ≡ map (path_in folder.now) (others_in run.now)) }
+    ensures paths { IfOk result (λ paths.
+        map string_bytes paths.items ≡ other_paths folder.now run.now) }
     ensures fault { IfErr result (λ e. e ≡ Fault.Memory) }
 {
     let mut paths = Vec::new(alloc);
@@ -188,20 +202,20 @@ fn others_of(alloc: Global, folder: &str, run: &Outcome) -> Result<Vec<String>, 
 
 // Writes the tables, one after the other, under the names that end in `.part`.
 fn stage<R: Threads + Sync, F: FileSet>(
-    rt: &R,
-    alloc: Global,
-    threads: usize,
+    crew: &Crew<'_, R>,
     files: &mut F,
     planned: &[Planned<'_>],
 ) -> Result<(), Reason>
-    requires apart { AreApart (map planned_of planned.now) }
-    ensures whole { OnOk result (F.tells → AreStaged (map planned_of planned.now) (F.held files.new)) }
-    ensures noted { OnOk result (F.tells → F.opened files.new ≡ F.opened files.old ++ from_paths (map planned_of planned.now)) }
+    requires apart { AreApart (plans_of planned.now) }
+    ensures whole { OnOk result (F.tells → AreStaged (plans_of planned.now) (F.held files.new)) }
+    ensures noted { OnOk result (F.tells
+        → F.opened files.new ≡ F.opened files.old ++ from_paths (plans_of planned.now)) }
     ensures fault { IfErr result (λ e. IsWriteFault e) }
-    ensures others { F.tells → SameOutside (from_paths (map planned_of planned.now)) (F.held files.old) (F.held files.new) }
+    ensures others { F.tells
+        → SameOutside (from_paths (plans_of planned.now)) (F.held files.old) (F.held files.new) }
 {
     for table in planned {
-        stage_one(rt, alloc, threads, files, table)?;
+        stage_one(crew, files, table)?;
     }
     Ok(())
 }
@@ -245,10 +259,13 @@ fn refusal_of(reason: Reason, placed: bool) -> Refusal
 
 // Gives the tables their places, one right after the other.
 fn place<F: FileSet>(alloc: Global, files: &mut F, planned: &[Planned<'_>]) -> Result<(), Refusal>
-    requires apart { AreApart (map planned_of planned.now) }
-    ensures placed { OnOk result (F.tells → ArePlaced (map planned_of planned.now) (F.held files.old) (F.held files.new)) }
-    ensures kept { IfErr result (λ e. IsKept e → F.tells → SameFiles (F.held files.old) (F.held files.new)) }
-    ensures torn { IfErr result (λ e. IsTornRefusal e → F.tells → ArePartlyPlaced (map planned_of planned.now) (F.held files.old) (F.held files.new)) }
+    requires apart { AreApart (plans_of planned.now) }
+    ensures placed { OnOk result (F.tells
+        → ArePlaced (plans_of planned.now) (F.held files.old) (F.held files.new)) }
+    ensures kept { IfErr result (λ e. IsKept e → F.tells
+        → SameFiles (F.held files.old) (F.held files.new)) }
+    ensures torn { IfErr result (λ e. IsTornRefusal e → F.tells
+        → ArePartlyPlaced (plans_of planned.now) (F.held files.old) (F.held files.new)) }
     ensures fault { IfErr result (λ e. IsWriteFault (fault_of e)) }
     ensures unopened { F.tells → F.opened files.new ≡ F.opened files.old }
 {
@@ -262,11 +279,12 @@ fn place<F: FileSet>(alloc: Global, files: &mut F, planned: &[Planned<'_>]) -> R
     Ok(())
 }
 
-// Removes all that was written under the names that end in `.part`, in reverse order: if only the first is gone, the others are whole and
-// wait for their places.
+// Removes all that was written under the names that end in `.part`, in reverse order: if only the first is gone, the
+// others are whole and wait for their places.
 fn discard<F: FileSet>(files: &mut F, planned: &[Planned<'_>])
-    ensures gone { F.tells → AreGone (map planned_of planned.now) (F.held files.new) }
-    ensures others { F.tells → SameOutside (from_paths (map planned_of planned.now)) (F.held files.old) (F.held files.new) }
+    ensures gone { F.tells → AreGone (plans_of planned.now) (F.held files.new) }
+    ensures others { F.tells
+        → SameOutside (from_paths (plans_of planned.now)) (F.held files.old) (F.held files.new) }
 {
     let mut left = planned.len();
     while left > 0 {
@@ -278,7 +296,8 @@ fn discard<F: FileSet>(files: &mut F, planned: &[Planned<'_>])
 // Removes what stands at these paths, as far as that can be.
 fn remove_all<F: FileSet>(files: &mut F, paths: &[String])
     ensures removed { F.tells → AreRemoved (map string_bytes paths.now) (F.held files.new) }
-    ensures others { F.tells → SameOutside (map string_bytes paths.now) (F.held files.old) (F.held files.new) }
+    ensures others { F.tells
+        → SameOutside (map string_bytes paths.now) (F.held files.old) (F.held files.new) }
     ensures unopened { F.tells → F.opened files.new ≡ F.opened files.old }
 {
     for path in paths {
@@ -300,23 +319,24 @@ fn test_all<F: FileSet>(
     test_others(files, others)
 }
 
-// Writes the tables that are planned, and gives them their places. Faults that can be found beforehand are refused before the first has its
-// place.
+// Writes the tables that are planned, and gives them their places. Faults that can be found beforehand are refused
+// before the first has its place.
 fn write_planned<R: Threads + Sync, F: FileSet>(
-    rt: &R,
-    alloc: Global,
-    threads: usize,
+    crew: &Crew<'_, R>,
     files: &mut F,
     planned: &[Planned<'_>],
     others: &[String],
 ) -> Result<(), Refusal>
-    requires apart { AreApart (map planned_of planned.now) }
-    ensures placed { OnOk result (F.tells → ArePut (map planned_of planned.now) (F.held files.old) (F.held files.new)) }
-    ensures noted { OnOk result (F.tells → F.opened files.new ≡ F.opened files.old ++ from_paths (map planned_of planned.now)) }
-    ensures refused { IfErr result (λ e. F.tells → IsLeftUnplaced e (map planned_of planned.now) (F.held files.old) (F.held files.new)) }
+    requires apart { AreApart (plans_of planned.now) }
+    ensures placed { OnOk result (F.tells
+        → ArePut (plans_of planned.now) (F.held files.old) (F.held files.new)) }
+    ensures noted { OnOk result (F.tells
+        → F.opened files.new ≡ F.opened files.old ++ from_paths (plans_of planned.now)) }
+    ensures refused { IfErr result (λ e. F.tells
+        → IsLeftUnplaced e (plans_of planned.now) (F.held files.old) (F.held files.new)) }
     ensures fault { IfErr result (λ e. IsWriteFault (fault_of e)) }
 {
-    if let Err(reason) = stage(rt, alloc, threads, files, planned) {
+    if let Err(reason) = stage(crew, files, planned) {
         discard(files, planned);
         return Err(Refusal::Kept(reason));
     }
@@ -324,7 +344,7 @@ fn write_planned<R: Threads + Sync, F: FileSet>(
         discard(files, planned);
         return Err(Refusal::Kept(reason));
     }
-    match place(alloc, files, planned) {
+    match place(crew.alloc, files, planned) {
         Ok(()) => Ok(()),
         Err(Refusal::Kept(reason)) => {
             discard(files, planned);
@@ -334,11 +354,12 @@ fn write_planned<R: Threads + Sync, F: FileSet>(
     }
 }
 
-/// Writes the tables of a run that were asked for into a folder. Each is written under its name with `.part` appended, and when all are
-/// whole, they get their places, one right after the other, in the order of `commands.csv`, `stats.csv`, `final.csv` and
-/// `requests.csv`. Then those that were not asked for, which an earlier run may have left there, are removed. If that fails before the first
-/// has its place, what was written is removed, and the places hold what they held before; if it fails later, the refusal is `Torn`, and
-/// nothing is removed. The tables of commands and of requests are put together by at most `threads` threads.
+/// Writes the tables of a run that were asked for into a folder. Each is written under its name with `.part` appended,
+/// and when all are whole, they get their places, one right after the other, in the order of `commands.csv`,
+/// `stats.csv`, `final.csv` and `requests.csv`. Then those that were not asked for, which an earlier run may have left
+/// there, are removed. If that fails before the first has its place, what was written is removed, and the places hold
+/// what they held before; if it fails later, the refusal is `Torn`, and nothing is removed. The tables of commands and
+/// of requests are put together by at most `threads` threads.
 pub fn write_tables<R: Threads + Sync, F: FileSet>(
     rt: &R,
     alloc: Global,
@@ -347,14 +368,18 @@ pub fn write_tables<R: Threads + Sync, F: FileSet>(
     folder: &str,
     run: &Outcome,
 ) -> Result<(), Refusal>
-    ensures written { OnOk result (F.tells → IsWritten folder.now run.now (F.held files.old) (F.held files.new)) }
-    ensures noted { OnOk result (F.tells → F.opened files.new ≡ F.opened files.old ++ parts folder.now run.now) }
-    ensures refused { IfErr result (λ e. F.tells → IsLeftBy e folder.now run.now (F.held files.old) (F.held files.new) (F.opened files.old) (F.opened files.new)) }
+    ensures written { OnOk result (F.tells
+        → IsWritten folder.now run.now (F.held files.old) (F.held files.new)) }
+    ensures noted { OnOk result (F.tells
+        → F.opened files.new ≡ F.opened files.old ++ parts folder.now run.now) }
+    ensures refused { IfErr result (λ e. F.tells → IsLeftBy e folder.now run.now
+        (F.held files.old) (F.held files.new) (F.opened files.old) (F.opened files.new)) }
     ensures fault { IfErr result (λ e. IsWriteFault (fault_of e)) }
 {
     let planned = plan_all(alloc, folder, run)?;
     let others = others_of(alloc, folder, run)?;
-    write_planned(rt, alloc, threads, files, &planned, &others)?;
+    let crew = Crew { rt, alloc, threads };
+    write_planned(&crew, files, &planned, &others)?;
     remove_all(files, &others);
     Ok(())
 }

@@ -6,8 +6,8 @@ use crew::work::Work;
 use shards::job::{Done, Job, JobName};
 use std::alloc::{AllocError, Global};
 
-/// What a worker passes before it runs a job of a phase, and after it. Several threads use one gate. Workers are numbered from 0 in each
-/// phase.
+/// What a worker passes before it runs a job of a phase, and after it. Several threads use one gate. Workers are
+/// numbered from 0 in each phase.
 pub trait Gate {
     /// The worker is about to run the job.
     fn enter(&self, worker: usize, job: JobName);
@@ -38,7 +38,8 @@ impl<'a, G: Gate> Work<Job, Done> for AtGate<'a, G> {
     }
 }
 
-/// Runs a job of a phase between its enter and its leave. The only error is out of memory; the job then does not leave the gate.
+/// Runs a job of a phase between its enter and its leave. The only error is out of memory; the job then does not
+/// leave the gate.
 pub(crate) fn run_at<G: Gate>(gate: &G, worker: usize, job: Job) -> Result<Done, AllocError>
     ensures { IfOk result (λ done. done ≡ job) }
 {

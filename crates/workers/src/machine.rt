@@ -2,12 +2,10 @@
 
 ghost use Rattle.std.specs.Prelude.{◌≡◌, ◌<◌, ◌≤◌, ◌^◌, length, IfOk, IfErr};
 ghost use Rattle.shards.specs.Phases.{ended, jobs_of};
-ghost use Rattle.sim_base.specs.Machine.{cycles_run};
-ghost use Rattle.run_outcome.specs.Outcomes.{outcome_of};
 ghost use Rattle.units.specs.Drained.{NotEnded};
 ghost use Rattle.units.specs.Stops.{stop_of};
 ghost use Rattle.units.specs.Views.{HasReached};
-ghost use Rattle.workers.specs.Runs.{IsRefusedTo};
+ghost use Rattle.workers.specs.Runs.{IsRefusedTo, outcome_in};
 
 use crate::gate::{AtGate, Gate};
 use crate::runner::{Claims, Runner};
@@ -32,8 +30,8 @@ use std::sync::Wait;
 use std::thread::Threads;
 use units::sim::Sim;
 
-/// How long a worker looks for the next phase before it sleeps: for a tenth of a millisecond, which is longer than most phases, and then with its processor
-/// left to others between two looks.
+/// How long a worker looks for the next phase before it sleeps: for a tenth of a millisecond, which is longer than
+/// most phases, and then with its processor left to others between two looks.
 const PATIENCE: Patience = Patience {
     spins: 2_000,
     yields: 10_000,
@@ -93,9 +91,9 @@ fn run_phases<N: Runner>(
     }
 }
 
-/// Runs a simulator, split into `shards` shards, up to a limit of at most 10^12 cycles, or, where the configuration ends it drained, up to
-/// the first cycle before which all is done. The runner runs the jobs of each phase, one for each shard; which one it is does not show.
-/// Only memory can be refused (fault 10); the simulator is then gone.
+/// Runs a simulator, split into `shards` shards, up to a limit of at most 10^12 cycles, or, where the configuration
+/// ends it drained, up to the first cycle before which all is done. The runner runs the jobs of each phase, one for
+/// each shard; which one it is does not show. Only memory can be refused (fault 10); the simulator is then gone.
 pub fn run_with<N: Runner>(
     sim: Sim,
     alloc: Global,
@@ -116,8 +114,8 @@ pub fn run_with<N: Runner>(
     Ok(sim)
 }
 
-/// A simulator at a limit before which the run does not end, in shards where enough messages are in flight now, and otherwise run by the caller
-/// in place.
+/// A simulator at a limit before which the run does not end, in shards where enough messages are in flight now, and
+/// otherwise run by the caller in place.
 fn run_lap<N: Runner>(
     sim: Sim,
     alloc: Global,
@@ -127,7 +125,7 @@ fn run_lap<N: Runner>(
 ) -> Result<Sim, Fault>
     requires not_past { sim.now ≤ limit }
     requires early { limit ≤ 10 ^ 12 }
-    requires goes_on { NotEnded sim.machine sim.traces sim.now limit }
+    requires goes_on { NotEnded sim.machine sim.now limit }
     ensures ok { IfOk result (HasReached sim limit) }
     ensures refused { IfErr result (λ fault. fault ≡ Fault.Memory) }
 {
@@ -148,7 +146,7 @@ fn run_laps<N: Runner>(
 ) -> Result<Sim, Fault>
     requires not_past { sim.now ≤ limit }
     requires early { limit ≤ 10 ^ 12 }
-    requires goes_on { NotEnded sim.machine sim.traces sim.now limit }
+    requires goes_on { NotEnded sim.machine sim.now limit }
     ensures ok { IfOk result (HasReached sim limit) }
     ensures refused { IfErr result (λ fault. fault ≡ Fault.Memory) }
 {
@@ -172,7 +170,7 @@ trait Mode {
     fn run_to(&mut self, sim: Sim, alloc: Global, limit: Cycle) -> Result<Sim, Fault>
         requires not_past { sim.now ≤ limit }
         requires early { limit ≤ 10 ^ 12 }
-        requires goes_on { NotEnded sim.machine sim.traces sim.now limit }
+        requires goes_on { NotEnded sim.machine sim.now limit }
         ensures ok { IfOk result (HasReached sim limit) }
         ensures refused { IfErr result (λ fault. fault ≡ Fault.Memory) };
 }
@@ -212,7 +210,7 @@ fn run_by<W: Watch, M: Mode>(
 ) -> Result<Outcome, Fault>
     requires one_trace_a_core { length traces.items ≡ config.now.cores }
     requires limit { cycles ≤ 10 ^ 12 }
-    ensures outcome { IfOk result (λ o. o ≡ outcome_of tables config.now traces.items (cycles_run config.now traces.items cycles)) }
+    ensures outcome { IfOk result (λ o. o ≡ outcome_in tables config.now traces.items cycles) }
     ensures refused { IfErr result (λ fault. fault ≡ Fault.Memory) }
 {
     let plan = Plan {
@@ -245,10 +243,9 @@ struct CrewRun<'a, W: Watch> {
 
 impl<'a, W: Watch> PhasedRun<Job, Done, Outcome> for CrewRun<'a, W> {
     ghost use Rattle.std.specs.Prelude.{◌≡◌};
-    ghost use Rattle.sim_base.specs.Machine.{cycles_run};
-    ghost use Rattle.run_outcome.specs.Outcomes.{outcome_of};
+    ghost use Rattle.workers.specs.Runs.{outcome_in};
 
-    ghost gives = { λ r o. o ≡ outcome_of r.tables r.config.now r.traces.items (cycles_run r.config.now r.traces.items r.cycles) };
+    ghost gives = { λ r o. o ≡ outcome_in r.tables r.config.now r.traces.items r.cycles };
 
     fn run<P: Phases<Job, Done>>(self, alloc: Global, crew: &mut P) -> Result<Outcome, AllocError> {
         let CrewRun {
@@ -304,7 +301,7 @@ fn run_together<R: Threads + Wait + Sync, G: Gate + Sync, W: Watch>(
     requires some { 1 ≤ workers.count }
     requires few { workers.count ≤ 64 }
     requires limit { cycles ≤ 10 ^ 12 }
-    ensures outcome { IfOk result (λ o. o ≡ outcome_of tables config.now traces.items (cycles_run config.now traces.items cycles)) }
+    ensures outcome { IfOk result (λ o. o ≡ outcome_in tables config.now traces.items cycles) }
     ensures refused { IfErr result (IsRefusedTo workers.count) }
 {
     let Workers { count, sharing } = workers;
@@ -342,7 +339,7 @@ fn run_watched<R: Threads + Wait + Sync, G: Gate + Sync, W: Watch>(
     requires some { 1 ≤ workers.count }
     requires few { workers.count ≤ 64 }
     requires limit { cycles ≤ 10 ^ 12 }
-    ensures outcome { IfOk result (λ o. o ≡ outcome_of tables config.now traces.items (cycles_run config.now traces.items cycles)) }
+    ensures outcome { IfOk result (λ o. o ≡ outcome_in tables config.now traces.items cycles) }
     ensures refused { IfErr result (IsRefusedTo workers.count) }
 {
     if workers.count > 1 && units_of(config) >= workers.sharing.units {
@@ -353,13 +350,14 @@ fn run_watched<R: Threads + Wait + Sync, G: Gate + Sync, W: Watch>(
     run_by(alloc, watch, config, traces, tables, cycles, &mut InPlace)
 }
 
-/// Runs a machine over one trace a core, up to a limit of at most 10^12 cycles or, where the configuration ends it drained, until
-/// all is done, and gives its commands, if their table is asked for, its statistics and the state in which it ends. It is run by at most as many workers as are named, 1
-/// to 64: the caller, and threads that are started once, which share the machine out when `workers.sharing` says so. With one
-/// worker it is run in the thread of the caller, in place. The watcher is told how far the run is, and when it has ended. What comes out
-/// depends on neither it, nor the workers, nor how they share, nor the order in which they end: it is what the one-clock machine does. Only the
-/// host can refuse: memory (fault 10), or, where there are several workers, a worker's start (fault 11). All workers have ended when this
-/// returns.
+/// Runs a machine over one trace a core, up to a limit of at most 10^12 cycles or, where the configuration ends it
+/// drained, until all is done, and gives its commands, if their table is asked for, its statistics and the state in
+/// which it ends. It is run by at most as many workers as are named, 1 to 64: the caller, and threads that are
+/// started once, which share the machine out when `workers.sharing` says so. With one worker it is run in the thread
+/// of the caller, in place. The watcher is told how far the run is, and when it has ended. What comes out depends on
+/// neither it, nor the workers, nor how they share, nor the order in which they end: it is what the one-clock machine
+/// does. Only the host can refuse: memory (fault 10), or, where there are several workers, a worker's start (fault
+/// 11). All workers have ended when this returns.
 pub fn run_machine<R: Threads + Wait + Sync, G: Gate + Sync, W: Watch>(
     rt: &R,
     alloc: Global,
@@ -375,7 +373,7 @@ pub fn run_machine<R: Threads + Wait + Sync, G: Gate + Sync, W: Watch>(
     requires some { 1 ≤ workers.count }
     requires few { workers.count ≤ 64 }
     requires limit { cycles ≤ 10 ^ 12 }
-    ensures outcome { IfOk result (λ o. o ≡ outcome_of tables config.now traces.items (cycles_run config.now traces.items cycles)) }
+    ensures outcome { IfOk result (λ o. o ≡ outcome_in tables config.now traces.items cycles) }
     ensures refused { IfErr result (IsRefusedTo workers.count) }
 {
     let outcome = run_watched(

@@ -12,8 +12,8 @@ use std::alloc::Global;
 pub trait Runner {
     ghost use Rattle.std.specs.Prelude.{◌≡◌, IsPermutation, IfOk, IfErr};
 
-    /// Runs the jobs of a phase: exactly one result comes of each, with its name, in any order, and nothing else. Only memory can be
-    /// refused (fault 10).
+    /// Runs the jobs of a phase: exactly one result comes of each, with its name, in any order, and nothing else.
+    /// Only memory can be refused (fault 10).
     fn run_phase(&mut self, jobs: Vec<Job>) -> Result<Vec<Done>, Fault>
         ensures each { IfOk result (λ results. IsPermutation jobs.items results.items) }
         ensures refused { IfErr result (λ fault. fault ≡ Fault.Memory) };
@@ -42,7 +42,8 @@ impl<'a, G: Gate> Runner for Serial<'a, G> {
     }
 }
 
-/// Has a crew run the jobs, which its threads claim starting from the last: those of channels, which have most to do, come last in a machine.
+/// Has a crew run the jobs, which its threads claim starting from the last: those of channels, which have most to do,
+/// come last in a machine.
 #[derive(Drop)]
 pub struct Claims<'a, P: Phases<Job, Done>> {
     pub crew: &'a mut P,

@@ -4,8 +4,9 @@ ghost use Rattle.std.specs.Prelude.{◌≡◌, ◌≤◌, ◌^◌};
 
 use sim_base::message::Cycle;
 
-/// When several workers share a machine out: it is split into shards, and in each phase each shard is a job that a worker takes. Where it
-/// is not, and with one worker always, the caller runs the machine in place. What a run does is the same for every value.
+/// When several workers share a machine out: it is split into shards, and in each phase each shard is a job that a
+/// worker takes. Where it is not, and with one worker always, the caller runs the machine in place. What a run does
+/// is the same for every value.
 #[derive(Clone, Copy, PartialEq, Eq, Debug)]
 pub struct Sharing {
     /// A machine is shared out that has at least this many units, cores and channels.
@@ -14,7 +15,8 @@ pub struct Sharing {
     pub messages: usize,
     /// How many cycles the first lap has; each lap has twice as many as the one before. 0 is taken as 1.
     pub first_lap: Cycle,
-    /// How many shards there are for each worker; 0 is taken as 1. There are never more than 64 in all, nor more than units.
+    /// How many shards there are for each worker; 0 is taken as 1. There are never more than 64 in all, nor more than
+    /// units.
     pub shards: usize,
 }
 
@@ -35,9 +37,9 @@ impl Sharing {
 }
 
 impl Default for Sharing {
-    /// Where it is worth its cost. With 16 units or fewer the caller alone takes less time than waking other threads does, and with few
-    /// messages in flight there is little to do in a phase. Each worker has two shards: one of channels, and one of cores, which have less to
-    /// do and fill what is left of a phase.
+    /// Where it is worth its cost. With 16 units or fewer the caller alone takes less time than waking other threads
+    /// does, and with few messages in flight there is little to do in a phase. Each worker has two shards: one of
+    /// channels, and one of cores, which have less to do and fill what is left of a phase.
     fn default() -> Sharing
         ensures { result ≡ record { units = 17; messages = 32; first_lap = 4096; shards = 2 } }
     {

@@ -24,8 +24,8 @@ pub struct Stage {
     pub entries: u128,
 }
 
-/// Who is told how far a run is. The watcher is asked before the first cycle, and each time the run has gone on for as many cycles as
-/// it answered. Whatever it answers, what comes out of the run is the same.
+/// Who is told how far a run is. The watcher is asked before the first cycle, and each time the run has gone on for
+/// as many cycles as it answered. Whatever it answers, what comes out of the run is the same.
 pub trait Watch {
     /// Whether it watches. If it does not, it is asked nothing, and nothing is counted for it.
     fn watches(&self) -> bool;
@@ -85,7 +85,7 @@ fn retired_of(cores: &[CoreStats]) -> u128
 
 // How many entries have retired.
 fn retired_in(sim: &Sim, alloc: Global) -> Option<u128>
-    ensures { IfSome result (λ n. n ≡ retired_by sim.entry.now.machine sim.entry.now.traces sim.entry.now.now) }
+    ensures { IfSome result (λ n. n ≡ retired_by sim.entry.now.machine sim.entry.now.now) }
 {
     match sim.stats(alloc) {
         Ok(stats) => Some(retired_of(&stats.cores)),
@@ -95,8 +95,8 @@ fn retired_in(sim: &Sim, alloc: Global) -> Option<u128>
 
 // How far a simulator is.
 fn stage_of(sim: &Sim, alloc: Global, plan: Plan) -> Stage
-    requires { IsPlanOf sim.now.machine sim.now.traces plan }
-    ensures { IsStageOf sim.entry.now.machine sim.entry.now.traces plan.limit sim.entry.now.now result }
+    requires { IsPlanOf sim.now.machine plan }
+    ensures { IsStageOf sim.entry.now.machine plan.limit sim.entry.now.now result }
 {
     let Plan {
         limit,
@@ -112,8 +112,8 @@ fn stage_of(sim: &Sim, alloc: Global, plan: Plan) -> Stage
     }
 }
 
-/// A later cycle up to which a run goes, and no later than a stop. Where the watcher is to be asked, from the cycle `look` on, it is asked
-/// first, and `look` is the cycle where it is to be asked next.
+/// A later cycle up to which a run goes, and no later than a stop. Where the watcher is to be asked, from the cycle
+/// `look` on, it is asked first, and `look` is the cycle where it is to be asked next.
 pub(crate) fn stretch_end<W: Watch>(
     sim: &Sim,
     alloc: Global,
@@ -123,7 +123,7 @@ pub(crate) fn stretch_end<W: Watch>(
     look: &mut Cycle,
 ) -> Cycle
     requires before { sim.now.now < stop }
-    requires plan { IsPlanOf sim.now.machine sim.now.traces plan }
+    requires plan { IsPlanOf sim.now.machine plan }
     ensures later { sim.entry.now.now < result }
     ensures within { result ≤ stop }
     ensures unasked { sim.entry.now.now < look.old → look.new ≡ look.old }

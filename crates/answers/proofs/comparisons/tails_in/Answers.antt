@@ -1,5 +1,5 @@
 -- A folder has no requests, or one percentile more was read.
-use Rattle.std.proofs.Common.{◌≡◌, ◌∙◌, ◌++◌, [], ◌∷◌, length, length-append, arith, rules}
+use Rattle.std.proofs.Common.{◌≡◌, ◌∙◌, ◌++◌, [], ◌∷◌, length-append, arith, rules}
 use Rattle.answers.proofs.RequestFacts.{folder_lacks, folder_more}
 use Rattle.answers.proofs.comparisons.tails_in.Goals as goal
 

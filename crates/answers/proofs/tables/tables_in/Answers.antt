@@ -4,6 +4,6 @@ use Rattle.answers.proofs.tables.tables_in.Goals as goal
 
 pub returns-clause-tables : goal.returns-clause-tables
 returns-clause-tables g c =
-    let one : c.as_str.result.now ≡ path_in c.args.dir.now stats_name = c.as_str.ensures.value ∙ c.in_ok-stats.ensures.path in
-    let two : c.as_str-2.result.now ≡ path_in c.args.dir.now commands_name = c.as_str-2.ensures.value ∙ c.in_ok-commands.ensures.path in
+    let one : c.as_str.result.now ≡ path_in c.args.folder.now.dir.now stats_name = c.as_str.ensures.value ∙ c.in_ok-stats.ensures.path in
+    let two : c.as_str-2.result.now ≡ path_in c.args.folder.now.dir.now commands_name = c.as_str-2.ensures.value ∙ c.in_ok-commands.ensures.path in
     rw (one, two) at c.tables_at.ensures.tables

@@ -6,9 +6,9 @@ use Rattle.dramsim_c.proofs.Statuses.{done, not-done, status-of}
 use Rattle.dramsim_c.proofs.memory.dramsim_memory_send.Goals as goal
 
 pub returns-clause-status : goal.returns-clause-status
-returns-clause-status c m pasts other is h =
+returns-clause-status c m pasts is h other =
     subst (λ r. IsStatus (memory_refusal m pasts other r) c.status.result) c.to_request.ensures
-    (status-of (memory_refusal m pasts other c.to_request.result) c.send.result c.status.result c.status.ensures (c.send.ensures.answer m pasts other is h))
+    (status-of (memory_refusal m pasts other c.to_request.result) c.send.result c.status.result c.status.ensures (c.send.ensures.answer m pasts is h other))
 
 pub returns-clause-sent : goal.returns-clause-sent
 returns-clause-sent c s pasts of h zero =

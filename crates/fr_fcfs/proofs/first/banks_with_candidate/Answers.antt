@@ -10,10 +10,10 @@ returns-clause-within c k there =
     (sym (λ i. c.banks_if-reads.ensures k i || c.banks_if-writes.ensures k i) ∙ sym (c.union.ensures k) ∙ there) (c.banks_with_candidate.ensures.within k) (c.banks_with_candidate-2.ensures.within k)
 
 pub returns-clause-each : goal.returns-clause-each
-returns-clause-each c k d exists =
+returns-clause-each c k exists =
     let accesses = c.args.accesses in
-    let h = candidates_of_bank c.args.bank_candidates.now k d in
+    let h = candidates_of_bank c.args.bank_candidates.now k in
     c.union.ensures k
     ∙ (λ i. c.banks_if-reads.ensures k i || c.banks_if-writes.ensures k i)
-    ∙ (λ i. (accesses.reads && c.banks_with_candidate.ensures.each k d exists i) || (accesses.writes && c.banks_with_candidate-2.ensures.each k d exists i))
+    ∙ (λ i. (accesses.reads && c.banks_with_candidate.ensures.each k exists i) || (accesses.writes && c.banks_with_candidate-2.ensures.each k exists i))
     ∙ some_allowed h.reads.oldest h.writes.oldest accesses.reads accesses.writes

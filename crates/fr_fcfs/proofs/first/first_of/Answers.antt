@@ -18,7 +18,7 @@ returns-then-best-room-clause-first c s history banks bank_candidates going_are 
     (none_so_far (length log) c.args.now (λ cycle. None) (λ cycle. None) (λ cycle late. refl) (λ cycle late. refl)) in
     first_ready_is s history c.args.queue.now accesses c.args.now (Some best) going_are inside
     (found (length log) c.args.now (λ cycle. first_place (hits_now s history accesses cycle) log) (λ cycle. first_place (rows_now s history log accesses cycle) log) best inside
-    (c.with_banks.ensures s history log banks bank_candidates c.requires.places start))
+    (c.with_banks.ensures s history log (record { banks_stand = banks; candidates_stand = bank_candidates; in_banks = c.requires.places }) start))
 
 pub returns-else-best-room-clause-first : goal.returns-else-best-room-clause-first
 returns-else-best-room-clause-first c s history banks bank_candidates going_are =
@@ -32,4 +32,4 @@ returns-else-best-room-clause-first c s history banks bank_candidates going_are 
     (none_so_far (length log) c.args.now (λ cycle. None) (λ cycle. None) (λ cycle late. refl) (λ cycle late. refl)) in
     first_ready_is s history c.args.queue.now accesses c.args.now None going_are tt
     (none_found (length log) c.args.now (λ cycle. first_place (hits_now s history accesses cycle) log) (λ cycle. first_place (rows_now s history log accesses cycle) log) best outside
-    (c.with_banks.ensures s history log banks bank_candidates c.requires.places start))
+    (c.with_banks.ensures s history log (record { banks_stand = banks; candidates_stand = bank_candidates; in_banks = c.requires.places }) start))

@@ -5,14 +5,13 @@ use Rattle.std.specs.Option.{is_some}
 use Rattle.bank_candidates.specs.Moves.{earlier}
 use Rattle.bank_candidates.specs.Stands.{candidates_of_bank}
 use Rattle.fr_fcfs.specs.Offers.{if_allowed, oldest_candidate}
-use Rattle.fr_fcfs.proofs.BankMore.{nowhere}
 use Rattle.fr_fcfs.proofs.first.oldest.Goals as goal
 
 pub unreachable-requires : goal.unreachable-requires
 unreachable-requires c =
     let accesses = c.args.accesses in
-    let first : c.earlier.result ≡ oldest_candidate accesses (candidates_of_bank c.args.bank_candidates.now c.args.bank nowhere) =
+    let first : c.earlier.result ≡ oldest_candidate accesses (candidates_of_bank c.args.bank_candidates.now c.args.bank) =
     c.earlier.ensures
     ∙ (λ i. earlier (c.if_allowed-read.ensures i) (c.if_allowed-write.ensures i))
-    ∙ (λ i. earlier (if_allowed (c.of_access.ensures nowhere i).oldest accesses.reads) (if_allowed (c.of_access-2.ensures nowhere i).oldest accesses.writes)) in
-    false≢true (ap is_some (sym c.in-None.is ∙ first) ∙ c.requires.some nowhere)
+    ∙ (λ i. earlier (if_allowed (c.of_access.ensures i).oldest accesses.reads) (if_allowed (c.of_access-2.ensures i).oldest accesses.writes)) in
+    false≢true (ap is_some (sym c.in-None.is ∙ first) ∙ c.requires.some)

@@ -7,7 +7,7 @@ use Rattle.bank_candidates.specs.Stands.{bank_count, candidates_of_bank}
 use Rattle.fr_fcfs.specs.Offers.{only, hits_now, hits_in}
 use Rattle.fr_fcfs.proofs.Bests.{first_alone}
 use Rattle.fr_fcfs.proofs.Beside.{place_beside, beside_all, beside_more, beside_nothing, left_before, size_less}
-use Rattle.fr_fcfs.proofs.BankMore.{nowhere, hit_none}
+use Rattle.fr_fcfs.proofs.BankMore.{hit_none}
 use Rattle.fr_fcfs.proofs.SoFar.{so_far_same, earlier_assoc}
 use Rattle.fr_fcfs.proofs.first.with_all_hits.Goals as goal
 
@@ -18,15 +18,15 @@ loop-bank-init c =
     let rest = c.hit-rest.result in
     record {
       within = c.hit-rest.ensures.within;
-      so_far = λ s history log hits rows stands bank_candidates places before.
+      so_far = λ s history log hits rows known before.
           so_far_same (length log) now hits rows (λ cycle. earlier (hits cycle) (place_beside (λ k. is_in rest k) (hits_now s history (only write) cycle) log)) rows c.args.best.now
           (λ cycle late.
           sym
           (ap (earlier (hits cycle))
-          (beside_nothing (λ k. is_in rest k) (bank_count c.args.bank_candidates.now) (hits_now s history (only write) cycle) log bank_candidates.within
+          (beside_nothing (λ k. is_in rest k) (bank_count c.args.bank_candidates.now) (hits_now s history (only write) cycle) log known.candidates_stand.within
           (λ k exists off.
-          hit_none s history _ log write k (candidates_of_bank c.args.bank_candidates.now k nowhere) places (bank_candidates.candidates_are k nowhere exists) (bank_candidates.rows_are k nowhere exists)
-          (sym (c.hit-rest.ensures.each k nowhere exists) ∙ off) cycle))
+          hit_none s history _ log write k (candidates_of_bank c.args.bank_candidates.now k) known.in_banks (known.candidates_stand.candidates_are k exists) (known.candidates_stand.rows_are k exists)
+          (sym (c.hit-rest.ensures.each k exists) ∙ off) cycle))
           ∙ first_alone (hits cycle)))
           (λ cycle late. refl) before;
     }
@@ -34,9 +34,9 @@ loop-bank-init c =
 pub loop-bank-smaller : goal.loop-bank-smaller
 loop-bank-smaller c =
     let bank = c.in-Some.bank in
-    let is = c.without_first-rest.ensures.same bank c.in-Some.ensures.first c.in-Some.ensures.lowest in
-    let others = c.without_first-rest.ensures.others bank c.in-Some.ensures.first c.in-Some.ensures.lowest in
-    size_less (λ k. is_in c.loop-bank.rest k) (λ k. is_in c.without_first-rest.result k) bank 64 c.in-Some.ensures.within c.in-Some.ensures.first is others
+    let is = c.without_first-rest.ensures.same bank c.in-Some.ensures.lowest in
+    let others = λ (k : ℕ). c.without_first-rest.ensures.others bank k c.in-Some.ensures.lowest in
+    size_less (λ k. is_in c.loop-bank.rest k) (λ k. is_in c.without_first-rest.result k) bank 64 c.in-Some.ensures.within c.in-Some.ensures.lowest.there is others
 
 pub loop-bank-preserved : goal.loop-bank-preserved
 loop-bank-preserved c =
@@ -45,11 +45,11 @@ loop-bank-preserved c =
     let bank = c.in-Some.bank in
     let rest = c.loop-bank.rest in
     let after = c.without_first-rest.result in
-    let is = c.without_first-rest.ensures.same bank c.in-Some.ensures.first c.in-Some.ensures.lowest in
-    let others = c.without_first-rest.ensures.others bank c.in-Some.ensures.first c.in-Some.ensures.lowest in
+    let is = c.without_first-rest.ensures.same bank c.in-Some.ensures.lowest in
+    let others = λ (k : ℕ). c.without_first-rest.ensures.others bank k c.in-Some.ensures.lowest in
     record {
       within = λ k still. c.loop-bank.invariant.within k (left_before (λ j. is_in rest j) (λ j. is_in after j) bank is others k still);
-      so_far = λ s history log hits rows stands bank_candidates places before.
+      so_far = λ s history log hits rows known before.
           let here = λ (cycle : ℕ). place_beside (λ k. is_in rest k) (hits_now s history (only write) cycle) log in
           let so_far = λ (cycle : ℕ). earlier (hits cycle) (here cycle) in
           so_far_same (length log) now (λ cycle. earlier (so_far cycle) (hits_in s history log (only write) bank cycle)) rows
@@ -58,16 +58,16 @@ loop-bank-preserved c =
           earlier_assoc (hits cycle) (here cycle) (hits_in s history log (only write) bank cycle)
           ∙ ap (earlier (hits cycle))
           (sym
-          (beside_more (λ k. is_in rest k) (λ k. is_in after k) bank (hits_now s history (only write) cycle) log c.in-Some.ensures.first is
+          (beside_more (λ k. is_in rest k) (λ k. is_in after k) bank (hits_now s history (only write) cycle) log c.in-Some.ensures.lowest.there is
           others)))
           (λ cycle late. refl)
-          (c.with_hit.ensures s history log so_far rows stands bank_candidates places (c.loop-bank.invariant.so_far s history log hits rows stands bank_candidates places before));
+          (c.with_hit.ensures s history log known so_far rows (c.loop-bank.invariant.so_far s history log hits rows known before));
     }
 
 pub returns : goal.returns
-returns c s history log hits rows stands bank_candidates places before =
+returns c s history log known hits rows before =
     let rest = c.loop-bank.rest in
     so_far_same (length log) c.args.now (λ cycle. earlier (hits cycle) (place_beside (λ k. is_in rest k) (hits_now s history (only c.args.write) cycle) log)) rows
     (λ cycle. earlier (hits cycle) (first_place (hits_now s history (only c.args.write) cycle) log)) rows c.loop-bank.best
     (λ cycle late. ap (earlier (hits cycle)) (beside_all (λ k. is_in rest k) (hits_now s history (only c.args.write) cycle) log c.in_default.ensures.none)) (λ cycle late. refl)
-    (c.loop-bank.invariant.so_far s history log hits rows stands bank_candidates places before)
+    (c.loop-bank.invariant.so_far s history log hits rows known before)

@@ -8,12 +8,12 @@ use Rattle.fr_fcfs.proofs.SoFar.{so_far_same}
 use Rattle.fr_fcfs.proofs.first.with_banks.Goals as goal
 
 pub returns : goal.returns
-returns c s history log stands bank_candidates places before =
+returns c s history log known before =
     let accesses = c.args.accesses in
     let rows = λ (cycle : ℕ). first_place (rows_now s history log accesses cycle) log in
     let reads = λ (cycle : ℕ). first_place (λ r. accesses.reads && hits_now s history (only false) cycle r) log in
     let writes = λ (cycle : ℕ). first_place (λ r. accesses.writes && hits_now s history (only true) cycle r) log in
     so_far_same (length log) c.args.now (λ cycle. earlier (reads cycle) (writes cycle)) rows (λ cycle. first_place (hits_now s history accesses cycle) log) rows c.with_hits-2.new.best
     (λ cycle late. both_hits s history log accesses cycle) (λ cycle late. refl)
-    (c.with_hits-2.ensures s history log reads rows stands bank_candidates places
-    (c.with_hits.ensures s history log (λ cycle. None) rows stands bank_candidates places (c.with_rows.ensures s history log (λ cycle. None) stands bank_candidates places before)))
+    (c.with_hits-2.ensures s history log known reads rows
+    (c.with_hits.ensures s history log known (λ cycle. None) rows (c.with_rows.ensures s history log (λ cycle. None) known before)))

@@ -4,31 +4,31 @@ use Rattle.bank_candidates.specs.Candidates.{bank_at}
 use Rattle.bank_candidates.specs.Stands.{candidates_of_bank}
 use Rattle.fr_fcfs.specs.Offers.{oldest_candidate, IsReadyFrom}
 use Rattle.fr_fcfs.proofs.SoFar.{not_taken, taken}
-use Rattle.fr_fcfs.proofs.BankMore.{nowhere, row_more}
+use Rattle.fr_fcfs.proofs.BankMore.{row_more}
 use Rattle.fr_fcfs.proofs.first.with_row.Goals as goal
 
 pub returns-then-best-ready : goal.returns-then-best-ready
-returns-then-best-ready c s history log hits rows stands bank_candidates places so_far =
+returns-then-best-ready c s history log known hits rows so_far =
     let bank = c.args.bank in
     let accesses = c.args.commands.accesses in
     let now = c.args.now in
     let best = c.args.best.now in
     let ready = c.ready-ready.result in
-    let h = candidates_of_bank c.args.bank_candidates.now bank nowhere in
-    let from = subst (λ k. IsReadyFrom s history (bank_at bank) k ready) (c.requires.kind nowhere) (c.ready-ready.ensures s history stands) in
-    row_more s history _ log accesses bank h ready now hits rows best best (omega arith) (omega arith) places (bank_candidates.candidates_are bank nowhere c.requires.bank_candidates)
-    (bank_candidates.rows_are bank nowhere c.requires.bank_candidates) from (c.requires.no_hit nowhere) (oldest_candidate accesses h) refl
+    let h = candidates_of_bank c.args.bank_candidates.now bank in
+    let from = subst (λ k. IsReadyFrom s history (bank_at bank) k ready) c.requires.needed.kind_is (c.ready-ready.ensures s history known.banks_stand) in
+    row_more s history _ log accesses bank h ready now hits rows best best (omega arith) (omega arith) known.in_banks (known.candidates_stand.candidates_are bank c.requires.bank_candidates)
+    (known.candidates_stand.rows_are bank c.requires.bank_candidates) from c.requires.needed.no_hit (oldest_candidate accesses h) refl
     (not_taken (oldest_candidate accesses h) now ready false best c.if-best-ready.true) so_far
 
 pub returns : goal.returns
-returns c s history log hits rows stands bank_candidates places so_far =
+returns c s history log known hits rows so_far =
     let bank = c.args.bank in
     let accesses = c.args.commands.accesses in
     let now = c.args.now in
     let best = c.args.best.now in
     let ready = c.ready-ready.result in
-    let h = candidates_of_bank c.args.bank_candidates.now bank nowhere in
-    let from = subst (λ k. IsReadyFrom s history (bank_at bank) k ready) (c.requires.kind nowhere) (c.ready-ready.ensures s history stands) in
-    row_more s history _ log accesses bank h ready now hits rows best c.improve.new.best (omega arith) (omega arith) places (bank_candidates.candidates_are bank nowhere c.requires.bank_candidates)
-    (bank_candidates.rows_are bank nowhere c.requires.bank_candidates) from (c.requires.no_hit nowhere) (oldest_candidate accesses h) refl
-    (taken (oldest_candidate accesses h) now ready c.oldest-slot.result false best c.improve.new.best (sym (c.oldest-slot.ensures nowhere)) c.improve.ensures) so_far
+    let h = candidates_of_bank c.args.bank_candidates.now bank in
+    let from = subst (λ k. IsReadyFrom s history (bank_at bank) k ready) c.requires.needed.kind_is (c.ready-ready.ensures s history known.banks_stand) in
+    row_more s history _ log accesses bank h ready now hits rows best c.improve.new.best (omega arith) (omega arith) known.in_banks (known.candidates_stand.candidates_are bank c.requires.bank_candidates)
+    (known.candidates_stand.rows_are bank c.requires.bank_candidates) from c.requires.needed.no_hit (oldest_candidate accesses h) refl
+    (taken (oldest_candidate accesses h) now ready c.oldest-slot.result false best c.improve.new.best (sym c.oldest-slot.ensures) c.improve.ensures) so_far

@@ -5,10 +5,10 @@ use Rattle.std.specs.Option.{is_some}
 use Rattle.sim_base.specs.declared.command.Kind.TheVariants as kind
 use Rattle.bank_candidates.specs.Candidates.{first_place}
 use Rattle.bank_candidates.specs.Sets.{is_in}
-use Rattle.bank_candidates.specs.Stands.{bank_count, candidates_of_bank}
+use Rattle.bank_candidates.specs.Stands.{bank_count, candidates_of_bank, row_of_bank}
 use Rattle.fr_fcfs.specs.Offers.{rows_now, rows_beside, row_kind}
 use Rattle.fr_fcfs.proofs.Beside.{beside_all, beside_same, beside_nothing}
-use Rattle.fr_fcfs.proofs.BankMore.{nowhere, row_none}
+use Rattle.fr_fcfs.proofs.BankMore.{row_none}
 use Rattle.fr_fcfs.proofs.Booleans.{or_false}
 use Rattle.fr_fcfs.proofs.SoFar.{so_far_same}
 use Rattle.fr_fcfs.proofs.first.with_rows.Goals as goal
@@ -43,51 +43,38 @@ with_rows_of-requires-clause-within c k there =
     let asked = (and_parts (is_in c.minus-asked.result k) (not (is_in c.minus-closed.result k)) (sym (c.minus-opened.ensures k) ∙ there)).0 in
     c.banks_with_candidate.ensures.within k (and_parts (is_in c.banks_with_candidate.result k) (not (is_in c.hit.result k)) (sym (c.minus-asked.ensures k) ∙ asked)).0
 
-pub with_rows_of-requires-clause-some : goal.with_rows_of-requires-clause-some
-with_rows_of-requires-clause-some c k d there =
+pub with_rows_of-requires-clause-needed : goal.with_rows_of-requires-clause-needed
+with_rows_of-requires-clause-needed c k there =
     let asked = (and_parts (is_in c.minus-asked.result k) (not (is_in c.minus-closed.result k)) (sym (c.minus-opened.ensures k) ∙ there)).0 in
     let parts = and_parts (is_in c.banks_with_candidate.result k) (not (is_in c.hit.result k)) (sym (c.minus-asked.ensures k) ∙ asked) in
-    sym (c.banks_with_candidate.ensures.each k d (c.banks_with_candidate.ensures.within k parts.0)) ∙ parts.0
-
-pub with_rows_of-requires-clause-no_hit : goal.with_rows_of-requires-clause-no_hit
-with_rows_of-requires-clause-no_hit c k d there =
-    let asked = (and_parts (is_in c.minus-asked.result k) (not (is_in c.minus-closed.result k)) (sym (c.minus-opened.ensures k) ∙ there)).0 in
-    let parts = and_parts (is_in c.banks_with_candidate.result k) (not (is_in c.hit.result k)) (sym (c.minus-asked.ensures k) ∙ asked) in
-    sym (c.hit.ensures k d (c.banks_with_candidate.ensures.within k parts.0)) ∙ not_true (is_in c.hit.result k) parts.1
-
-pub with_rows_of-requires-clause-kind : goal.with_rows_of-requires-clause-kind
-with_rows_of-requires-clause-kind c k d there =
-    let asked = (and_parts (is_in c.minus-asked.result k) (not (is_in c.minus-closed.result k)) (sym (c.minus-opened.ensures k) ∙ there)).0 in
-    let exists = c.banks_with_candidate.ensures.within k (and_parts (is_in c.banks_with_candidate.result k) (not (is_in c.hit.result k)) (sym (c.minus-asked.ensures k) ∙ asked)).0 in
-    closes (candidates_of_bank c.args.bank_candidates.now k d).row
-    (sym (c.open_banks.ensures k d exists)
-    ∙ is_open (is_in c.minus-asked.result k) (is_in c.open_banks.result k) (ap (λ b. is_in c.minus-asked.result k && not b) (sym (c.minus-closed.ensures k)) ∙ sym (c.minus-opened.ensures k) ∙ there))
+    let exists = c.banks_with_candidate.ensures.within k parts.0 in
+    record {
+      some = sym (c.banks_with_candidate.ensures.each k exists) ∙ parts.0;
+      no_hit = sym (c.hit.ensures k exists) ∙ not_true (is_in c.hit.result k) parts.1;
+      kind_is =
+          closes (row_of_bank c.args.bank_candidates.now k)
+          (sym (c.open_banks.ensures k exists)
+          ∙ is_open (is_in c.minus-asked.result k) (is_in c.open_banks.result k) (ap (λ b. is_in c.minus-asked.result k && not b) (sym (c.minus-closed.ensures k)) ∙ sym (c.minus-opened.ensures k) ∙ there));
+    }
 
 pub with_rows_of-requires-2-clause-within : goal.with_rows_of-requires-2-clause-within
 with_rows_of-requires-2-clause-within c k there =
     let asked = (and_parts (is_in c.minus-asked.result k) (not (is_in c.open_banks.result k)) (sym (c.minus-closed.ensures k) ∙ there)).0 in
     c.banks_with_candidate.ensures.within k (and_parts (is_in c.banks_with_candidate.result k) (not (is_in c.hit.result k)) (sym (c.minus-asked.ensures k) ∙ asked)).0
 
-pub with_rows_of-requires-2-clause-some : goal.with_rows_of-requires-2-clause-some
-with_rows_of-requires-2-clause-some c k d there =
-    let asked = (and_parts (is_in c.minus-asked.result k) (not (is_in c.open_banks.result k)) (sym (c.minus-closed.ensures k) ∙ there)).0 in
-    let parts = and_parts (is_in c.banks_with_candidate.result k) (not (is_in c.hit.result k)) (sym (c.minus-asked.ensures k) ∙ asked) in
-    sym (c.banks_with_candidate.ensures.each k d (c.banks_with_candidate.ensures.within k parts.0)) ∙ parts.0
-
-pub with_rows_of-requires-2-clause-no_hit : goal.with_rows_of-requires-2-clause-no_hit
-with_rows_of-requires-2-clause-no_hit c k d there =
-    let asked = (and_parts (is_in c.minus-asked.result k) (not (is_in c.open_banks.result k)) (sym (c.minus-closed.ensures k) ∙ there)).0 in
-    let parts = and_parts (is_in c.banks_with_candidate.result k) (not (is_in c.hit.result k)) (sym (c.minus-asked.ensures k) ∙ asked) in
-    sym (c.hit.ensures k d (c.banks_with_candidate.ensures.within k parts.0)) ∙ not_true (is_in c.hit.result k) parts.1
-
-pub with_rows_of-requires-2-clause-kind : goal.with_rows_of-requires-2-clause-kind
-with_rows_of-requires-2-clause-kind c k d there =
+pub with_rows_of-requires-2-clause-needed : goal.with_rows_of-requires-2-clause-needed
+with_rows_of-requires-2-clause-needed c k there =
     let closed = and_parts (is_in c.minus-asked.result k) (not (is_in c.open_banks.result k)) (sym (c.minus-closed.ensures k) ∙ there) in
-    let exists = c.banks_with_candidate.ensures.within k (and_parts (is_in c.banks_with_candidate.result k) (not (is_in c.hit.result k)) (sym (c.minus-asked.ensures k) ∙ closed.0)).0 in
-    opens (candidates_of_bank c.args.bank_candidates.now k d).row (sym (c.open_banks.ensures k d exists) ∙ not_true (is_in c.open_banks.result k) closed.1)
+    let parts = and_parts (is_in c.banks_with_candidate.result k) (not (is_in c.hit.result k)) (sym (c.minus-asked.ensures k) ∙ closed.0) in
+    let exists = c.banks_with_candidate.ensures.within k parts.0 in
+    record {
+      some = sym (c.banks_with_candidate.ensures.each k exists) ∙ parts.0;
+      no_hit = sym (c.hit.ensures k exists) ∙ not_true (is_in c.hit.result k) parts.1;
+      kind_is = opens (row_of_bank c.args.bank_candidates.now k) (sym (c.open_banks.ensures k exists) ∙ not_true (is_in c.open_banks.result k) closed.1);
+    }
 
 pub returns : goal.returns
-returns c s history log hits stands bank_candidates places before =
+returns c s history log hits known before =
     let now = c.args.now in
     let accesses = c.args.accesses in
     let asked = c.minus-asked.result in
@@ -102,18 +89,18 @@ returns c s history log hits stands bank_candidates places before =
     so_far_same (length log) now hits (λ cycle. None) hits (rows_beside s history log accesses (λ k. is_in opened k || is_in closed k)) c.args.best.now (λ cycle late. refl)
     (λ cycle late.
     sym
-    (beside_nothing (λ k. is_in opened k || is_in closed k) (bank_count c.args.bank_candidates.now) (rows_now s history log accesses cycle) log bank_candidates.within
+    (beside_nothing (λ k. is_in opened k || is_in closed k) (bank_count c.args.bank_candidates.now) (rows_now s history log accesses cycle) log known.candidates_stand.within
     (λ k exists off.
-    row_none s history _ log accesses k (candidates_of_bank c.args.bank_candidates.now k nowhere) places (bank_candidates.candidates_are k nowhere exists) (bank_candidates.rows_are k nowhere exists)
-    ((λ i. (sym (c.banks_with_candidate.ensures.each k nowhere exists)) i && not ((sym (c.hit.ensures k nowhere exists)) i)) ∙ sym (c.minus-asked.ensures k) ∙ sym (whole k) ∙ off) cycle)))
+    row_none s history _ log accesses k (candidates_of_bank c.args.bank_candidates.now k) known.in_banks (known.candidates_stand.candidates_are k exists) (known.candidates_stand.rows_are k exists)
+    ((λ i. (sym (c.banks_with_candidate.ensures.each k exists)) i && not ((sym (c.hit.ensures k exists)) i)) ∙ sym (c.minus-asked.ensures k) ∙ sym (whole k) ∙ off) cycle)))
     before in
     let apart : (k : ℕ) → is_in opened k ≡ true → is_in closed k ≡ false =
     λ k there. not_true (is_in closed k) (and_parts (is_in asked k) (not (is_in closed k)) (sym (c.minus-opened.ensures k) ∙ there)).1 in
-    let half = c.with_rows_of.ensures s history log hits (λ k. is_in closed k) stands bank_candidates places apart start in
+    let half = c.with_rows_of.ensures s history log hits (λ k. is_in closed k) known apart start in
     let rest =
     so_far_same (length log) now hits (rows_beside s history log accesses (λ k. is_in closed k)) hits (rows_beside s history log accesses (λ k. is_in closed k || false)) c.with_rows_of.new.best
     (λ cycle late. refl)
     (λ cycle late. beside_same (λ k. is_in closed k) (λ k. is_in closed k || false) (rows_now s history log accesses cycle) log (λ k. sym (or_false (is_in closed k)))) half in
     so_far_same (length log) now hits (rows_beside s history log accesses (λ k. false)) hits (λ cycle. first_place (rows_now s history log accesses cycle) log) c.with_rows_of-2.new.best
     (λ cycle late. refl) (λ cycle late. beside_all (λ k. false) (rows_now s history log accesses cycle) log (λ k. refl))
-    (c.with_rows_of-2.ensures s history log hits (λ k. false) stands bank_candidates places (λ k there. refl) rest)
+    (c.with_rows_of-2.ensures s history log hits (λ k. false) known (λ k there. refl) rest)

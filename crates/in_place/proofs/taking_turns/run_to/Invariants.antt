@@ -5,7 +5,7 @@ use Rattle.in_place.proofs.taking_turns.run_to.Given as goal
 
 abbrev pub invariant-loop-at : goal.invariant-loop-at
 invariant-loop-at l =
-    AreInTurns l.machine.config l.machine.traces.items l.at.cores_at l.at.channels_at l.slots l.words l.links × (l.at.channels_at ≤ l.at.cores_at) × (l.at.cores_at ≤ l.limit)
+    AreInTurns l.machine l.at.cores_at l.at.channels_at l.slots l.words l.links × (l.at.channels_at ≤ l.at.cores_at) × (l.at.cores_at ≤ l.limit)
 
 abbrev pub decreases-loop-at : goal.decreases-loop-at
 decreases-loop-at l = l.limit - l.at.channels_at

@@ -1,5 +1,6 @@
 use Rattle.std.proofs.Common.{◌≡◌, ◌+◌, ◌++◌, length, drop, refl, ap, ◌∙◌, arith}
-use Rattle.links.proofs.Heads.{head_of, one_copied, head_ends, all_copied}
+use Rattle.links.specs.Rings.{head_of}
+use Rattle.links.proofs.Heads.{one_copied, head_ends, all_copied}
 use Rattle.links.proofs.rings.copy_before.Goals as goal
 use Rattle.links.proofs.rings.copy_before.Goals.{In_default}
 

@@ -1,6 +1,6 @@
 use Rattle.std.proofs.Common.{◌≡◌, ◌+◌, ◌-◌, ◌≤◌, ◌++◌, length, drop}
 use Rattle.std.specs.Prelude.{vec_len, vec_capacity}
-use Rattle.links.proofs.Heads.{head_of}
+use Rattle.links.specs.Rings.{head_of}
 use Rattle.links.proofs.rings.copy_before.Given as goal
 
 abbrev pub invariant-loop-message : goal.invariant-loop-message

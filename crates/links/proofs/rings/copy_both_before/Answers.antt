@@ -1,5 +1,6 @@
 use Rattle.std.proofs.Common.{◌≡◌, ◌+◌, ◌++◌, ◌⊎◌, inl, inr, length, drop, refl, sym, ap, ◌∙◌, subst, arith}
-use Rattle.links.proofs.Heads.{head_of, head_in_order, head_ends, merged_second, merged_first, merged_all}
+use Rattle.links.specs.Rings.{head_of}
+use Rattle.links.proofs.Heads.{head_in_order, head_ends, merged_second, merged_first, merged_all}
 use Rattle.links.proofs.Merging.{Merges, Merges-start}
 use Rattle.links.proofs.rings.copy_both_before.Goals as goal
 use Rattle.links.proofs.rings.copy_both_before.Goals.{in_default, in_default-2}

@@ -1,6 +1,6 @@
 use Rattle.std.proofs.Common.{◌+◌, ◌-◌, ◌≤◌, length}
 use Rattle.std.specs.Prelude.{vec_len, vec_capacity}
-use Rattle.links.proofs.Heads.{head_of}
+use Rattle.links.specs.Rings.{head_of}
 use Rattle.links.proofs.Merging.{Merges}
 use Rattle.links.proofs.rings.copy_both_before.Given as goal
 

@@ -6,8 +6,8 @@ use Rattle.one_clock.proofs.ending.channels_left.Goals as goal
 pub bounds-channels-channel : goal.bounds-channels-channel
 bounds-channels-channel c = below_units _ _ _ _ c.requires.channels (omega arith)
 
-pub channel_left-requires-clause-past : goal.channel_left-requires-clause-past
-channel_left-requires-clause-past c = c.index-channels-channel.is ∙ at_unit_of _ _ _ _ _ c.requires.channels (omega arith)
+pub channel_left-requires : goal.channel_left-requires
+channel_left-requires c = record { past = c.index-channels-channel.is ∙ at_unit_of _ _ _ _ _ c.requires.channels (omega arith) }
 
 pub loop-channel-preserved : goal.loop-channel-preserved
 loop-channel-preserved c =

@@ -6,8 +6,8 @@ use Rattle.one_clock.proofs.ending.cores_left.Goals as goal
 pub bounds-cores-core : goal.bounds-cores-core
 bounds-cores-core c = below_units _ _ _ _ c.requires.cores c.loop-core-test.true
 
-pub core_left-requires-clause-past : goal.core_left-requires-clause-past
-core_left-requires-clause-past c = c.index-cores-core.is ∙ at_unit_of _ _ _ _ _ c.requires.cores c.loop-core-test.true
+pub core_left-requires : goal.core_left-requires
+core_left-requires c = record { past = c.index-cores-core.is ∙ at_unit_of _ _ _ _ _ c.requires.cores c.loop-core-test.true }
 
 pub loop-core-preserved : goal.loop-core-preserved
 loop-core-preserved c =

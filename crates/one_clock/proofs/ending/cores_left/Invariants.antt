@@ -1,9 +1,8 @@
 -- The cores so far have theirs.
 use Rattle.std.proofs.Common.{◌≡◌, map}
 use Rattle.sim_base.specs.History.{below}
-use Rattle.sim_base.specs.Machine.{run}
-use Rattle.statistics.specs.Runs.{last_of_core}
+use Rattle.one_clock.specs.Cycles.{core_left_before}
 use Rattle.one_clock.proofs.ending.cores_left.Given as goal
 
 abbrev pub invariant-loop-core : goal.invariant-loop-core
-invariant-loop-core l = l.left.items ≡ map (last_of_core l.s l.traces (run l.s l.traces l.cycle)) (below l.core)
+invariant-loop-core l = l.left.items ≡ map (core_left_before l.cycle) (below l.core)

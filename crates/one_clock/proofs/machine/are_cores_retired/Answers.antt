@@ -14,5 +14,5 @@ is_core_retired-retired-requires-clause-past c = c.index-cores-core.is ∙ at_un
 pub loop-core-preserved : goal.loop-core-preserved
 loop-core-preserved c =
     let here = c.loop-core.core in
-    let p = is_retired c.args.traces.now (run c.args.s.now c.args.traces.now c.args.cycle) in
+    let p = is_retired c.args.cycle.now.traces.now (run c.args.cycle.now.config.now c.args.cycle.now.traces.now c.args.cycle.now.number) in
     elim c.if-all.branch [ then-all w ↦ w.all-is ∙ c.is_core_retired-retired.ensures ∙ ap (λ b. b && p here) (sym w.if-all.true ∙ c.loop-core.invariant) ∙ sym (list_all_below_more p here) | else-all w ↦ w.all-is ∙ w.if-all.false ∙ ap (λ b. b && p here) (sym w.if-all.false ∙ c.loop-core.invariant) ∙ sym (list_all_below_more p here) ]

@@ -14,5 +14,5 @@ has_channel_served-requires c = record { past = c.index-channels-channel.is ∙ 
 pub loop-channel-preserved : goal.loop-channel-preserved
 loop-channel-preserved c =
     let here = c.loop-channel.channel in
-    let p = has_served c.args.s.now c.args.traces.now (run c.args.s.now c.args.traces.now c.args.cycle) in
+    let p = has_served c.args.cycle.now.config.now c.args.cycle.now.traces.now (run c.args.cycle.now.config.now c.args.cycle.now.traces.now c.args.cycle.now.number) in
     elim c.if-all.branch [ then-all w ↦ w.all-is ∙ c.in_ok-served.ensures {u = tt} ∙ ap (λ b. b && p here) (sym w.if-all.true ∙ c.loop-channel.invariant) ∙ sym (list_all_below_more p here) | else-all w ↦ w.all-is ∙ w.if-all.false ∙ ap (λ b. b && p here) (sym w.if-all.false ∙ c.loop-channel.invariant) ∙ sym (list_all_below_more p here) ]

@@ -1,17 +1,17 @@
 -- Each channel in turn is taken a cycle further.
-use Rattle.std.proofs.Common.{◌≡◌, ◌+◌, ◌<◌, length, sym, ap, ◌∙◌, arith}
+use Rattle.std.proofs.Common.{◌≡◌, ◌<◌, length, sym, ap, ◌∙◌, arith}
 use Rattle.std.proofs.Math.ListN.{set}
 use Rattle.std.specs.Prelude.{slice_index_or}
-use Rattle.sim_base.specs.Machine.{run}
-use Rattle.plain_steps.specs.Plain.{channel_view}
+use Rattle.one_clock.specs.Cycles.{channel_before, channel_after}
 use Rattle.one_clock.proofs.Units.{at_unit_of, below_units, below_halfway, halfway, halfway_none, halfway_at, halfway_more, halfway_all}
 use Rattle.one_clock.proofs.machine.note_channels.Goals as goal
 
 pub loop-channel-init : goal.loop-channel-init
 loop-channel-init c =
-    let before = channel_view c.args.s.now c.args.traces.now (run c.args.s.now c.args.traces.now c.args.cycle) in
-    let after = channel_view c.args.s.now c.args.traces.now (run c.args.s.now c.args.traces.now (c.args.cycle + 1)) in
-    c.requires.channels ∙ sym (halfway_none after before c.args.s.now.channels)
+    let s = c.args.cycle.now.config.now in
+    let before = channel_before c.args.cycle.now in
+    let after = channel_after c.args.cycle.now in
+    c.requires.channels ∙ sym (halfway_none after before s.channels)
 
 pub bounds-steps-i : goal.bounds-steps-i
 bounds-steps-i c = below_units _ _ _ _ c.requires.steps (omega arith)
@@ -26,24 +26,27 @@ index_mut-requires c =
 
 pub note_channel-requires-clause-past : goal.note_channel-requires-clause-past
 note_channel-requires-clause-past c =
-    let before = channel_view c.args.s.now c.args.traces.now (run c.args.s.now c.args.traces.now c.args.cycle) in
-    let after = channel_view c.args.s.now c.args.traces.now (run c.args.s.now c.args.traces.now (c.args.cycle + 1)) in
+    let s = c.args.cycle.now.config.now in
+    let before = channel_before c.args.cycle.now in
+    let after = channel_after c.args.cycle.now in
     let d = c.index_mut.result.now in
     c.index_mut.ensures.value
     ∙ ap (λ x. slice_index_or x c.loop-channel.channel d) c.loop-channel.invariant
-    ∙ halfway_at after before c.args.s.now.channels c.loop-channel.channel d (omega arith)
+    ∙ halfway_at after before s.channels c.loop-channel.channel d (omega arith)
 
 pub loop-channel-preserved : goal.loop-channel-preserved
 loop-channel-preserved c =
-    let before = channel_view c.args.s.now c.args.traces.now (run c.args.s.now c.args.traces.now c.args.cycle) in
-    let after = channel_view c.args.s.now c.args.traces.now (run c.args.s.now c.args.traces.now (c.args.cycle + 1)) in
+    let s = c.args.cycle.now.config.now in
+    let before = channel_before c.args.cycle.now in
+    let after = channel_after c.args.cycle.now in
     ap (λ x. set x c.loop-channel.channel c.note_channel.new.past) c.loop-channel.invariant
-    ∙ ap (set (halfway after before c.args.s.now.channels c.loop-channel.channel) c.loop-channel.channel) (c.in_ok-note_channel.ensures {u = tt})
-    ∙ halfway_more after before c.args.s.now.channels c.loop-channel.channel (after 0) (omega arith)
+    ∙ ap (set (halfway after before s.channels c.loop-channel.channel) c.loop-channel.channel) (c.in_ok-note_channel.ensures {u = tt})
+    ∙ halfway_more after before s.channels c.loop-channel.channel (after 0) (omega arith)
 
 pub returns : goal.returns
 returns c =
-    let before = channel_view c.args.s.now c.args.traces.now (run c.args.s.now c.args.traces.now c.args.cycle) in
-    let after = channel_view c.args.s.now c.args.traces.now (run c.args.s.now c.args.traces.now (c.args.cycle + 1)) in
-    let e : c.loop-channel.channel ≡ c.args.s.now.channels = omega arith in
-    c.loop-channel.invariant ∙ ap (halfway after before c.args.s.now.channels) e ∙ halfway_all after before c.args.s.now.channels
+    let s = c.args.cycle.now.config.now in
+    let before = channel_before c.args.cycle.now in
+    let after = channel_after c.args.cycle.now in
+    let e : c.loop-channel.channel ≡ s.channels = omega arith in
+    c.loop-channel.invariant ∙ ap (halfway after before s.channels) e ∙ halfway_all after before s.channels

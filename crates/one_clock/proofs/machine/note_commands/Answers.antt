@@ -16,14 +16,14 @@ loop-channel-preserved c =
     let here = c.loop-channel.channel in
     c.in_ok-push_command.ensures {u = tt}
     ∙ ap₂ (λ xs o. xs ++ option_to_list o) c.loop-channel.invariant
-    (c.issued_command.ensures ∙ ap (λ (x : ChannelStep). issued_at here c.args.cycle x.command) (at_unit_of _ _ _ here _ c.requires.steps (omega arith)))
-    ∙ sym (issued_more c.args.s.now c.args.traces.now c.args.cycle here)
+    (c.issued_command.ensures ∙ ap (λ (x : ChannelStep). issued_at here c.args.cycle.now.number x.command) (at_unit_of _ _ _ here _ c.requires.steps (omega arith)))
+    ∙ sym (issued_more c.args.cycle.now.config.now c.args.cycle.now.traces.now c.args.cycle.now.number here)
 
 pub returns : goal.returns
 returns c =
-    let s = c.args.s.now in
-    let traces = c.args.traces.now in
+    let s = c.args.cycle.now.config.now in
+    let traces = c.args.cycle.now.traces.now in
     let e : c.loop-channel.channel ≡ s.channels = omega arith in
     c.loop-channel.invariant
-    ∙ ap (λ k. commands (run s traces c.args.cycle) ++ issued_below s traces c.args.cycle k) e
-    ∙ issued_all s traces c.args.cycle
+    ∙ ap (λ k. commands (run s traces c.args.cycle.now.number) ++ issued_below s traces c.args.cycle.now.number k) e
+    ∙ issued_all s traces c.args.cycle.now.number

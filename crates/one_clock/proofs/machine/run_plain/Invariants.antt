@@ -4,5 +4,5 @@ use Rattle.sim_base.specs.Machine.{cycles_run}
 use Rattle.one_clock.specs.Held.{HoldsRun}
 use Rattle.one_clock.proofs.machine.run_plain.Given as goal
 
-abbrev pub invariant-loop-cycle : goal.invariant-loop-cycle
-invariant-loop-cycle l = record { holds : HoldsRun l.s l.traces l.cycle l.machine; goes_on : cycles_run l.s l.traces l.cycle ≡ l.cycle }
+abbrev pub invariant-loop-number : goal.invariant-loop-number
+invariant-loop-number l = record { holds : HoldsRun l.s l.traces l.number l.machine; goes_on : cycles_run l.s l.traces l.number ≡ l.number }

@@ -7,5 +7,5 @@ use Rattle.one_clock.proofs.machine.start_channels.Goals as goal
 pub loop-channel-preserved : goal.loop-channel-preserved
 loop-channel-preserved c =
     (c.in_ok-push.ensures {u = tt}).items
-    ∙ ap₂ (λ xs x. xs ++ x ∷ []) c.loop-channel.invariant (c.new.ensures ∙ sym (channel_view_none c.args.s.now c.args.traces.now c.loop-channel.channel))
+    ∙ ap₂ (λ xs x. xs ++ x ∷ []) c.loop-channel.invariant (c.new.ensures ∙ channel_view_none c.args.cycle.now.config.now c.args.cycle.now.traces.now c.args.cycle.now.number c.loop-channel.channel c.requires)
     ∙ sym (map_below_more _ c.loop-channel.channel)

@@ -7,5 +7,5 @@ use Rattle.one_clock.proofs.machine.start_cores.Goals as goal
 pub loop-core-preserved : goal.loop-core-preserved
 loop-core-preserved c =
     (c.in_ok-push.ensures {u = tt}).items
-    ∙ ap₂ (λ xs x. xs ++ x ∷ []) c.loop-core.invariant (c.new.ensures ∙ sym (core_view_none c.args.s.now c.args.traces.now c.loop-core.core))
+    ∙ ap₂ (λ xs x. xs ++ x ∷ []) c.loop-core.invariant (c.new.ensures ∙ core_view_none c.args.cycle.now.config.now c.args.cycle.now.traces.now c.args.cycle.now.number c.loop-core.core c.requires)
     ∙ sym (map_below_more _ c.loop-core.core)

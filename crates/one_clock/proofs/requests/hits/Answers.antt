@@ -7,8 +7,8 @@ use Rattle.one_clock.proofs.requests.hits.Goals as goal
 
 pub returns : goal.returns
 returns c =
-    let s = c.args.s.now in
-    let view = channel_view s c.args.traces.now (run s c.args.traces.now c.args.cycle) in
+    let s = c.args.cycle.now.config.now in
+    let view = channel_view s c.args.cycle.now.traces.now (run s c.args.cycle.now.traces.now c.args.cycle.now.number) in
     let row = c.args.row.now in
     let long = length_units c.args.channels.now view s.channels c.requires.channels in
     let inside : row.channel < s.channels = omega (arith, long, c.if-row-channels.false) in

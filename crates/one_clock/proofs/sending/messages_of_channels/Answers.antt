@@ -22,11 +22,11 @@ bounds-steps-channel c = below_units _ _ _ _ c.requires.steps (omega arith)
 pub loop-channel-preserved : goal.loop-channel-preserved
 loop-channel-preserved c =
     let here = c.loop-channel.channel in
-    let l : here < c.args.s.now.channels = omega arith in
+    let l : here < c.args.cycle.now.config.now.channels = omega arith in
     (c.in_ok-extend_from_slice.ensures {u = tt}).items
     ∙ ap₂ (λ xs ys. xs ++ ys) c.loop-channel.invariant
     (c.deref.ensures.value
     ∙ c.in_ok-more.ensures {u = tt}
-    ∙ ap (λ (x : ChannelStep). messages_at c.args.s.now here c.args.cycle x.command) (at_unit_of _ _ _ here _ c.requires.steps l)
-    ∙ sends_of_step c.args.s.now c.args.traces.now c.args.cycle here l)
+    ∙ ap (λ (x : ChannelStep). messages_at c.args.cycle.now.config.now here c.args.cycle.now.number x.command) (at_unit_of _ _ _ here _ c.requires.steps l)
+    ∙ sends_of_step c.args.cycle.now.config.now c.args.cycle.now.traces.now c.args.cycle.now.number here l)
     ∙ sym (flat_map_below_more _ here)

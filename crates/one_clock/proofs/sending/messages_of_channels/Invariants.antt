@@ -2,9 +2,9 @@
 use Rattle.std.proofs.Common.{◌≡◌}
 use Rattle.std.specs.Prelude.{flat_map}
 use Rattle.sim_base.specs.History.{below}
-use Rattle.sim_base.specs.Machine.{run, next_step}
 use Rattle.sim_base.specs.Sends.{channel_sends}
+use Rattle.one_clock.specs.Cycles.{steps_before, step_in}
 use Rattle.one_clock.proofs.sending.messages_of_channels.Given as goal
 
 abbrev pub invariant-loop-channel : goal.invariant-loop-channel
-invariant-loop-channel l = l.sent.items ≡ flat_map (channel_sends l.s (run l.s l.traces l.cycle) (next_step l.s l.traces (run l.s l.traces l.cycle))) (below l.channel)
+invariant-loop-channel l = l.sent.items ≡ flat_map (channel_sends l.cycle.config.now (steps_before l.cycle) (step_in l.cycle)) (below l.channel)

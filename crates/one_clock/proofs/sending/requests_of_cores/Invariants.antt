@@ -2,9 +2,8 @@
 use Rattle.std.proofs.Common.{◌≡◌}
 use Rattle.std.specs.Prelude.{flat_map}
 use Rattle.sim_base.specs.History.{below}
-use Rattle.sim_base.specs.Machine.{run, next_step}
-use Rattle.sim_base.specs.Sends.{core_sends}
+use Rattle.one_clock.specs.Cycles.{sent_by}
 use Rattle.one_clock.proofs.sending.requests_of_cores.Given as goal
 
 abbrev pub invariant-loop-core : goal.invariant-loop-core
-invariant-loop-core l = l.sent.items ≡ flat_map (core_sends l.s l.traces (run l.s l.traces l.cycle) (next_step l.s l.traces (run l.s l.traces l.cycle))) (below l.core)
+invariant-loop-core l = l.sent.items ≡ flat_map (sent_by l.cycle) (below l.core)

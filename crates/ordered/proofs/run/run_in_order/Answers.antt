@@ -1,6 +1,6 @@
 use Rattle.std.proofs.Common.{◌≡◌, ◌<◌, true, refl, sym, ap, ◌∙◌, arith}
 use Rattle.std.proofs.lemmas.Result.{err_from_is_err_and}
-use Rattle.span_laws.specs.Ends.{ends_before}
+use Rattle.units.specs.Runs.{ends_at}
 use Rattle.ordered.proofs.Coming.{come-none, come-on, why-on}
 use Rattle.ordered.proofs.Stopped.{only-memory}
 use Rattle.ordered.proofs.Stopping.{on-next}
@@ -9,7 +9,7 @@ use Rattle.ordered.proofs.run.run_in_order.Goals as goal
 
 pub returns-in_err-sim-clause-stopped : goal.returns-in_err-sim-clause-stopped
 returns-in_err-sim-clause-stopped g c =
-    let come = c.loop-stop.invariant.5 in
+    let come = c.loop-stop.invariant.4 in
     let next = c.in-Some.ensures {u = tt} in
     let q = err_from_is_err_and c.from_residual.result c.from_residual.ensures.1 in
     rw (q.1, q.2)
@@ -26,11 +26,11 @@ returns-clause-ok g c =
     let sim = c.args.sim in
     let now = c.loop-stop.sim.now in
     let same = c.loop-stop.invariant in
-    let ended : now < c.args.limit → ends_before sim.machine sim.traces now ≡ true = λ l. ap (λ t. ends_before sim.machine t now) (sym same.1) ∙ ap (λ s. ends_before s c.loop-stop.sim.traces now) (sym same.0) ∙ (c.in_default.ensures {u = tt}).ended l in
-    record { machine_is = same.0; traces_are = same.1; at_limit = stands-at_stop sim c.args.limit now same.2 same.3 same.4 ended }
+    let ended : now < c.args.limit → ends_at sim.machine now ≡ true = λ l. ap (λ m. ends_at m now) (sym same.0) ∙ (c.in_default.ensures {u = tt}).ended l in
+    record { machine_is = same.0; at_limit = stands-at_stop sim c.args.limit now same.1 same.2 same.3 ended }
 
 pub loop-stop-init : goal.loop-stop-init
-loop-stop-init g c = (refl, refl, omega arith, c.requires.not_past, λ t l k. absurd (omega (arith, l, k)), come-none g.O.Order.may_give c.args.shards c.args.sim c.args.limit)
+loop-stop-init g c = (refl, omega arith, c.requires.not_past, λ t l k. absurd (omega (arith, l, k)), come-none g.O.Order.may_give c.args.shards c.args.sim c.args.limit)
 
 pub loop-stop-preserved : goal.loop-stop-preserved
 loop-stop-preserved g c =
@@ -43,9 +43,8 @@ loop-stop-preserved g c =
     let ran = c.in_ok-sim.ensures {u = tt} in
     let there = ran.ok.at_limit in (
       ran.ok.machine_is ∙ at.invariant.0,
-      ran.ok.traces_are ∙ at.invariant.1,
-      omega (arith, at.invariant.2, next.later, there),
+      omega (arith, at.invariant.1, next.later, there),
       omega (arith, next.within, there),
-      on-next sim.machine at.sim.machine sim.traces at.sim.traces sim.now at.sim.now stop c.in_ok-sim.sim.now at.invariant.0 at.invariant.1 there at.invariant.4 next.goes_on,
-      come-on m c.args.shards sim at.sim c.in_ok-sim.sim stop limit next.within at.invariant.5 ran.fitted,
+      on-next sim.machine at.sim.machine sim.now at.sim.now stop c.in_ok-sim.sim.now at.invariant.0 there at.invariant.3 next.goes_on,
+      come-on m c.args.shards sim at.sim c.in_ok-sim.sim stop limit next.within at.invariant.4 ran.fitted,
     )

@@ -21,4 +21,4 @@ returns-in-Ok-clause-fits g c =
     let arranged = c.arrange-results.result.items in
     let given = subst (λ results. g.O.Order.may_give c.number.result results arranged) (c.in_ok-results_of.ensures ∙ c.requires.jobs) c.arrange-results.ensures.may in
     let may = subst (λ n. g.O.Order.may_give n (jobs_of phase) arranged) c.number.ensures given in
-    record { arranged = arranged; given = may; whole = c.in-Ok.ensures.ok.0 }
+    record { arranged = arranged; given = may; whole = c.in-Ok.ensures.fits }

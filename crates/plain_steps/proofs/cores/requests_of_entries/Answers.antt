@@ -10,8 +10,8 @@ pub loop-k-preserved : goal.loop-k-preserved
 loop-k-preserved c =
     let s = c.args.s.now in
     let trace = c.args.trace.now in
-    let first = c.args.first in
-    let request = c.request_of_number.ensures ∙ ap (λ n. option_and_then (request_of s c.args.core c.args.cycle (first + n)) (slice_get trace (first + n))) c.from.ensures in
+    let first = c.args.issued.now.first in
+    let request = c.request_of_number.ensures ∙ ap (λ n. option_and_then (request_of s c.args.core c.args.issued.now.cycle (first + n)) (slice_get trace (first + n))) c.from.ensures in
     c.in_ok-push_some.ensures {u = tt}
     ∙ ap₂ (λ sent m. sent ++ option_to_list m) c.loop-k.invariant request
-    ∙ sym (requests_between_more s c.args.core trace c.args.cycle first c.loop-k.k)
+    ∙ sym (requests_between_more s c.args.core trace c.args.issued.now.cycle first c.loop-k.k)

@@ -4,4 +4,4 @@ use Rattle.sim_base.specs.History.{requests_between}
 use Rattle.plain_steps.proofs.cores.requests_of_entries.Given as goal
 
 abbrev pub invariant-loop-k : goal.invariant-loop-k
-invariant-loop-k l = l.sent.items ≡ requests_between l.s l.core l.trace l.cycle l.first (l.first + l.k)
+invariant-loop-k l = l.sent.items ≡ requests_between l.s l.core l.trace l.issued.cycle l.issued.first (l.issued.first + l.k)

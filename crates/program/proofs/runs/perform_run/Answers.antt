@@ -12,14 +12,14 @@ returns-clause-done g c =
       run = c.in_ok-run.run';
       outcome = c.in_ok-run.ensures.outcome tells;
       written = written_from _ _ _ _ _ (c.run_files.ensures.same tells) (h tells);
-      opened_are = opened tells ∙ ap (λ x. x ++ parts c.args.out.now c.in_ok-run.run') (c.run_files.ensures.unopened tells);
+      opened_are = opened tells ∙ ap (λ x. x ++ parts c.args.asked.now.out.now c.in_ok-run.run') (c.run_files.ensures.unopened tells);
     })
     c.write_tables.ensures.written c.write_tables.ensures.noted
 
 pub returns-clause-refused : goal.returns-clause-refused
 returns-clause-refused g c =
     IfErr-weaker c.write_tables.result _ _
-    (λ refusal h tells. elim (left_from refusal c.args.out.now c.in_ok-run.run' _ _ _ _ _ _ (c.run_files.ensures.same tells) (c.run_files.ensures.unopened tells) (h tells)) [
+    (λ refusal h tells. elim (left_from refusal c.args.asked.now.out.now c.in_ok-run.run' _ _ _ _ _ _ (c.run_files.ensures.same tells) (c.run_files.ensures.unopened tells) (h tells)) [
       | inl all ↦ inl all
       | inr unplaced ↦ inr (record { run = c.in_ok-run.run'; folder = when_ok c.test_folder-folder.result _ c.in_ok-run.ensures.folder c.test_folder-folder.ensures.there tells; outcome = c.in_ok-run.ensures.outcome tells; unplaced = unplaced })
     ])

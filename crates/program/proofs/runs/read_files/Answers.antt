@@ -11,7 +11,7 @@ returns-clause-read g c =
       document = c.in_ok-document.document.items;
       texts = map (λ t. t) c.in_ok-texts.texts.items;
       config_is = c.in_ok-document.ensures.bytes tells;
-      traces_are = texts_held _ _ (λ t. t.now) (λ t. t) c.args.traces.now c.in_ok-texts.texts.items (c.in_ok-document.ensures.same tells) (c.in_ok-texts.ensures.texts tells);
+      traces_are = texts_held _ _ (λ t. t.now) (λ t. t) c.args.asked.now.traces.now c.in_ok-texts.texts.items (c.in_ok-document.ensures.same tells) (c.in_ok-texts.ensures.texts tells);
       input = rw (c.deref-2.ensures.value, c.deref-3.ensures.value, c.in_ok-slices.ensures, c.deref.ensures.value) at input;
     }) c.tested_input.ensures.read
 
@@ -20,7 +20,7 @@ returns-clause-ready g c =
     IfOk-weaker c.tested_input.result _ _ (λ read input. record {
       texts = c.in_ok-document.document.items ∷ map (λ t. t) c.in_ok-texts.texts.items;
       read =
-          run_texts _ _ _ _ _ (λ t. t.now) (λ t. t) c.args.traces.now c.in_ok-texts.texts.items c.in_ok-document.ensures.bytes c.in_ok-document.ensures.same
+          run_texts _ _ _ _ _ (λ t. t.now) (λ t. t) c.args.asked.now.traces.now c.in_ok-texts.texts.items c.in_ok-document.ensures.bytes c.in_ok-document.ensures.same
           c.in_ok-texts.ensures.count c.in_ok-texts.ensures.texts;
       right = ap is_ok (rw (c.deref-2.ensures.value, c.deref-3.ensures.value, c.in_ok-slices.ensures, c.deref.ensures.value) at input.read);
     }) c.tested_input.ensures.read
@@ -28,7 +28,7 @@ returns-clause-ready g c =
 pub returns-clause-fault : goal.returns-clause-fault
 returns-clause-fault g c =
     IfErr-weaker c.tested_input.result _ _ (λ fault refused. run_refused _ _ _ _ _ _ _ fault
-    (run_texts _ _ _ _ _ (λ t. t.now) (λ t. t) c.args.traces.now c.in_ok-texts.texts.items c.in_ok-document.ensures.bytes c.in_ok-document.ensures.same
+    (run_texts _ _ _ _ _ (λ t. t.now) (λ t. t) c.args.asked.now.traces.now c.in_ok-texts.texts.items c.in_ok-document.ensures.bytes c.in_ok-document.ensures.same
     c.in_ok-texts.ensures.count c.in_ok-texts.ensures.texts)
     (rw (c.deref-2.ensures.value, c.deref-3.ensures.value, c.in_ok-slices.ensures, c.deref.ensures.value) at refused)) c.tested_input.ensures.refused
 

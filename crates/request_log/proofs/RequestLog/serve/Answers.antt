@@ -12,7 +12,7 @@ use Rattle.request_log.proofs.Counted.{none_asks}
 use Rattle.request_log.proofs.Places.{length-served}
 use Rattle.request_log.proofs.Tags.{length-tags}
 use Rattle.request_log.proofs.TagsChanged.{tag_left, blocked_left, blocked_some}
-use Rattle.request_log.proofs.Served.{served_blocked}
+use Rattle.request_log.proofs.Served.{served_blocked, blocked_behind}
 use Rattle.request_log.proofs.Left.{NoneBehind, IsNextAt, served_last, none_blocked, none_alike, none_met, next_met, marks_next, tags_next, blocked_fewer, counted_left, some_left}
 use Rattle.request_log.proofs.RequestLog.serve.Goals as goal
 use Rattle.request_log.proofs.RequestLog.serve.Goals.{After-index_mut, After-index_mut-4}
@@ -138,9 +138,9 @@ invariant_of-self whole =
     left_alone (goal.at.invariant_of-self whole).After-index_mut-4 (c.self.inside.blocked - 1) (within c) (waits c) (request_is c) (log_is c) marks
     (omega (arith, one, some, c.self.invariant.blocked_are))
 
-pub returns-then-not-was_first-clause-unblocked : goal.returns-then-not-was_first-clause-unblocked
-returns-then-not-was_first-clause-unblocked whole =
-    let c = (goal.at.returns-then-not-was_first-clause-unblocked whole).After-index_mut in
+pub returns-then-not-was_first-clause-marks : goal.returns-then-not-was_first-clause-marks
+returns-then-not-was_first-clause-marks whole =
+    let c = (goal.at.returns-then-not-was_first-clause-marks whole).After-index_mut in
     ap eligible_column (log_is c)
     ∙ served_blocked c.self.inside.log.items c.args.slot (within c) (waits c) (mark_is c false whole.if-not-was_first.true)
     ∙ ap (λ v. set (eligible_column v.log) c.args.slot 0) c.self.view_is
@@ -187,10 +187,10 @@ invariant_of-self-then-self-eq0 whole =
     left_alone d c.self.inside.blocked (within c) (waits c) (request_is c) (log_is c) (last c whole.if-not-was_first.false none)
     (same_count (is_marked (get_or (eligible_column c.self.inside.log.items) c.args.slot 0)) c.self.inside.blocked (mark_is c true whole.if-not-was_first.false))
 
-pub returns-then-self-eq0-clause-unblocked : goal.returns-then-self-eq0-clause-unblocked
-returns-then-self-eq0-clause-unblocked whole =
-    let c = (goal.at.returns-then-self-eq0-clause-unblocked whole).After-index_mut in
-    let d = (goal.at.returns-then-self-eq0-clause-unblocked whole).After-index_mut-4 in
+pub returns-then-self-eq0-clause-marks : goal.returns-then-self-eq0-clause-marks
+returns-then-self-eq0-clause-marks whole =
+    let c = (goal.at.returns-then-self-eq0-clause-marks whole).After-index_mut in
+    let d = (goal.at.returns-then-self-eq0-clause-marks whole).After-index_mut-4 in
     let none = none_either d (within c) (waits c) (request_is c) whole.then-self-eq0.either in
     ap eligible_column (log_is c) ∙ last c whole.if-not-was_first.false none ∙ ap (λ v. set (eligible_column v.log) c.args.slot 0) c.self.view_is
 
@@ -236,9 +236,9 @@ invariant_of-self-in_err-next whole =
     left_alone d c.self.inside.blocked (within c) (waits c) (request_is c) (log_is c) (last c whole.if-not-was_first.false none)
     (same_count (is_marked (get_or (eligible_column c.self.inside.log.items) c.args.slot 0)) c.self.inside.blocked (mark_is c true whole.if-not-was_first.false))
 
-pub returns-in_err-next-clause-unblocked : goal.returns-in_err-next-clause-unblocked
-returns-in_err-next-clause-unblocked whole =
-    let c = (goal.at.returns-in_err-next-clause-unblocked whole).After-index_mut in
+pub returns-in_err-next-clause-marks : goal.returns-in_err-next-clause-marks
+returns-in_err-next-clause-marks whole =
+    let c = (goal.at.returns-in_err-next-clause-marks whole).After-index_mut in
     let none = none_found c whole.deref.result.now whole.deref-2.result.now whole.deref.ensures.value whole.deref-2.ensures.value (whole.in_err-next.ensures {u = tt}) in
     ap eligible_column (log_is c)
     ∙ last c whole.if-not-was_first.false none
@@ -273,9 +273,9 @@ invariant_of-self-2 whole =
     (tags_next q.log.items q.tags.items slot place whole.tag_of.result (within c) (waits c) mark next c.self.invariant.tags_are tag) refl
     (omega (arith, fewer, c.self.invariant.blocked_are))
 
-pub returns-clause-unblocked : goal.returns-clause-unblocked
-returns-clause-unblocked whole =
-    let c = (goal.at.returns-clause-unblocked whole).After-index_mut in
+pub returns-clause-marks : goal.returns-clause-marks
+returns-clause-marks whole =
+    let c = (goal.at.returns-clause-marks whole).After-index_mut in
     let q = c.self.inside in
     let place = whole.in_ok-next.next in
     let found : IsFoundAt false whole.index.result.now.request.place whole.deref.result.now whole.deref-2.result.now (whole.args.slot + 1) place = whole.in_ok-next.ensures {u = tt} in
@@ -283,3 +283,13 @@ returns-clause-unblocked whole =
     ap eligible_column (log_is c)
     ∙ marks_next q.log.items c.args.slot place (within c) (waits c) (mark_is c true whole.if-not-was_first.false) next
     ∙ ap (λ v. set (set (eligible_column v.log) c.args.slot 0) place 1) c.self.view_is
+
+-- the next one of the line was behind the one that is served
+pub returns-clause-newly : goal.returns-clause-newly
+returns-clause-newly whole =
+    let c = (goal.at.returns-clause-newly whole).After-index_mut in
+    let log = c.self.inside.log.items in
+    let place = whole.in_ok-next.next in
+    let found : IsFoundAt false whole.index.result.now.request.place whole.deref.result.now whole.deref-2.result.now (whole.args.slot + 1) place = whole.in_ok-next.ensures {u = tt} in
+    let next = next_found c whole.deref.result.now whole.deref-2.result.now place whole.deref.ensures.value whole.deref-2.ensures.value found in
+    ap (λ v. is_marked (get_or (eligible_column v.log) place 0)) (sym c.self.view_is) ∙ blocked_behind log c.args.slot place next.behind next.within (waits c) next.here

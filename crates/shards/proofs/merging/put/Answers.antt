@@ -34,7 +34,7 @@ returns-clause-ok c names e len =
     let of = c.requires.of (subst (λ n. is_among (names_of p) n ≡ true) c.name-name.ensures known) in (
       ap (fault_at p names) (sym c.name-name.ensures) ∙ fault-none p names name known taken,
       ap (λ z. set z name.shard (Some c.args.done)) e
-          ∙ ap (λ d. set (results_at p names) name.shard (Some d)) (job-is p name.shard c.args.done of.0 of.1 of.2 (own.1 ∙ c.name-name.ensures))
+          ∙ ap (λ d. set (results_at p names) name.shard (Some d)) (job-is p name.shard c.args.done of.0 of.1 (own.1 ∙ c.name-name.ensures))
           ∙ results-put p names name.shard own.0
           ∙ ap (λ n. results_at p (names ++ n ∷ [])) (own.1 ∙ c.name-name.ensures),
     )

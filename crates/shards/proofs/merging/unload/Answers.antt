@@ -1,7 +1,6 @@
 -- Each result that is taken apart has its place among the shards, its lists and its cycle.
-use Rattle.std.proofs.Common.{rules, Some, ◌∷◌, [], ◌++◌, length, refl, sym, ap, subst, ◌∙◌, append_assoc, arith}
+use Rattle.std.proofs.Common.{rules, ◌∷◌, [], ◌++◌, length, refl, sym, ap, subst, ◌∙◌, append_assoc, arith}
 use Rattle.std.specs.Vec.Iter.{into_iter_items}
-use Rattle.std.proofs.lemmas.List.{length-map}
 use Rattle.shards.specs.Jobs.{JobView, IsDone}
 use Rattle.shards.specs.Phases.{jobs_of}
 use Rattle.units.proofs.Standing.{all-yielded}
@@ -21,10 +20,7 @@ returns c p early are =
     let at = c.loop-place in
     let all = all-yielded at.yielded (into_iter_items at.place-iterator) c.args.places.items (at.invariant.0 ∙ c.into_iter-place-iterator.ensures.into_iter_gives.0)
     (sym at.invariant.1 ∙ c.in-None.ensures.steps.0) in
-    let those = ap there (all ∙ are) ∙ there-all (jobs_of p) in (
-      taken-all p.machine p.traces p.bounds p.number p.from p.until at.first (there at.yielded) at.shards.items at.outbound.items at.invariant.2 early those,
-      at.invariant.2.shard_count ∙ ap length those ∙ sym (ap length are ∙ length-map (jobs_of p) Some),
-    )
+    taken-all p at.first (there at.yielded) at.shards.items at.outbound.items at.invariant.2 early (ap there (all ∙ are) ∙ there-all (jobs_of p))
 
 pub loop-place-preserved : goal.loop-place-preserved
 loop-place-preserved c =
@@ -33,7 +29,7 @@ loop-place-preserved c =
     let v = c.in-Some-place.done in
     let steps = c.in-Some.ensures.steps in
     let inside = c.done.inside in
-    let done = subst (λ (v : JobView). IsDone v.machine v.traces v.bounds v.name inside.wake inside.shard.value inside.outbound.items) c.done.view_is c.done.invariant in
+    let done = subst (λ (v : JobView). IsDone v.machine v.bounds v.name inside.wake inside.shard.value inside.outbound.items) c.done.view_is c.done.invariant in
     let push = taken-push at.first inside.wake c.min-first.result (there at.yielded) at.shards.items at.outbound.items v inside.shard inside.outbound c.min-first.ensures at.invariant.2 done in
     let those = ap (λ z. there (at.yielded ++ z ∷ [])) c.in-Some-place.is ∙ there-some at.yielded v in (
       append_assoc at.yielded (x ∷ []) _ ∙ ap (λ z. at.yielded ++ z) (sym steps.0) ∙ at.invariant.0,

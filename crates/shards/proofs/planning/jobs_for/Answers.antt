@@ -1,7 +1,6 @@
 -- The part of each shard is that at its index, with the lists that stood there.
 use Rattle.std.proofs.Common.{◌≡◌, ◌<◌, ◌∙◌, ◌∷◌, ◌++◌, ◌-◌, [], suc, rules, length, get_or, sym, ap, ap₂, subst, append_assoc, arith}
 use Rattle.std.specs.Prelude.{map}
-use Rattle.std.specs.Arc.{arc_value}
 use Rattle.std.specs.Vec.{vec_len}
 use Rattle.std.specs.Vec.Iter.{into_iter_items}
 use Rattle.std.specs.declared.vec.Vec.{Vec}
@@ -9,7 +8,8 @@ use Rattle.std.specs.declared.alloc.Global.{Global}
 use Rattle.statistics.proofs.Lists.{length-push_suc}
 use Rattle.sim_base.specs.History.{below}
 use Rattle.sim_base.specs.declared.message.Message.{Message}
-use Rattle.shards.specs.Jobs.{JobView, IsJob, job_at}
+use Rattle.shards.specs.Jobs.{JobView, IsJob, job_view}
+use Rattle.shards.specs.Phases.{job_of, name_of, phase_over}
 use Rattle.units.proofs.Standing.{all-yielded, places-more}
 use Rattle.shards.proofs.Setting.{left-next, seam-left, seam-job, job-own, job-seen}
 use Rattle.shards.proofs.planning.jobs_for.Goals as goal
@@ -25,10 +25,7 @@ index_mut-requires c =
 
 pub invariant_of-push : goal.invariant_of-push
 invariant_of-push c =
-    let s = c.args.machine.now.config in
-    let traces = c.args.machine.now.traces.items in
-    let bounds = c.args.bounds.now in
-    let span = c.args.span in
+    let p = phase_over c.args.machine.now c.args.bounds.now c.args.span in
     let at = c.loop-shard in
     let x = c.in-Some.shard in
     let lists = c.replace.result in
@@ -37,29 +34,25 @@ invariant_of-push c =
     let len : c.len-index.result ≡ length at.jobs.items = search rules in
     let index : length at.yielded ≡ c.len-index.result = sym (len ∙ at.invariant.count) in
     let taken : get_or at.inbound.items (length at.yielded) d ≡ lists = ap (λ n. get_or at.inbound.items n d) index ∙ sym (c.replace.ensures.value ∙ c.index_mut.ensures.value) in
-    job-own s traces bounds _ x.value lists.items
-    (subst (λ n. IsJob s traces bounds (record { phase = span.number; shard = n; from = span.from; until = span.until }) x.value lists.items) index
-    (subst (λ (v : Vec (Vec Message Global) Global). IsJob s traces bounds (record { phase = span.number; shard = length at.yielded; from = span.from; until = span.until }) x.value v.items) taken
-    (seam-job s traces bounds span.number span.from span.until c.args.shards.items at.yielded _ x c.args.inbound.items at.inbound.items d c.requires whole at.invariant.left)))
+    job-own p.machine p.bounds _ x.value lists.items
+    (subst (λ n. IsJob p.machine p.bounds (name_of p n) x.value lists.items) index
+    (subst (λ (v : Vec (Vec Message Global) Global). IsJob p.machine p.bounds (name_of p (length at.yielded)) x.value v.items) taken
+    (seam-job p c.args.shards.items at.yielded _ x c.args.inbound.items at.inbound.items d c.requires whole at.invariant.left)))
 
 pub loop-shard-preserved : goal.loop-shard-preserved
 loop-shard-preserved c =
-    let s = c.args.machine.now.config in
-    let traces = c.args.machine.now.traces.items in
-    let bounds = c.args.bounds.now in
-    let span = c.args.span in
+    let p = phase_over c.args.machine.now c.args.bounds.now c.args.span in
     let at = c.loop-shard in
     let x = c.in-Some.shard in
-    let f = job_at s traces bounds span.number span.from span.until in
+    let f = job_of p in
     let steps = c.in-Some.ensures.steps in
     let whole = ap (λ z. at.yielded ++ z) (sym steps.0) ∙ at.invariant.order ∙ c.into_iter-shard-iterator.ensures.into_iter_gives.0 in
     let grown = length-push_suc at.yielded x in
     let items = c.in_ok-push.ensures.items in
     let len : c.len-index.result ≡ length at.jobs.items = search rules in
     let index : length at.yielded ≡ c.len-index.result = sym (len ∙ at.invariant.count) in
-    let job = seam-job s traces bounds span.number span.from span.until c.args.shards.items at.yielded _ x c.args.inbound.items at.inbound.items c.index_mut.result.now c.requires whole at.invariant.left in
-    let seen = ap {B = JobView} (job_at (arc_value x.value.machine).config (arc_value x.value.machine).traces.items x.value.bounds.items span.number span.from span.until) (sym index)
-    ∙ job-seen s traces bounds span.number span.from span.until (length at.yielded) x.value job.before.is in
+    let job = seam-job p c.args.shards.items at.yielded _ x c.args.inbound.items at.inbound.items c.index_mut.result.now c.requires whole at.invariant.left in
+    let seen = ap {B = JobView} (λ n. job_view x.value (name_of p n)) (sym index) ∙ job-seen p (length at.yielded) x.value job.before.is in
     record {
       order = append_assoc at.yielded (x ∷ []) _ ∙ ap (λ z. at.yielded ++ z) (sym steps.0) ∙ at.invariant.order;
       finite =
@@ -74,13 +67,10 @@ loop-shard-preserved c =
 
 pub returns : goal.returns
 returns c =
-    let s = c.args.machine.now.config in
-    let traces = c.args.machine.now.traces.items in
-    let bounds = c.args.bounds.now in
-    let span = c.args.span in
+    let p = phase_over c.args.machine.now c.args.bounds.now c.args.span in
     let at = c.loop-shard in
-    let f = job_at s traces bounds span.number span.from span.until in
+    let f = job_of p in
     let all = all-yielded at.yielded (into_iter_items at.shard-iterator) c.args.shards.items (at.invariant.order ∙ c.into_iter-shard-iterator.ensures.into_iter_gives.0)
     (sym at.invariant.finite ∙ c.in-None.ensures.steps.0) in
-    let count : length at.yielded ≡ length bounds - 1 = omega (arith, ap length all, c.requires.count) in
+    let count : length at.yielded ≡ length p.bounds - 1 = omega (arith, ap length all, c.requires.count) in
     at.invariant.jobs ∙ ap (λ n. map f (below n)) count

@@ -1,15 +1,13 @@
 -- Each shard takes up the lists that stood at its index, and sleeps.
-use Rattle.std.proofs.Common.{◌≡◌, ◌≤◌, ◌+◌, ◌∙◌, ◌∷◌, ◌++◌, [], suc, rules, length, get_or, sym, ap, ap₂, subst, append_assoc, arith}
+use Rattle.std.proofs.Common.{◌≡◌, ◌∙◌, ◌∷◌, ◌++◌, [], suc, rules, length, get_or, sym, ap, ap₂, subst, append_assoc, arith}
 use Rattle.std.specs.Arc.{arc_value}
-use Rattle.std.specs.Prelude.{fold}
 use Rattle.std.specs.declared.vec.Vec.{Vec}
 use Rattle.std.specs.declared.alloc.Global.{Global}
 use Rattle.statistics.proofs.Lists.{length-push_suc}
-use Rattle.sim_base.specs.History.{insert_by_age}
 use Rattle.sim_base.specs.declared.message.Message.{Message}
 use Rattle.links.specs.InFlight.{InFlight}
-use Rattle.shards.specs.Shards.{IsShard, lists_of}
-use Rattle.units.specs.Units.{unit_count}
+use Rattle.shards.specs.Lists.{lists_of, with_lists}
+use Rattle.shards.specs.Shards.{IsShard, IsWithin}
 use Rattle.wake_words.specs.Wakes.{AreLowered}
 use Rattle.shards.specs.declared.shard.Shard.{Shard}
 use Rattle.shards.proofs.Setting.{left-next, seam-stop, stop-within, stops}
@@ -18,20 +16,18 @@ use Rattle.shards.proofs.planning.settled.Goals as goal
 
 pub take_up-requires : goal.take_up-requires
 take_up-requires c =
-    let s = c.args.machine.now.config in
-    let traces = c.args.machine.now.traces.items in
+    let machine = c.args.machine.now in
     let bounds = c.args.bounds.now in
     let at = c.loop-shard in
     let x = c.in-Some.shard in
     let whole = ap (λ z. at.yielded ++ z) (sym c.in-Some.ensures.steps.0) ∙ at.invariant.order ∙ c.into_iter-shard-iterator.ensures.into_iter_gives.0 in
-    let stop = seam-stop s traces bounds c.args.now c.args.shards.items at.yielded _ x c.args.inbound.items at.inbound.items c.index_mut.result.now c.requires whole at.invariant.left in
-    subst (λ (y : Shard). y.first + length y.words.items ≤ unit_count (arc_value y.machine).config) (sym c.deref_mut.ensures.value)
-    (stop-within s traces bounds (length at.yielded) c.args.now x.value _ stop)
+    let stop = seam-stop machine bounds c.args.now c.args.shards.items at.yielded _ x c.args.inbound.items at.inbound.items c.index_mut.result.now c.requires whole at.invariant.left in
+    subst IsWithin (sym c.deref_mut.ensures.value)
+    (stop-within machine bounds (length at.yielded) c.args.now x.value _ stop)
 
 pub loop-shard-preserved : goal.loop-shard-preserved
 loop-shard-preserved c =
-    let s = c.args.machine.now.config in
-    let traces = c.args.machine.now.traces.items in
+    let machine = c.args.machine.now in
     let bounds = c.args.bounds.now in
     let now = c.args.now in
     let at = c.loop-shard in
@@ -55,9 +51,9 @@ loop-shard-preserved c =
     let low : AreLowered (arc_value shard.machine).config shard.first (lists_of own) shard.words.items new.words.items =
     subst (λ (y : Shard). AreLowered (arc_value y.machine).config y.first (lists_of own) y.words.items new.words.items) old
     (subst (λ ls. AreLowered (arc_value c.deref_mut.result.now.machine).config c.deref_mut.result.now.first (lists_of ls) c.deref_mut.result.now.words.items new.words.items) lists up.words) in
-    let links = up.links ∙ ap₂ {C = InFlight} (λ (y : Shard) ls. record y.links { messages = fold insert_by_age y.links.messages (lists_of ls) }) old lists in
-    let stop = seam-stop s traces bounds now c.args.shards.items at.yielded _ x c.args.inbound.items at.inbound.items d c.requires whole at.invariant.left in
-    let made = stops s traces bounds (length at.yielded) now shard new own stop same low links in
+    let links = up.links ∙ ap₂ {C = InFlight} (λ (y : Shard) ls. with_lists y.links ls) old lists in
+    let stop = seam-stop machine bounds now c.args.shards.items at.yielded _ x c.args.inbound.items at.inbound.items d c.requires whole at.invariant.left in
+    let made = stops machine bounds (length at.yielded) now shard new own stop same low links in
     record {
       order = append_assoc at.yielded (x ∷ []) _ ∙ ap (λ z. at.yielded ++ z) (sym steps.0) ∙ at.invariant.order;
       finite =
@@ -67,6 +63,6 @@ loop-shard-preserved c =
           omega arith);
       left = left-next at.yielded x c.len-index.result c.args.inbound.items at.inbound.items _ index at.invariant.left;
       count = ap length items ∙ length-push_suc at.settled.items _ ∙ ap suc at.invariant.count ∙ sym grown;
-      made = subst (AreMade s traces bounds now) (sym items)
-          (made-push s traces bounds now at.settled.items _ at.invariant.made (subst (λ n. IsShard s traces bounds n new) (sym at.invariant.count) made.0) made.1);
+      made = subst (AreMade machine bounds now) (sym items)
+          (made-push machine bounds now at.settled.items _ at.invariant.made (subst (λ n. IsShard machine bounds n new) (sym at.invariant.count) made.0) made.1);
     }

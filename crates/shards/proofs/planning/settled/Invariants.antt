@@ -11,5 +11,5 @@ invariant-loop-shard l = record {
   finite : into_iter_len l.shard-iterator ≡ length (into_iter_items l.shard-iterator);
   left : AreLeft (length l.yielded) l.fn.inbound.items l.inbound.items;
   count : length l.settled.items ≡ length l.yielded;
-  made : AreMade l.machine.config l.machine.traces.items l.bounds l.now l.settled.items;
+  made : AreMade l.machine l.bounds l.now l.settled.items;
 }

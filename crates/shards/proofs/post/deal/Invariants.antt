@@ -4,7 +4,7 @@ use Rattle.std.specs.declared.vec.Vec.{Vec}
 use Rattle.std.specs.declared.alloc.Global.{Global}
 use Rattle.sim_base.specs.declared.message.Message.{Message}
 use Rattle.units.specs.Flight.{among}
-use Rattle.shards.specs.Shards.{bound}
+use Rattle.shards.specs.Lists.{bound}
 use Rattle.shards.proofs.post.deal.Given as goal
 
 abbrev pub invariant-loop-message : goal.invariant-loop-message

@@ -1,6 +1,6 @@
 use Rattle.std.proofs.Common.{◌≡◌, ◌++◌, ◌∷◌, ◌<◌, [], true, suc, cond, length, get_or, sym, subst, ap, ◌∙◌, append-nil, arith}
 use Rattle.units.specs.Flight.{goes_among}
-use Rattle.shards.specs.Shards.{bound}
+use Rattle.shards.specs.Lists.{bound}
 use Rattle.shards.proofs.Posting.{dealt, goes-here, goes-elsewhere, goes-nowhere}
 use Rattle.shards.proofs.post.deal_one.Goals as goal
 

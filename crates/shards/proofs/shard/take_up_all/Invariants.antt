@@ -5,7 +5,7 @@ use Rattle.std.specs.declared.vec.Vec.{Vec}
 use Rattle.std.specs.declared.alloc.Global.{Global}
 use Rattle.sim_base.specs.declared.message.Message.{Message}
 use Rattle.sim_base.specs.History.{insert_by_age}
-use Rattle.shards.specs.Shards.{lists_of}
+use Rattle.shards.specs.Lists.{lists_of}
 use Rattle.wake_words.specs.Wakes.{AreLowered}
 use Rattle.shards.proofs.shard.take_up_all.Given as goal
 

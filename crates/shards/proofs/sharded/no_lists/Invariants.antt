@@ -4,7 +4,7 @@ use Rattle.std.specs.Prelude.{All}
 use Rattle.sim_base.specs.declared.message.Message.{Message}
 use Rattle.std.specs.declared.vec.Vec.{Vec}
 use Rattle.std.specs.declared.alloc.Global.{Global}
-use Rattle.shards.specs.Shards.{lists_of}
+use Rattle.shards.specs.Lists.{lists_of}
 use Rattle.shards.proofs.sharded.no_lists.Given as goal
 
 abbrev pub invariant-loop : goal.invariant-loop

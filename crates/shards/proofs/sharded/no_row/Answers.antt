@@ -1,7 +1,7 @@
 -- An empty list more is one list more, and adds no message.
 use Rattle.std.proofs.Common.{◌+◌, length, ap, ◌∙◌, arith}
 use Rattle.std.proofs.lemmas.List.{length_push}
-use Rattle.shards.specs.Shards.{lists_of}
+use Rattle.shards.specs.Lists.{lists_of}
 use Rattle.shards.proofs.Unloading.{lists-push}
 use Rattle.shards.proofs.sharded.no_row.Goals as goal
 

@@ -1,6 +1,6 @@
 -- The lists so far are empty.
 use Rattle.std.proofs.Common.{◌≡◌, [], length}
-use Rattle.shards.specs.Shards.{lists_of}
+use Rattle.shards.specs.Lists.{lists_of}
 use Rattle.shards.proofs.sharded.no_row.Given as goal
 
 abbrev pub invariant-loop : goal.invariant-loop

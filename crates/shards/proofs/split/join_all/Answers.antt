@@ -1,13 +1,11 @@
 use Rattle.std.proofs.Common.{◌≡◌, ◌+◌, ◌∙◌, ◌∷◌, [], ◌++◌, rules, length, refl, sym, ap, subst, append_assoc, arith}
 use Rattle.std.specs.Vec.Iter.{into_iter_items}
-use Rattle.sim_base.specs.Counts.{in_flight}
-use Rattle.sim_base.specs.Machine.{run}
 use Rattle.statistics.proofs.Lists.{length-push_suc}
 use Rattle.links.specs.InFlight.{InFlight}
-use Rattle.units.specs.Flight.{among}
 use Rattle.units.specs.Parts.{StandAt}
-use Rattle.shards.specs.Shards.{bound}
-use Rattle.wake_words.specs.Wakes.{IsAsleep}
+use Rattle.units.specs.Runs.{flight_at}
+use Rattle.shards.specs.Lists.{bound}
+use Rattle.shards.specs.Shards.{SleepsAt, flight_to}
 use Rattle.wake_words.proofs.Sharing.{among-all}
 use Rattle.shards.proofs.Splitting.{among-nothing, shard-seam}
 use Rattle.units.proofs.Standing.{stand-none, all-yielded}
@@ -15,32 +13,29 @@ use Rattle.shards.proofs.split.join_all.Goals as goal
 
 pub loop-shard-init : goal.loop-shard-init
 loop-shard-init c =
-    let s = c.args.machine.now.config in
-    let traces = c.args.machine.now.traces.items in
+    let machine = c.args.machine.now in
     let now = c.args.now in
-    let ms = in_flight s traces (run s traces now) in
+    let ms = flight_at machine now in
     let begins = sym c.requires.shards.split.begins in (
       refl,
       search rules,
       ap length c.requires.none ∙ begins,
-      subst (StandAt s traces now) (sym c.requires.none) (stand-none s traces now),
+      subst (StandAt machine now) (sym c.requires.none) (stand-none machine now),
       c.requires.empty
-          ∙ ap {B = InFlight} (λ z. record { channels = s.channels; messages = z }) (sym (among-nothing s ms))
-          ∙ ap {B = InFlight} (λ n. record { channels = s.channels; messages = among s 0 n ms }) begins,
+          ∙ ap {B = InFlight} (λ z. record { channels = machine.config.channels; messages = z }) (sym (among-nothing machine.config ms))
+          ∙ ap {B = InFlight} (flight_to machine now 0) begins,
     )
 
 pub loop-shard-preserved : goal.loop-shard-preserved
 loop-shard-preserved c =
-    let s = c.args.machine.now.config in
-    let traces = c.args.machine.now.traces.items in
+    let machine = c.args.machine.now in
     let now = c.args.now in
     let bounds = c.args.bounds.now in
-    let ms = in_flight s traces (run s traces now) in
     let at = c.loop-shard in
     let x = c.in-Some.shard in
     let steps = c.in-Some.ensures.steps in
     let whole = ap (λ z. at.yielded ++ z) (sym steps.0) ∙ at.invariant.0 ∙ c.into_iter-shard-iterator.ensures.into_iter_gives.0 in
-    let made = shard-seam s traces bounds now c.args.shards.items at.yielded _ x c.requires.shards whole in
+    let made = shard-seam machine bounds now c.args.shards.items at.yielded _ x c.requires.shards whole in
     let grown = length-push_suc at.yielded x in
     let joined = c.in_ok-join_shard.ensures {u = tt} in
     let past : length at.parts.items + length x.value.slots.items ≡ bound bounds (length (at.yielded ++ x ∷ [])) =
@@ -52,25 +47,23 @@ loop-shard-preserved c =
           omega arith,
       joined.count ∙ past,
       joined.stand,
-      joined.links ∙ ap {B = InFlight} (λ n. record { channels = s.channels; messages = among s 0 n ms }) past,
+      joined.links ∙ ap {B = InFlight} (flight_to machine now 0) (joined.count ∙ past),
     )
 
 pub join_shard-requires-clause-asleep : goal.join_shard-requires-clause-asleep
 join_shard-requires-clause-asleep c =
-    let s = c.args.machine.now.config in
-    let traces = c.args.machine.now.traces.items in
+    let machine = c.args.machine.now in
     let at = c.loop-shard in
     let x = c.in-Some.shard in
     let whole = ap (λ z. at.yielded ++ z) (sym c.in-Some.ensures.steps.0) ∙ at.invariant.0 ∙ c.into_iter-shard-iterator.ensures.into_iter_gives.0 in
-    let made = shard-seam s traces c.args.bounds.now c.args.now c.args.shards.items at.yielded _ x c.requires.shards whole in
-    subst (λ n. IsAsleep s traces n c.args.now x.value.slots.items x.value.words.items x.value.links) (made.0.first_is ∙ sym at.invariant.2) made.1
+    let made = shard-seam machine c.args.bounds.now c.args.now c.args.shards.items at.yielded _ x c.requires.shards whole in
+    subst (λ n. SleepsAt machine n c.args.now x.value) (made.0.first_is ∙ sym at.invariant.2) made.1
 
 pub join_shard-requires-clause-links : goal.join_shard-requires-clause-links
 join_shard-requires-clause-links c =
-    let s = c.args.machine.now.config in
-    let traces = c.args.machine.now.traces.items in
+    let machine = c.args.machine.now in
     c.loop-shard.invariant.4
-    ∙ ap {B = InFlight} (λ n. record { channels = s.channels; messages = among s 0 n (in_flight s traces (run s traces c.args.now)) }) (sym c.loop-shard.invariant.2)
+    ∙ ap {B = InFlight} (flight_to machine c.args.now 0) (sym c.loop-shard.invariant.2)
 
 pub returns-clause-count : goal.returns-clause-count
 returns-clause-count c =
@@ -81,12 +74,11 @@ returns-clause-count c =
 
 pub returns-clause-links : goal.returns-clause-links
 returns-clause-links c =
-    let s = c.args.machine.now.config in
-    let traces = c.args.machine.now.traces.items in
+    let machine = c.args.machine.now in
     let at = c.loop-shard in
     let all = all-yielded at.yielded (into_iter_items at.shard-iterator) c.args.shards.items (at.invariant.0 ∙ c.into_iter-shard-iterator.ensures.into_iter_gives.0)
     (sym at.invariant.1 ∙ c.in-None.ensures.steps.0) in
     let whole = ap (bound c.args.bounds.now) (ap length all) ∙ c.requires.shards.split.ends (length c.args.shards.items) c.requires.shards.count in
     at.invariant.4
-    ∙ ap {B = InFlight} (λ n. record { channels = s.channels; messages = among s 0 n (in_flight s traces (run s traces c.args.now)) }) whole
-    ∙ ap {B = InFlight} (λ z. record { channels = s.channels; messages = z }) (among-all s traces c.args.now)
+    ∙ ap {B = InFlight} (flight_to machine c.args.now 0) whole
+    ∙ ap {B = InFlight} (λ z. record { channels = machine.config.channels; messages = z }) (among-all machine.config machine.traces.items c.args.now)

@@ -1,9 +1,8 @@
 use Rattle.std.proofs.Common.{ap, subst, ◌∙◌}
 use Rattle.std.specs.Arc.{arc_value}
-use Rattle.sim_base.specs.Counts.{in_flight}
-use Rattle.sim_base.specs.Machine.{run}
 use Rattle.links.specs.InFlight.{InFlight}
 use Rattle.units.specs.Parts.{StandAt}
+use Rattle.units.specs.Runs.{links_at}
 use Rattle.units.specs.Units.{unit_count}
 use Rattle.units.specs.declared.machine.Machine.{Machine}
 use Rattle.shards.proofs.Splitting.{shards-early}
@@ -17,8 +16,8 @@ invariant_of-result c =
     let now = c.args.now in
     record {
       counted = c.requires.counted;
-      early = shards-early m.config m.traces.items c.args.bounds.now now c.args.shards.items c.requires.shards;
+      early = shards-early m c.args.bounds.now now c.args.shards.items c.requires.shards;
       count = all.count ∙ ap (λ (x : Machine). unit_count x.config) e;
-      stand = subst (λ (x : Machine). StandAt x.config x.traces.items now c.join_all.new.parts.items) e all.stand;
-      flight = all.links ∙ ap {B = InFlight} (λ (x : Machine). record { channels = x.config.channels; messages = in_flight x.config x.traces.items (run x.config x.traces.items now) }) e;
+      stand = subst (λ (x : Machine). StandAt x now c.join_all.new.parts.items) e all.stand;
+      flight = all.links ∙ ap {B = InFlight} (λ (x : Machine). links_at x now) e;
     }

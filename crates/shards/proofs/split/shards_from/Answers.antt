@@ -1,7 +1,8 @@
 use Rattle.std.proofs.Common.{◌≡◌, ◌+◌, ◌-◌, ◌≤◌, ◌∙◌, suc, drop, length, length-drop, sym, ap, subst, arith}
 use Rattle.std.specs.Arc.{arc_value}
 use Rattle.statistics.proofs.Lists.{length-push_suc}
-use Rattle.shards.specs.Shards.{IsShard, bound}
+use Rattle.shards.specs.Lists.{bound}
+use Rattle.shards.specs.Shards.{IsShard}
 use Rattle.shards.proofs.Splitting.{AreMade, front-count, front-rest, front-waits, made-none, made-push, split-within}
 use Rattle.shards.proofs.split.shards_from.Goals as goal
 
@@ -11,7 +12,7 @@ loop-index-init c =
     let none = c.in_ok-shards.ensures.items in (
       ap (λ n. drop n c.args.slots.items) (sym c.requires.split.begins),
       ap length none,
-      made-none m.config m.traces.items c.args.bounds.now c.args.now c.in_ok-shards.shards.items none,
+      made-none m c.args.bounds.now c.args.now c.in_ok-shards.shards.items none,
     )
 
 pub loop-index-preserved : goal.loop-index-preserved
@@ -26,8 +27,8 @@ loop-index-preserved c =
     let order : bound bounds at.index ≤ bound bounds (at.index + 1) = subst (λ n. bound bounds at.index ≤ bound bounds n) (sym next) rises in (
       front-rest (bound bounds at.index) (bound bounds (at.index + 1)) c.args.slots.items at.left.items c.take_front.new.slots.items at.invariant.0 c.in_ok-own.ensures.rest order,
       ap length items ∙ length-push_suc at.shards.items x ∙ ap suc at.invariant.1 ∙ sym next,
-      subst (AreMade m.config m.traces.items bounds c.args.now) (sym items)
-          (made-push m.config m.traces.items bounds c.args.now at.shards.items x at.invariant.2 (subst (λ n. IsShard m.config m.traces.items bounds n x.value) (sym at.invariant.1) c.in_ok-shard_of.ensures.shard) c.in_ok-shard_of.ensures.asleep),
+      subst (AreMade m bounds c.args.now) (sym items)
+          (made-push m bounds c.args.now at.shards.items x at.invariant.2 (subst (λ n. IsShard m bounds n x.value) (sym at.invariant.1) c.in_ok-shard_of.ensures.shard) c.in_ok-shard_of.ensures.asleep),
     )
 
 pub take_front-requires : goal.take_front-requires
@@ -61,7 +62,7 @@ shard_of-requires-clause-wait c =
     let rises = c.requires.split.rises at.index (omega (arith, c.loop-index-test.true)) in
     let order : bound bounds at.index ≤ bound bounds (at.index + 1) = subst (λ n. bound bounds at.index ≤ bound bounds n) (sym next) rises in
     let within = split-within m.config bounds c.requires.split (at.index + 1) (omega (arith, c.loop-index-test.true)) in
-    front-waits m.config m.traces.items c.args.now (bound bounds at.index) (bound bounds (at.index + 1) - bound bounds at.index) c.args.slots.items at.left.items c.in_ok-own.own.items at.invariant.0 c.in_ok-own.ensures.front
+    front-waits m c.args.now (bound bounds at.index) (bound bounds (at.index + 1) - bound bounds at.index) c.args.slots.items at.left.items c.in_ok-own.own.items at.invariant.0 c.in_ok-own.ensures.front
     (omega (arith, within, order, c.requires.count)) c.requires.wait
 
 pub returns : goal.returns

@@ -6,4 +6,4 @@ pub shards_from-requires-clause-wait : goal.shards_from-requires-clause-wait
 shards_from-requires-clause-wait c =
     let f = c.sim.inside in
     let m = arc_value f.machine in
-    slots-wait m.config m.traces.items f.now f.parts.items c.in_ok-slots.slots.items c.sim.invariant.stand (c.in_ok-slots.ensures {u = tt})
+    slots-wait m f.now f.parts.items c.in_ok-slots.slots.items c.sim.invariant.stand (c.in_ok-slots.ensures {u = tt})

@@ -5,6 +5,8 @@ use Rattle.units.specs.Parts.{IsPart}
 use Rattle.units.proofs.counts.channel_stats_of.Goals as goal
 
 pub returns-in-Channel : goal.returns-in-Channel
-returns-in-Channel c s traces channel now h =
-    let stands = subst (IsPart s traces (unit.Channel channel) now) c.in-Channel.is h in
+returns-in-Channel c machine channel now h =
+    let s = machine.config in
+    let traces = machine.traces.items in
+    let stands = subst (IsPart machine (unit.Channel channel) now) c.in-Channel.is h in
     c.stats.ensures s channel _ _ stands.0 ∙ (channels-end_alike s traces now channel).0

@@ -5,6 +5,8 @@ use Rattle.units.specs.Parts.{IsPart}
 use Rattle.units.proofs.counts.core_stats_of.Goals as goal
 
 pub returns-in-Core : goal.returns-in-Core
-returns-in-Core c s traces core now h =
-    let stands = subst (IsPart s traces (unit.Core core) now) c.in-Core.is h in
+returns-in-Core c machine core now h =
+    let s = machine.config in
+    let traces = machine.traces.items in
+    let stands = subst (IsPart machine (unit.Core core) now) c.in-Core.is h in
     c.stats.ensures ∙ stands.stats ∙ (cores-end_alike s traces now core).0

@@ -1,11 +1,10 @@
 -- The channels so far have theirs.
-use Rattle.std.proofs.Common.{◌≡◌, ℕ, List, map}
-use Rattle.sim_base.specs.declared.trace.Entry.{Entry}
+use Rattle.std.proofs.Common.{◌≡◌, ℕ, map}
 use Rattle.sim_base.specs.History.{below}
-use Rattle.sim_base.specs.Machine.{run}
-use Rattle.statistics.specs.Runs.{stats_of_channel}
 use Rattle.units.specs.Parts.{StandAt}
+use Rattle.units.specs.Runs.{channel_stats_at}
 use Rattle.units.proofs.counts.stats_of_channels.Given as goal
 
 abbrev pub invariant-loop-channel : goal.invariant-loop-channel
-invariant-loop-channel l = (traces : List (List Entry)) (now : ℕ) → StandAt l.config traces now l.parts → l.stats.items ≡ map (stats_of_channel l.config traces (run l.config traces now)) (below l.channel)
+invariant-loop-channel l =
+    (now : ℕ) → StandAt l.machine now l.parts → l.stats.items ≡ map (channel_stats_at l.machine now) (below l.channel)

@@ -7,5 +7,5 @@ use Rattle.units.proofs.drained.all_finished.Given as goal
 
 abbrev pub invariant-loop-place : goal.invariant-loop-place
 invariant-loop-place l =
-    (now : ℕ) → StandAt l.machine.config l.machine.traces.items now l.parts
-    → (place : ℕ) → place < l.place → HasFinished l.machine.config l.machine.traces.items now (unit_at l.machine.config place)
+    (now : ℕ) → StandAt l.machine now l.parts
+    → (place : ℕ) → place < l.place → HasFinished l.machine now (unit_at l.machine.config place)

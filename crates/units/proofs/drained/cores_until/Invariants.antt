@@ -4,4 +4,4 @@ use Rattle.units.specs.Drained.{GoesOn}
 use Rattle.units.proofs.drained.cores_until.Given as goal
 
 abbrev pub invariant-loop-place : goal.invariant-loop-place
-invariant-loop-place l = StandAt l.machine.config l.machine.traces.items l.now l.parts → GoesOn l.machine.config l.machine.traces.items l.now l.until
+invariant-loop-place l = StandAt l.machine l.now l.parts → GoesOn l.machine l.now l.until

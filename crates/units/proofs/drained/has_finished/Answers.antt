@@ -17,26 +17,28 @@ use Rattle.units.proofs.drained.has_finished.Goals as goal
 
 pub returns-in-Core : goal.returns-in-Core
 returns-in-Core c now h =
-    let s = c.args.machine.now.config in
-    let traces = c.args.machine.now.traces.items in
+    let machine = c.args.machine.now in
+    let s = machine.config in
+    let traces = machine.traces.items in
     let place = c.args.place in
-    let at = core-place s traces now place c.in-Core.core (subst (IsPart s traces (unit_at s place) now) c.in-Core.is h) in
+    let at = core-place machine now place c.in-Core.core (subst (IsPart machine (unit_at s place) now) c.in-Core.is h) in
     let retired : c.stats.result.retired ≡ retired_before (core_steps_of s traces now place) =
     ap (λ x. x.retired) c.stats.ensures ∙ core-retired s traces place now (view_of c.in-Core.core) at.stands in
     let whole : c.trace_len.result ≡ length (trace_of traces place) = c.trace_len.ensures in (
-      λ e. subst (HasFinished s traces now) (sym (core-at_place s place at.below)) (sym retired ∙ eqb-true _ _ e ∙ whole),
-      λ f. eq-eqb _ _ (retired ∙ subst (HasFinished s traces now) (core-at_place s place at.below) f ∙ sym whole),
+      λ e. subst (HasFinished machine now) (sym (core-at_place s place at.below)) (sym retired ∙ eqb-true _ _ e ∙ whole),
+      λ f. eq-eqb _ _ (retired ∙ subst (HasFinished machine now) (core-at_place s place at.below) f ∙ sym whole),
     )
 
 pub returns-in-Channel : goal.returns-in-Channel
 unfolding queue_left
 returns-in-Channel c now h =
-    let s = c.args.machine.now.config in
-    let traces = c.args.machine.now.traces.items in
+    let machine = c.args.machine.now in
+    let s = machine.config in
+    let traces = machine.traces.items in
     let place = c.args.place in
-    let at = channel-place s traces now place c.in-Channel.channel c.in-Channel.field-1 (subst (IsPart s traces (unit_at s place) now) c.in-Channel.is h) in
+    let at = channel-place machine now place c.in-Channel.channel c.in-Channel.field-1 (subst (IsPart machine (unit_at s place) now) c.in-Channel.is h) in
     let is = channel-at_place s place at.channel at.is in
     let queue = c.waiting.ensures s at.channel (channel_steps_of s traces now at.channel) (mail_before s traces now (unit.Channel at.channel) now) at.stands in (
-      λ e. subst (HasFinished s traces now) (sym is) (nothing_left (queued_requests (issued_commands at.channel (channel_steps_of s traces now at.channel)) (mail_before s traces now (unit.Channel at.channel) now) (length (channel_steps_of s traces now at.channel))) (sym queue ∙ eqb-true _ _ e)),
-      λ f. eq-eqb _ _ (queue ∙ ap length (subst (HasFinished s traces now) is f)),
+      λ e. subst (HasFinished machine now) (sym is) (nothing_left (queued_requests (issued_commands at.channel (channel_steps_of s traces now at.channel)) (mail_before s traces now (unit.Channel at.channel) now) (length (channel_steps_of s traces now at.channel))) (sym queue ∙ eqb-true _ _ e)),
+      λ f. eq-eqb _ _ (queue ∙ ap length (subst (HasFinished machine now) is f)),
     )

@@ -9,11 +9,12 @@ use Rattle.units.proofs.drained.unit_until.Goals as goal
 
 pub returns-in-Core : goal.returns-in-Core
 returns-in-Core c h =
-    let s = c.args.machine.now.config in
-    let traces = c.args.machine.now.traces.items in
+    let machine = c.args.machine.now in
+    let s = machine.config in
+    let traces = machine.traces.items in
     let place = c.args.place in
-    let at = core-place s traces c.args.now place c.in-Core.core (subst (IsPart s traces (unit_at s place) c.args.now) c.in-Core.is h) in
+    let at = core-place machine c.args.now place c.in-Core.core (subst (IsPart machine (unit_at s place) c.args.now) c.in-Core.is h) in
     let left : c.saturating_sub-left.result ≡ length (trace_of traces place) - c.in-Core.core.stats.retired =
     c.saturating_sub-left.ensures ∙ ap₂ (λ a b. a - b) c.trace_len.ensures (ap (λ (x : CoreStats). x.retired) c.stats.ensures) in
     let cycles = c.div_ceil.ensures ∙ ap₂ div_ceil left c.from.ensures in
-    core-goes_on s traces c.args.now place c.in-Core.core c.saturating_add.result at (omega (arith, s.core_in_range.width_in)) (omega (arith, c.saturating_add.ensures, cycles))
+    core-goes_on machine c.args.now place c.in-Core.core c.saturating_add.result at (omega (arith, s.core_in_range.width_in)) (omega (arith, c.saturating_add.ensures, cycles))

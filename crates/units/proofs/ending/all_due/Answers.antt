@@ -9,8 +9,9 @@ use Rattle.units.proofs.ending.all_due.Goals as goal
 
 pub loop-rank-preserved : goal.loop-rank-preserved
 loop-rank-preserved c =
-    let s = c.args.machine.now.config in
-    let traces = c.args.machine.now.traces.items in
+    let machine = c.args.machine.now in
+    let s = machine.config in
+    let traces = machine.traces.items in
     let now = c.args.now in
     let number = c.args.number in
     let h = history_of s traces now number in

@@ -8,11 +8,12 @@ use Rattle.units.proofs.ending.channel_left.Goals as goal
 
 pub returns : goal.returns
 returns c =
-    let s = c.args.machine.now.config in
-    let traces = c.args.machine.now.traces.items in
+    let machine = c.args.machine.now in
+    let s = machine.config in
+    let traces = machine.traces.items in
     let now = c.args.now in
     let number = c.args.number in
-    let stands = subst (IsPart s traces (unit.Channel number) now) c.in-Channel.is c.requires.stands in
+    let stands = subst (IsPart machine (unit.Channel number) now) c.in-Channel.is c.requires.stands in
     left_of (c.in_ok-all_due-in-Channel.ensures {u = tt}) (c.in_ok-open_rows-in-Channel.ensures {u = tt})
     (c.in_ok-requests-in-Channel.ensures {u = tt} s number (channel_steps_of s traces now number) (mail_before s traces now (unit.Channel number) now) stands.0)
     ∙ channel_left_is s traces number now

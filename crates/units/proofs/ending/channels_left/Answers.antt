@@ -8,23 +8,25 @@ use Rattle.units.proofs.ending.channels_left.Goals as goal
 
 pub channel_left-requires : goal.channel_left-requires
 channel_left-requires c =
-    let s = c.args.machine.now.config in
-    let traces = c.args.machine.now.traces.items in
+    let machine = c.args.machine.now in
+    let s = machine.config in
+    let traces = machine.traces.items in
     let now = c.args.now in
     let l = c.loop-channel in
     let x = c.index-parts-place.result in
     let k : l.channel < s.channels = c.loop-channel-test.true in
-    let stands = channel-stands s traces now c.args.parts.now l.channel x c.requires.stand c.requires.count k in
+    let stands = channel-stands machine now c.args.parts.now l.channel x c.requires.stand c.requires.count k in
     record {
-      stands = subst (λ n. IsPart s traces (unit.Channel n) now x) (sym c.from-in-loop-channel-2.ensures)
-          (subst (IsPart s traces (unit.Channel l.channel) now)
+      stands = subst (λ n. IsPart machine (unit.Channel n) now x) (sym c.from-in-loop-channel-2.ensures)
+          (subst (IsPart machine (unit.Channel l.channel) now)
           (ap₂ (λ i j. get_or c.args.parts.now (i + j) x) (sym c.from.ensures) (sym c.from-in-loop-channel.ensures) ∙ sym c.index-parts-place.is) stands);
     }
 
 pub loop-channel-preserved : goal.loop-channel-preserved
 loop-channel-preserved c =
-    let s = c.args.machine.now.config in
-    let traces = c.args.machine.now.traces.items in
+    let machine = c.args.machine.now in
+    let s = machine.config in
+    let traces = machine.traces.items in
     let now = c.args.now in
     let l = c.loop-channel in
     c.in_ok-push.ensures.items

@@ -9,9 +9,10 @@ use Rattle.units.proofs.ending.core_left.Goals as goal
 
 pub returns : goal.returns
 returns c =
-    let s = c.args.machine.now.config in
-    let traces = c.args.machine.now.traces.items in
-    let stands = subst (IsPart s traces (unit.Core c.args.core) c.args.now) c.in-Core.is c.requires.stands in
+    let machine = c.args.machine.now in
+    let s = machine.config in
+    let traces = machine.traces.items in
+    let stands = subst (IsPart machine (unit.Core c.args.core) c.args.now) c.in-Core.is c.requires.stands in
     ap₂ {C = LastCore} (λ (x : CoreStats) credits. record { issued = x.issued; retired = x.retired; credits = credits }) c.stats-stats.ensures
     (c.in_ok-to_vec-in-Core.ensures.items_if_clones_equal (λ x y e. e) ∙ c.credits.ensures)
     ∙ core_left_is s traces c.args.core c.args.now (view_of c.in-Core.core) stands

@@ -8,20 +8,22 @@ use Rattle.units.proofs.ending.cores_left.Goals as goal
 
 pub core_left-requires : goal.core_left-requires
 core_left-requires c =
-    let s = c.args.machine.now.config in
-    let traces = c.args.machine.now.traces.items in
+    let machine = c.args.machine.now in
+    let s = machine.config in
+    let traces = machine.traces.items in
     let now = c.args.now in
     let l = c.loop-core in
     let k : l.core < s.cores = c.loop-core-test.true in
-    let stands = core-stands s traces now c.args.parts.now l.core c.index-parts-from.result c.requires.stand c.requires.count k in
+    let stands = core-stands machine now c.args.parts.now l.core c.index-parts-from.result c.requires.stand c.requires.count k in
     record {
-      stands = subst (IsPart s traces (unit.Core l.core) now) (ap (λ i. get_or c.args.parts.now i c.index-parts-from.result) (sym c.from.ensures) ∙ sym c.index-parts-from.is) stands;
+      stands = subst (IsPart machine (unit.Core l.core) now) (ap (λ i. get_or c.args.parts.now i c.index-parts-from.result) (sym c.from.ensures) ∙ sym c.index-parts-from.is) stands;
     }
 
 pub loop-core-preserved : goal.loop-core-preserved
 loop-core-preserved c =
-    let s = c.args.machine.now.config in
-    let traces = c.args.machine.now.traces.items in
+    let machine = c.args.machine.now in
+    let s = machine.config in
+    let traces = machine.traces.items in
     let now = c.args.now in
     let l = c.loop-core in
     c.in_ok-push.ensures.items ∙ places-then (last_of_core s traces (run s traces now)) l.core l.left.items _ l.invariant (c.in_ok-core_left.ensures {u = tt})

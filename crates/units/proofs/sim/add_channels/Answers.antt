@@ -7,10 +7,10 @@ use Rattle.units.proofs.sim.add_channels.Goals as goal
 pub loop-number-preserved : goal.loop-number-preserved
 loop-number-preserved c =
     let l = c.loop-number in
-    let s = c.args.config.now in
+    let machine = c.args.machine.now in
     let items = c.in_ok-push.ensures.items in
     let count = ap length items ∙ length_push _ _ in (
       omega (arith, count, l.invariant.0),
-      λ traces h. subst (StandAt s traces 0) (sym items)
-          (first-channel s traces l.parts.items l.number c.in_ok-channel.channel c.list_for-list.result (l.invariant.1 traces h) l.invariant.0 (c.in_ok-channel.ensures {u = tt}) c.list_for-list.ensures.none),
+      subst (StandAt machine 0) (sym items)
+          (first-channel machine l.parts.items l.number c.in_ok-channel.channel c.list_for-list.result l.invariant.1 l.invariant.0 (c.in_ok-channel.ensures {u = tt}) c.list_for-list.ensures.none),
     )

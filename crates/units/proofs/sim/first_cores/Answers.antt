@@ -9,11 +9,12 @@ use Rattle.units.proofs.sim.first_cores.Goals as goal
 pub loop-core-preserved : goal.loop-core-preserved
 loop-core-preserved c =
     let l = c.loop-core in
-    let s = c.args.config.now in
-    let traces = c.args.traces.now in
+    let machine = c.args.machine.now in
+    let s = machine.config in
+    let traces = machine.traces.items in
     let items = c.in_ok-push.ensures.items in (
       ap length items ∙ length_push _ _ ∙ ap (λ n. n + 1) l.invariant.0,
-      subst (StandAt s traces 0) (sym items)
-          (first-core s traces l.parts.items l.core c.in_ok-start.field-0 l.invariant.1 l.invariant.0 (omega (arith, c.loop-core-test.true))
-          (subst (λ trace. StandsFor s l.core trace [] [] (view_of c.in_ok-start.field-0)) (c.in_ok-trace.ensures {u = tt} ∙ c.index-traces-core.is ∙ same-default traces l.core _ [] (omega (arith, c.loop-core-test.true, c.requires.one_each))) (c.in_ok-start.ensures {u = tt}))),
+      subst (StandAt machine 0) (sym items)
+          (first-core machine l.parts.items l.core c.in_ok-start.field-0 l.invariant.1 l.invariant.0 (omega (arith, c.loop-core-test.true))
+          (subst (λ trace. StandsFor s l.core trace [] [] (view_of c.in_ok-start.field-0)) (c.in_ok-trace.ensures {u = tt} ∙ c.index.ensures ∙ same-default traces l.core _ [] (omega (arith, c.loop-core-test.true, c.requires.one_each))) (c.in_ok-start.ensures {u = tt}))),
     )

@@ -4,4 +4,4 @@ use Rattle.units.specs.Parts.{StandAt}
 use Rattle.units.proofs.sim.first_cores.Given as goal
 
 abbrev pub invariant-loop-core : goal.invariant-loop-core
-invariant-loop-core l = (length l.parts.items ≡ l.core) × StandAt l.config l.traces 0 l.parts.items
+invariant-loop-core l = (length l.parts.items ≡ l.core) × StandAt l.machine 0 l.parts.items

@@ -12,15 +12,17 @@ use Rattle.units.proofs.tables.command_table.Goals as goal
 
 pub of-requires : goal.of-requires
 of-requires c =
-    let s = c.args.machine.now.config in
-    let traces = c.args.machine.now.traces.items in
+    let machine = c.args.machine.now in
+    let s = machine.config in
+    let traces = machine.traces.items in
     let are = subst (λ (lists : Option (Vec (List IssuedCommand) Global)). AreHeld lists (lists_below s traces c.args.now s.channels)) c.in_ok-lists.was c.requires in
     record { rising = subst (λ lists. All IsRising lists) (sym are) (lists-rise s traces c.args.now (below s.channels)) }
 
 pub returns : goal.returns
 returns c =
-    let s = c.args.machine.now.config in
-    let traces = c.args.machine.now.traces.items in
+    let machine = c.args.machine.now in
+    let s = machine.config in
+    let traces = machine.traces.items in
     let table = commands (run s traces c.args.now) in
     let are = subst (λ (lists : Option (Vec (List IssuedCommand) Global)). AreHeld lists (lists_below s traces c.args.now s.channels)) c.in_ok-lists.was c.requires in
     subst (λ (lists : Option (Vec (List IssuedCommand) Global)). Some c.of.result ≡ if_asked (is_some lists) table) (sym c.in_ok-lists.was)

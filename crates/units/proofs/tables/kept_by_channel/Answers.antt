@@ -12,8 +12,9 @@ use Rattle.units.proofs.tables.kept_by_channel.Goals as goal
 
 pub loop-part-init : goal.loop-part-init
 loop-part-init c =
-    let s = c.args.machine.now.config in
-    let traces = c.args.machine.now.traces.items in
+    let machine = c.args.machine.now in
+    let s = machine.config in
+    let traces = machine.traces.items in
     let none : 0 ≡ 0 - s.cores = omega arith in
     record {
       gone = refl;
@@ -21,13 +22,14 @@ loop-part-init c =
       commands_asked = c.lists_if.ensures.asked;
       served_asked = c.lists_if-2.ensures.asked;
       commands = subst (λ n. AreHeld c.lists_if.result (map (history_of s traces c.args.now) (below n))) none c.lists_if.ensures.held;
-      served = subst (λ n. AreHeld c.lists_if-2.result (map (served_of s traces c.args.now) (below n))) none c.lists_if-2.ensures.held;
+      served = subst (λ n. AreHeld c.lists_if-2.result (map (served_of machine c.args.now) (below n))) none c.lists_if-2.ensures.held;
     }
 
 pub loop-part-preserved : goal.loop-part-preserved
 loop-part-preserved c =
-    let s = c.args.machine.now.config in
-    let traces = c.args.machine.now.traces.items in
+    let machine = c.args.machine.now in
+    let s = machine.config in
+    let traces = machine.traces.items in
     let at = c.loop-part in
     let place = length at.yielded in
     let x = c.in-Some.part in
@@ -39,7 +41,7 @@ loop-part-preserved c =
     ap (λ z. at.yielded ++ z) (sym steps.0) ∙ at.invariant.gone ∙ c.into_iter-part-iterator.ensures.into_iter_gives.0 in
     let long : place + length (x ∷ rest) ≡ length c.args.parts.items = sym (length-append at.yielded (x ∷ rest)) ∙ ap length seam in
     let within : place < unit_count s = omega (arith, long, c.requires.count) in
-    let stands = stand-seam s traces c.args.now c.args.parts.items at.yielded rest x c.requires.stand seam in
+    let stands = stand-seam machine c.args.now c.args.parts.items at.yielded rest x c.requires.stand seam in
     let told = c.in_ok-add_part.ensures {u = tt} in
     let next = sym (length-push_suc at.yielded x) in
     record {
@@ -52,17 +54,18 @@ loop-part-preserved c =
       commands_asked = told.commands_asked ∙ at.invariant.commands_asked;
       served_asked = told.served_asked ∙ at.invariant.served_asked;
       commands = subst (λ n. AreHeld new.commands (map (history_of s traces c.args.now) (below (n - s.cores)))) next
-          (held-more s traces c.args.now place x (history_of s traces c.args.now) old.commands new.commands stands within (λ core h. ap (λ (k : Kept). k.commands) (told.core s traces core c.args.now h))
-          (λ channel rows l h held. told.commands s traces channel c.args.now rows h held) at.invariant.commands);
-      served = subst (λ n. AreHeld new.served (map (served_of s traces c.args.now) (below (n - s.cores)))) next
-          (held-more s traces c.args.now place x (served_of s traces c.args.now) old.served new.served stands within (λ core h. ap (λ (k : Kept). k.served) (told.core s traces core c.args.now h))
-          (λ channel rows l h held. told.served s traces channel c.args.now rows l h held) at.invariant.served);
+          (held-more machine c.args.now place x (history_of s traces c.args.now) old.commands new.commands stands within (λ core h. ap (λ (k : Kept). k.commands) (told.core machine core c.args.now h))
+          (λ channel rows l h held. told.commands machine channel c.args.now rows h held) at.invariant.commands);
+      served = subst (λ n. AreHeld new.served (map (served_of machine c.args.now) (below (n - s.cores)))) next
+          (held-more machine c.args.now place x (served_of machine c.args.now) old.served new.served stands within (λ core h. ap (λ (k : Kept). k.served) (told.core machine core c.args.now h))
+          (λ channel rows l h held. told.served machine channel c.args.now rows l h held) at.invariant.served);
     }
 
 pub returns : goal.returns
 returns c =
-    let s = c.args.machine.now.config in
-    let traces = c.args.machine.now.traces.items in
+    let machine = c.args.machine.now in
+    let s = machine.config in
+    let traces = machine.traces.items in
     let at = c.loop-part in
     let all = all-yielded at.yielded (into_iter_items at.part-iterator) c.args.parts.items (at.invariant.gone ∙ c.into_iter-part-iterator.ensures.into_iter_gives.0)
     (sym at.invariant.left ∙ c.in-None.ensures.steps.0) in
@@ -71,5 +74,5 @@ returns c =
       commands_asked = at.invariant.commands_asked;
       served_asked = at.invariant.served_asked;
       commands = subst (λ n. AreHeld at.kept.commands (map (history_of s traces c.args.now) (below n))) count at.invariant.commands;
-      served = subst (λ n. AreHeld at.kept.served (map (served_of s traces c.args.now) (below n))) count at.invariant.served;
+      served = subst (λ n. AreHeld at.kept.served (map (served_of machine c.args.now) (below n))) count at.invariant.served;
     }

@@ -14,5 +14,5 @@ invariant-loop-part l = record {
   commands_asked : is_some l.kept.commands ≡ l.fn.tables.commands;
   served_asked : is_some l.kept.served ≡ l.fn.tables.requests;
   commands : AreHeld l.kept.commands (map (history_of l.machine.config l.machine.traces.items l.now) (below (length l.yielded - l.machine.config.cores)));
-  served : AreHeld l.kept.served (map (served_of l.machine.config l.machine.traces.items l.now) (below (length l.yielded - l.machine.config.cores)));
+  served : AreHeld l.kept.served (map (served_of l.machine l.now) (below (length l.yielded - l.machine.config.cores)));
 }

@@ -10,7 +10,9 @@ use Rattle.units.proofs.Requested.{kept-is}
 use Rattle.units.proofs.tables.list_of.Goals as goal
 
 pub returns : goal.returns
-returns c s traces number now l h =
+returns c machine number now l h =
+    let s = machine.config in
+    let traces = machine.traces.items in
     c.of.ensures
-    ∙ subst (λ (kept : Option (Vec ServedRequest Global)). IfSome kept (λ rows. rows.items ≡ served_of s traces now number)) c.in_ok-into_served.was
-    (kept-is s traces now number c.into_served.result l (c.into_served.ensures s number (channel_steps_of s traces now number) (mail_before s traces now (unit.Channel number) now) h))
+    ∙ subst (λ (kept : Option (Vec ServedRequest Global)). IfSome kept (λ rows. rows.items ≡ served_of machine now number)) c.in_ok-into_served.was
+    (kept-is machine now number c.into_served.result l (c.into_served.ensures s number (channel_steps_of s traces now number) (mail_before s traces now (unit.Channel number) now) h))

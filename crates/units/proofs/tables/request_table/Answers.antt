@@ -13,16 +13,18 @@ use Rattle.units.proofs.tables.request_table.Goals as goal
 
 pub of-requires : goal.of-requires
 of-requires c =
-    let s = c.args.machine.now.config in
-    let traces = c.args.machine.now.traces.items in
-    let are = subst (λ (lists : Option (Vec (List ServedRequest) Global)). AreHeld lists (served_below s traces c.args.now s.channels)) c.in-Some.is c.requires in
-    subst (λ lists. All (AreServed 0 c.args.now) lists) (sym are) (served-rise s traces c.args.now (below s.channels))
+    let machine = c.args.machine.now in
+    let s = machine.config in
+    let traces = machine.traces.items in
+    let are = subst (λ (lists : Option (Vec (List ServedRequest) Global)). AreHeld lists (served_below machine c.args.now s.channels)) c.in-Some.is c.requires in
+    subst (λ lists. All (AreServed 0 c.args.now) lists) (sym are) (served-rise machine c.args.now (below s.channels))
 
 pub returns-in_ok-of-in-Some : goal.returns-in_ok-of-in-Some
 returns-in_ok-of-in-Some c =
-    let s = c.args.machine.now.config in
-    let traces = c.args.machine.now.traces.items in
+    let machine = c.args.machine.now in
+    let s = machine.config in
+    let traces = machine.traces.items in
     let table = requests_of s (run s traces c.args.now) in
-    let are = subst (λ (lists : Option (Vec (List ServedRequest) Global)). AreHeld lists (served_below s traces c.args.now s.channels)) c.in-Some.is c.requires in
+    let are = subst (λ (lists : Option (Vec (List ServedRequest) Global)). AreHeld lists (served_below machine c.args.now s.channels)) c.in-Some.is c.requires in
     subst (λ (lists : Option (Vec (List ServedRequest) Global)). Some c.in_ok-of-in-Some.field-0 ≡ if_asked (is_some lists) table) (sym c.in-Some.is)
-    (ap Some (c.in_ok-of-in-Some.ensures {u = tt} ∙ ap (times_by_cycle s c.args.now) are ∙ requests-are s traces c.args.now))
+    (ap Some (c.in_ok-of-in-Some.ensures {u = tt} ∙ ap (times_by_cycle s c.args.now) are ∙ requests-are machine c.args.now))

@@ -7,8 +7,9 @@ use Rattle.wake_words.proofs.waking.bring_up.Goals as goal
 
 pub loop-slot-preserved : goal.loop-slot-preserved
 loop-slot-preserved c =
-    let s = c.args.machine.now.config in
-    let traces = c.args.machine.now.traces.items in
+    let machine = c.args.machine.now in
+    let s = machine.config in
+    let traces = machine.traces.items in
     let at = c.loop-slot in
     let x = c.in-Some.slot in
     let y = c.in_ok-brought_up.field-0 in
@@ -26,6 +27,6 @@ loop-slot-preserved c =
       let more = ap length items ∙ length-push_suc at.parts.items y in
           let before = at.invariant.2 in
           omega (arith, more, before, grown),
-      subst (StandAt s traces now) (sym items)
-          (stand-push s traces now at.parts.items y at.invariant.3 (subst (λ u. IsPart s traces u now y) unit (c.in_ok-brought_up.ensures {u = tt}))),
+      subst (StandAt machine now) (sym items)
+          (stand-push machine now at.parts.items y at.invariant.3 (subst (λ u. IsPart machine u now y) unit (c.in_ok-brought_up.ensures {u = tt}))),
     )

@@ -9,4 +9,4 @@ invariant-loop-slot l =
     (l.yielded ++ into_iter_items l.slot-iterator ≡ into_iter_items l.initial.slot-iterator)
     × (into_iter_len l.slot-iterator ≡ length (into_iter_items l.slot-iterator))
     × (length l.parts.items ≡ length l.fn.parts.items + length l.yielded)
-    × StandAt l.machine.config l.machine.traces.items l.now l.parts.items
+    × StandAt l.machine l.now l.parts.items

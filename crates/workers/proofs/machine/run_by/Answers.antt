@@ -12,7 +12,7 @@ returns-clause-outcome g c =
     let traces = c.args.traces.items in
     let now = c.loop-stop.sim.now in
     let same = c.loop-stop.invariant in
-    let ended : now < c.args.cycles → ends_before s traces now ≡ true = λ l. ap (λ t. ends_before s t now) (sym same.1) ∙ ap (λ m. ends_before m c.loop-stop.sim.traces now) (sym same.0) ∙ (c.in_default.ensures {u = tt}).ended l in
+    let ended : now < c.args.cycles → ends_before s traces now ≡ true = λ l. ap (λ t. ends_before s t now) (sym same.1) ∙ ap (λ m. ends_before m c.loop-stop.sim.machine.traces.items now) (sym same.0) ∙ (c.in_default.ensures {u = tt}).ended l in
     let counted : cycles_run s traces c.args.cycles ≡ now =
     cycles-are_counted s traces c.args.cycles now same.2 (λ last e. same.3 last (omega arith) (omega (arith, e))) ended in
     c.in_ok-outcome.ensures {u = tt}

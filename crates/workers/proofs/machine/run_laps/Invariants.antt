@@ -4,7 +4,7 @@ use Rattle.workers.proofs.machine.run_laps.Given as goal
 
 abbrev pub invariant-loop-alloc : goal.invariant-loop-alloc
 invariant-loop-alloc g l =
-    (l.sim.machine ≡ l.fn.sim.machine) × (l.sim.traces ≡ l.fn.sim.traces) × (l.fn.sim.now ≤ l.sim.now) × (l.sim.now ≤ l.limit)
+    (l.sim.machine ≡ l.fn.sim.machine) × (l.fn.sim.now ≤ l.sim.now) × (l.sim.now ≤ l.limit)
 
 abbrev pub decreases-loop-alloc : goal.decreases-loop-alloc
 decreases-loop-alloc g l = l.limit - l.sim.now

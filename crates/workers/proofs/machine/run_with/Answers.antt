@@ -1,6 +1,6 @@
 -- The run did not end before the cycle where the simulator stands, and ends there, or is at the limit.
 use Rattle.std.proofs.Common.{◌≡◌, ◌<◌, true, sym, ap, ◌∙◌}
-use Rattle.span_laws.specs.Ends.{ends_before}
+use Rattle.units.specs.Runs.{ends_at}
 use Rattle.units.proofs.Stopping.{stands-at_stop}
 use Rattle.workers.proofs.machine.run_with.Goals as goal
 
@@ -9,5 +9,5 @@ returns-clause-ok g c =
     let sim = c.args.sim in
     let now = c.loop-stop.sim.now in
     let same = c.loop-stop.invariant in
-    let ended : now < c.args.limit → ends_before sim.machine sim.traces now ≡ true = λ l. ap (λ t. ends_before sim.machine t now) (sym same.1) ∙ ap (λ s. ends_before s c.loop-stop.sim.traces now) (sym same.0) ∙ (c.in_default.ensures {u = tt}).ended l in
-    record { machine_is = same.0; traces_are = same.1; at_limit = stands-at_stop sim c.args.limit now same.2 same.3 same.4 ended }
+    let ended : now < c.args.limit → ends_at sim.machine now ≡ true = λ l. ap (λ m. ends_at m now) (sym same.0) ∙ (c.in_default.ensures {u = tt}).ended l in
+    record { machine_is = same.0; at_limit = stands-at_stop sim c.args.limit now same.1 same.2 same.3 ended }

@@ -7,7 +7,7 @@ use Rattle.request_log.specs.Columns.{bank_number}
 use Rattle.bank_candidates.specs.Candidates.{asks, first_place}
 use Rattle.bank_candidates.specs.Stands.{bank_count, candidates_of_bank}
 use Rattle.bank_candidates.specs.Sets.{is_in}
-use Rattle.bank_candidates.proofs.SomeAccess.{no_candidates, oldest_is, some_wider, none_is, none_at_all}
+use Rattle.bank_candidates.proofs.SomeAccess.{oldest_is, some_wider, none_is, none_at_all}
 use Rattle.bank_candidates.proofs.all_banks.BankCandidates.has_access.Goals as goal
 
 never : (b : Bool) → (b && false) ≡ false
@@ -20,7 +20,7 @@ returns c log open_rows stands =
     let write = c.args.write in
     let banks = c.banks_with_candidate.result in
     let oldest : (bank : ℕ) → bank < bank_count candidates → is_in banks bank ≡ is_some (first_place (asks bank write) log) =
-    λ bank exists. c.banks_with_candidate.ensures.each bank no_candidates exists ∙ ap is_some (oldest_is write log bank (candidates_of_bank candidates bank no_candidates) (stands.candidates_are bank no_candidates exists)) in
+    λ bank exists. c.banks_with_candidate.ensures.each bank exists ∙ ap is_some (oldest_is write log bank (candidates_of_bank candidates bank) (stands.candidates_are bank exists)) in
     elim (cases_Bool c.is_empty.result) [
       | inl none ↦
           ap not none

@@ -1,20 +1,17 @@
 -- All stands but for the request that may be served since then, which is taken in.
 use Rattle.std.proofs.Common.{subst}
-use Rattle.bank_candidates.specs.Served.{IsServed}
 use Rattle.bank_candidates.specs.Stands.{StandsUpTo}
 use Rattle.bank_candidates.proofs.Stood.{none_unblocked}
 use Rattle.bank_candidates.proofs.all_banks.BankCandidates.on_service.Goals as goal
 
 pub returns-in-Some-clause-stands : goal.returns-in-Some-clause-stands
-returns-in-Some-clause-stands c earlier open_rows within waits log_is marks_are stands =
+returns-in-Some-clause-stands c earlier open_rows served stands =
     let log = c.args.log.now.log in
-    let served : IsServed earlier c.args.slot c.args.unblocked log = record { within = within; waits = waits; log_is = log_is; marks_are = marks_are; next = c.requires.unblocked } in
     c.unblock.ensures.stands open_rows
     (subst (λ o. StandsUpTo c.leave.new.self log o open_rows) c.in-Some.is (c.leave.ensures.stands earlier c.args.unblocked open_rows served stands))
 
 pub returns-in_default-clause-stands : goal.returns-in_default-clause-stands
-returns-in_default-clause-stands c earlier open_rows within waits log_is marks_are stands =
+returns-in_default-clause-stands c earlier open_rows served stands =
     let log = c.args.log.now.log in
-    let served : IsServed earlier c.args.slot c.args.unblocked log = record { within = within; waits = waits; log_is = log_is; marks_are = marks_are; next = c.requires.unblocked } in
     none_unblocked c.leave.new.self log open_rows
     (subst (λ o. StandsUpTo c.leave.new.self log o open_rows) c.in_default.is (c.leave.ensures.stands earlier c.args.unblocked open_rows served stands))

@@ -1,6 +1,5 @@
-use Rattle.std.proofs.Common.{None, ap, ◌∙◌, arith}
+use Rattle.std.proofs.Common.{ap, ◌∙◌, arith}
 use Rattle.sim_base.specs.Rules.{open_row}
-use Rattle.bank_candidates.specs.declared.entry.CandidatesOfBank.{CandidatesOfBank}
 use Rattle.bank_candidates.specs.Candidates.{bank_at}
 use Rattle.bank_candidates.proofs.Stood.{bank_at_number}
 use Rattle.bank_candidates.proofs.all_banks.BankCandidates.open_row.Goals as goal
@@ -11,7 +10,6 @@ row_of-requires c = omega (arith, c.requires.number, c.number_of.ensures)
 pub returns : goal.returns
 returns c log history stands =
     let b = c.args.bank in
-    let none : CandidatesOfBank = record { row = None; reads = record { oldest = None; hit = None }; writes = record { oldest = None; hit = None } } in
-    c.row_of.ensures none
-    ∙ stands.rows_are c.number_of.result none (omega (arith, c.requires.number, c.number_of.ensures))
+    c.row_of.ensures
+    ∙ stands.rows_are c.number_of.result (omega (arith, c.requires.number, c.number_of.ensures))
     ∙ ap (λ x. open_row x history) (ap bank_at c.number_of.ensures ∙ bank_at_number b c.requires.group c.requires.bank)

@@ -31,7 +31,7 @@ returns-clause-stands c open_rows stands =
     ∙ ap (is_row r.place.row) (c.index.ensures ∙ ap (λ n. get_or rows n row) number ∙ get_or_default rows own row None c.requires.bank) in
     from_parts _ log open_rows
     (unblocked_stand was now c.args.self.now log next open_rows hit c.requires.bank hit_is
-    (subst (λ k. candidate_in now k false ≡ earlier (candidate_in was k false) (Some next)) access_is c.unblock.ensures.oldest)
-    (subst (λ k. candidate_in now k true ≡ earlier (candidate_in was k true) (cond hit (Some next) None)) access_is c.unblock.ensures.hit)
+    (subst (λ k. candidate_in now k false ≡ earlier (candidate_in was k false) (Some next)) access_is c.unblock.ensures.taken.oldest_is)
+    (subst (λ k. candidate_in now k true ≡ earlier (candidate_in was k true) (cond hit (Some next) None)) access_is c.unblock.ensures.taken.hit_is)
     (λ access apart. c.unblock.ensures.others access (λ e. apart (e ∙ access_is))) refl stands)
     stands.counts_are

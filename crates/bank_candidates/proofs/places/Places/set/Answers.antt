@@ -3,9 +3,9 @@ use Rattle.std.proofs.Common.{◌≡◌, ℕ, ◌≢◌, ◌*◌, ◌+◌, not, 
 use Rattle.std.proofs.lemmas.List.{length-set, get_or_default}
 use Rattle.std.specs.Option.{is_some}
 use Rattle.bank_candidates.specs.Sets.{is_in}
-use Rattle.bank_candidates.specs.Places.{candidate_in, access_in}
+use Rattle.bank_candidates.specs.Places.{Agree, candidate_in, access_in}
 use Rattle.bank_candidates.specs.Candidates.{access_number}
-use Rattle.bank_candidates.proofs.Words.{Agree, set_agrees, read_same, read_beside, read_other}
+use Rattle.bank_candidates.proofs.Words.{set_agrees, read_same, read_beside, read_other}
 use Rattle.bank_candidates.proofs.places.Places.set.Goals as goal
 use Rattle.bank_candidates.proofs.places.Places.set.Goals.{then-is_some, else-is_some}
 

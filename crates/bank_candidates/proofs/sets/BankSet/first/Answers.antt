@@ -4,12 +4,11 @@ use Rattle.std.proofs.lemmas.Nat.Bits.{bit_at-trailing_zeros}
 use Rattle.std.specs.Int.{bit_at, trailing_zeros}
 use Rattle.bank_candidates.proofs.sets.BankSet.first.Goals as goal
 
-pub returns-else-self-eq0-clause-first : goal.returns-else-self-eq0-clause-first
-returns-else-self-eq0-clause-first c =
-    let bits = c.args.self.bits in
-    eq-eqb (bit_at bits (trailing_zeros w64 bits)) 1 (bit_at-trailing_zeros w64 bits (omega (arith, c.if-self-eq0.false)) (omega arith)).1
-
 pub returns-else-self-eq0-clause-lowest : goal.returns-else-self-eq0-clause-lowest
-returns-else-self-eq0-clause-lowest c k below =
+returns-else-self-eq0-clause-lowest c =
     let bits = c.args.self.bits in
-    ap (λ n. eqb n 1) ((bit_at-trailing_zeros w64 bits (omega (arith, c.if-self-eq0.false)) (omega arith)).2 k below)
+    let first = bit_at-trailing_zeros w64 bits (omega (arith, c.if-self-eq0.false)) (omega arith) in
+    record {
+      there = eq-eqb (bit_at bits (trailing_zeros w64 bits)) 1 first.1;
+      none_below = λ k below. ap (λ n. eqb n 1) (first.2 k below);
+    }

@@ -13,7 +13,7 @@ send-result-requires c =
     record { «open» = subst IsOpenMemory (sym c.deref_mut.ensures.value) (well-open IsOpenMemory kept.is_open kept.handle.value c.in-Some.memory.value (c.in-Some.ensures {u = tt}).memory c.requires.well) }
 
 pub returns-in-Ok-clause-answer : goal.returns-in-Ok-clause-answer
-returns-in-Ok-clause-answer c m pasts other is h =
+returns-in-Ok-clause-answer c m pasts is h other =
     let request = c.args.request.now in
     let same : c.deref_mut.result.now ≡ m = lent-same c.args.self.now.handle.value c.in-Some.memory.value c.deref_mut.result.now m (c.in-Some.ensures {u = tt}).memory c.deref_mut.ensures.value is in
     passed (memory_refusal m pasts other request) tt
@@ -30,7 +30,7 @@ returns-in-Ok-clause-sent c s pasts of h =
     ((c.in-Ok.ensures {u = tt}).sent pasts (lent (λ x. IsMemory x pasts) c.args.self.now.handle.value c.in-Some.memory.value c.deref_mut.result.now (c.in-Some.ensures {u = tt}).memory c.deref_mut.ensures.value h)))
 
 pub returns-in-Err-clause-answer : goal.returns-in-Err-clause-answer
-returns-in-Err-clause-answer c m pasts other is h =
+returns-in-Err-clause-answer c m pasts is h other =
     let request = c.args.request.now in
     let same : c.deref_mut.result.now ≡ m = lent-same c.args.self.now.handle.value c.in-Some.memory.value c.deref_mut.result.now m (c.in-Some.ensures {u = tt}).memory c.deref_mut.ensures.value is in
     refused (memory_refusal m pasts other request) c.in-Err.fault

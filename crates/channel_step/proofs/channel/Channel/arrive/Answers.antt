@@ -88,7 +88,7 @@ returns-clause-in_cycle c s channel steps mail until stands at l f =
     (subst (λ l. CandidatesStandFor y.bank_candidates l rows) before h.candidates_stand) in
     let new = subst (λ l. CandidatesStandFor c.on_arrival.new.self l rows) shown (c.on_arrival.ensures.stands rows old) in
     let high = sym (ap (λ (v : QueueView). v.high) c.admit.ensures ∙ h.made_for.high_is) in
-    let known = c.reconsider.ensures.ahead s history y.queue h.banks_stand new high before (ahead-from _ _ _ _ _ h.foresees) in
+    let known = c.reconsider.ensures.ahead s history y.queue (record { banks_stand = h.banks_stand; candidates_stand = new; high_is = high; earlier_is = before }) (ahead-from _ _ _ _ _ h.foresees) in
     subst (λ k. IsInCycle c.reconsider.new.self s channel steps (mail ++ take k inbox)) (sym due)
     (subst (λ (z : Channel). IsInCycle z s channel steps (mail ++ take (due_count inbox c.args.now) inbox)) (sym c.reconsider.ensures.rest)
     (arrived-stands y s channel steps mail inbox c.args.now until q c.on_arrival.new.self c.reconsider.new.self.ahead h at l f joined c.on_arrival.ensures.banks new known))

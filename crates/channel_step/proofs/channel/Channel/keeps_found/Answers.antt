@@ -13,12 +13,12 @@ stays-requires-clause-choice c =
     subst (λ found. IfSome found (λ n. IsFor (rank_count x.banks) x.queue.log n.1)) c.in-Some.is c.requires.found
 
 pub returns-in-Some : goal.returns-in-Some
-returns-in-Some c s history earlier keeps stands bank_candidates high before known =
+returns-in-Some c s history earlier keeps more known =
     let cycle = c.in-Some.cycle in
     let choice = c.in-Some.choice in
     let x = c.args.self.now in
     let found_is : Known c.args.found ≡ Known (Some (cycle, choice)) = ap Known c.in-Some.is in
     subst (IsAhead s history x.queue x.cycle) (sym found_is)
-    (ahead-kept s history earlier x.queue c.args.older x.cycle cycle choice before
-    (λ command needs. c.stays.ensures s history earlier command keeps stands bank_candidates high before needs)
+    (ahead-kept s history earlier x.queue c.args.older x.cycle cycle choice more.earlier_is
+    (λ command needs. c.stays.ensures s history earlier command keeps more.banks_stand more.candidates_stand more.high_is more.earlier_is needs)
     (subst (IsAhead s history earlier x.cycle) found_is known))

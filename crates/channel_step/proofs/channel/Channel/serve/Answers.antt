@@ -1,5 +1,6 @@
-use Rattle.std.proofs.Common.{◌≡◌, ◌<◌, ℕ, false, [], ◌∷◌, get_or, not, Option, sym, ap, subst, ◌∙◌}
+use Rattle.std.proofs.Common.{◌≡◌, ◌<◌, ℕ, false, [], ◌∷◌, length, get_or, not, Option, sym, ap, subst, ◌∙◌}
 use Rattle.std.specs.List.{All}
+use Rattle.std.specs.Option.{IfSome}
 use Rattle.std.proofs.lemmas.List.{get_or-set_same}
 use Rattle.sim_base.specs.History.{issued_commands}
 use Rattle.sim_base.specs.Rules.{open_row}
@@ -37,10 +38,12 @@ returns c s channel steps mail h chosen =
     let hit = not (get_or x.queue.log slot absent).activated in
     let rows : ℕ → Option ℕ = λ n. open_row (bank_at n) (issued_commands channel steps) in
     let log : c.log.result.now.log ≡ served_at x.queue.log slot = ap (λ (v : LogView). v.log) c.log.ensures ∙ ap (λ (q : QueueView). q.log) c.serve-unblocked.ensures.log in
-    let marks = ap (λ (v : LogView). eligible_column v.log) c.log.ensures ∙ c.serve-unblocked.ensures.unblocked in
+    let marks = ap (λ (v : LogView). eligible_column v.log) c.log.ensures ∙ c.serve-unblocked.ensures.marks in
+    let next : IfSome c.serve-unblocked.result (λ k. k < length c.log.result.now.log) =
+    subst (λ (v : LogView). IfSome c.serve-unblocked.result (λ k. k < length v.log)) (sym c.log.ensures) c.serve-unblocked.ensures.place in
     let stands =
     subst (λ l. CandidatesStandFor c.on_service.new.self l rows) log
-    (c.on_service.ensures.stands x.queue.log rows c.requires.within c.requires.waits log marks h.candidates_stand) in
+    (c.on_service.ensures.stands x.queue.log rows (record { within = c.requires.within; waits = c.requires.waits; log_is = log; marks_are = marks; next = next }) h.candidates_stand) in
     let then : c.log-3.result.now ≡ served_at x.queue.log slot =
     c.log-3.ensures.log ∙ ap (λ (v : LogView). v.log) c.log-2.ensures ∙ ap (λ (q : QueueView). q.log) c.serve-unblocked.ensures.log in
     let left : get_or c.log-3.result.now slot absent ≡ record (get_or x.queue.log slot absent) { waits = false } =

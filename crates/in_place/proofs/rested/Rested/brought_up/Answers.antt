@@ -1,10 +1,9 @@
 use Rattle.std.proofs.Common.{◌≡◌, ◌+◌, ◌≤◌, length, ap, subst, sym, ◌∙◌, arith}
 use Rattle.std.specs.Arc.{arc_value}
-use Rattle.sim_base.specs.Counts.{in_flight}
-use Rattle.sim_base.specs.Machine.{run}
 use Rattle.links.specs.InFlight.{InFlight}
 use Rattle.units.specs.Flight.{among}
 use Rattle.units.specs.Parts.{StandAt}
+use Rattle.units.specs.Runs.{flight_at}
 use Rattle.units.specs.Units.{unit_count}
 use Rattle.wake_words.specs.Wakes.{WaitAll}
 use Rattle.units.specs.declared.machine.Machine.{Machine}
@@ -27,15 +26,15 @@ pub bring_up-requires-clause-wait : goal.bring_up-requires-clause-wait
 bring_up-requires-clause-wait c =
     let f = c.self.inside in
     let m = arc_value f.machine in
-    subst (λ n. WaitAll c.deref.result.now.config c.deref.result.now.traces.items n f.now f.now f.slots.items c.deref-2.result.now) (sym (ap length c.in_ok-parts.ensures.items))
-    (subst (λ (x : Machine). WaitAll x.config x.traces.items 0 f.now f.now f.slots.items c.deref-2.result.now) (sym c.deref.ensures)
-    (subst (λ z. WaitAll m.config m.traces.items 0 f.now f.now f.slots.items z) (sym c.deref-2.ensures.value) c.self.invariant.asleep.wait))
+    subst (λ n. WaitAll c.deref.result.now n f.now f.now f.slots.items c.deref-2.result.now) (sym (ap length c.in_ok-parts.ensures.items))
+    (subst (λ (x : Machine). WaitAll x 0 f.now f.now f.slots.items c.deref-2.result.now) (sym c.deref.ensures)
+    (subst (λ z. WaitAll m 0 f.now f.now f.slots.items z) (sym c.deref-2.ensures.value) c.self.invariant.asleep.wait))
 
 pub bring_up-requires-clause-stand : goal.bring_up-requires-clause-stand
 bring_up-requires-clause-stand c =
     let f = c.self.inside in
     let x = c.deref.result.now in
-    subst (StandAt x.config x.traces.items f.now) (sym c.in_ok-parts.ensures.items) (stand-none x.config x.traces.items f.now)
+    subst (StandAt x f.now) (sym c.in_ok-parts.ensures.items) (stand-none x f.now)
 
 pub invariant_of-result : goal.invariant_of-result
 invariant_of-result c =
@@ -48,8 +47,8 @@ invariant_of-result c =
       counted = h.counted;
       early = h.asleep.early;
       count = let k = brought.count in omega (arith, k, none, h.count);
-      stand = subst (λ (x : Machine). StandAt x.config x.traces.items f.now c.bring_up.new.parts.items) c.deref.ensures brought.stand;
+      stand = subst (λ (x : Machine). StandAt x f.now c.bring_up.new.parts.items) c.deref.ensures brought.stand;
       flight = h.asleep.flight
-          ∙ ap {B = InFlight} (λ n. record { channels = m.config.channels; messages = among m.config 0 n (in_flight m.config m.traces.items (run m.config m.traces.items f.now)) }) (let e : 0 + length f.slots.items ≡ unit_count m.config = omega (arith, h.count) in e)
+          ∙ ap {B = InFlight} (λ n. record { channels = m.config.channels; messages = among m.config 0 n (flight_at m f.now) }) (let e : 0 + length f.slots.items ≡ unit_count m.config = omega (arith, h.count) in e)
           ∙ ap {B = InFlight} (λ z. record { channels = m.config.channels; messages = z }) (among-all m.config m.traces.items f.now);
     }

@@ -12,5 +12,5 @@ invariant_of-result c =
     record {
       counted = sim.counted;
       count = (c.in_ok-slots.ensures {u = tt}).count ∙ sim.count;
-      asleep = awake-sim m.config m.traces.items f.now f.phase f.parts.items f.links c.in_ok-slots.slots.items c.in_ok-words.words.items sim (c.in_ok-slots.ensures {u = tt}) (c.in_ok-words.ensures.items_if_clones_equal (λ _ e. e) ∙ ap (λ n. replicate n f.now) len);
+      asleep = awake-sim m f.now f.phase f.parts.items f.links c.in_ok-slots.slots.items c.in_ok-words.words.items sim (c.in_ok-slots.ensures {u = tt}) (c.in_ok-words.ensures.items_if_clones_equal (λ _ e. e) ∙ ap (λ n. replicate n f.now) len);
     }

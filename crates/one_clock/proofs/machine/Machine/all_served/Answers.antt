@@ -18,7 +18,7 @@ served-more f xs i d rows o l e h =
 
 pub loop-row-preserved : goal.loop-row-preserved
 loop-row-preserved c =
-    let f = served_in_run c.args.s.now (run c.args.s.now c.args.traces.now c.args.cycle) in
+    let f = served_in_run c.args.cycle.now.config.now (run c.args.cycle.now.config.now c.args.cycle.now.traces.now c.args.cycle.now.number) in
     let rows = c.loop-row.rows.items in
     let more = served-more f c.deref-row-items.result.now c.loop-row.row-index _ rows c.in_ok-request.field-0 c.loop-row-test.true (c.in_ok-request.ensures {u = tt}) c.loop-row.invariant in
     elim c.match-branch-2.branch [

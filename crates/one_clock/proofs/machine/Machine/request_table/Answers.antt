@@ -13,22 +13,22 @@ use Rattle.one_clock.proofs.machine.Machine.request_table.Goals as goal
 
 pub of-requires : goal.of-requires
 of-requires c =
-    let s = c.args.s.now in
-    let n = c.args.cycle in
-    let all = run s c.args.traces.now n in
+    let s = c.args.cycle.now.config.now in
+    let n = c.args.cycle.now.number in
+    let all = run s c.args.cycle.now.traces.now n in
     let rows = filter_map (served_in_run s all) (commands all) in
-    let stand : AreServed 0 n rows = subst (λ k. AreServed 0 k rows) (length-run s c.args.traces.now n) (are_by_cycle s all) in
+    let stand : AreServed 0 n rows = subst (λ k. AreServed 0 k rows) (length-run s c.args.cycle.now.traces.now n) (are_by_cycle s all) in
     let own = c.of-list.ensures ∙ c.in_ok-all_served.ensures {u = tt} ∙ ap (filter_map (served_in_run s all)) c.requires.machine.commands_are in
     let are = c.in_ok-lists.ensures.items ∙ ap (λ list. list ∷ []) own in
     subst (λ lists. All (AreServed 0 n) lists) (sym are) (All-cons (AreServed 0 n) rows [] stand (All-nil (AreServed 0 n)))
 
 pub returns : goal.returns
 returns c =
-    let s = c.args.s.now in
-    let n = c.args.cycle in
-    let all = run s c.args.traces.now n in
+    let s = c.args.cycle.now.config.now in
+    let n = c.args.cycle.now.number in
+    let all = run s c.args.cycle.now.traces.now n in
     let rows = filter_map (served_in_run s all) (commands all) in
-    let long = length-run s c.args.traces.now n in
+    let long = length-run s c.args.cycle.now.traces.now n in
     let stand : AreServed 0 n rows = subst (λ k. AreServed 0 k rows) long (are_by_cycle s all) in
     let own = c.of-list.ensures ∙ c.in_ok-all_served.ensures {u = tt} ∙ ap (filter_map (served_in_run s all)) c.requires.machine.commands_are in
     let are = c.in_ok-lists.ensures.items ∙ ap (λ list. list ∷ []) own in

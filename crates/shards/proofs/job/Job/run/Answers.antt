@@ -1,18 +1,15 @@
-use Rattle.std.proofs.Common.{◌≡◌, ◌<◌, ℕ, suc, length, get_or, sym, ap, ap₂, subst, ◌∙◌}
+use Rattle.std.proofs.Common.{◌≡◌, ℕ, length, sym, ap, ap₂, subst, ◌∙◌}
 use Rattle.std.specs.Arc.{arc_value}
 use Rattle.std.specs.Vec.{with_items}
 use Rattle.std.specs.declared.vec.Vec.{Vec}
 use Rattle.std.specs.declared.alloc.Global.{Global}
 use Rattle.std.specs.declared.sync.Arc.{Arc}
 use Rattle.std.proofs.lemmas.List.{with_items_is}
-use Rattle.sim_base.specs.declared.message.Message.{Message}
 use Rattle.links.specs.InFlight.{InFlight}
-use Rattle.sim_base.specs.History.{insert_by_age}
-use Rattle.std.specs.Prelude.{fold}
-use Rattle.units.specs.Flight.{among, sent_by}
-use Rattle.shards.specs.Shards.{bound, lists_of}
+use Rattle.shards.specs.Lists.{AreDealt, lists_of, with_lists}
+use Rattle.shards.specs.Shards.{HasGone, HoldWhatWasSent, Sleeps, sent_of_shard}
 use Rattle.shards.specs.Jobs.{IsDone}
-use Rattle.wake_words.specs.Wakes.{AreLowered, HaveGone, IsAsleep}
+use Rattle.wake_words.specs.Wakes.{AreLowered}
 use Rattle.units.specs.declared.machine.Machine.{Machine}
 use Rattle.shards.specs.declared.shard.Shard.{Shard}
 use Rattle.shards.proofs.Jobs.{taken-up, job-ends}
@@ -32,9 +29,9 @@ go-requires-clause-asleep c =
     let low : AreLowered m.config shard.first (lists_of f.inbound.items) shard.words.items new.words.items =
     subst (λ (x : Shard). AreLowered (arc_value x.machine).config x.first (lists_of f.inbound.items) x.words.items new.words.items) old
     (subst (λ ls. AreLowered (arc_value c.deref_mut.result.now.machine).config c.deref_mut.result.now.first (lists_of ls) c.deref_mut.result.now.words.items new.words.items) lists up.words) in
-    let links = up.links ∙ ap₂ {C = InFlight} (λ (x : Shard) ls. record x.links { messages = fold insert_by_age x.links.messages (lists_of ls) }) old lists in
-    subst (λ (x : Shard). IsAsleep (arc_value x.machine).config (arc_value x.machine).traces.items x.first f.name.from x.slots.items x.words.items x.links) (sym same)
-    (taken-up m.config m.traces.items shard.bounds.items f.name.shard f.name.from shard f.inbound.items new.words.items new.links c.self.invariant.before low links)
+    let links = up.links ∙ ap₂ {C = InFlight} (λ (x : Shard) ls. with_lists x.links ls) old lists in
+    subst (λ (x : Shard). Sleeps (arc_value x.machine) f.name.from x) (sym same)
+    (taken-up m shard.bounds.items f.name.shard f.name.from shard f.inbound.items new.words.items new.links c.self.invariant.before low links)
 
 pub invariant_of-result : goal.invariant_of-result
 invariant_of-result c =
@@ -52,26 +49,17 @@ invariant_of-result c =
     let bounds : after.bounds ≡ shard.bounds = went.bounds ∙ ap (λ (x : Shard). x.bounds) same in
     let first : after.first ≡ shard.first = went.first ∙ ap (λ (x : Shard). x.first) same in
     let count : length after.slots.items ≡ length shard.slots.items = went.count ∙ ap (λ (x : Shard). length x.slots.items) same in
-    let gone = subst (λ (x : Shard). HaveGone (arc_value x.machine).config (arc_value x.machine).traces.items x.first f.name.from f.name.until after.slots.items after.words.items after.links) same went.gone in
-    let sent = went.sent ∙ ap (λ (x : Shard). sent_by (arc_value x.machine).config (arc_value x.machine).traces.items f.name.from f.name.until x.first (length x.slots.items)) same in
+    let gone = subst (λ (x : Shard). HasGone (arc_value x.machine) f.name.from f.name.until after) same went.gone in
+    let sent = went.sent ∙ ap (λ (x : Shard). sent_of_shard (arc_value x.machine) f.name.from f.name.until x) same in
     let up-lists = with_items_is f.inbound c.take_up.new.lists (up.count ∙ ap length c.deref_mut-2.ensures.value ∙ sym f.inbound.ok.0) in
     let many-up : length (with_items f.inbound c.take_up.new.lists).items ≡ length f.inbound.items = ap length up-lists ∙ up.count ∙ ap length c.deref_mut-2.ensures.value in
     let many : length c.deal_sent.new.lists ≡ length f.inbound.items = dealt.count ∙ ap length c.deref_mut-4.ensures.value ∙ many-up in
     let lists = with_items_is (with_items f.inbound c.take_up.new.lists) c.deal_sent.new.lists (many ∙ sym f.inbound.ok.0) in
-    let each-after : (index : ℕ) (d : Vec Message Global) → index < length c.deal_sent.new.lists
-    → (get_or c.deal_sent.new.lists index d).items ≡ among (arc_value after.machine).config (bound after.bounds.items index) (bound after.bounds.items (suc index)) after.mail.sent.items =
-    subst (λ (x : Shard). (index : ℕ) (d : Vec Message Global) → index < length c.deal_sent.new.lists
-    → (get_or c.deal_sent.new.lists index d).items ≡ among (arc_value x.machine).config (bound x.bounds.items index) (bound x.bounds.items (suc index)) x.mail.sent.items)
-    c.deref.ensures dealt.each in
-    let each-there : (index : ℕ) (d : Vec Message Global) → index < length c.deal_sent.new.lists
-    → (get_or c.deal_sent.new.lists index d).items ≡ among m.config (bound after.bounds.items index) (bound after.bounds.items (suc index)) after.mail.sent.items =
-    subst (λ (x : Arc Machine Global). (index : ℕ) (d : Vec Message Global) → index < length c.deal_sent.new.lists
-    → (get_or c.deal_sent.new.lists index d).items ≡ among (arc_value x).config (bound after.bounds.items index) (bound after.bounds.items (suc index)) after.mail.sent.items) machine each-after in
-    let each : (index : ℕ) (d : Vec Message Global) → index < length c.deal_sent.new.lists
-    → (get_or c.deal_sent.new.lists index d).items ≡ among m.config (bound shard.bounds.items index) (bound shard.bounds.items (suc index)) after.mail.sent.items =
-    subst (λ (x : Vec ℕ Global). (index : ℕ) (d : Vec Message Global) → index < length c.deal_sent.new.lists
-    → (get_or c.deal_sent.new.lists index d).items ≡ among m.config (bound x.items index) (bound x.items (suc index)) after.mail.sent.items) bounds each-there in
-    let ends = job-ends m.config m.traces.items shard.bounds.items f.name c.in_ok-wake.wake shard after f.inbound.items c.deal_sent.new.lists c.self.invariant machine bounds first count gone sent went.since went.sleep went.arrivals many each in
-    subst (IsDone (arc_value after.machine).config (arc_value after.machine).traces.items after.bounds.items f.name c.in_ok-wake.wake after) (sym lists)
-    (subst (λ (x : Vec ℕ Global). IsDone (arc_value after.machine).config (arc_value after.machine).traces.items x.items f.name c.in_ok-wake.wake after c.deal_sent.new.lists) (sym bounds)
-    (subst (λ (x : Arc Machine Global). IsDone (arc_value x).config (arc_value x).traces.items shard.bounds.items f.name c.in_ok-wake.wake after c.deal_sent.new.lists) (sym machine) ends))
+    let dealt-after : HoldWhatWasSent after c.deal_sent.new.lists = subst (λ (x : Shard). HoldWhatWasSent x c.deal_sent.new.lists) c.deref.ensures dealt.each in
+    let each : AreDealt m.config shard.bounds.items after.mail.sent.items c.deal_sent.new.lists =
+    subst (λ (x : Vec ℕ Global). AreDealt m.config x.items after.mail.sent.items c.deal_sent.new.lists) bounds
+    (subst (λ (x : Arc Machine Global). AreDealt (arc_value x).config after.bounds.items after.mail.sent.items c.deal_sent.new.lists) machine dealt-after) in
+    let ends = job-ends m shard.bounds.items f.name c.in_ok-wake.wake shard after f.inbound.items c.deal_sent.new.lists c.self.invariant machine bounds first count gone sent went.since went.sleep went.arrivals many each in
+    subst (IsDone (arc_value after.machine) after.bounds.items f.name c.in_ok-wake.wake after) (sym lists)
+    (subst (λ (x : Vec ℕ Global). IsDone (arc_value after.machine) x.items f.name c.in_ok-wake.wake after c.deal_sent.new.lists) (sym bounds)
+    (subst (λ (x : Arc Machine Global). IsDone (arc_value x) shard.bounds.items f.name c.in_ok-wake.wake after c.deal_sent.new.lists) (sym machine) ends))

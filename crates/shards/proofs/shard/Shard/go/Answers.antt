@@ -20,14 +20,14 @@ returns-clause-since c =
     let many : length c.go_all.new.words ≡ old.words.len = gone.words ∙ ap length c.deref_mut-2.ensures.value ∙ sym old.words.ok.0 in
     let words : c.deref-3.result.now ≡ c.go_all.new.words = c.deref-3.ensures.value ∙ with_items_is old.words c.go_all.new.words many in
     let later : All (λ w. until ≤ w) c.deref-3.result.now =
-    subst (All (λ w. until ≤ w)) (sym words) (gone-words x.config x.traces.items old.first now until c.go_all.new.slots c.go_all.new.words c.go_all.new.links gone.gone) in
-    let sent : c.deref-2.result.now ≡ sent_by m.config m.traces.items now until old.first (length old.slots.items) =
+    subst (All (λ w. until ≤ w)) (sym words) (gone-words x old.first now until c.go_all.new.slots c.go_all.new.words c.go_all.new.links gone.gone) in
+    let sent : c.deref-2.result.now ≡ sent_by m now until old.first (length old.slots.items) =
     c.deref-2.ensures.value
-    ∙ subst (λ (y : Machine). c.go_all.new.mail.sent.items ≡ sent_by y.config y.traces.items now until old.first (length c.deref_mut.result.now)) c.deref.ensures gone.sent
-    ∙ ap (sent_by m.config m.traces.items now until old.first) (ap length c.deref_mut.ensures.value) in
+    ∙ subst (λ (y : Machine). c.go_all.new.mail.sent.items ≡ sent_by y now until old.first (length c.deref_mut.result.now)) c.deref.ensures gone.sent
+    ∙ ap (sent_by m now until old.first) (ap length c.deref_mut.ensures.value) in
     let arrive : All (λ m. until ≤ m.arrival) c.deref-2.result.now =
     subst (All (λ (y : Message). until ≤ y.arrival)) (sym sent)
-    (part-late m.config m.traces.items now until old.first (length old.slots.items) c.requires.asleep.within (omega (arith, c.requires.order)) c.requires.travels) in
+    (part-late m now until old.first (length old.slots.items) c.requires.asleep.within (omega (arith, c.requires.order)) c.requires.travels) in
     let least = least-since c.deref-3.result.now until (omega (arith, c.ranges.until.fits)) later in
     c.first_arrival.ensures.since until (omega (arith, least, c.least.ensures)) arrive
 

@@ -14,11 +14,11 @@ invariant_of-result c =
     let bounds = c.in_ok-bounds.bounds.items in
     let shards = c.in_ok-shards.shards.items in
     let none = c.in_ok-inbound.ensures {u = tt} in
-    let there : AreShards m.config m.traces.items bounds f.now shards =
-    subst (λ bs. AreShards m.config m.traces.items bs f.now shards) c.deref-2.ensures.value
-    (subst (λ (v : SimView). AreShards v.machine v.traces c.deref-2.result.now v.now shards) (sym c.sim.view_is) (c.in_ok-shards.ensures {u = tt})) in
+    let there : AreShards m bounds f.now shards =
+    subst (λ bs. AreShards m bs f.now shards) c.deref-2.ensures.value
+    (subst (λ (v : SimView). AreShards v.machine c.deref-2.result.now v.now shards) (sym c.sim.view_is) (c.in_ok-shards.ensures {u = tt})) in
     let many : length shards ≡ c.args.count = omega (arith, there.count, (c.in_ok-bounds.ensures {u = tt}).count) in
-    subst (λ (x : Machine). IsSharded x.config x.traces.items bounds f.now f.phase f.now shards c.in_ok-inbound.inbound.items) (sym (c.in_ok-machine.ensures {u = tt}).cases)
-    (sharded-begins m.config m.traces.items bounds f.now f.phase shards c.in_ok-inbound.inbound.items h.counted h.early there (none.count ∙ sym many)
+    subst (λ (x : Machine). IsSharded x bounds f.now f.phase f.now shards c.in_ok-inbound.inbound.items) (sym (c.in_ok-machine.ensures {u = tt}).cases)
+    (sharded-begins m bounds f.now f.phase shards c.in_ok-inbound.inbound.items h.counted h.early there (none.count ∙ sym many)
     (λ index d less. none.square index d (omega (arith, less, many)) ∙ sym many)
     (λ index d less. none.empty index d (omega (arith, less, many))))

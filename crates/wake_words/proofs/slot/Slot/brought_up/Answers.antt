@@ -8,26 +8,25 @@ use Rattle.wake_words.proofs.slot.Slot.brought_up.Goals as goal
 
 pub run-requires : goal.run-requires
 run-requires c =
-    let s = c.args.machine.now.config in
-    let traces = c.args.machine.now.traces.items in
+    let machine = c.args.machine.now in
+    let s = machine.config in
     let r = c.requires in
     let u = unit_at s c.args.place in
-    let before = waits-ready s traces u c.args.now (sleeper c.args.self c.args.word) c.deref.result.now (exists-at s c.args.place r.place) r.early r.waits (c.deref.ensures.value ∙ c.clear.ensures.items) in
+    let before = waits-ready machine u c.args.now (sleeper c.args.self c.args.word) c.deref.result.now (exists-at s c.args.place r.place) r.early r.waits (c.deref.ensures.value ∙ c.clear.ensures.items) in
     record {
       ready = record {
-        s = s;
-        traces = traces;
+        machine = machine;
         unit = u;
-        ready = subst (λ p. IsReadyFor s traces u p c.deref.result.now c.args.self.at c.args.now) (sym c.deref_mut.ensures.value) before;
+        ready = subst (λ p. IsReadyFor machine u p c.deref.result.now c.args.self.at c.args.now) (sym c.deref_mut.ensures.value) before;
       };
     }
 
 pub returns : goal.returns
 returns c =
-    let s = c.args.machine.now.config in
-    let traces = c.args.machine.now.traces.items in
+    let machine = c.args.machine.now in
+    let s = machine.config in
     let r = c.requires in
     let u = unit_at s c.args.place in
-    let before = waits-ready s traces u c.args.now (sleeper c.args.self c.args.word) c.deref.result.now (exists-at s c.args.place r.place) r.early r.waits (c.deref.ensures.value ∙ c.clear.ensures.items) in
-    let ready = subst (λ p. IsReadyFor s traces u p c.deref.result.now c.args.self.at c.args.now) (sym c.deref_mut.ensures.value) before in
-    subst (IsPart s traces u c.args.now) (sym c.into_inner.ensures) (c.in_ok-run.ensures {u = tt} s traces u ready).ran.stands
+    let before = waits-ready machine u c.args.now (sleeper c.args.self c.args.word) c.deref.result.now (exists-at s c.args.place r.place) r.early r.waits (c.deref.ensures.value ∙ c.clear.ensures.items) in
+    let ready = subst (λ p. IsReadyFor machine u p c.deref.result.now c.args.self.at c.args.now) (sym c.deref_mut.ensures.value) before in
+    subst (IsPart machine u c.args.now) (sym c.into_inner.ensures) (c.in_ok-run.ensures {u = tt} machine u ready).ran.stands

@@ -15,52 +15,55 @@ use Rattle.wake_words.proofs.slot.Slot.woken.Goals as goal
 
 pub run_and_tell-requires : goal.run_and_tell-requires
 run_and_tell-requires c =
-    let s = c.args.machine.now.config in
-    let traces = c.args.machine.now.traces.items in
+    let machine = c.args.machine.now in
+    let s = machine.config in
+    let traces = machine.traces.items in
     let r = c.requires in
     let u = unit_at s c.args.place in
     let here = c.args.span.now.here in
     let there = c.args.span.now.there in
     let until = c.args.span.now.until in
-    let before = woken-ready s traces u here there until (sleeper c.args.self.now c.args.word) c.deref.result.now (exists-at s c.args.place r.place) r.order r.early r.brought.known r.waits
+    let before = woken-ready machine u here there until (sleeper c.args.self.now c.args.word) c.deref.result.now (exists-at s c.args.place r.place) r.order r.early r.brought.known r.waits
     (c.deref.ensures.value
-    ∙ held-mail s traces here there until u c.unit_at-unit.result c.args.links.now c.take_due_into.new.inbox.items r.brought c.unit_at-unit.ensures c.in_ok-take_due_into.ensures.ok) in
-    let ready = subst (λ p. IsReadyFor s traces u p c.deref.result.now c.args.self.now.at until) (sym c.deref_mut.ensures.value) before in
-    record { ready = record { s = s; traces = traces; unit = u; ready = ready } }
+    ∙ held-mail machine here there until u c.unit_at-unit.result c.args.links.now c.take_due_into.new.inbox.items r.brought c.unit_at-unit.ensures c.in_ok-take_due_into.ensures.ok) in
+    let ready = subst (λ p. IsReadyFor machine u p c.deref.result.now c.args.self.now.at until) (sym c.deref_mut.ensures.value) before in
+    record { ready = record { machine = machine; unit = u; ready = ready } }
 
 pub arrival_word-requires : goal.arrival_word-requires
 arrival_word-requires c =
-    let s = c.args.machine.now.config in
-    let traces = c.args.machine.now.traces.items in
+    let machine = c.args.machine.now in
+    let s = machine.config in
+    let traces = machine.traces.items in
     let r = c.requires in
     let u = unit_at s c.args.place in
     let here = c.args.span.now.here in
     let there = c.args.span.now.there in
     let until = c.args.span.now.until in
-    let before = woken-ready s traces u here there until (sleeper c.args.self.now c.args.word) c.deref.result.now (exists-at s c.args.place r.place) r.order r.early r.brought.known r.waits
+    let before = woken-ready machine u here there until (sleeper c.args.self.now c.args.word) c.deref.result.now (exists-at s c.args.place r.place) r.order r.early r.brought.known r.waits
     (c.deref.ensures.value
-    ∙ held-mail s traces here there until u c.unit_at-unit.result c.args.links.now c.take_due_into.new.inbox.items r.brought c.unit_at-unit.ensures c.in_ok-take_due_into.ensures.ok) in
-    let ready = subst (λ p. IsReadyFor s traces u p c.deref.result.now c.args.self.now.at until) (sym c.deref_mut.ensures.value) before in
-    (c.in_ok-send.ensures {u = tt} s traces u ready).since
+    ∙ held-mail machine here there until u c.unit_at-unit.result c.args.links.now c.take_due_into.new.inbox.items r.brought c.unit_at-unit.ensures c.in_ok-take_due_into.ensures.ok) in
+    let ready = subst (λ p. IsReadyFor machine u p c.deref.result.now c.args.self.now.at until) (sym c.deref_mut.ensures.value) before in
+    (c.in_ok-send.ensures {u = tt} machine u ready).since
 
 pub returns-clause-gone : goal.returns-clause-gone
 returns-clause-gone c =
-    let s = c.args.machine.now.config in
-    let traces = c.args.machine.now.traces.items in
+    let machine = c.args.machine.now in
+    let s = machine.config in
+    let traces = machine.traces.items in
     let r = c.requires in
     let u = unit_at s c.args.place in
     let here = c.args.span.now.here in
     let there = c.args.span.now.there in
     let until = c.args.span.now.until in
-    let before = woken-ready s traces u here there until (sleeper c.args.self.now c.args.word) c.deref.result.now (exists-at s c.args.place r.place) r.order r.early r.brought.known r.waits
+    let before = woken-ready machine u here there until (sleeper c.args.self.now c.args.word) c.deref.result.now (exists-at s c.args.place r.place) r.order r.early r.brought.known r.waits
     (c.deref.ensures.value
-    ∙ held-mail s traces here there until u c.unit_at-unit.result c.args.links.now c.take_due_into.new.inbox.items r.brought c.unit_at-unit.ensures c.in_ok-take_due_into.ensures.ok) in
-    let ready = subst (λ p. IsReadyFor s traces u p c.deref.result.now c.args.self.now.at until) (sym c.deref_mut.ensures.value) before in
+    ∙ held-mail machine here there until u c.unit_at-unit.result c.args.links.now c.take_due_into.new.inbox.items r.brought c.unit_at-unit.ensures c.in_ok-take_due_into.ensures.ok) in
+    let ready = subst (λ p. IsReadyFor machine u p c.deref.result.now c.args.self.now.at until) (sym c.deref_mut.ensures.value) before in
     let wake = c.arrival_word.result in
-    let told = c.in_ok-send.ensures {u = tt} s traces u ready in
+    let told = c.in_ok-send.ensures {u = tt} machine u ready in
     let links = c.args.links.now in
     let after = c.take_due_into.new.self in
-    let taken = held-links s traces here there until u c.unit_at-unit.result links after r.brought c.unit_at-unit.ensures c.in_ok-take_due_into.ensures.rest in
+    let taken = held-links machine here there until u c.unit_at-unit.result links after r.brought c.unit_at-unit.ensures c.in_ok-take_due_into.ensures.rest in
     let channels : after.channels ≡ s.channels = ap (λ (x : InFlight). x.channels) taken ∙ r.brought.channels_are in
     let none : mail_in s traces there u until wake ≡ [] =
     sym (r.brought.due until wake r.order)
@@ -71,7 +74,7 @@ returns-clause-gone c =
     ∙ c.arrival_word.ensures.first wake (omega arith) in
     record {
       messages = told.onto.messages;
-      gone = woken-gone s traces u here there until (sleeper c.args.self.now c.args.word) (record { part = c.run_and_tell.new.part; at = until; wake = wake }) told.onto.messages (exists-at s c.args.place r.place) r.order r.brought.known r.waits
+      gone = woken-gone machine u here there until (sleeper c.args.self.now c.args.word) (record { part = c.run_and_tell.new.part; at = until; wake = wake }) told.onto.messages (exists-at s c.args.place r.place) r.order r.brought.known r.waits
           told.onto.ran refl
           c.arrival_word.ensures.since
           (silent-sooner s traces until wake c.in_ok-send.send u c.arrival_word.ensures.within told.silent)
@@ -81,7 +84,8 @@ returns-clause-gone c =
 
 pub returns-clause-links : goal.returns-clause-links
 returns-clause-links c =
-    let s = c.args.machine.now.config in
-    let traces = c.args.machine.now.traces.items in
+    let machine = c.args.machine.now in
+    let s = machine.config in
+    let traces = machine.traces.items in
     let r = c.requires in
-    held-links s traces c.args.span.now.here c.args.span.now.there c.args.span.now.until (unit_at s c.args.place) c.unit_at-unit.result c.args.links.now c.take_due_into.new.self r.brought c.unit_at-unit.ensures c.in_ok-take_due_into.ensures.rest
+    held-links machine c.args.span.now.here c.args.span.now.there c.args.span.now.until (unit_at s c.args.place) c.unit_at-unit.result c.args.links.now c.take_due_into.new.self r.brought c.unit_at-unit.ensures c.in_ok-take_due_into.ensures.rest

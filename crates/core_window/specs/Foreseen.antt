@@ -1,0 +1,54 @@
+-- What is known of the memory entries ahead, and how many entries issue by it.
+--     HasEntry trace number entry      this is the entry of a number, where the trace has one
+--     IsNextBehind trace number next      where the next memory entry behind a number stands
+--     IsSeenFrom trace from ahead      these are the next two memory entries from a number on
+--     WasSeen trace number ahead      they were so from a number on that is not above this one
+--     IsKnownBy digits trace ahead      what is kept of them is right by the digits of an address
+--     StaysKnown digits trace old new      it is right, if what was kept before was
+--     issue_limit config number gone len      the number up to which entries may issue by the width, the window and the end of the trace
+--     issue_count_of config number gone ahead lacks, cause_of config len number gone ahead m      how many issue, and why no more
+use Rattle.std.specs.Prelude.{◌≡◌, ℕ, ◌+◌, ◌-◌, ◌<◌, ◌≤◌, min, Bool, List, length, slice_get, Some}
+use Rattle.address_map.specs.Shifts.{IsDigits}
+use Rattle.address_map.specs.declared.digits.Digits.{Digits}
+use Rattle.sim_base.specs.declared.config.Config.{Config}
+use Rattle.sim_base.specs.declared.trace.Entry.{Entry}
+use Rattle.sim_base.specs.declared.trace.Stop.{Stop}
+use Rattle.core_window.specs.Ahead.{IsKnown}
+use Rattle.core_window.specs.Causes.{issue_count, cause_at}
+use Rattle.core_window.specs.OneCycle.{IsNextOrEnd, IsSeen}
+use Rattle.core_window.specs.declared.issue.Ahead.{Ahead}
+
+-- this is the entry of a number, where the trace has one
+abbrev pub HasEntry : List Entry → ℕ → Entry → Type 0
+HasEntry trace number entry = number < length trace → slice_get trace number ≡ Some entry
+
+-- where an entry has this number, the next memory entry behind it stands here, or the trace ends here
+abbrev pub IsNextBehind : List Entry → ℕ → ℕ → Type 0
+IsNextBehind trace number next = number < length trace → IsNextOrEnd trace (number + 1) next
+
+-- these are the next two memory entries from a number on
+abbrev pub IsSeenFrom : List Entry → ℕ → Ahead → Type 0
+IsSeenFrom trace from ahead = IsSeen trace from ahead.one ahead.two ahead.entry
+
+-- they were the next two from some number on that is not above this one
+abbrev pub WasSeen : List Entry → ℕ → Ahead → Type 0
+WasSeen trace number ahead = (from : ℕ) × (from ≤ number) × IsSeenFrom trace from ahead
+
+-- where the first lies and which the second is, is known right by the digits of an address, whichever configuration they are of
+abbrev pub IsKnownBy : Digits → List Entry → Ahead → Type 0
+IsKnownBy digits trace ahead = (s : Config) → IsDigits s digits → IsKnown s trace ahead
+
+-- the same, if it was before
+abbrev pub StaysKnown : Digits → List Entry → Ahead → Ahead → Type 0
+StaysKnown digits trace old new = (s : Config) → IsDigits s digits → IsKnown s trace old → IsKnown s trace new
+
+-- the number up to which entries may issue by the width, the window and the end of the trace, where `gone` entries were retired
+abbrev pub issue_limit : Config → ℕ → ℕ → ℕ → ℕ
+issue_limit config number gone len = min (number + min config.width (config.window - (number - gone))) len
+
+-- how many entries issue from a number on, and why no more than m do
+abbrev pub issue_count_of : Config → ℕ → ℕ → Ahead → Bool → ℕ
+issue_count_of config number gone ahead lacks = issue_count config.width config.window number gone ahead.one ahead.two lacks
+
+abbrev pub cause_of : Config → ℕ → ℕ → ℕ → Ahead → ℕ → Stop
+cause_of config len number gone ahead m = cause_at config.width config.window len number gone ahead.two m

@@ -1,0 +1,19 @@
+-- What is said of every run.
+--     InEachRun P      it holds of each machine and its traces
+--     InEachCycle P      and before each cycle of the run
+--     InEachSpan P      and over each span of it
+use Rattle.std.specs.Prelude.{ℕ, List}
+use Rattle.sim_base.specs.declared.config.Config.{Config}
+use Rattle.sim_base.specs.declared.trace.Entry.{Entry}
+
+-- it holds of each machine and the traces of its cores
+abbrev pub InEachRun : (Config → List (List Entry) → Type 0) → Type 0
+InEachRun P = (s : Config) (traces : List (List Entry)) → P s traces
+
+-- it holds before each cycle of each run
+abbrev pub InEachCycle : (Config → List (List Entry) → ℕ → Type 0) → Type 0
+InEachCycle P = (s : Config) (traces : List (List Entry)) (now : ℕ) → P s traces now
+
+-- it holds over each span of each run, from one cycle on and before another
+abbrev pub InEachSpan : (Config → List (List Entry) → ℕ → ℕ → Type 0) → Type 0
+InEachSpan P = (s : Config) (traces : List (List Entry)) (from until : ℕ) → P s traces from until
