@@ -252,7 +252,8 @@ class Refusals(unittest.TestCase):
                 self.refused(dramsim.Status.NO_SUCH_PLACE, memory.address_of, dramsim.Place(*place))
 
     def test_check(self) -> None:
-        # The PRE of row 4 comes 10 cycles after the WR, where nCWL + 4 + nWR = 11. A row with a word that is no command is none.
+        # The PRE of row 4 comes 10 cycles after the WR, where nCWL + 4 + nWR = 11. A row with a word that is no command
+        # is none.
         self.assertEqual(dramsim.check(SMALL, EXAMPLES / "tables" / "broken.csv"), dramsim.Verdict(4, 8))
         header = b"cycle,channel,command,group,bank,row,column,core,entry\n"
         self.assertIsNone(dramsim.check(SMALL, header))
@@ -330,7 +331,8 @@ class Cores(unittest.TestCase):
         # The third waits for nothing: it is sent before the second, which waits for the first.
         program = [Instruction(0), Instruction(64, 0), Instruction(128)]
         self.assertEqual(self.cycles(program), 15 + 2 + 4 + 4 + 2)
-        # Where only two are in flight, it is sent when the first has retired, a cycle after the second: its RD is nCCD_L = 5 later.
+        # Where only two are in flight, it is sent when the first has retired, a cycle after the second: its RD is
+        # nCCD_L = 5 later.
         self.assertEqual(self.cycles(program, window=2), 15 + 12 + 5)
 
     def test_idle(self) -> None:

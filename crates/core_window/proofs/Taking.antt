@@ -1,11 +1,13 @@
 -- A Read is taken out of those that wait, which are in the order of their numbers.
-use Rattle.std.proofs.Common.{get_or, ◌≡◌, ℕ, zero, suc, ◌+◌, ◌<◌, ◌≤◌, Bool, true, false, cond, not, eqb, List, [], ◌∷◌, ◌++◌, length, take, drop, Option, Some, None, refl, sym, ap, ◌∙◌, arith, ⊎_elim}
-use Rattle.std.specs.Prelude.{filter, find, position, slice_get}
-use Rattle.std.specs.List.{AllByRecursion as Each, position_or_len, remove}
-use Rattle.std.proofs.lemmas.Bool.{cases_lt, ne_eqb, eqb-true, lt-ltb, le-ltb}
-use Rattle.std.proofs.lemmas.List.Folds.{find_at}
-use Rattle.std.proofs.lemmas.Option.{slice_get-get_or}
+use Rattle.std.proofs.Common.{get_or, set, ◌≡◌, ℕ, ◌+◌, ◌<◌, Bool, true, false, cond, not, eqb, List, [], ◌∷◌, ◌++◌, length, take, drop, Option, Some, None, refl, sym, ap, ap₂, subst, ◌∙◌, arith, append_assoc}
+use Rattle.std.specs.Prelude.{filter, find}
+use Rattle.std.specs.List.{AllByRecursion as Each}
+use Rattle.std.proofs.Math.ListN.{drop_of_length-le}
+use Rattle.std.proofs.Math.Seq.{get_or-append_seam, set-append_seam}
+use Rattle.std.proofs.lemmas.Bool.{ne_eqb, eq-eqb, eqb-true}
+use Rattle.std.proofs.lemmas.List.{append-nil, drop_more, drop-append-le, length-append, length-take-le, take-append-drop}
 use Rattle.sim_base.proofs.Ordered.{Each-weaker}
+use Rattle.core_window.specs.Counting.{read_of, without_read, IsTakenOut}
 use Rattle.core_window.specs.Outstanding.{IsByNumber}
 use Rattle.core_window.specs.declared.outstanding.OutstandingRead.{OutstandingRead}
 
@@ -22,80 +24,93 @@ all_others e (read ∷ reads) h =
     ap (λ b. cond (not b) (read ∷ filter (is_other e) reads) (filter (is_other e) reads)) (ne_eqb read.entry e (λ same. omega (arith, h.0)))
     ∙ ap (λ l. read ∷ l) (all_others e reads h.1)
 
--- where it is not found, all are others
-none_taken : (e : ℕ) (reads : List OutstandingRead) → length reads ≤ position_or_len (is_it e) reads → filter (is_other e) reads ≡ reads
-none_taken e [] l = refl
-none_taken e (read ∷ reads) l = by (eqb read.entry e) (none_taken e reads) l
+-- The Read of a number is looked for among those from a place on. Those before it moved up by a place, which leaves the first
+-- place free; the last of them is at hand, and those from the next place on stand where they were.
+pub record IsCarrying (entry : ℕ) (old : List OutstandingRead) (first : ℕ) (places : List OutstandingRead) (place : ℕ) (held : OutstandingRead) : Type 0 where
+  pub front : List OutstandingRead
+  pub back : List OutstandingRead
+  pub all : places ≡ front ++ back
+  pub at : place ≡ length front
+  pub inside : first < length front
+  pub found : read_of entry old ≡ read_of entry (held ∷ back)
+  pub others : without_read entry old ≡ drop (first + 1) front ++ without_read entry (held ∷ back)
+  pub order : IsByNumber (held ∷ back)
+
+pub carrying-first : (entry first : ℕ) (places : List OutstandingRead) (d : OutstandingRead) → first < length places → IsByNumber (drop first places)
+    → IsCarrying entry (drop first places) first places (first + 1) (get_or places first d)
+carrying-first entry first places d l order =
+    let split : drop first places ≡ get_or places first d ∷ drop (first + 1) places = drop_more places first d l in
+    let front : List OutstandingRead = take (first + 1) places in
+    let long : length front ≡ first + 1 = length-take-le (first + 1) places (omega arith) in
+    let none : drop (first + 1) front ≡ [] = drop_of_length-le front (omega (arith, long)) in
+    record {
+      front = front;
+      back = drop (first + 1) places;
+      all = sym (take-append-drop (first + 1) places);
+      at = sym long;
+      inside = omega (arith, long);
+      found = ap (read_of entry) split;
+      others = ap (without_read entry) split ∙ sym (ap (λ l. l ++ without_read entry (get_or places first d ∷ drop (first + 1) places)) none);
+      order = subst IsByNumber split order;
+    }
+
+-- the one at hand is another: it takes the next place, and the one that stood there is at hand
+more : (entry : ℕ) (old : List OutstandingRead) (first : ℕ) (places : List OutstandingRead) (place : ℕ) (held d : OutstandingRead) (front back : List OutstandingRead)
+    → places ≡ front ++ back → place ≡ length front → first < length front → read_of entry old ≡ read_of entry (held ∷ back)
+    → without_read entry old ≡ drop (first + 1) front ++ without_read entry (held ∷ back) → IsByNumber (held ∷ back)
+    → place < length places → eqb held.entry entry ≡ false → IsCarrying entry old first (set places place held) (place + 1) (get_or places place d)
+more entry old first places place held d front [] all at inside found others order l other =
+    let long : length places ≡ length front = ap length (all ∙ append-nil front) in
+    absurd (omega (arith, long))
+more entry old first places place held d front (x ∷ back) all at inside found others order l other =
+    let next : get_or places place d ≡ x = ap₂ (λ ps n. get_or ps n d) all at ∙ get_or-append_seam front x back d in
+    let long : length (front ++ held ∷ []) ≡ length front + 1 = length-append front (held ∷ []) in
+    let moved : drop (first + 1) (front ++ held ∷ []) ≡ drop (first + 1) front ++ held ∷ [] = drop-append-le (first + 1) front (held ∷ []) (omega arith) in
+    record {
+      front = front ++ held ∷ [];
+      back = back;
+      all = ap₂ (λ ps n. set ps n held) all at ∙ set-append_seam front x back held ∙ sym (append_assoc front (held ∷ []) back);
+      at = ap (λ n. n + 1) at ∙ sym long;
+      inside = omega (arith, long);
+      found = found ∙ ap (λ b. cond b (Some held) (read_of entry (x ∷ back))) other ∙ ap (λ y. read_of entry (y ∷ back)) (sym next);
+      others = others
+          ∙ ap (λ b. drop (first + 1) front ++ cond (not b) (held ∷ without_read entry (x ∷ back)) (without_read entry (x ∷ back))) other
+          ∙ sym (append_assoc (drop (first + 1) front) (held ∷ []) (without_read entry (x ∷ back)))
+          ∙ ap (λ l. l ++ without_read entry (x ∷ back)) (sym moved)
+          ∙ ap (λ y. drop (first + 1) (front ++ held ∷ []) ++ without_read entry (y ∷ back)) (sym next);
+      order = subst (λ y. IsByNumber (y ∷ back)) (sym next) order.1;
+    }
+
+pub carrying-more : (entry : ℕ) (old : List OutstandingRead) (first : ℕ) (places : List OutstandingRead) (place : ℕ) (held d : OutstandingRead)
+    → IsCarrying entry old first places place held → place < length places → (held.entry ≡ entry → ⊥) → IsCarrying entry old first (set places place held) (place + 1) (get_or places place d)
+carrying-more entry old first places place held d h l other =
+    more entry old first places place held d h.front h.back h.all h.at h.inside h.found h.others h.order l (ne_eqb held.entry entry other)
+
+-- the one at hand is the one that was looked for
+pub carrying-last : (entry : ℕ) (old : List OutstandingRead) (first : ℕ) (places : List OutstandingRead) (place : ℕ) (held : OutstandingRead)
+    → IsCarrying entry old first places place held → held.entry ≡ entry → IsTakenOut entry old (Some held) (drop (first + 1) places)
+carrying-last entry old first places place held h same read is =
+    let it : eqb held.entry entry ≡ true = eq-eqb held.entry entry same in
+    let larger : Each (λ (r : OutstandingRead). entry < r.entry) h.back = Each-weaker (λ (r : OutstandingRead). held.entry < r.entry) (λ r. entry < r.entry) (λ r k. omega arith) h.back h.order.0 in
+    let rest : without_read entry (held ∷ h.back) ≡ h.back = ap (λ b. cond (not b) (held ∷ without_read entry h.back) (without_read entry h.back)) it ∙ all_others entry h.back larger in (
+      sym (h.found ∙ ap (λ b. cond b (Some held) (read_of entry h.back)) it) ∙ is,
+      ap (drop (first + 1)) h.all ∙ drop-append-le (first + 1) h.front h.back (omega (arith, h.inside))
+          ∙ sym (h.others ∙ ap (λ l. drop (first + 1) h.front ++ l) rest),
+    )
+
+-- no other is left
+ended : (entry : ℕ) (old : List OutstandingRead) (held : OutstandingRead) (front back : List OutstandingRead) → length (front ++ back) ≡ length front → eqb held.entry entry ≡ false
+    → read_of entry old ≡ read_of entry (held ∷ back) → read_of entry old ≡ None
+ended entry old held front [] long other found = found ∙ ap (λ b. cond {A = Option OutstandingRead} b (Some held) None) other
+ended entry old held front (x ∷ back) long other found = absurd (omega (arith, long, length-append front (x ∷ back)))
+
+pub carrying-none : (entry : ℕ) (old : List OutstandingRead) (first : ℕ) (places : List OutstandingRead) (place : ℕ) (held : OutstandingRead) (taken : Option OutstandingRead) (new : List OutstandingRead)
+    → IsCarrying entry old first places place held → place ≡ length places → (held.entry ≡ entry → ⊥) → IsTakenOut entry old taken new
+carrying-none entry old first places place held taken new h end other read is =
+    absurd (not_both read (read_of entry old) (ended entry old held h.front h.back (ap length (sym h.all) ∙ sym end ∙ h.at) (ne_eqb held.entry entry other) h.found) is)
   where
-    by : (b : Bool) → (length reads ≤ position_or_len (is_it e) reads → filter (is_other e) reads ≡ reads)
-        → suc (length reads) ≤ cond (not b) (1 + position_or_len (is_it e) reads) 0
-        → cond (not b) (read ∷ filter (is_other e) reads) (filter (is_other e) reads) ≡ read ∷ reads
-    by true i m = absurd (omega arith)
-    by false i m = ap (λ l. read ∷ l) (i (omega arith))
-
--- without the one that is found, only the others are there
-one_taken : (e : ℕ) (reads : List OutstandingRead) → IsByNumber reads → position_or_len (is_it e) reads < length reads
-    → remove reads (position_or_len (is_it e) reads) ≡ filter (is_other e) reads
-one_taken e [] h l = absurd (omega arith)
-one_taken e (read ∷ reads) h l = by (eqb read.entry e) (eqb-true read.entry e) (one_taken e reads h.1) l
-  where
-    place : ℕ
-    place = position_or_len (is_it e) reads
-
-    by : (b : Bool) → (b ≡ true → read.entry ≡ e) → (place < length reads → remove reads place ≡ filter (is_other e) reads) → cond (not b) (1 + place) 0 < suc (length reads)
-        → take (cond (not b) (1 + place) 0) (read ∷ reads) ++ drop (suc (cond (not b) (1 + place) 0)) (read ∷ reads)
-        ≡ cond (not b) (read ∷ filter (is_other e) reads) (filter (is_other e) reads)
-    by true same i m = let at = same refl in sym (all_others e reads (Each-weaker (λ (r : OutstandingRead). read.entry < r.entry) (λ r. e < r.entry) (λ r k. omega arith) reads h.0))
-    by false same i m =
-        let one : 1 + place ≡ suc place = omega arith in
-        ap (λ n. take n (read ∷ reads) ++ drop (suc n) (read ∷ reads)) one ∙ ap (λ l. read ∷ l) (i (omega arith))
-
-abbrev place_of : ℕ → List OutstandingRead → ℕ
-place_of e reads = position_or_len (is_it e) reads
-
-within : (e : ℕ) (reads : List OutstandingRead) → place_of e reads < length reads → position (is_it e) reads ≡ Some (place_of e reads)
-within e reads l = ap (λ b. cond b (Some (place_of e reads)) None) (lt-ltb (place_of e reads) (length reads) l)
-
-beyond : (e : ℕ) (reads : List OutstandingRead) → length reads ≤ place_of e reads → position (is_it e) reads ≡ None
-beyond e reads g = ap (λ b. cond b (Some (place_of e reads)) None) (le-ltb (place_of e reads) (length reads) g)
-
-not_both : (n : ℕ) (o : Option ℕ) → o ≡ None → o ≡ Some n → ⊥
-not_both n o h k = cc
-
--- the place at which a Read is found
-place_is : (e : ℕ) (reads : List OutstandingRead) (place : ℕ) → position (is_it e) reads ≡ Some place → (place_of e reads < length reads) × (place ≡ place_of e reads)
-place_is e reads place h =
-    ⊎_elim
-    (λ l. let at = within e reads l in (l, some_same place (place_of e reads) (sym h ∙ at)))
-    (λ g. absurd (not_both place (position (is_it e) reads) (beyond e reads g) h))
-    (cases_lt (place_of e reads) (length reads))
-  where
-    some_same : (a b : ℕ) → Some a ≡ Some b → a ≡ b
-    some_same a b q = cc
-
-no_place : (e : ℕ) (reads : List OutstandingRead) → position (is_it e) reads ≡ None → length reads ≤ place_of e reads
-no_place e reads h =
-    ⊎_elim (λ l. absurd (not_both (place_of e reads) (position (is_it e) reads) h (within e reads l))) (λ g. g) (cases_lt (place_of e reads) (length reads))
-
-pub place-found : (e : ℕ) (reads : List OutstandingRead) (place : ℕ) (read : OutstandingRead) → position (is_it e) reads ≡ Some place → read ≡ get_or reads place read
-    → Some read ≡ find (is_it e) reads
-place-found e reads place read h is =
-    let p = place_is e reads place h in
-    ap Some is ∙ ap (λ n. Some (get_or reads n read)) p.1 ∙ sym (slice_get-get_or reads (place_of e reads) read p.0) ∙ sym (find_at (is_it e) reads)
-
-pub place-taken : (e : ℕ) (reads : List OutstandingRead) (place : ℕ) → IsByNumber reads → position (is_it e) reads ≡ Some place → remove reads place ≡ filter (is_other e) reads
-place-taken e reads place order h = let p = place_is e reads place h in ap (remove reads) p.1 ∙ one_taken e reads order p.0
-
-pub none-found : (e : ℕ) (reads : List OutstandingRead) → position (is_it e) reads ≡ None → None ≡ find (is_it e) reads
-none-found e reads h = sym (find_at (is_it e) reads ∙ beyond_end reads (place_of e reads) (no_place e reads h))
-  where
-    beyond_end : (xs : List OutstandingRead) (i : ℕ) → length xs ≤ i → slice_get xs i ≡ None
-    beyond_end [] i l = refl
-    beyond_end (x ∷ xs) zero l = absurd (omega arith)
-    beyond_end (x ∷ xs) (suc i) l = beyond_end xs i (omega arith)
-
-pub none-taken : (e : ℕ) (reads : List OutstandingRead) → position (is_it e) reads ≡ None → reads ≡ filter (is_other e) reads
-none-taken e reads h = sym (none_taken e reads (no_place e reads h))
+    not_both : (r : OutstandingRead) (o : Option OutstandingRead) → o ≡ None → o ≡ Some r → ⊥
+    not_both r o h k = cc
 
 -- the Read that is found has the number
 pub found-own : (e : ℕ) (reads : List OutstandingRead) (read : OutstandingRead) → find (is_it e) reads ≡ Some read → read.entry ≡ e

@@ -1,6 +1,7 @@
 -- What contracts see of a core.
 --     view_of core      all that it keeps
 use Rattle.core_window.specs.Views.{CoreView}
+use Rattle.core_window.specs.Waiting.{waiting}
 use Rattle.core_window.specs.declared.core_unit.Core.{Core}
 
 -- all that a core keeps
@@ -11,7 +12,7 @@ view_of c =
       core = c.id;
       trace = c.trace;
       now = c.cycle;
-      outstanding = c.outstanding.items;
+      outstanding = waiting c.outstanding;
       credits = c.credits.items;
       stats = c.stats;
     }

@@ -4,6 +4,7 @@
 --     with_reads outstanding memory now      the Reads that wait, with the one that issues
 --     SendsFor memory s core now before after      the request of the entry that issues is put behind what was sent
 --     read_of entry outstanding, without_read entry outstanding      the Read of a number among those that wait; the others
+--     IsTakenOut entry old taken new      the Read of a number is taken out of those that wait
 --     HasRoom write credits      one credit more of this kind can be counted
 --     IsCreditedAt place write old new      one credit more is held for one channel, and for the others what was
 use Rattle.std.specs.Prelude.{◌≡◌, ℕ, ◌+◌, ◌^◌, ◌<◌, ◌==◌, not, Bool, List, ◌++◌, find, filter, slice_get, Option, Some, if◌then◌else◌}
@@ -42,6 +43,12 @@ read_of entry outstanding = find (λ read. read.entry == entry) outstanding
 -- those that wait, without the Read of a number
 abbrev pub without_read : ℕ → List OutstandingRead → List OutstandingRead
 without_read entry outstanding = filter (λ read. not (read.entry == entry)) outstanding
+
+-- The Read of a number that is among those that wait is taken out of them: the others still wait. Where it is not among them,
+-- nothing is said.
+abbrev pub IsTakenOut : ℕ → List OutstandingRead → Option OutstandingRead → List OutstandingRead → Type 0
+IsTakenOut entry old taken new =
+    (read : OutstandingRead) → read_of entry old ≡ Some read → (taken ≡ Some read) × (new ≡ without_read entry old)
 
 -- statistics with one reply more, which was waited for so long
 abbrev pub counted_reply : CoreStats → ℕ → CoreStats

@@ -14,3 +14,4 @@ pub mod Silence
 pub mod Foreseen
 pub mod Counting
 pub mod Work
+pub mod Waiting

@@ -1,7 +1,9 @@
 -- A reply that comes.
 --     MayTakeReply view entry      its counts have room
 --     after_reply view read      what a core keeps after the reply to a Read
-use Rattle.std.specs.Prelude.{ℕ, ◌^◌, ◌+◌, ◌-◌, ◌<◌, ◌==◌, not, filter}
+--     AnswersRead entry old new      it takes the reply to the Read of a number
+use Rattle.std.specs.Prelude.{◌≡◌, ℕ, ◌^◌, ◌+◌, ◌-◌, ◌<◌, ◌==◌, not, filter, Some}
+use Rattle.core_window.specs.Counting.{read_of}
 use Rattle.core_window.specs.Views.{CoreView}
 use Rattle.core_window.specs.declared.outstanding.OutstandingRead.{OutstandingRead}
 
@@ -20,3 +22,7 @@ after_reply view read =
         read_latency = view.stats.read_latency + (view.now - read.issued);
       };
     }
+
+-- a core takes the reply to the Read of a number, if it waits: it is then as after that reply
+abbrev pub AnswersRead : ℕ → CoreView → CoreView → Type 0
+AnswersRead entry old new = (read : OutstandingRead) → read_of entry old.outstanding ≡ Some read → new ≡ after_reply old read

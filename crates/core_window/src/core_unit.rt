@@ -16,17 +16,17 @@ ghost use Rattle.core_window.specs.Inside.{IsStanding, IsReceiving, GoesQuietly}
 ghost use Rattle.core_window.specs.Rests.{MayRest, idle_step};
 ghost use Rattle.core_window.specs.Silence.{IsSilentUntil};
 ghost use Rattle.core_window.specs.Steady.{steady_view, IsSteady};
-ghost use Rattle.core_window.specs.Replies.{MayTakeReply, after_reply};
+ghost use Rattle.core_window.specs.Replies.{MayTakeReply, AnswersRead};
 ghost use Rattle.core_window.specs.Outstanding.{IsByNumber};
-ghost use Rattle.core_window.specs.Counting.{read_of, IsCreditedAt};
-ghost use Rattle.core_window.specs.declared.outstanding.OutstandingRead.{OutstandingRead};
+ghost use Rattle.core_window.specs.Waiting.{waiting};
+ghost use Rattle.core_window.specs.Counting.{IsCreditedAt};
 
 use crate::counts::{count_cycle, count_cycles};
 use crate::flow::{Flow, WindowNumbers, cycles_within, flow_of};
 use crate::issue::{Ahead, entry_issued, issue_of, look_ahead, most_issued, next_two};
 use crate::issue_effects::{send, spend, wait_for};
-use crate::outstanding::OutstandingRead;
-use crate::receive::{add_credit_at, channel_of, count_reply, take_read};
+use crate::outstanding::OutstandingReads;
+use crate::receive::{add_credit_at, channel_of, count_reply};
 use crate::retire::{cause_where_full, is_next_done, is_stuck, retire_count};
 use address_map::digits::Digits;
 use cpu_trace::entries::MemoryEntry;
@@ -48,7 +48,7 @@ pub struct Core {
     id: CoreId,
     trace: Trace,
     cycle: Cycle,
-    outstanding: Vec<OutstandingRead>,
+    outstanding: OutstandingReads,
     credits: Vec<Credits>,
     stats: CoreStats,
     /// The next two memory entries that it issues.
@@ -122,7 +122,8 @@ impl Core {
         let len = self.trace.len();
         let number = self.stats.issued;
         let width = self.config.width;
-        let retired = retire_count(width, &self.outstanding, number, self.stats.retired);
+        let waiting = self.outstanding.as_slice();
+        let retired = retire_count(width, waiting, number, self.stats.retired);
         let gone = self.stats.retired + u64::from(retired);
         let near = most_issued(&self.config, len, number, gone);
         let lacks = self.found.one < near && is_without_credit(&self.credits, &self.found);
@@ -196,11 +197,10 @@ impl Core {
     /// A reply comes: its Read no longer waits.
     fn take_reply(&mut self, entry: u64)
         requires room { MayTakeReply (view_of self.old) entry }
-        requires order { IsByNumber self.old.outstanding.items }
-        ensures { (read : OutstandingRead) → read_of entry self.old.outstanding.items ≡ Some read
-            → view_of self.new ≡ after_reply (view_of self.old) read }
+        requires order { IsByNumber (waiting self.old.outstanding) }
+        ensures { AnswersRead entry (view_of self.old) (view_of self.new) }
     {
-        if let Some(read) = take_read(&mut self.outstanding, entry) {
+        if let Some(read) = self.outstanding.take(entry) {
             count_reply(&mut self.stats, self.cycle.saturating_sub(read.issued));
         }
     }
@@ -252,7 +252,7 @@ impl Core {
             retired: self.stats.retired,
             plain: self.found.one.min(last).saturating_sub(issued),
         };
-        flow_of(&numbers, &self.outstanding, most)
+        flow_of(&numbers, self.outstanding.as_slice(), most)
     }
 
     /// Goes on by one cycle, or up to a given cycle if the core does nothing until a message comes.
@@ -286,7 +286,7 @@ impl Core {
     {
         is_stuck(
             self.config.window,
-            &self.outstanding,
+            self.outstanding.as_slice(),
             self.stats.issued,
             self.stats.retired,
         )
@@ -409,7 +409,7 @@ impl Core {
             id,
             trace,
             cycle: 0,
-            outstanding: Vec::with_capacity(alloc, config.window as usize)?,
+            outstanding: OutstandingReads::with_room(alloc, config.window as usize)?,
             credits: vec![in alloc; credits; usize::from(config.channels)]?,
             stats: CoreStats::new(),
             found,
@@ -460,7 +460,11 @@ impl Core {
         requires stands { MayRest (view_of self.now) }
         ensures { ActsNext (view_of self.now) result }
     {
-        if is_next_done(&self.outstanding, self.stats.issued, self.stats.retired) {
+        if is_next_done(
+            self.outstanding.as_slice(),
+            self.stats.issued,
+            self.stats.retired,
+        ) {
             return Some(from);
         }
         if self.is_full() {

@@ -7,11 +7,12 @@ ghost use Rattle.sim_base.specs.Config.{latency};
 ghost use Rattle.sim_base.specs.Places.{place_of};
 ghost use Rattle.sim_base.specs.declared.config.Config.{Config};
 ghost use Rattle.core_window.specs.Ahead.{IsPlaced};
-ghost use Rattle.core_window.specs.Counting.{with_reads, SendsFor};
+ghost use Rattle.core_window.specs.Counting.{SendsFor};
 ghost use Rattle.core_window.specs.OneCycle.{credit_after, less_credit};
+ghost use Rattle.core_window.specs.Waiting.{WaitsFor};
 ghost use Rattle.statistics.specs.declared.final_state.Credits.{Credits};
 
-use crate::outstanding::OutstandingRead;
+use crate::outstanding::{OutstandingRead, OutstandingReads};
 use crate::receive::take_credit;
 use cpu_trace::entries::MemoryEntry;
 use sim_base::config::Config;
@@ -23,11 +24,11 @@ use std::alloc::AllocError;
 
 /// A Read that issues waits from now on.
 pub fn wait_for(
-    outstanding: &mut Vec<OutstandingRead>,
+    outstanding: &mut OutstandingReads,
     memory: Option<MemoryEntry>,
     now: Cycle,
 ) -> Result<(), AllocError>
-    ensures { OnOk result (outstanding.new.items ≡ with_reads outstanding.old.items memory now) }
+    ensures { OnOk result (WaitsFor memory now outstanding.old outstanding.new) }
 {
     if let Some(next) = memory {
         if let Entry::Read(_) = next.entry {

@@ -1,6 +1,11 @@
 //! Reads that wait for their reply.
 
+ghost use Rattle.std.specs.Prelude.{[], ◌≡◌, ◌+◌, ◌∷◌, ◌++◌, ◌≤◌, ◌<◌, drop, length, IfOk, OnOk};
+ghost use Rattle.core_window.specs.Outstanding.{IsByNumber};
+ghost use Rattle.core_window.specs.Counting.{IsTakenOut};
+
 use sim_base::message::Cycle;
+use std::alloc::{AllocError, Global};
 
 /// A Read that was issued and has no reply.
 #[derive(Clone, Copy, PartialEq, Eq, Debug)]
@@ -9,4 +14,94 @@ pub struct OutstandingRead {
     pub entry: u64,
     /// The cycle in which it was issued.
     pub issued: Cycle,
+}
+
+/// The Reads that wait for their reply, in the order of their numbers, behind places that are free.
+#[derive(Drop)]
+pub struct OutstandingReads {
+    places: Vec<OutstandingRead>,
+    /// How many places are free before the first Read that waits.
+    free: usize,
+    ghost within: { free ≤ length places.items },
+}
+
+/// Takes the Read with this number out of those from a place on: each Read before it moves up by a place, and the first place
+/// becomes free.
+fn take_from(places: &mut [OutstandingRead], first: usize, entry: u64) -> Option<OutstandingRead>
+    requires inside { first < length places.old }
+    requires order { IsByNumber (drop first places.old) }
+    ensures { IsTakenOut entry (drop first places.old) result (drop (first + 1) places.new) }
+{
+    let mut held = places[first];
+    let mut place = first + 1;
+    'search: while held.entry != entry {
+        if place == places.len() {
+            return None;
+        }
+        let next = places[place];
+        places[place] = held;
+        held = next;
+        place += 1;
+    }
+    Some(held)
+}
+
+impl OutstandingReads {
+    ghost use Rattle.core_window.specs.Waiting.{waiting};
+
+    /// No Read waits; there is room for this number of them.
+    pub fn with_room(alloc: Global, room: usize) -> Result<OutstandingReads, AllocError>
+        ensures { IfOk result (λ reads. waiting reads ≡ []) }
+    {
+        Ok(OutstandingReads {
+            places: Vec::with_capacity(alloc, room.saturating_mul(2))?,
+            free: 0,
+        })
+    }
+
+    /// Those that wait.
+    #[inline(always)]
+    pub fn as_slice(&self) -> &[OutstandingRead]
+        ensures { result.now ≡ waiting self.now }
+    {
+        &self.places[self.free..]
+    }
+
+    /// The first place that is not free becomes the first of all.
+    #[inline(never)]
+    fn close_up(&mut self)
+        ensures { waiting self.new ≡ waiting self.old }
+    {
+        let len = self.places.len();
+        let left = len - self.free;
+        self.places.copy_within(self.free..len, 0);
+        self.places.truncate(left);
+        self.free = 0;
+    }
+
+    /// One Read more waits, behind the others.
+    pub fn push(&mut self, read: OutstandingRead) -> Result<(), AllocError>
+        ensures { OnOk result (waiting self.new ≡ waiting self.old ++ read ∷ []) }
+    {
+        if self.places.len() == self.places.capacity() {
+            self.close_up();
+        }
+        self.places.push(read)?;
+        Ok(())
+    }
+
+    /// Takes out the Read with this number, which waits.
+    #[inline(always)]
+    pub fn take(&mut self, entry: u64) -> Option<OutstandingRead>
+        requires { IsByNumber (waiting self.old) }
+        ensures { IsTakenOut entry (waiting self.old) result (waiting self.new) }
+    {
+        let first = self.free;
+        if first == self.places.len() {
+            return None;
+        }
+        let read = take_from(&mut self.places, first, entry);
+        self.free = first + 1;
+        read
+    }
 }

@@ -1,32 +1,13 @@
 //! What a message changes.
 
-ghost use Rattle.std.specs.Prelude.{◌≡◌, ◌+◌, ◌/◌, ◌%◌, ◌<◌, ◌^◌, ◌==◌, position, length};
-ghost use Rattle.core_window.specs.Counting.{read_of, without_read, counted_reply, HasRoom, IsCreditedAt};
+ghost use Rattle.std.specs.Prelude.{◌≡◌, ◌+◌, ◌/◌, ◌%◌, ◌<◌, ◌^◌, length};
+ghost use Rattle.core_window.specs.Counting.{counted_reply, HasRoom, IsCreditedAt};
 ghost use Rattle.core_window.specs.OneCycle.{more_credit, less_credit};
-ghost use Rattle.core_window.specs.Outstanding.{IsByNumber};
 
-use crate::outstanding::OutstandingRead;
 use sim_base::config::Config;
 use sim_base::message::LinkId;
 use statistics::cores::CoreStats;
 use statistics::final_state::Credits;
-
-/// The place of the first Read that waits with this number.
-fn place_of_read(outstanding: &[OutstandingRead], entry: u64) -> Option<usize>
-    ensures { result ≡ position (λ read. read.entry == entry) outstanding.now }
-{
-    outstanding.iter().position(|read| read.entry == entry)
-}
-
-/// Takes out the Read with this number, if it waits.
-pub fn take_read(outstanding: &mut Vec<OutstandingRead>, entry: u64) -> Option<OutstandingRead>
-    requires { IsByNumber outstanding.old.items }
-    ensures found { result ≡ read_of entry outstanding.old.items }
-    ensures others { outstanding.new.items ≡ without_read entry outstanding.old.items }
-{
-    let place = place_of_read(outstanding, entry)?;
-    Some(outstanding.remove(place))
-}
 
 /// The channel of a link.
 pub fn channel_of(config: &Config, link: LinkId) -> u64

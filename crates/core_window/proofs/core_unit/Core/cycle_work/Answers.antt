@@ -33,7 +33,7 @@ returns-clause-does c v s core trace steps mail i h =
           let inside : one < length a.trace = omega arith in
           w.lacks-is
           ∙ lacks_here s core trace steps mail a v c.args.self.now.found.entry w.is_without_credit-lacks.result i h
-          (λ held says. w.is_without_credit-lacks.ensures a.config held c.args.self.now.known.placed (λ channel b. ap (λ (cs : List Credits). slice_get cs channel) w.deref-then-self-near.ensures.value ∙ says channel b))
+          (λ held says. w.is_without_credit-lacks.ensures a.config held c.args.self.now.known.placed (λ channel b. ap (λ (cs : List Credits). slice_get cs channel) w.deref.ensures.value ∙ says channel b))
           ∙ ap (lacks_credit a.config core mail (core_messages s core trace steps) (length steps)) (sym (seen.is_at inside))
           ∙ ap lack (sym (lt-ltb one (length a.trace) inside))
       | else-self-near w ↦ absurd (omega (arith, w.if-self-near.false, c.most_issued-near.ensures, c.from.ensures, c.len-len.ensures.value))
@@ -51,7 +51,7 @@ returns-clause-does c v s core trace steps mail i h =
     cycle_work-is s core trace steps mail (view_of c.args.self.now) v r one two full
     c.issue_of-issue.result.count c.issue_of-issue.result.why c.entry_issued-memory.result i h
     (record {
-      retired = c.retire_count-retired.ensures ∙ ap (λ (ws : List OutstandingRead). min a.config.width (first_undone a.stats.issued ws - a.stats.retired)) c.deref.ensures.value;
+      retired = c.retire_count-retired.ensures ∙ ap (λ (ws : List OutstandingRead). min a.config.width (first_undone a.stats.issued ws - a.stats.retired)) c.as_slice-waiting.ensures;
       ahead = seen.ahead;
       credit = refl;
       last = λ may. subst

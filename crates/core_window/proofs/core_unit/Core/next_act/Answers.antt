@@ -13,7 +13,7 @@ pub returns-then-is_next_done : goal.returns-then-is_next_done
 returns-then-is_next_done c s core trace steps mail h =
     let a = view_of c.args.self.now in
     retires-first s core trace steps mail a c.args.from c.requires.at (omega (arith, c.args.self.now.config.core_in_range.width_in))
-    (subst (λ (ws : List OutstandingRead). a.stats.retired < first_undone a.stats.issued ws) c.deref.ensures.value (c.if-is_next_done.ensures.0 refl)) h
+    (subst (λ (ws : List OutstandingRead). a.stats.retired < first_undone a.stats.issued ws) c.as_slice.ensures (c.if-is_next_done.ensures.0 refl)) h
 
 pub is_full-requires : goal.is_full-requires
 is_full-requires c = (sound (view_of c.args.self.now) (rest-standing (view_of c.args.self.now) c.requires.stands)).retired
@@ -22,6 +22,6 @@ pub returns-then-is_full : goal.returns-then-is_full
 returns-then-is_full c s core trace steps mail h =
     let a = view_of c.args.self.now in
     let undone : first_undone a.stats.issued a.outstanding ≤ a.stats.retired =
-    subst (λ (ws : List OutstandingRead). first_undone a.stats.issued ws ≤ a.stats.retired) c.deref.ensures.value
-    (⊎_elim (λ l. absurd (false≢true (c.if-is_next_done.ensures.1 l))) (λ g. g) (cases_lt a.stats.retired (first_undone a.stats.issued c.deref.result.now))) in
+    subst (λ (ws : List OutstandingRead). first_undone a.stats.issued ws ≤ a.stats.retired) c.as_slice.ensures
+    (⊎_elim (λ l. absurd (false≢true (c.if-is_next_done.ensures.1 l))) (λ g. g) (cases_lt a.stats.retired (first_undone a.stats.issued c.as_slice.result.now))) in
     stuck-rests s core trace steps mail a (sound a (rest-standing a c.requires.stands)).issued undone (c.if-is_full.ensures.0 refl) h

@@ -10,7 +10,7 @@ returns c =
     refl
     (search rules)
     refl
-    (c.in_ok-with_capacity.ensures {u = tt}).items
+    (c.in_ok-with_room.ensures {u = tt})
     (search rules)
     c.new.ensures
     (omega (arith, c.len.ensures.value))
