@@ -4,7 +4,6 @@ use crate::expect::expect;
 use address_map::{address_of, place_of};
 use fixtures::small::small;
 use sim_base::place::Place;
-use std::test::Fail;
 
 static LAST: Place = Place {
     channel: 0,
@@ -26,8 +25,8 @@ static NEXT_GROUP: Place = Place {
 
 /// The last address is of the last line, and groups follow the columns.
 #[test]
-fn places_of_addresses(rt: HostRuntime) -> Result<(), Fail> {
-    let config = small(rt.alloc(), &[], "")?;
+fn places_of_addresses(rt: HostRuntime) {
+    let config = small(rt.alloc(), &[], "").expect(&rt, "a machine");
     let found = place_of(&config, 8192);
     let last = place_of(&config, 18446744073709551615);
     expect(
@@ -35,5 +34,4 @@ fn places_of_addresses(rt: HostRuntime) -> Result<(), Fail> {
         &(last, found, address_of(&config, &found)),
         &(LAST, NEXT_GROUP, 8192),
     );
-    Ok(())
 }

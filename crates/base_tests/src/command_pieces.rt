@@ -12,7 +12,6 @@ use sim_base::command::{Command, IssuedCommand};
 use sim_base::fault::Fault;
 use std::alloc::{AllocError, Global};
 use std::process::Abort;
-use std::test::Fail;
 use std::thread::Threads;
 
 /// The caller alone puts a few commands together; of many, each thread puts a piece together.
@@ -33,21 +32,21 @@ fn list_of(alloc: Global, count: u64) -> Result<CommandList, AllocError>
     Ok(list)
 }
 
-fn table_of(alloc: Global, count: u64) -> Result<CommandTable, AllocError> {
-    let list = list_of(alloc, count)?;
-    Ok(CommandTable::of(vec![in alloc; list]?))
+fn table_of(rt: &impl Abort, alloc: Global, count: u64) -> CommandTable {
+    let list = list_of(alloc, count).expect(rt, "memory");
+    let lists = Vec::from_array(alloc, [list]).expect(rt, "memory");
+    CommandTable::of(lists)
 }
 
 /// The text of that table.
-fn text_of(alloc: Global, count: u64) -> Result<String, AllocError> {
-    let mut text = String::from_str(
-        alloc,
-        "cycle,channel,command,group,bank,row,column,core,entry\n",
-    )?;
+fn text_of(rt: &impl Abort, alloc: Global, count: u64) -> String {
+    let header = "cycle,channel,command,group,bank,row,column,core,entry\n";
+    let mut text = String::from_str(alloc, header).expect(rt, "memory");
     for cycle in 0..count {
-        text.push_str(format!(in alloc; "{cycle},0,PREA,,,,,,\n")?.as_str())?;
+        let line = format!(in alloc; "{cycle},0,PREA,,,,,,\n").expect(rt, "memory");
+        text.push_str(line.as_str()).expect(rt, "memory");
     }
-    Ok(text)
+    text
 }
 
 // Asserts what this many threads write, and that a writer that takes only one byte is reported.
@@ -56,27 +55,25 @@ fn assert_written<R: Threads + Sync + Abort>(
     alloc: Global,
     (table, want): (&CommandTable, &str),
     threads: usize,
-) -> Result<(), Fail> {
+) {
     let mut text = Vec::new(alloc);
-    write_commands_by(rt, alloc, threads, 1, table, &mut text)?;
-    let mut slow = Slow::new(alloc, 1, 1, true)?;
-    let ended = write_commands_by(rt, alloc, threads, 1, table, &mut slow);
+    let ended = write_commands_by(rt, alloc, threads, 1, table, &mut text);
+    let mut slow = Slow::new(want, 1, true);
+    let failed = write_commands_by(rt, alloc, threads, 1, table, &mut slow);
     expect(
         rt,
-        &(threads, str::from_utf8(text.as_slice()), ended),
-        &(threads, Ok(want), Err(Fault::Write)),
+        &(threads, str::from_utf8(text.as_slice()), ended, failed),
+        &(threads, Ok(want), Ok(()), Err(Fault::Write)),
     );
-    Ok(())
 }
 
 #[test]
-fn threads_write_commands(rt: HostRuntime) -> Result<(), Fail> {
+fn threads_write_commands(rt: HostRuntime) {
     for count in COUNTS {
-        let table = table_of(rt.alloc(), count)?;
-        let want = text_of(rt.alloc(), count)?;
+        let table = table_of(&rt, rt.alloc(), count);
+        let want = text_of(&rt, rt.alloc(), count);
         for threads in 0..5 {
-            assert_written(&rt, rt.alloc(), (&table, want.as_str()), threads)?;
+            assert_written(&rt, rt.alloc(), (&table, want.as_str()), threads);
         }
     }
-    Ok(())
 }

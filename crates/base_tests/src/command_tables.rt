@@ -1,17 +1,13 @@
 //! Tables of a few commands: to writers that take all, little or nothing, and in pieces.
 
-ghost use Rattle.command_table.specs.Tables.{IsRising};
-
 use crate::expect::expect;
 use crate::written::{Report, assert_report};
-use command_table::list::CommandList;
 use command_table::table::CommandTable;
 use fixtures::lists::list_of_two;
 use sim_base::command::{Command, IssuedCommand, Source};
 use sim_base::place::BankId;
-use std::alloc::{AllocError, Global};
+use std::alloc::Global;
 use std::process::Abort;
-use std::test::Fail;
 
 const FIRST: BankId = BankId {
     rank: 0,
@@ -156,12 +152,11 @@ static TABLES: [Case<'static>; 3] = [
 ];
 
 #[test]
-fn writes_commands(rt: HostRuntime) -> Result<(), Fail> {
+fn writes_commands(rt: HostRuntime) {
     for (ranks, rows, want) in &TABLES {
-        let table = CommandTable::of_rows(rt.alloc(), rows)?;
-        assert_report(&rt, rt.alloc(), Report::Commands(*ranks, &table), want)?;
+        let table = CommandTable::of_rows(rt.alloc(), rows).expect(&rt, "memory");
+        assert_report(&rt, rt.alloc(), Report::Commands(*ranks, &table), want);
     }
-    Ok(())
 }
 
 // Commands of two other channels, some of the cycles of that read.
@@ -213,24 +208,12 @@ static BY_TWO: [Three; 3] = [
     NO_COMMAND,
 ];
 
-fn table_of(
-    alloc: Global,
-    first: CommandList,
-    second: CommandList,
-    third: CommandList,
-) -> Result<CommandTable, AllocError>
-    requires first { IsRising first }
-    requires second { IsRising second }
-    requires third { IsRising third }
-{
-    Ok(CommandTable::of(vec![in alloc; first, second, third]?))
-}
-
-fn table_of_channels(alloc: Global) -> Result<CommandTable, AllocError> {
-    let first = list_of_two(alloc, ACT, RD)?;
-    let second = list_of_two(alloc, PREA, REF)?;
-    let third = list_of_two(alloc, LATER_PREA, LATER_REF)?;
-    table_of(alloc, first, second, third)
+fn table_of_channels(rt: &impl Abort, alloc: Global) -> CommandTable {
+    let first = list_of_two(alloc, ACT, RD).expect(rt, "memory");
+    let second = list_of_two(alloc, PREA, REF).expect(rt, "memory");
+    let third = list_of_two(alloc, LATER_PREA, LATER_REF).expect(rt, "memory");
+    let lists = Vec::from_array(alloc, [first, second, third]);
+    CommandTable::of(lists.expect(rt, "memory"))
 }
 
 // Asserts the commands of each piece, of which there are three at most.
@@ -240,22 +223,22 @@ fn assert_pieces(
     table: &CommandTable,
     most: usize,
     want: &[Three],
-) -> Result<(), AllocError> {
+) {
     let mut read = Vec::new(alloc);
-    for piece in &table.pieces(alloc, most)? {
-        let mut rows = piece.copied(alloc)?;
-        read.push([rows.next(), rows.next(), rows.next()])?;
+    for piece in &table.pieces(alloc, most).expect(rt, "memory") {
+        let mut rows = piece.copied(alloc).expect(rt, "memory");
+        let three = [rows.next(), rows.next(), rows.next()];
+        read.push(three).expect(rt, "memory");
     }
     expect(rt, &(most, read.as_slice()), &(most, want));
-    Ok(())
 }
 
 #[test]
-fn cuts_a_table_into_pieces(rt: HostRuntime) -> Result<(), Fail> {
-    let table = table_of_channels(rt.alloc())?;
-    let rows = table.to_vec(rt.alloc())?;
+fn cuts_a_table_into_pieces(rt: HostRuntime) {
+    let table = table_of_channels(&rt, rt.alloc());
+    let rows = table.to_vec(rt.alloc()).expect(&rt, "memory");
     expect(&rt, &rows.as_slice(), &OF_CHANNELS.as_slice());
-    assert_pieces(&rt, rt.alloc(), &table, 0, &BY_ONE)?;
-    assert_pieces(&rt, rt.alloc(), &table, 1, &BY_ONE)?;
-    Ok(assert_pieces(&rt, rt.alloc(), &table, 2, &BY_TWO)?)
+    assert_pieces(&rt, rt.alloc(), &table, 0, &BY_ONE);
+    assert_pieces(&rt, rt.alloc(), &table, 1, &BY_ONE);
+    assert_pieces(&rt, rt.alloc(), &table, 2, &BY_TWO);
 }

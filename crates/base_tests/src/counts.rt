@@ -6,7 +6,6 @@ use sim_base::command::Kind;
 use statistics::channels::ChannelStats;
 use statistics::cores::CoreStats;
 use statistics::stats::Stats;
-use std::test::Fail;
 
 // A channel's stretches, joined, and what they are to give. The last is one idle cycle, 16 times.
 fn joined_channel() -> (ChannelStats, ChannelStats) {
@@ -117,7 +116,7 @@ static CHANNELS: [ChannelStats; 2] = [
 ];
 
 #[test]
-fn counts_of_stretches(rt: HostRuntime) -> Result<(), Fail> {
+fn counts_of_stretches(rt: HostRuntime) {
     let (joined, wanted_joined) = joined_channel();
     let (added, wanted_added) = added_channel();
     let (core, wanted_core) = joined_core();
@@ -126,7 +125,7 @@ fn counts_of_stretches(rt: HostRuntime) -> Result<(), Fail> {
         &(joined, added, core),
         &(wanted_joined, wanted_added, wanted_core),
     );
-    let stats = Stats::of_parts(rt.alloc(), 16, &CORES, &CHANNELS)?;
+    let stats = Stats::of_parts(rt.alloc(), 16, &CORES, &CHANNELS).expect(&rt, "memory");
     expect(
         &rt,
         &(
@@ -136,5 +135,4 @@ fn counts_of_stretches(rt: HostRuntime) -> Result<(), Fail> {
         ),
         &(16, CORES.as_slice(), CHANNELS.as_slice()),
     );
-    Ok(())
 }

@@ -3,11 +3,9 @@
 use crate::expect::expect;
 use fixtures::small::{TWO_RANKS, small};
 use sim_base::command::{Command, Kind, Relation, Source};
-use sim_base::fault::Fault;
 use sim_base::place::BankId;
 use std::alloc::Global;
 use std::process::Abort;
-use std::test::Fail;
 use timing::gap_table::GapTable;
 use timing::rules::relation;
 
@@ -16,13 +14,8 @@ use timing::rules::relation;
 type Case = (Kind, Kind, Relation, Option<u64>);
 
 // Asserts that a machine with these changes has these distances. Where no rule binds, the distance is 0.
-fn assert_distances(
-    rt: &impl Abort,
-    alloc: Global,
-    changes: &[&str],
-    cases: &[Case],
-) -> Result<(), Fault> {
-    let config = small(alloc, changes, "")?;
+fn assert_distances(rt: &impl Abort, alloc: Global, changes: &[&str], cases: &[Case]) {
+    let config = small(alloc, changes, "").expect(rt, "a machine");
     let table = GapTable::of(&config);
     for case in cases {
         let (earlier, later, relation, want) = *case;
@@ -34,7 +27,6 @@ fn assert_distances(
             &(case, want.unwrap_or(0), want.is_some()),
         );
     }
-    Ok(())
 }
 
 // No rule binds an ACT to a REF; an RD in another bank does not bind a PRE.
@@ -82,9 +74,8 @@ fn assert_rank_precharged(rt: &impl Abort) {
 }
 
 #[test]
-fn distances_of_commands(rt: HostRuntime) -> Result<(), Fail> {
-    assert_distances(&rt, rt.alloc(), &[], &IN_A_RANK)?;
-    assert_distances(&rt, rt.alloc(), &[TWO_RANKS], &BETWEEN_RANKS)?;
+fn distances_of_commands(rt: HostRuntime) {
+    assert_distances(&rt, rt.alloc(), &[], &IN_A_RANK);
+    assert_distances(&rt, rt.alloc(), &[TWO_RANKS], &BETWEEN_RANKS);
     assert_rank_precharged(&rt);
-    Ok(())
 }

@@ -3,7 +3,6 @@
 use crate::expect::expect;
 use sim_base::fault::{Fault, LineCause, MergeFault};
 use sim_base::key::Key;
-use std::test::Fail;
 
 static FAULTS: [(Fault, &str); 22] = [
     (Fault::ConfigSyntax, "fault 1: configuration is not TOML"),
@@ -68,10 +67,9 @@ static FAULTS: [(Fault, &str); 22] = [
 ];
 
 #[test]
-fn prints_faults(rt: HostRuntime) -> Result<(), Fail> {
+fn prints_faults(rt: HostRuntime) {
     for (fault, want) in &FAULTS {
-        let text = fault.to_string(rt.alloc())?;
+        let text = fault.to_string(rt.alloc()).expect(&rt, "memory");
         expect(&rt, &text.as_str(), want);
     }
-    Ok(())
 }

@@ -4,8 +4,8 @@ use crate::written::{Report, assert_report};
 use sim_base::message::{Load, Message, Request};
 use sim_base::place::{BankId, Place};
 use statistics::final_state::{ChannelState, CoreState, Credits, FinalState, OpenRow};
-use std::alloc::{AllocError, Global};
-use std::test::Fail;
+use std::alloc::Global;
+use std::process::Abort;
 
 const FIRST: BankId = BankId {
     rank: 0,
@@ -57,31 +57,33 @@ const WRITE: Request = Request {
 // What a core issued and retired, and its credits.
 type CoreStep<'x> = (u64, u64, &'x [Credits]);
 
-fn cores(alloc: Global, rows: &[CoreStep<'_>]) -> Result<Vec<CoreState>, AllocError> {
+fn cores(rt: &impl Abort, alloc: Global, rows: &[CoreStep<'_>]) -> Vec<CoreState> {
     let mut cores = Vec::new(alloc);
     for (issued, retired, credits) in rows {
-        cores.push(CoreState {
+        let core = CoreState {
             issued: *issued,
             retired: *retired,
-            credits: credits.to_vec(alloc)?,
-        })?;
+            credits: credits.to_vec(alloc).expect(rt, "memory"),
+        };
+        cores.push(core).expect(rt, "memory");
     }
-    Ok(cores)
+    cores
 }
 
 // The refreshes of a channel that are due, its open rows and its queue.
 type ChannelRow<'x> = (&'x [u64], &'x [OpenRow], &'x [Request]);
 
-fn channels(alloc: Global, rows: &[ChannelRow<'_>]) -> Result<Vec<ChannelState>, AllocError> {
+fn channels(rt: &impl Abort, alloc: Global, rows: &[ChannelRow<'_>]) -> Vec<ChannelState> {
     let mut channels = Vec::new(alloc);
     for (due, open_rows, queue) in rows {
-        channels.push(ChannelState {
-            due: due.to_vec(alloc)?,
-            open_rows: open_rows.to_vec(alloc)?,
-            queue: queue.to_vec(alloc)?,
-        })?;
+        let channel = ChannelState {
+            due: due.to_vec(alloc).expect(rt, "memory"),
+            open_rows: open_rows.to_vec(alloc).expect(rt, "memory"),
+            queue: queue.to_vec(alloc).expect(rt, "memory"),
+        };
+        channels.push(channel).expect(rt, "memory");
     }
-    Ok(channels)
+    channels
 }
 
 // A state, the number of its ranks, and its table.
@@ -93,12 +95,12 @@ struct Case<'x> {
     table: &'x str,
 }
 
-fn state_of(alloc: Global, case: &Case<'_>) -> Result<FinalState, AllocError> {
-    Ok(FinalState {
-        cores: cores(alloc, case.cores)?,
-        channels: channels(alloc, case.channels)?,
-        in_flight: case.in_flight.to_vec(alloc)?,
-    })
+fn state_of(rt: &impl Abort, alloc: Global, case: &Case<'_>) -> FinalState {
+    FinalState {
+        cores: cores(rt, alloc, case.cores),
+        channels: channels(rt, alloc, case.channels),
+        in_flight: case.in_flight.to_vec(alloc).expect(rt, "memory"),
+    }
 }
 
 // All credits of one core and one channel, and all except one for a read.
@@ -243,15 +245,14 @@ flight_credit_write,1,0,,,,4,51,8
 static CASES: [Case<'static>; 4] = [ONE_READ, A_REPLY, A_QUEUE, RANKS];
 
 #[test]
-fn writes_states(rt: HostRuntime) -> Result<(), Fail> {
+fn writes_states(rt: HostRuntime) {
     for case in &CASES {
-        let state = state_of(rt.alloc(), case)?;
+        let state = state_of(&rt, rt.alloc(), case);
         assert_report(
             &rt,
             rt.alloc(),
             Report::Last(case.ranks, &state),
             case.table,
-        )?;
+        );
     }
-    Ok(())
 }

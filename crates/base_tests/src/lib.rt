@@ -1,4 +1,5 @@
 //! Tests of what is read, written and counted, and of the plain machine: a module for each crate, and for each table.
+//! What is said of configurations and tables that are refused is tried on the built program.
 #![tactic(auto)]
 
 #[cfg(test)]
@@ -27,7 +28,5 @@ mod slow;
 mod stats_tables;
 #[cfg(test)]
 mod trace_texts;
-#[cfg(test)]
-mod verdicts;
 #[cfg(test)]
 mod written;

@@ -1,34 +1,31 @@
 //! Writers for tests.
 
-use std::alloc::{AllocError, Global};
 use std::io;
 use std::io::{ErrorKind, Write};
 
-/// Takes one byte per call. After `calls` calls it takes none, or fails.
-#[derive(Drop)]
-pub(crate) struct Slow {
-    pub(crate) taken: Vec<u8>,
+/// Takes one byte per call, of which each is to be the next one of a text. After `calls` calls it takes none, or fails.
+#[derive(Clone, Copy)]
+pub(crate) struct Slow<'x> {
+    /// What has still to come of the text.
+    pub(crate) rest: &'x [u8],
+    /// Whether what came so far is the text's.
+    pub(crate) is_right: bool,
     pub(crate) calls: usize,
     pub(crate) fails: bool,
 }
 
-impl Slow {
-    /// With memory for `size` bytes.
-    pub(crate) fn new(
-        alloc: Global,
-        size: usize,
-        calls: usize,
-        fails: bool,
-    ) -> Result<Slow, AllocError> {
-        Ok(Slow {
-            taken: Vec::with_capacity(alloc, size)?,
+impl<'x> Slow<'x> {
+    pub(crate) fn new(text: &'x str, calls: usize, fails: bool) -> Self {
+        Slow {
+            rest: text.as_bytes(),
+            is_right: true,
             calls,
             fails,
-        })
+        }
     }
 }
 
-impl Write for Slow {
+impl<'x> Write for Slow<'x> {
     fn write(&mut self, buf: &[u8]) -> io::Result<usize> {
         if self.calls == 0 && self.fails {
             return Err(io::Error::from(ErrorKind::BrokenPipe));
@@ -37,7 +34,10 @@ impl Write for Slow {
             return Ok(0);
         }
         self.calls -= 1;
-        self.taken.push(buf[0])?;
+        match self.rest.split_first() {
+            Some((next, rest)) if *next == buf[0] => self.rest = rest,
+            _ => self.is_right = false,
+        }
         Ok(1)
     }
 

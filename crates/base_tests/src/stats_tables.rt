@@ -6,7 +6,6 @@ use fixtures::one_read::STATS;
 use statistics::channels::ChannelStats;
 use statistics::cores::CoreStats;
 use statistics::stats::Stats;
-use std::test::Fail;
 
 // The reply is still on its way, so the finish is empty.
 const UNFINISHED: &str = "scope,id,name,value
@@ -174,10 +173,9 @@ static CASES: [Case<'static>; 4] = [
 ];
 
 #[test]
-fn writes_statistics(rt: HostRuntime) -> Result<(), Fail> {
+fn writes_statistics(rt: HostRuntime) {
     for (cycles, cores, channels, want) in &CASES {
-        let stats = Stats::of_parts(rt.alloc(), *cycles, cores, channels)?;
-        assert_report(&rt, rt.alloc(), Report::Stats(&stats), want)?;
+        let stats = Stats::of_parts(rt.alloc(), *cycles, cores, channels).expect(&rt, "memory");
+        assert_report(&rt, rt.alloc(), Report::Stats(&stats), want);
     }
-    Ok(())
 }

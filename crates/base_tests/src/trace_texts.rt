@@ -4,15 +4,14 @@ use crate::expect::expect;
 use cpu_trace::number::read_number;
 use cpu_trace::reader::{read_trace, read_trace_in_pieces};
 use cpu_trace::trace::Trace;
-use sim_base::fault::{Fault, LineCause};
+use sim_base::fault::LineCause;
 use sim_base::trace::Entry;
-use std::alloc::{AllocError, Global};
+use std::alloc::Global;
 use std::process::Abort;
-use std::test::Fail;
 use std::thread::Threads;
 
-// The entries of a trace, each with a semicolon behind it: all, or the first 17 of many and the last three.
-fn push_entries(alloc: Global, trace: &Trace, text: &mut String) -> Result<(), AllocError> {
+// Adds the entries of a trace, each with a semicolon behind it: all, or the first 17 of many and the last three.
+fn push_entries(rt: &impl Abort, alloc: Global, trace: &Trace, text: &mut String) {
     for place in 0..20u64 {
         let behind = trace.len().saturating_sub(20);
         let number = if place < 17 {
@@ -21,70 +20,72 @@ fn push_entries(alloc: Global, trace: &Trace, text: &mut String) -> Result<(), A
             behind.saturating_add(place)
         };
         if number < trace.len() {
-            let entry = format!(in alloc; "{:?};", trace.entry_at(number))?;
-            text.push_str(&entry)?;
+            let entry = format!(in alloc; "{:?};", trace.entry_at(number)).expect(rt, "memory");
+            text.push_str(&entry).expect(rt, "memory");
         }
     }
-    Ok(())
 }
 
-// The first twenty Read and Write entries of a trace, each behind its number.
-fn push_memory(alloc: Global, trace: &Trace, text: &mut String) -> Result<(), AllocError> {
+// Adds the first twenty Read and Write entries of a trace, each behind its number.
+fn push_memory(rt: &impl Abort, alloc: Global, trace: &Trace, text: &mut String) {
     let mut from = 0u64;
     for _ in 0..20 {
         if let Some(next) = trace.next_memory(from) {
-            let entry = format!(in alloc; " {} {:?}", next.number, next.entry)?;
-            text.push_str(&entry)?;
+            let entry = format!(in alloc; " {} {:?}", next.number, next.entry);
+            text.push_str(&entry.expect(rt, "memory"))
+                .expect(rt, "memory");
             from = next.number.saturating_add(1);
         }
     }
-    Ok(())
 }
 
 // What a trace has: its entries, how many there are, and which are no Plain ones.
-fn described(alloc: Global, trace: &Trace) -> Result<String, AllocError> {
-    let mut text = String::from_str(alloc, if trace.is_empty() { "none" } else { "" })?;
-    push_entries(alloc, trace, &mut text)?;
-    let count = format!(in alloc; " {} entries:", trace.len())?;
-    text.push_str(&count)?;
-    push_memory(alloc, trace, &mut text)?;
-    Ok(text)
+fn described(rt: &impl Abort, alloc: Global, trace: &Trace) -> String {
+    let none = if trace.is_empty() { "none" } else { "" };
+    let mut text = String::from_str(alloc, none).expect(rt, "memory");
+    push_entries(rt, alloc, trace, &mut text);
+    let count = format!(in alloc; " {} entries:", trace.len()).expect(rt, "memory");
+    text.push_str(&count).expect(rt, "memory");
+    push_memory(rt, alloc, trace, &mut text);
+    text
 }
 
-// What was read, or why it was not.
-fn said(alloc: Global, answer: Result<Trace, Fault>) -> Result<String, AllocError> {
+// What core 0's trace is, read in pieces of a size where one is given, or why it is refused.
+fn said_of<R: Abort + Threads + Sync>(
+    rt: &R,
+    alloc: Global,
+    text: &[u8],
+    size: Option<usize>,
+) -> String {
+    let answer = match size {
+        Some(size) => read_trace_in_pieces(rt, alloc, 0, text, size),
+        None => read_trace(rt, alloc, 0, text),
+    };
     match answer {
-        Ok(trace) => described(alloc, &trace),
-        Err(fault) => fault.to_string(alloc),
+        Ok(trace) => described(rt, alloc, &trace),
+        Err(fault) => fault.to_string(alloc).expect(rt, "memory"),
     }
 }
 
-// Asserts what core 0's trace is.
-fn assert_whole<R: Abort + Threads + Sync>(
+// Asserts what core 0's trace is, read in pieces of each of these sizes.
+fn assert_read<R: Abort + Threads + Sync>(
     rt: &R,
     alloc: Global,
     text: &[u8],
+    sizes: &[Option<usize>],
     want: &str,
-) -> Result<(), AllocError> {
-    let found = said(alloc, read_trace(rt, alloc, 0, text))?;
-    expect(rt, &found.as_str(), &want);
-    Ok(())
+) {
+    let begin = text.get(..30).unwrap_or(text);
+    for size in sizes {
+        let found = said_of(rt, alloc, text, *size);
+        expect(rt, &(begin, size, found.as_str()), &(begin, size, want));
+    }
 }
 
-// Asserts what core 0's trace is, whatever the size of the pieces.
-fn assert_text<R: Abort + Threads + Sync>(
-    rt: &R,
-    alloc: Global,
-    text: &[u8],
-    want: &str,
-) -> Result<(), AllocError> {
-    assert_whole(rt, alloc, text, want)?;
-    for size in [0, 1, 2, 3, 7, 15] {
-        let found = said(alloc, read_trace_in_pieces(rt, alloc, 0, text, size))?;
-        expect(rt, &(text, size, found.as_str()), &(text, size, want));
-    }
-    Ok(())
-}
+// The usual size, and that with others.
+const USUAL_SIZE: &[Option<usize>] = &[None];
+
+const SIZES: &[Option<usize>] = &[None, Some(0), Some(1), Some(2), Some(3), Some(7), Some(15)];
 
 // A trace of three lines, of which the second is blank and the last has no end.
 const THREE_LINES: &[u8] = b"0\t0x40\r\n\n 1  128";
@@ -170,75 +171,93 @@ static BEGINNINGS: [&str; 17] = [
 ];
 
 #[test]
-fn texts_are_read_or_refused(rt: HostRuntime) -> Result<(), Fail> {
+fn texts_are_read_or_refused(rt: HostRuntime) {
     for (text, want) in &TEXTS {
-        assert_text(&rt, rt.alloc(), text, want)?;
+        assert_read(&rt, rt.alloc(), text, SIZES, want);
     }
     expect(&rt, &THREE_LINES.len(), &16);
     for (len, want) in BEGINNINGS.iter().enumerate() {
         let cut = THREE_LINES.get(..len).unwrap_or(b"none");
-        assert_text(&rt, rt.alloc(), cut, want)?;
+        assert_read(&rt, rt.alloc(), cut, SIZES, want);
     }
-    Ok(())
 }
 
 // Asserts that the copy of a trace of the three lines has their entries.
-fn assert_copied(rt: &impl Abort, alloc: Global, trace: Result<Trace, Fault>) -> Result<(), Fail> {
-    let copy = trace?.copy()?;
-    let found = said(alloc, Ok(copy))?;
+fn assert_copied(rt: &impl Abort, alloc: Global, trace: &Trace) {
+    let copy = trace.copy().expect(rt, "memory");
+    let found = described(rt, alloc, &copy);
     expect(rt, &found.as_str(), &OF_THREE_LINES);
-    Ok(())
 }
 
 // Traces that are built rather than read have the same entries.
 #[test]
-fn entries_of_copies(rt: HostRuntime) -> Result<(), Fail> {
+fn entries_of_copies(rt: HostRuntime) {
+    let alloc = rt.alloc();
     let entries = [Entry::Read(64), Entry::Plain, Entry::Read(128)];
-    let made = Trace::from_entries(rt.alloc(), &entries)?;
-    assert_copied(&rt, rt.alloc(), Ok(made))?;
-    assert_copied(&rt, rt.alloc(), read_trace(&rt, rt.alloc(), 0, THREE_LINES))
+    let made = Trace::from_entries(alloc, &entries).expect(&rt, "memory");
+    assert_copied(&rt, alloc, &made);
+    let read = read_trace(&rt, alloc, 0, THREE_LINES).expect(&rt, "a trace");
+    assert_copied(&rt, alloc, &read);
 }
 
-// Many bytes of one kind between a beginning and an end.
-fn long_line(
-    alloc: Global,
-    first: &[u8],
-    byte: u8,
-    count: u32,
-    last: &[u8],
-) -> Result<Vec<u8>, AllocError> {
-    let mut line = Vec::from_slice(alloc, first)?;
+// A text, many times another one, and what stands behind them.
+fn repeated(rt: &impl Abort, first: Vec<u8>, many: &[u8], count: u32, last: &[u8]) -> Vec<u8> {
+    let mut text = first;
     for _ in 0..count {
-        line.push(byte)?;
+        text.extend_from_slice(many).expect(rt, "memory");
     }
-    line.extend_from_slice(last)?;
-    Ok(line)
+    text.extend_from_slice(last).expect(rt, "memory");
+    text
 }
 
-// The first bytes of a text of 1 MiB, the byte that fills it, its last bytes, and what it means.
-type Long<'x> = (&'x [u8], u8, &'x [u8], &'x str);
+fn bytes_of(rt: &impl Abort, alloc: Global, text: &[u8]) -> Vec<u8> {
+    Vec::from_slice(alloc, text).expect(rt, "memory")
+}
 
-static LONG_LINES: [Long<'static>; 4] = [
-    (b"1", b' ', b"2 3\r\n", LAST_LINE),
-    (b"1 0x", b'0', b"2 3", LAST_LINE),
-    (b"\n1 ", b'9', b" 3", "fault 5: trace 0 line 2 too-large"),
-    (
-        b"\n1 ",
-        b'9',
-        b"x 3",
-        "fault 5: trace 0 line 2 not-a-number",
-    ),
-];
+// How a text begins, what then stands in it and how often, how it ends, and what it means.
+type Long<'x> = (&'x [u8], &'x [u8], u32, &'x [u8], &'x str);
 
 const LAST_LINE: &str = "Plain;Read(2);Write(3); 3 entries: 1 Read(2) 2 Write(3)";
 
+const USUAL: &str =
+    "Plain;Read(64);Write(128);Plain;Read(64);Write(128);Plain;Read(64);Write(128);Plain;Read(64);Write(128);Plain;Read(64);Write(128);Plain;Read(64);Plain;Read(64);Write(128); 60000 entries: 1 Read(64) 2 Write(128) 4 Read(64) 5 Write(128) 7 Read(64) 8 Write(128) 10 Read(64) 11 Write(128) 13 Read(64) 14 Write(128) 16 Read(64) 17 Write(128) 19 Read(64) 20 Write(128) 22 Read(64) 23 Write(128) 25 Read(64) 26 Write(128) 28 Read(64) 29 Write(128)";
+
+// Texts of 1 MiB with a line that is nearly as long, and texts of 20,000 lines of 24 bytes, which have two pieces of
+// the usual size.
+static LONG_TEXTS: [Long<'static>; 6] = [
+    (b"1", b" ", 1_048_570, b"2 3\r\n", LAST_LINE),
+    (b"1 0x", b"0", 1_048_570, b"2 3", LAST_LINE),
+    (
+        b"\n1 ",
+        b"9",
+        1_048_570,
+        b" 3",
+        "fault 5: trace 0 line 2 too-large",
+    ),
+    (
+        b"\n1 ",
+        b"9",
+        1_048_570,
+        b"x 3",
+        "fault 5: trace 0 line 2 not-a-number",
+    ),
+    (b"", b"1     64           128\r\n", 20_000, b"", USUAL),
+    (
+        b"",
+        b"1     64           128\r\n",
+        20_000,
+        b"\n\n7",
+        "fault 5: trace 0 line 20003 too-few",
+    ),
+];
+
 #[test]
-fn long_lines(rt: HostRuntime) -> Result<(), Fail> {
-    for (first, byte, last, want) in &LONG_LINES {
-        let line = long_line(rt.alloc(), first, *byte, 1_048_570, last)?;
-        assert_whole(&rt, rt.alloc(), &line, want)?;
+fn long_texts(rt: HostRuntime) {
+    for (first, many, count, last, want) in &LONG_TEXTS {
+        let first = bytes_of(&rt, rt.alloc(), first);
+        let text = repeated(&rt, first, many, *count, last);
+        assert_read(&rt, rt.alloc(), &text, USUAL_SIZE, want);
     }
-    Ok(())
 }
 
 static NUMBERS: [(&[u8], Result<u64, LineCause>); 10] = [
@@ -258,92 +277,41 @@ static NUMBERS: [(&[u8], Result<u64, LineCause>); 10] = [
 static LONG_NUMBERS: [(&[u8], &[u8], u64); 2] = [(b"", b"7", 7), (b"0X", b"fF", 255)];
 
 #[test]
-fn numbers_of_tokens(rt: HostRuntime) -> Result<(), Fail> {
+fn numbers_of_tokens(rt: HostRuntime) {
     for (token, want) in &NUMBERS {
         expect(&rt, &(token, read_number(token)), &(token, *want));
     }
     for (first, last, want) in &LONG_NUMBERS {
-        let token = long_line(rt.alloc(), first, b'0', 10_000, last)?;
+        let first = bytes_of(&rt, rt.alloc(), first);
+        let token = repeated(&rt, first, b"0", 10_000, last);
         expect(&rt, &read_number(&token), &Ok(*want));
     }
-    Ok(())
 }
 
-// A text of 100,000 lines, of which the numbered ones are bad.
-fn long_text(alloc: Global, bad: bool) -> Result<Vec<u8>, AllocError> {
-    let mut text = Vec::new(alloc);
-    for number in 1..=100_000u32 {
-        let line: &[u8] = match number {
-            70_001 if bad => b"1 x\n",
-            90_000 if bad => b"3\n",
-            _ => b"0 64\n",
-        };
-        text.extend_from_slice(line)?;
-    }
-    Ok(text)
-}
-
-// The number of the first entry that is another one.
-fn first_other(trace: &Trace, want: Entry) -> Option<u64> {
+// Core 0's trace of 100,000 lines, in pieces of 4096 bytes.
+#[test]
+fn entries_of_a_long_text(rt: HostRuntime) {
+    let text = repeated(&rt, Vec::new(rt.alloc()), b"0 64\n", 100_000, b"");
+    let trace = read_trace_in_pieces(&rt, rt.alloc(), 0, &text, 4096).expect(&rt, "a trace");
+    let mut reads = 0u64;
     for number in 0..trace.len() {
-        if trace.entry_at(number) != want {
-            return Some(number);
+        if trace.entry_at(number) == Entry::Read(64) {
+            reads = reads.saturating_add(1);
         }
     }
-    None
-}
-
-// Core 0's trace of a long text, in pieces of 4096 bytes.
-#[test]
-fn long_texts(rt: HostRuntime) -> Result<(), Fail> {
-    let text = long_text(rt.alloc(), false)?;
-    let trace = read_trace_in_pieces(&rt, rt.alloc(), 0, &text, 4096)?;
-    let other = first_other(&trace, Entry::Read(64));
     expect(
         &rt,
-        &(trace.len(), trace.is_empty(), other),
-        &(100_000, false, None),
+        &(trace.len(), trace.is_empty(), reads),
+        &(100_000, false, 100_000),
     );
-    Ok(())
 }
 
+// Of 100,000 lines the lines 70,001 and 90,000 are bad.
 #[test]
-fn faults_of_long_texts(rt: HostRuntime) -> Result<(), Fail> {
-    let text = long_text(rt.alloc(), true)?;
+fn faults_of_a_long_text(rt: HostRuntime) {
+    let text = repeated(&rt, Vec::new(rt.alloc()), b"0 64\n", 70_000, b"1 x\n");
+    let text = repeated(&rt, text, b"0 64\n", 19_998, b"3\n");
+    let text = repeated(&rt, text, b"0 64\n", 10_000, b"");
     let want = "fault 5: trace 0 line 70001 not-a-number";
-    assert_whole(&rt, rt.alloc(), &text, want)?;
-    let found = said(
-        rt.alloc(),
-        read_trace_in_pieces(&rt, rt.alloc(), 0, &text, 4096),
-    )?;
-    expect(&rt, &found.as_str(), &want);
-    Ok(())
-}
-
-// A text of 20,000 lines of 24 bytes, which has two pieces of the usual size, and what follows them.
-fn usual_text(alloc: Global, last: &[u8]) -> Result<Vec<u8>, AllocError> {
-    let mut text = Vec::new(alloc);
-    for _ in 0..20_000u32 {
-        text.extend_from_slice(b"1     64           128\r\n")?;
-    }
-    text.extend_from_slice(last)?;
-    Ok(text)
-}
-
-const USUAL: &str =
-    "Plain;Read(64);Write(128);Plain;Read(64);Write(128);Plain;Read(64);Write(128);Plain;Read(64);Write(128);Plain;Read(64);Write(128);Plain;Read(64);Plain;Read(64);Write(128); 60000 entries: 1 Read(64) 2 Write(128) 4 Read(64) 5 Write(128) 7 Read(64) 8 Write(128) 10 Read(64) 11 Write(128) 13 Read(64) 14 Write(128) 16 Read(64) 17 Write(128) 19 Read(64) 20 Write(128) 22 Read(64) 23 Write(128) 25 Read(64) 26 Write(128) 28 Read(64) 29 Write(128)";
-
-#[test]
-fn usual_pieces(rt: HostRuntime) -> Result<(), Fail> {
-    let text = usual_text(rt.alloc(), b"")?;
-    expect(&rt, &text.len(), &480_000);
-    assert_whole(&rt, rt.alloc(), &text, USUAL)?;
-    let text = usual_text(rt.alloc(), b"\n\n7")?;
-    assert_whole(
-        &rt,
-        rt.alloc(),
-        &text,
-        "fault 5: trace 0 line 20003 too-few",
-    )?;
-    Ok(())
+    assert_read(&rt, rt.alloc(), &text, &[None, Some(4096)], want);
 }

@@ -7,10 +7,9 @@ use reports::{write_commands, write_final, write_stats};
 use sim_base::fault::Fault;
 use statistics::final_state::FinalState;
 use statistics::stats::Stats;
-use std::alloc::{AllocError, Global};
+use std::alloc::Global;
 use std::io::Write;
 use std::process::Abort;
-use std::test::Fail;
 
 /// A report; those of commands and of the last state have a number of ranks.
 #[derive(Clone, Copy)]
@@ -28,47 +27,42 @@ fn write<W: Write>(alloc: Global, report: Report<'_>, writer: &mut W) -> Result<
     }
 }
 
-/// What is written of a report by a writer that takes one byte per call, in `calls` calls, and how that ends.
+/// Whether a writer that takes one byte per call, in `calls` calls, takes the beginning of a text, and how that ends.
 fn slowly(
     alloc: Global,
     report: Report<'_>,
+    text: &str,
     calls: usize,
     fails: bool,
-) -> Result<(Vec<u8>, Result<(), Fault>), AllocError> {
-    let mut slow = Slow::new(alloc, 600, calls, fails)?;
+) -> (bool, Result<(), Fault>) {
+    let mut slow = Slow::new(text, calls, fails);
     let ended = write(alloc, report, &mut slow);
-    Ok((slow.taken, ended))
+    let is_all = slow.rest.len() == text.len().saturating_sub(calls);
+    (slow.is_right && is_all, ended)
 }
 
 /// Asserts the text of a report that is written byte by byte. A writer that takes too little, or fails, is reported.
-fn assert_slow(rt: &impl Abort, alloc: Global, report: Report<'_>, want: &str) -> Result<(), Fail> {
-    let (text, ended) = slowly(alloc, report, 600, false)?;
+fn assert_slow(rt: &impl Abort, alloc: Global, report: Report<'_>, want: &str) {
+    let whole = slowly(alloc, report, want, want.len(), false);
+    expect(rt, &whole, &(true, Ok(())));
+    for calls in 0..want.len() {
+        let cut = slowly(alloc, report, want, calls, false);
+        let failed = slowly(alloc, report, want, calls, true);
+        let refused = (true, Err(Fault::Write));
+        expect(rt, &(calls, cut, failed), &(calls, refused, refused));
+    }
+}
+
+/// Asserts the text of a report, and that of a short one byte by byte.
+pub(crate) fn assert_report(rt: &impl Abort, alloc: Global, report: Report<'_>, want: &str) {
+    let mut text = Vec::new(alloc);
+    let ended = write(alloc, report, &mut text);
     expect(
         rt,
         &(str::from_utf8(text.as_slice()), ended),
         &(Ok(want), Ok(())),
     );
-    for calls in 0..want.len() {
-        let (_, cut) = slowly(alloc, report, calls, false)?;
-        let (_, failed) = slowly(alloc, report, calls, true)?;
-        let refused = Err(Fault::Write);
-        expect(rt, &(calls, cut, failed), &(calls, refused, refused));
-    }
-    Ok(())
-}
-
-/// Asserts the text of a report, and that of a short one byte by byte.
-pub(crate) fn assert_report(
-    rt: &impl Abort,
-    alloc: Global,
-    report: Report<'_>,
-    want: &str,
-) -> Result<(), Fail> {
-    let mut text = Vec::new(alloc);
-    write(alloc, report, &mut text)?;
-    expect(rt, &str::from_utf8(text.as_slice()), &Ok(want));
     if want.len() < 500 {
-        assert_slow(rt, alloc, report, want)?;
+        assert_slow(rt, alloc, report, want);
     }
-    Ok(())
 }

@@ -1,7 +1,8 @@
 -- The line of a configuration's fault.
 --     fault_text document      the line, without its end; none where the configuration is not refused
+--     written_over text memory      memory with a text at its front
 --     IsTextAnswer text room result      the answer of a call that writes a text to memory with this room
-use Rattle.std.specs.Prelude.{◌≡◌, ◌⊎◌, ℕ, ◌<◌, ◌≤◌, List, [], length, Result, Ok, Err, MatchResult}
+use Rattle.std.specs.Prelude.{◌≡◌, ◌⊎◌, ℕ, ◌<◌, ◌≤◌, List, [], ◌++◌, drop, length, Result, Ok, Err, MatchResult}
 use Rattle.refusal.specs.Lines.{fault_line}
 use Rattle.sim_base.specs.Values.{Values}
 use Rattle.sim_base.specs.declared.fault.Fault.{Fault}
@@ -13,6 +14,10 @@ use Rattle.c_interface.specs.declared.fault.CallFault.TheVariants as call
 abbrev pub fault_text : Result Values Fault → List ℕ
 fault_text (Ok values) = []
 fault_text (Err fault) = fault_line fault
+
+-- memory with a text at its front, as it was behind it
+abbrev pub written_over : List ℕ → List ℕ → List ℕ
+written_over text memory = text ++ drop (length text) memory
 
 -- memory was refused, or the text is longer than the room for it; otherwise it fits
 abbrev pub IsTextAnswer : List ℕ → ℕ → Result (Unit {0}) CallFault → Type 0

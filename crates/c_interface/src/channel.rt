@@ -1,17 +1,14 @@
 //! A channel that a program in C keeps.
 
 ghost use Rattle.std.specs.Prelude.{◌≡◌, ◌≢◌, ℕ, None, Some, Err, true, option_map, IfOk, IfErr, OnOk, OnErr};
-ghost use Rattle.channel_session.specs.Sent.{message_of};
 ghost use Rattle.channel_session.specs.Ahead.{IsNextAct};
-ghost use Rattle.channel_session.specs.Keeps.{steps_of, waiting};
-ghost use Rattle.channel_session.specs.Sessions.{Past, IsSession, IsOpen, next_command_of, next_reply_of, with_sent, with_command, with_reply, refusal, end_refusal};
+ghost use Rattle.channel_session.specs.Sessions.{Past, IsSession, IsOpen, next_command_of, next_reply_of, statistics_of, waiting_of, with_request, with_command, with_reply, refusal, end_refusal};
 ghost use Rattle.channel_session.specs.declared.session.Session.{Session};
 ghost use Rattle.channel_session.specs.declared.fault.SessionFault.TheVariants.{Memory};
 ghost use Rattle.c_interface.specs.Channels.{IsWell, ForPasts, HasPast, StandsAt, IsClosed, IsNewSession, IsOpened, open_refusal, IsOpenedAs, IsAddressAnswer};
 ghost use Rattle.c_interface.specs.Kept.{IsOpenAnswer, IsCallAnswer};
 ghost use Rattle.config_reader.specs.Document.{document_of};
 ghost use Rattle.sim_base.specs.Places.{place_of};
-ghost use Rattle.statistics.specs.Channels.{channel_stats};
 ghost use Rattle.c_interface.specs.Rows.{reply_row};
 ghost use Rattle.c_interface.specs.declared.fault.CallFault.TheVariants as call;
 
@@ -119,9 +116,9 @@ impl KeptChannel {
         requires well { IsWell self.old }
         ensures well { IsWell self.new }
         ensures answer { ForPasts self.old (λ s p.
-            IsCallAnswer (refusal s (waiting p.s p.channel p.sent s.cycle) request.now) result) }
+            IsCallAnswer (refusal s (waiting_of p s.cycle) request.now) result) }
         ensures sent { (p : Past) → HasPast self.old p
-            → OnOk result (HasPast self.new (with_sent p (message_of p.s p.channel request.now))) }
+            → OnOk result (HasPast self.new (with_request p request.now)) }
         ensures left { (p : Past) → HasPast self.old p → OnErr result (HasPast self.new p) }
         ensures now { (cycle : ℕ) → StandsAt self.old cycle → StandsAt self.new cycle }
         ensures closed { IsClosed self.old → result ≡ Err call.Closed }
@@ -283,7 +280,7 @@ impl KeptChannel {
         requires well { IsWell self.old }
         ensures well { IsWell self.new }
         ensures stats { ForPasts self.old (λ s p.
-            result ≡ Some (channel_stats p.s p.channel (steps_of p.s p.channel p.sent s.cycle) p.sent)) }
+            result ≡ Some (statistics_of p s.cycle)) }
         ensures kept { self.new.handle.value ≡ self.old.handle.value }
         ensures closed { IsClosed self.old → result ≡ None }
     {

@@ -7,7 +7,7 @@ use channel_session::fault::SessionFault;
 use sim_base::fault::Fault;
 
 /// Why a call is refused.
-#[derive(Clone, Copy, PartialEq, Eq, Debug)]
+#[derive(Clone, Copy)]
 pub enum CallFault {
     /// The channel is closed.
     Closed,
@@ -25,17 +25,6 @@ pub enum CallFault {
     BreaksRule,
     /// A table of commands has a row that is none, or no header.
     Malformed,
-}
-
-impl From<SessionFault> for CallFault {
-    ghost use Rattle.std.specs.Prelude.{◌≡◌};
-    ghost use Rattle.c_interface.specs.declared.fault.CallFault.TheVariants.{Session};
-
-    ghost from_gives = { λ fault call. call ≡ Session fault };
-
-    fn from(fault: SessionFault) -> CallFault {
-        CallFault::Session(fault)
-    }
 }
 
 /// The number of a session's refusal.

@@ -1,9 +1,9 @@
 //! The line of a configuration's fault, in memory of the caller's.
 
-ghost use Rattle.std.specs.Prelude.{◌≡◌, ◌⊎◌, ◌++◌, drop, length, Ok, Err, IfErr, OnOk, OnErr};
+ghost use Rattle.std.specs.Prelude.{◌≡◌, ◌⊎◌, length, Ok, Err, IfErr, OnOk, OnErr};
 ghost use Rattle.config_reader.specs.Document.{document_of};
 ghost use Rattle.sim_base.specs.declared.fault.Fault.TheVariants.{Memory};
-ghost use Rattle.c_interface.specs.Texts.{fault_text, IsTextAnswer};
+ghost use Rattle.c_interface.specs.Texts.{fault_text, written_over, IsTextAnswer};
 ghost use Rattle.c_interface.specs.declared.fault.CallFault.TheVariants as call;
 
 use crate::fault::CallFault;
@@ -16,7 +16,7 @@ use std::alloc::Global;
 /// is as it was then.
 fn write_text(text: &[u8], into: &mut [u8], wanted: &mut usize) -> Result<(), CallFault>
     ensures answer { IsTextAnswer text.now (length into.old) result }
-    ensures written { OnOk result (into.new ≡ text.now ++ drop (length text.now) into.old) }
+    ensures written { OnOk result (into.new ≡ written_over text.now into.old) }
     ensures same { OnErr result (into.new ≡ into.old) }
     ensures short { IfErr result (λ e. e ≡ call.TooShort) }
     ensures wanted { wanted.new ≡ length text.now }
@@ -40,7 +40,7 @@ pub fn write_fault(
 ) -> Result<(), CallFault>
     ensures answer { IsTextAnswer (fault_text (document_of text.now)) (length into.old) result }
     ensures written { OnOk result (into.new
-        ≡ fault_text (document_of text.now) ++ drop (length (fault_text (document_of text.now))) into.old) }
+        ≡ written_over (fault_text (document_of text.now)) into.old) }
     ensures same { OnErr result (into.new ≡ into.old) }
     ensures wanted { (result ≡ Err (call.Configuration Memory))
         ⊎ (wanted.new ≡ length (fault_text (document_of text.now))) }

@@ -5,7 +5,9 @@
 --     IsOpen session      it has some past
 --     core_of s reply      the core that a reply goes to
 --     next_command_of p now, next_reply_of p now      the first command, or reply, that was not taken
+--     statistics_of p now, waiting_of p now      the statistics of the cycles before one; how many requests wait in it
 --     with_sent p m, with_command p o, with_reply p o      a past with one message more that was sent, or that was taken
+--     with_request p request      a past with one request more that was sent
 --     number_refusal s channel      why no session is opened, if none is
 --     refusal session waits request, end_refusal now until      why a request or a run is refused, if it is
 --     IsAnswer refusal result      the answer of a call that is refused so, if at all
@@ -17,10 +19,12 @@ use Rattle.sim_base.specs.Places.{place_of}
 use Rattle.sim_base.specs.declared.config.Config.{Config}
 use Rattle.sim_base.specs.declared.command.IssuedCommand.{IssuedCommand}
 use Rattle.sim_base.specs.declared.message.Message.{Message}
+use Rattle.statistics.specs.Channels.{channel_stats}
+use Rattle.statistics.specs.declared.channels.ChannelStats.{ChannelStats}
 use Rattle.channel_step.specs.Fit.{queue_room}
 use Rattle.channel_session.specs.Sent.{message_of, is_unasked, firsts_with}
 use Rattle.channel_session.specs.Held.{commands_left, replies_left, HasCommands, HasReplies}
-use Rattle.channel_session.specs.Keeps.{steps_of, Keeps}
+use Rattle.channel_session.specs.Keeps.{steps_of, waiting, Keeps}
 use Rattle.channel_session.specs.declared.fault.SessionFault.{SessionFault}
 use Rattle.channel_session.specs.declared.fault.SessionFault.TheVariants.{NoSuchChannel, NoSuchCore, OtherChannel, InThePast, OutOfOrder, EntryPassed, NoCredit, Memory, EndPassed, EndTooLate}
 use Rattle.channel_session.specs.declared.requests.SentRequest.{SentRequest}
@@ -51,6 +55,14 @@ next_command_of p now = slice_get (commands_of p now) (length p.commands)
 abbrev pub next_reply_of : Past → ℕ → Option Message
 next_reply_of p now = slice_get (replies_of p now) (length p.replies)
 
+-- the statistics of the cycles before one
+abbrev pub statistics_of : Past → ℕ → ChannelStats
+statistics_of p now = channel_stats p.s p.channel (steps_of p.s p.channel p.sent now) p.sent
+
+-- how many requests wait in a cycle
+abbrev pub waiting_of : Past → ℕ → ℕ
+waiting_of p now = waiting p.s p.channel p.sent now
+
 -- A session has a past: what was taken from it, and then what it still holds, are just the commands and replies of the definition's
 -- channel before the cycle where it stands.
 pub record IsSession (session : Session) (p : Past) : Type 0 where
@@ -78,6 +90,10 @@ no_past s channel = record { s = s; channel = channel; sent = []; commands = [];
 -- one message more was sent
 abbrev pub with_sent : Past → Message → Past
 with_sent p m = record p { sent = p.sent ++ m ∷ [] }
+
+-- one request more was sent
+abbrev pub with_request : Past → SentRequest → Past
+with_request p request = with_sent p (message_of p.s p.channel request)
 
 -- this command was taken, if it is one
 abbrev pub with_command : Past → Option IssuedCommand → Past

@@ -1,6 +1,8 @@
-//! A channel as a session: it is sent requests, run up to a cycle, and gives its commands and replies one after the other.
+//! A channel as a session: it is sent requests, run up to a cycle, and gives its commands and replies one after the
+//! other.
 #![tactic(auto)]
 
+pub mod cycles;
 pub mod fault;
 mod held;
 pub mod places;

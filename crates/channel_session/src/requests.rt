@@ -8,9 +8,9 @@ use sim_base::config::Config;
 use sim_base::message::{ChannelId, CoreId, Cycle, Load, Message, Request};
 use sim_base::place::Place;
 
-/// A request as it is sent: a Read or Write of the line of 64 bytes at an address, for an entry of a core's trace, and the cycle in
-/// which it arrives at the channel.
-#[derive(Clone, Copy, PartialEq, Eq, Debug)]
+/// A request as it is sent: a Read or Write of the line of 64 bytes at an address, for an entry of a core's trace, and
+/// the cycle in which it arrives at the channel.
+#[derive(Clone, Copy)]
 pub struct SentRequest {
     pub core: CoreId,
     /// The entry's number in the trace, below 2^64 - 1.
@@ -39,7 +39,8 @@ fn request_of(config: &Config, number: ChannelId, sent: &SentRequest, place: Pla
     }
 }
 
-/// The message that carries a request to the channel with a number, on the link of its core. The place is that of its address.
+/// The message that carries a request to the channel with a number, on the link of its core. The place is that of its
+/// address.
 pub(crate) fn message_of(
     config: &Config,
     number: ChannelId,

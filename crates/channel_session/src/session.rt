@@ -2,17 +2,16 @@
 
 ghost use Rattle.std.specs.Prelude.{◌≡◌, ◌≢◌, ◌+◌, ◌-◌, ◌<◌, ◌≤◌, ◌^◌, nat_lt, nat_le, length, take_while, option_map, IfOk, IfErr, OnOk, OnErr, ◌++◌};
 ghost use Rattle.std.specs.List.{list_all};
-ghost use Rattle.statistics.specs.Channels.{channel_stats};
 ghost use Rattle.sim_base.specs.History.{is_before};
 ghost use Rattle.sim_base.specs.Places.{place_of};
 ghost use Rattle.channel_step.specs.Fit.{queue_room};
 ghost use Rattle.channel_session.specs.Sent.{message_of, is_unasked};
-ghost use Rattle.channel_session.specs.Ahead.{IsNextAct, first_arrival, earlier};
+ghost use Rattle.channel_session.specs.Ahead.{IsNextAct, first_arrival};
 ghost use Rattle.channel_session.specs.Addresses.{IsAddress};
-ghost use Rattle.channel_session.specs.Keeps.{steps_of, waiting};
-ghost use Rattle.channel_session.specs.Sessions.{core_of, Past, IsSession, IsOpen, no_past, next_command_of, next_reply_of, with_sent, with_command, with_reply, number_refusal, refusal, end_refusal, IsAnswer, HasTaken};
+ghost use Rattle.channel_session.specs.Sessions.{core_of, Past, IsSession, IsOpen, no_past, next_command_of, next_reply_of, statistics_of, waiting_of, with_request, with_command, with_reply, number_refusal, refusal, end_refusal, IsAnswer, HasTaken};
 ghost use Rattle.channel_session.specs.declared.fault.SessionFault.TheVariants.{Memory};
 
+use crate::cycles::{earlier, end_refusal};
 use crate::fault::SessionFault;
 use crate::held::{HeldCommands, HeldReplies};
 use crate::places::address_of;
@@ -27,11 +26,8 @@ use sim_base::place::Place;
 use statistics::channels::ChannelStats;
 use std::alloc::{AllocError, Global};
 
-/// The last cycle at which a session may stand: 2^62.
-const LAST_CYCLE: Cycle = 1 << 62;
-
-/// A channel that is sent requests, run up to a cycle, and gives its commands and replies one after the other. It keeps nothing of
-/// its past but what is not taken yet: its contracts are about every past that it may have.
+/// A channel that is sent requests, run up to a cycle, and gives its commands and replies one after the other. It keeps
+/// nothing of its past but what is not taken yet: its contracts are about every past that it may have.
 #[derive(Drop)]
 pub struct Session {
     channel: Channel,
@@ -50,8 +46,8 @@ pub struct Session {
 }
 
 impl Session {
-    /// The channel with a number, of a machine with this configuration, before its first cycle. It is refused as `NoSuchChannel`
-    /// where the machine has none with this number.
+    /// The channel with a number, of a machine with this configuration, before its first cycle. It is refused as
+    /// `NoSuchChannel` where the machine has none with this number.
     pub fn open(alloc: Global, config: &Config, number: ChannelId) -> Result<Session, SessionFault>
         ensures answer { IsAnswer (number_refusal config.now number) result }
         ensures opened { IfOk result (λ session. IsSession session (no_past config.now number)) }
@@ -70,12 +66,14 @@ impl Session {
         ensures now { IfOk result (λ session. session.cycle ≡ 0) }
     {
         let cores = usize::from(config.cores);
+        let firsts = vec![in alloc; 0; cores]?;
+        let copied = config.copy(alloc)?;
         Ok(Session {
             channel: Channel::start(alloc, config, number)?,
-            config: config.copy(alloc)?,
+            config: copied,
             number,
             cycle: 0,
-            firsts: vec![in alloc; 0; cores]?,
+            firsts,
             coming: Vec::new(alloc),
             commands: HeldCommands::new(alloc),
             replies: HeldReplies::new(alloc),
@@ -91,8 +89,7 @@ impl Session {
 
     /// The statistics of the cycles that are over.
     pub fn stats(&self) -> ChannelStats
-        ensures { (p : Past) → IsSession self.now p
-            → result ≡ channel_stats p.s p.channel (steps_of p.s p.channel p.sent self.now.cycle) p.sent }
+        ensures { (p : Past) → IsSession self.now p → result ≡ statistics_of p self.now.cycle }
     {
         self.channel.stats()
     }
@@ -120,7 +117,8 @@ impl Session {
         queue_room(&self.config).saturating_sub(waits) <= self.coming.len()
     }
 
-    /// Why a request is refused where so many requests wait, if it is. The place and the message are those of the request.
+    /// Why a request is refused where so many requests wait, if it is. The place and the message are those of the
+    /// request.
     fn refusal(
         &self,
         request: &SentRequest,
@@ -149,7 +147,8 @@ impl Session {
         }
     }
 
-    /// Puts a request, carried by its message, behind those on their way: it was asked for then. The only error is out of memory.
+    /// Puts a request, carried by its message, behind those on their way: it was asked for then. The only error is out
+    /// of memory.
     fn take(&mut self, request: &SentRequest, message: Message) -> Result<(), SessionFault>
         requires core { request.now.core < length self.old.firsts.items }
         requires entry { request.now.entry < 2 ^ 64 - 1 }
@@ -165,14 +164,14 @@ impl Session {
         Ok(())
     }
 
-    /// Sends a request. Its core and channel must be there; it arrives at the cycle where the session stands or later, after all that
-    /// are on their way; neither its entry nor a later one of its core was asked for; and there is a credit for it. A refusal leaves
-    /// the session as it was.
+    /// Sends a request. Its core and channel must be there; it arrives at the cycle where the session stands or later,
+    /// after all that are on their way; neither its entry nor a later one of its core was asked for; and there is a
+    /// credit for it. A refusal leaves the session as it was.
     pub fn send(&mut self, request: &SentRequest) -> Result<(), SessionFault>
         ensures answer { (p : Past) → IsSession self.old p
-            → IsAnswer (refusal self.old (waiting p.s p.channel p.sent self.old.cycle) request.now) result }
+            → IsAnswer (refusal self.old (waiting_of p self.old.cycle) request.now) result }
         ensures sent { (p : Past) → IsSession self.old p
-            → OnOk result (IsSession self.new (with_sent p (message_of p.s p.channel request.now))) }
+            → OnOk result (IsSession self.new (with_request p request.now)) }
         ensures left { (p : Past) → IsSession self.old p → OnErr result (IsSession self.new p) }
         ensures same { IfErr result (λ e. e ≢ Memory → self.new ≡ self.old) }
         ensures now { self.new.cycle ≡ self.old.cycle }
@@ -186,9 +185,9 @@ impl Session {
     pub fn send_to(&mut self, request: &SentRequest, place: Place) -> Result<(), SessionFault>
         requires place { place ≡ place_of self.old.config request.now.address }
         ensures answer { (p : Past) → IsSession self.old p
-            → IsAnswer (refusal self.old (waiting p.s p.channel p.sent self.old.cycle) request.now) result }
+            → IsAnswer (refusal self.old (waiting_of p self.old.cycle) request.now) result }
         ensures sent { (p : Past) → IsSession self.old p
-            → OnOk result (IsSession self.new (with_sent p (message_of p.s p.channel request.now))) }
+            → OnOk result (IsSession self.new (with_request p request.now)) }
         ensures left { (p : Past) → IsSession self.old p → OnErr result (IsSession self.new p) }
         ensures same { IfErr result (λ e. e ≢ Memory → self.new ≡ self.old) }
         ensures now { self.new.cycle ≡ self.old.cycle }
@@ -199,19 +198,6 @@ impl Session {
         match self.refusal(request, place, &message, waits) {
             Some(fault) => Err(fault),
             None => self.take(request, message),
-        }
-    }
-
-    /// Why a run up to a cycle is refused, if it is.
-    fn end_refusal(&self, until: Cycle) -> Option<SessionFault>
-        ensures { result ≡ end_refusal self.now.cycle until }
-    {
-        if until < self.cycle {
-            Some(SessionFault::EndPassed)
-        } else if LAST_CYCLE < until {
-            Some(SessionFault::EndTooLate)
-        } else {
-            None
         }
     }
 
@@ -251,8 +237,9 @@ impl Session {
         Ok(())
     }
 
-    /// Runs the channel over the cycles before `until`. It is refused where that cycle is over or after 2^62, which leaves the session
-    /// as it was. Where memory is refused, what the session holds is not known, and it can only be closed.
+    /// Runs the channel over the cycles before `until`. It is refused where that cycle is over or after 2^62, which
+    /// leaves the session as it was. Where memory is refused, what the session holds is not known, and it can only be
+    /// closed.
     pub fn run(&mut self, alloc: Global, until: Cycle) -> Result<(), SessionFault>
         requires open { IsOpen self.old }
         ensures answer { IsAnswer (end_refusal self.old.cycle until) result }
@@ -261,14 +248,14 @@ impl Session {
         ensures same { IfErr result (λ e. e ≢ Memory → self.new ≡ self.old) }
         ensures open { OnOk result (IsOpen self.new) }
     {
-        if let Some(fault) = self.end_refusal(until) {
+        if let Some(fault) = end_refusal(self.cycle, until) {
             return Err(fault);
         }
         Ok(self.advance(alloc, until)?)
     }
 
-    /// The next cycle from now on in which the channel acts, if nothing more is sent to it and there is one: it issues nothing before
-    /// that cycle, and in it, it issues a command or a request that was sent arrives.
+    /// The next cycle from now on in which the channel acts, if nothing more is sent to it and there is one: it issues
+    /// nothing before that cycle, and in it, it issues a command or a request that was sent arrives.
     pub fn next_act(&mut self) -> Option<Cycle>
         requires open { IsOpen self.old }
         ensures next { (p : Past) → IsSession self.old p → IsNextAct p self.old.cycle result }
@@ -355,8 +342,8 @@ impl Session {
         self.replies.take_next()
     }
 
-    /// The next reply with the data of a Read, or the next credit, that the channel sent in the cycles that are over, if there is one:
-    /// the first that was not taken. It is taken then.
+    /// The next reply with the data of a Read, or the next credit, that the channel sent in the cycles that are over,
+    /// if there is one: the first that was not taken. It is taken then.
     pub fn next_reply(&mut self) -> Option<Message>
         ensures next { (p : Past) → IsSession self.old p
             → result ≡ next_reply_of p self.old.cycle }
@@ -376,16 +363,5 @@ fn first_arrival(coming: &[Message]) -> Option<Cycle>
     match coming.first() {
         Some(message) => Some(message.arrival),
         None => None,
-    }
-}
-
-/// The earlier of two cycles, each of which there may be.
-fn earlier(one: Option<Cycle>, other: Option<Cycle>) -> Option<Cycle>
-    ensures { result ≡ earlier one other }
-{
-    match (one, other) {
-        (Some(one), Some(other)) => Some(one.min(other)),
-        (Some(one), None) => Some(one),
-        (None, other) => other,
     }
 }

@@ -1,10 +1,14 @@
 -- The command line, as `clap` sees it.
 --     text_rule id, texts_rule id, option_rule id, number_rule id, word_rule id, count_rule id, flag_rule id      one argument
+--     rule_in argument, with_argument app argument      an argument, by its form, and a command with it
 --     run_app, check_app, map_app, show_app, page_app, compare_app      one command
 --     program_app      the whole
 use Rattle.std.specs.Prelude.{true, codes, Some, List, [], ◌∷◌, fold}
 use Rattle.clap.specs.Words.{App, Rule, Text, new_app, new_rule, with_rule, with_subcommand}
 use Rattle.clap.specs.declared.builder.action.ArgAction.TheVariants.{Append, SetTrue}
+use Rattle.command_line.specs.declared.command_line.Argument.{Argument}
+use Rattle.command_line.specs.declared.command_line.Form.{Form}
+use Rattle.command_line.specs.declared.command_line.Form.TheVariants as form
 use Rattle.clap.specs.declared.builder.value_parser.ValueParser.TheVariants.{Unsigned}
 
 -- a word that has to be given
@@ -34,6 +38,24 @@ count_rule id = record (word_rule id) { parser = Some (Unsigned 0 18446744073709
 -- an option that takes nothing
 abbrev pub flag_rule : Text → Rule
 flag_rule id = record (new_rule id) { long = Some id; action = Some SetTrue }
+
+-- an argument of this form
+abbrev pub rule_as : Form → Text → Rule
+rule_as form.Text id = text_rule id
+rule_as form.Texts id = texts_rule id
+rule_as form.Choice id = option_rule id
+rule_as form.Number id = number_rule id
+rule_as form.Word id = word_rule id
+rule_as form.Count id = count_rule id
+rule_as form.Flag id = flag_rule id
+
+-- an argument of a command
+abbrev pub rule_in : Argument → Rule
+rule_in argument = rule_as argument.form argument.id.now
+
+-- a command with one argument more
+abbrev pub with_argument : App → Argument → App
+with_argument app argument = with_rule app (rule_in argument)
 
 -- CONFIG
 abbrev pub config_rule : Rule

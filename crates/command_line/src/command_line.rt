@@ -1,8 +1,8 @@
 //! The command line, as `clap` reads it.
 
-ghost use Rattle.std.specs.Prelude.{◌≡◌, IfOk, IsOkAnd, false, codes};
+ghost use Rattle.std.specs.Prelude.{◌≡◌, fold, IfOk, IsOkAnd, false};
 ghost use Rattle.clap.specs.Words.{AddsSubcommand, app_of, new_app, rule_of};
-ghost use Rattle.command_line.specs.CommandLine.{text_rule, config_rule, option_rule, number_rule, word_rule, count_rule, texts_rule, flag_rule, run_app, check_app, map_app, show_app, page_app, compare_app, program_app};
+ghost use Rattle.command_line.specs.CommandLine.{text_rule, rule_in, with_argument, option_rule, number_rule, word_rule, count_rule, texts_rule, flag_rule, run_app, check_app, map_app, show_app, page_app, compare_app, program_app};
 
 use clap::{Arg, ArgAction, Command, value_parser};
 use std::alloc::{AllocError, Global};
@@ -90,160 +90,224 @@ fn flag_arg<'a>(alloc: Global, id: &'a str, help: &'a str) -> Arg<'a>
         .help(help)
 }
 
-fn config_arg<'a>(alloc: Global) -> Arg<'a>
-    ensures rule { rule_of result ≡ config_rule }
-    ensures own { result.global ≡ false }
-{
-    text_arg(alloc, "config", "CONFIG", "The configuration, a TOML file")
+/// How an argument is given.
+#[derive(Clone, Copy)]
+enum Form {
+    /// A word that has to be given.
+    Text,
+    /// One word or more.
+    Texts,
+    /// An option that takes a word.
+    Choice,
+    /// An option that takes a number.
+    Number,
+    /// An option that takes a word and may be left out.
+    Word,
+    /// An option that takes a number and may be left out.
+    Count,
+    /// An option that takes nothing.
+    Flag,
 }
 
-fn cycles_arg<'a>(alloc: Global) -> Arg<'a>
-    ensures rule { rule_of result ≡ number_rule (codes "cycles") }
-    ensures own { result.global ≡ false }
-{
-    number_arg(alloc, "cycles", "N", "How many cycles to simulate, at most")
+/// An argument of a command.
+#[derive(Clone, Copy)]
+struct Argument {
+    id: &'static str,
+    form: Form,
+    /// What stands for its value.
+    name: &'static str,
+    help: &'static str,
 }
 
-fn workers_arg<'a>(alloc: Global) -> Arg<'a>
-    ensures rule { rule_of result ≡ number_rule (codes "workers") }
+// An argument as `clap` takes it.
+fn arg_of<'a>(alloc: Global, argument: &Argument) -> Arg<'a>
+    ensures rule { rule_of result ≡ rule_in argument.now }
     ensures own { result.global ≡ false }
 {
-    number_arg(alloc, "workers", "N", "How many threads work, 1 to 64")
+    let Argument {
+        id,
+        form,
+        name,
+        help,
+    } = *argument;
+    match form {
+        Form::Text => text_arg(alloc, id, name, help),
+        Form::Texts => texts_arg(alloc, id, name, help),
+        Form::Choice => option_arg(alloc, id, name, help),
+        Form::Number => number_arg(alloc, id, name, help),
+        Form::Word => word_arg(alloc, id, name, help),
+        Form::Count => count_arg(alloc, id, name, help),
+        Form::Flag => flag_arg(alloc, id, help),
+    }
 }
 
-fn share_arg<'a>(alloc: Global) -> Arg<'a>
-    ensures rule { rule_of result ≡ word_rule (codes "share") }
-    ensures own { result.global ≡ false }
-{
-    let help = "When they share a machine out, auto or always [default: auto]";
-    word_arg(alloc, "share", "WHEN", help)
-}
+/// The arguments of `run CONFIG --cycles N --workers N [--share WHEN] [--tables LIST] --out DIR TRACE...`
+static RUN: [Argument; 7] = [
+    Argument {
+        id: "config",
+        form: Form::Text,
+        name: "CONFIG",
+        help: "The configuration, a TOML file",
+    },
+    Argument {
+        id: "cycles",
+        form: Form::Number,
+        name: "N",
+        help: "How many cycles to simulate, at most",
+    },
+    Argument {
+        id: "workers",
+        form: Form::Number,
+        name: "N",
+        help: "How many threads work, 1 to 64",
+    },
+    Argument {
+        id: "share",
+        form: Form::Word,
+        name: "WHEN",
+        help: "When they share a machine out, auto or always [default: auto]",
+    },
+    Argument {
+        id: "tables",
+        form: Form::Word,
+        name: "LIST",
+        help: "Of commands, stats, final and requests [default: the first 3]",
+    },
+    Argument {
+        id: "out",
+        form: Form::Choice,
+        name: "DIR",
+        help: "The folder for the tables, which must exist",
+    },
+    Argument {
+        id: "trace",
+        form: Form::Texts,
+        name: "TRACE",
+        help: "The trace of each core, in order",
+    },
+];
 
-fn tables_arg<'a>(alloc: Global) -> Arg<'a>
-    ensures rule { rule_of result ≡ word_rule (codes "tables") }
-    ensures own { result.global ≡ false }
-{
-    let help = "Of commands, stats, final and requests [default: the first 3]";
-    word_arg(alloc, "tables", "LIST", help)
-}
+/// The arguments of `check CONFIG COMMANDS`
+static CHECK: [Argument; 2] = [
+    Argument {
+        id: "config",
+        form: Form::Text,
+        name: "CONFIG",
+        help: "The configuration, a TOML file",
+    },
+    Argument {
+        id: "commands",
+        form: Form::Text,
+        name: "COMMANDS",
+        help: "The table of commands, a CSV file",
+    },
+];
 
-fn out_arg<'a>(alloc: Global) -> Arg<'a>
-    ensures rule { rule_of result ≡ option_rule (codes "out") }
-    ensures own { result.global ≡ false }
-{
-    let help = "The folder for the tables, which must exist";
-    option_arg(alloc, "out", "DIR", help)
-}
+/// The arguments of `map CONFIG ADDRESS`
+static MAP: [Argument; 2] = [
+    Argument {
+        id: "config",
+        form: Form::Text,
+        name: "CONFIG",
+        help: "The configuration, a TOML file",
+    },
+    Argument {
+        id: "address",
+        form: Form::Text,
+        name: "ADDRESS",
+        help: "A decimal number, or one after 0x",
+    },
+];
 
-fn traces_arg<'a>(alloc: Global) -> Arg<'a>
-    ensures rule { rule_of result ≡ texts_rule (codes "trace") }
-    ensures own { result.global ≡ false }
-{
-    texts_arg(alloc, "trace", "TRACE", "The trace of each core, in order")
-}
+/// The arguments of `show DIR [--all] [--banks] [--config FILE] [--mhz N]`
+static SHOW: [Argument; 5] = [
+    Argument {
+        id: "dir",
+        form: Form::Text,
+        name: "DIR",
+        help: "The folder with the tables of a run",
+    },
+    Argument {
+        id: "all",
+        form: Form::Flag,
+        name: "",
+        help: "Tells of each core, however many there are",
+    },
+    Argument {
+        id: "banks",
+        form: Form::Flag,
+        name: "",
+        help: "Tells of each bank too",
+    },
+    Argument {
+        id: "config",
+        form: Form::Word,
+        name: "FILE",
+        help: "The configuration of the run",
+    },
+    Argument {
+        id: "mhz",
+        form: Form::Word,
+        name: "N",
+        help: "The clock in MHz, for times and data rates",
+    },
+];
 
-fn commands_arg<'a>(alloc: Global) -> Arg<'a>
-    ensures rule { rule_of result ≡ text_rule (codes "commands") }
-    ensures own { result.global ≡ false }
-{
-    text_arg(
-        alloc,
-        "commands",
-        "COMMANDS",
-        "The table of commands, a CSV file",
-    )
-}
+/// The arguments of `page DIR FILE [--config FILE] [--mhz N] [--from N] [--cycles N]`
+static PAGE: [Argument; 6] = [
+    Argument {
+        id: "dir",
+        form: Form::Text,
+        name: "DIR",
+        help: "The folder with the tables of a run",
+    },
+    Argument {
+        id: "file",
+        form: Form::Text,
+        name: "FILE",
+        help: "The page, an HTML file",
+    },
+    Argument {
+        id: "config",
+        form: Form::Word,
+        name: "FILE",
+        help: "The configuration of the run",
+    },
+    Argument {
+        id: "mhz",
+        form: Form::Word,
+        name: "N",
+        help: "The clock in MHz, for times and data rates",
+    },
+    Argument {
+        id: "from",
+        form: Form::Count,
+        name: "N",
+        help: "The first cycle of the timeline [default: 0]",
+    },
+    Argument {
+        id: "cycles",
+        form: Form::Count,
+        name: "N",
+        help: "How many cycles it shows [default: 2000]",
+    },
+];
 
-fn address_arg<'a>(alloc: Global) -> Arg<'a>
-    ensures rule { rule_of result ≡ text_rule (codes "address") }
-    ensures own { result.global ≡ false }
-{
-    text_arg(
-        alloc,
-        "address",
-        "ADDRESS",
-        "A decimal number, or one after 0x",
-    )
-}
-
-fn dir_arg<'a>(alloc: Global) -> Arg<'a>
-    ensures rule { rule_of result ≡ text_rule (codes "dir") }
-    ensures own { result.global ≡ false }
-{
-    text_arg(alloc, "dir", "DIR", "The folder with the tables of a run")
-}
-
-fn all_arg<'a>(alloc: Global) -> Arg<'a>
-    ensures rule { rule_of result ≡ flag_rule (codes "all") }
-    ensures own { result.global ≡ false }
-{
-    flag_arg(alloc, "all", "Tells of each core, however many there are")
-}
-
-fn banks_arg<'a>(alloc: Global) -> Arg<'a>
-    ensures rule { rule_of result ≡ flag_rule (codes "banks") }
-    ensures own { result.global ≡ false }
-{
-    flag_arg(alloc, "banks", "Tells of each bank too")
-}
-
-fn mhz_arg<'a>(alloc: Global) -> Arg<'a>
-    ensures rule { rule_of result ≡ word_rule (codes "mhz") }
-    ensures own { result.global ≡ false }
-{
-    word_arg(
-        alloc,
-        "mhz",
-        "N",
-        "The clock in MHz, for times and data rates",
-    )
-}
-
-fn file_arg<'a>(alloc: Global) -> Arg<'a>
-    ensures rule { rule_of result ≡ text_rule (codes "file") }
-    ensures own { result.global ≡ false }
-{
-    text_arg(alloc, "file", "FILE", "The page, an HTML file")
-}
-
-// The configuration of a run whose tables are there already.
-fn known_config_arg<'a>(alloc: Global) -> Arg<'a>
-    ensures rule { rule_of result ≡ word_rule (codes "config") }
-    ensures own { result.global ≡ false }
-{
-    word_arg(alloc, "config", "FILE", "The configuration of the run")
-}
-
-fn from_arg<'a>(alloc: Global) -> Arg<'a>
-    ensures rule { rule_of result ≡ count_rule (codes "from") }
-    ensures own { result.global ≡ false }
-{
-    let help = "The first cycle of the timeline [default: 0]";
-    count_arg(alloc, "from", "N", help)
-}
-
-fn shown_cycles_arg<'a>(alloc: Global) -> Arg<'a>
-    ensures rule { rule_of result ≡ count_rule (codes "cycles") }
-    ensures own { result.global ≡ false }
-{
-    let help = "How many cycles it shows [default: 2000]";
-    count_arg(alloc, "cycles", "N", help)
-}
-
-fn dirs_arg<'a>(alloc: Global) -> Arg<'a>
-    ensures rule { rule_of result ≡ texts_rule (codes "dir") }
-    ensures own { result.global ≡ false }
-{
-    let help = "The folders with the tables of two runs or more";
-    texts_arg(alloc, "dir", "DIR", help)
-}
-
-fn csv_arg<'a>(alloc: Global) -> Arg<'a>
-    ensures rule { rule_of result ≡ flag_rule (codes "csv") }
-    ensures own { result.global ≡ false }
-{
-    flag_arg(alloc, "csv", "Prints a table of CSV in place of a screen")
-}
+/// The arguments of `compare DIR DIR... [--csv]`
+static COMPARE: [Argument; 2] = [
+    Argument {
+        id: "dir",
+        form: Form::Texts,
+        name: "DIR",
+        help: "The folders with the tables of two runs or more",
+    },
+    Argument {
+        id: "csv",
+        form: Form::Flag,
+        name: "",
+        help: "Prints a table of CSV in place of a screen",
+    },
+];
 
 // A command with no argument yet, and an example of it.
 fn command<'a>(alloc: Global, name: &'a str, about: &'a str, example: &'a str) -> Command<'a>
@@ -252,19 +316,28 @@ fn command<'a>(alloc: Global, name: &'a str, about: &'a str, example: &'a str) -
     Command::new(alloc, name).about(about).after_help(example)
 }
 
+// A command with these arguments more.
+fn with_arguments<'a>(
+    alloc: Global,
+    bare: Command<'a>,
+    arguments: &[Argument],
+) -> Result<Command<'a>, AllocError>
+    ensures { IfOk result (λ c. app_of c ≡ fold with_argument (app_of bare.entry) arguments.now) }
+{
+    let mut command = bare;
+    for argument in arguments {
+        let longer = command.arg(arg_of(alloc, argument))?;
+        command = longer;
+    }
+    Ok(command)
+}
+
 // `run CONFIG --cycles N --workers N [--share WHEN] [--tables LIST] --out DIR TRACE...`
 fn run_command<'a>(alloc: Global) -> Result<Command<'a>, AllocError>
     ensures { IfOk result (λ c. app_of c ≡ run_app) }
 {
     let about = "Simulates traces and writes the commands";
-    command(alloc, "run", about, RUN_EXAMPLE)
-        .arg(config_arg(alloc))?
-        .arg(cycles_arg(alloc))?
-        .arg(workers_arg(alloc))?
-        .arg(share_arg(alloc))?
-        .arg(tables_arg(alloc))?
-        .arg(out_arg(alloc))?
-        .arg(traces_arg(alloc))
+    with_arguments(alloc, command(alloc, "run", about, RUN_EXAMPLE), &RUN)
 }
 
 // `check CONFIG COMMANDS`
@@ -272,30 +345,23 @@ fn check_command<'a>(alloc: Global) -> Result<Command<'a>, AllocError>
     ensures { IfOk result (λ c. app_of c ≡ check_app) }
 {
     let about = "Tests a table of commands against the DDR4 rules";
-    command(alloc, "check", about, CHECK_EXAMPLE)
-        .arg(config_arg(alloc))?
-        .arg(commands_arg(alloc))
+    with_arguments(alloc, command(alloc, "check", about, CHECK_EXAMPLE), &CHECK)
 }
 
 // `map CONFIG ADDRESS`
 fn map_command<'a>(alloc: Global) -> Result<Command<'a>, AllocError>
     ensures { IfOk result (λ c. app_of c ≡ map_app) }
 {
-    command(alloc, "map", "Prints where an address lies", MAP_EXAMPLE)
-        .arg(config_arg(alloc))?
-        .arg(address_arg(alloc))
+    let about = "Prints where an address lies";
+    with_arguments(alloc, command(alloc, "map", about, MAP_EXAMPLE), &MAP)
 }
 
 // `show DIR [--all] [--banks] [--config FILE] [--mhz N]`
 fn show_command<'a>(alloc: Global) -> Result<Command<'a>, AllocError>
     ensures { IfOk result (λ c. app_of c ≡ show_app) }
 {
-    command(alloc, "show", "Prints what a run did", SHOW_EXAMPLE)
-        .arg(dir_arg(alloc))?
-        .arg(all_arg(alloc))?
-        .arg(banks_arg(alloc))?
-        .arg(known_config_arg(alloc))?
-        .arg(mhz_arg(alloc))
+    let about = "Prints what a run did";
+    with_arguments(alloc, command(alloc, "show", about, SHOW_EXAMPLE), &SHOW)
 }
 
 // `page DIR FILE [--config FILE] [--mhz N] [--from N] [--cycles N]`
@@ -303,13 +369,7 @@ fn page_command<'a>(alloc: Global) -> Result<Command<'a>, AllocError>
     ensures { IfOk result (λ c. app_of c ≡ page_app) }
 {
     let about = "Draws what a run did as a page of HTML";
-    command(alloc, "page", about, PAGE_EXAMPLE)
-        .arg(dir_arg(alloc))?
-        .arg(file_arg(alloc))?
-        .arg(known_config_arg(alloc))?
-        .arg(mhz_arg(alloc))?
-        .arg(from_arg(alloc))?
-        .arg(shown_cycles_arg(alloc))
+    with_arguments(alloc, command(alloc, "page", about, PAGE_EXAMPLE), &PAGE)
 }
 
 // `compare DIR DIR... [--csv]`
@@ -317,9 +377,11 @@ fn compare_command<'a>(alloc: Global) -> Result<Command<'a>, AllocError>
     ensures { IfOk result (λ c. app_of c ≡ compare_app) }
 {
     let about = "Compares runs with the first of them";
-    command(alloc, "compare", about, COMPARE_EXAMPLE)
-        .arg(dirs_arg(alloc))?
-        .arg(csv_arg(alloc))
+    with_arguments(
+        alloc,
+        command(alloc, "compare", about, COMPARE_EXAMPLE),
+        &COMPARE,
+    )
 }
 
 // A command with one more below it, unless that was refused memory.

@@ -22,7 +22,7 @@ use strsim::osa_distance;
 const COMMANDS: [&str; 7] = ["run", "check", "map", "show", "page", "compare", "help"];
 
 /// When the workers of a run share a machine out.
-#[derive(Clone, Copy, PartialEq, Eq, Debug)]
+#[derive(Clone, Copy, Debug)]
 pub enum Share {
     /// Where that is worth its cost.
     Auto,
@@ -346,21 +346,35 @@ fn ask_of<'a>(alloc: Global, matches: &ArgMatches<'a>) -> Result<Ask<'a>, Fault>
     }
 }
 
-// What explains a word of a run that means nothing: when workers share, or which tables are asked for.
-fn explain_run_word(alloc: Global, found: &ArgMatches<'_>) -> Result<String, AllocError> {
+// What may stand where a word means nothing.
+const ADDRESS: &str =
+    "ADDRESS: a decimal number, or a hexadecimal one after 0x, at most 18446744073709551615";
+
+const MHZ: &str =
+    "N of --mhz: a decimal number such as 1200 or 1333.333, above 0 and below a million";
+
+const SHARE: &str = "WHEN of --share: auto or always";
+
+const TABLES: &str =
+    "LIST of --tables: some of commands, stats, final and requests, joined by commas, each at most once";
+
+// A word that means nothing where it stands, and what may stand there: an address, the frequency of a clock, when
+// workers share, or which tables are asked for.
+fn wrong_word<'a>(found: &ArgMatches<'a>) -> Option<(&'a str, &'static str)> {
+    if let Some(text) = found.get_str("address") {
+        return Some((text, ADDRESS));
+    }
+    if let Some(text) = found.get_str("mhz") {
+        return Some((text, MHZ));
+    }
     match (found.get_str("share"), found.get_str("tables")) {
-        (Some(text), _) if text != "auto" && text != "always" => {
-            format!(in alloc; "'{text}' is no WHEN of --share: auto or always\n")
-        }
-        (_, Some(text)) => format!(in alloc;
-            "'{text}' is no LIST of --tables: some of commands, stats, final and requests, joined by commas, each at most once\n"
-        ),
-        _ => Ok(String::new(alloc)),
+        (Some(text), _) if text != "auto" && text != "always" => Some((text, SHARE)),
+        (_, Some(text)) => Some((text, TABLES)),
+        _ => None,
     }
 }
 
-// What explains a word that means nothing where it stands: an address, the frequency of a clock, when workers share,
-// which tables are asked for, or a folder alone.
+// What explains a word that means nothing where it stands, or a folder alone.
 fn explain_word(alloc: Global, matches: &ArgMatches<'_>) -> Result<String, AllocError> {
     let Some((name, found)) = matches.subcommand() else {
         return Ok(String::new(alloc));
@@ -368,17 +382,10 @@ fn explain_word(alloc: Global, matches: &ArgMatches<'_>) -> Result<String, Alloc
     if name == "compare" {
         return String::from_str(alloc, "compare takes the folders of two runs or more\n");
     }
-    if let Some(text) = found.get_str("address") {
-        return format!(in alloc;
-            "'{text}' is no ADDRESS: a decimal number, or a hexadecimal one after 0x, at most 18446744073709551615\n"
-        );
+    match wrong_word(found) {
+        Some((word, wanted)) => format!(in alloc; "'{word}' is no {wanted}\n"),
+        None => Ok(String::new(alloc)),
     }
-    if let Some(text) = found.get_str("mhz") {
-        return format!(in alloc;
-            "'{text}' is no N of --mhz: a decimal number such as 1200 or 1333.333, above 0 and below a million\n"
-        );
-    }
-    explain_run_word(alloc, found)
 }
 
 // What the matches of a command line ask for, or why they are refused.
@@ -424,15 +431,15 @@ fn explain_error(alloc: Global, error: &Error, words: &[&str]) -> Result<String,
 }
 
 // Why a command line refuses its words, or the text that answers a call for help or for the version.
-fn help_of<'a>(alloc: Global, error: Error, words: &[&str]) -> Result<Ask<'a>, Reason>
-    ensures shown { IfOk result (λ ask. IsShown ask (kind_of error)) }
-    ensures refused { IfErr result (IsMemoryOrRefusal (IsNoHelp (kind_of error))) }
+fn help_of<'a>(alloc: Global, error: &Error, words: &[&str]) -> Result<Ask<'a>, Reason>
+    ensures shown { IfOk result (λ ask. IsShown ask (kind_of error.now)) }
+    ensures refused { IfErr result (IsMemoryOrRefusal (IsNoHelp (kind_of error.now))) }
 {
     match error.kind() {
         ErrorKind::OutOfMemory => Err(Reason::from(Fault::Memory)),
         ErrorKind::DisplayHelp => Ok(Ask::Help(error.to_string(alloc)?)),
         ErrorKind::DisplayVersion => Ok(Ask::Version(error.to_string(alloc)?)),
-        _ => Err(Reason::explained(Fault::CommandLine, explain_error(alloc, &error, words))),
+        _ => Err(Reason::explained(Fault::CommandLine, explain_error(alloc, error, words))),
     }
 }
 
@@ -453,6 +460,6 @@ pub fn read_words<'a>(alloc: Global, words: &'a [&'a str]) -> Result<Ask<'a>, Re
 {
     match program(alloc)?.try_get_matches_from(words) {
         Ok(matches) => command_of(alloc, &matches),
-        Err(error) => help_of(alloc, error, words),
+        Err(error) => help_of(alloc, &error, words),
     }
 }

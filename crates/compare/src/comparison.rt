@@ -1,7 +1,8 @@
 //! Runs beside the first of them.
 
-ghost use Rattle.std.specs.Prelude.{◌≡◌, ◌^◌, ◌<◌, map, length, IfOk, string_bytes};
+ghost use Rattle.std.specs.Prelude.{◌^◌, ◌<◌, IfOk};
 ghost use Rattle.compare.specs.Comparison.{name_text, names_text, screen_head, head_text, heading_text, headings_text, comparison_text, runs_text};
+ghost use Rattle.compare.specs.Strings.{IsText, texts};
 
 use crate::layout::Layout;
 use crate::lines::{CHANGE_WIDTH, VALUE_WIDTH, lines_text};
@@ -12,7 +13,7 @@ use std::alloc::{AllocError, Global};
 
 // The number and the name of a run.
 fn name_text(alloc: Global, number: usize, name: &str) -> Result<String, AllocError>
-    ensures { IfOk result (λ text. string_bytes text ≡ name_text number name.now) }
+    ensures { IfOk result (IsText (name_text number name.now)) }
 {
     format!(in alloc; "run {number}: {name}\n")
 }
@@ -20,7 +21,7 @@ fn name_text(alloc: Global, number: usize, name: &str) -> Result<String, AllocEr
 // A line for each.
 #[tactic(auto, unfolding(crate::specs::Comparison::names_text))]
 fn names_text(alloc: Global, names: &[&str]) -> Result<String, AllocError>
-    ensures { IfOk result (λ text. string_bytes text ≡ names_text (map (λ n. n.now) names.now)) }
+    ensures { IfOk result (IsText (names_text (texts names.now))) }
 {
     let mut text = String::new(alloc);
     for (place, name) in names.iter().enumerate() {
@@ -32,7 +33,7 @@ fn names_text(alloc: Global, names: &[&str]) -> Result<String, AllocError>
 
 // What stands before the headings of a screen: the names of the runs, and room for the labels.
 fn screen_head(alloc: Global, names: &[&str]) -> Result<String, AllocError>
-    ensures { IfOk result (λ text. string_bytes text ≡ screen_head (map (λ n. n.now) names.now)) }
+    ensures { IfOk result (IsText (screen_head (texts names.now))) }
 {
     let mut text = names_text(alloc, names)?;
     let label = label_text(alloc, Layout::Screen, "")?;
@@ -43,7 +44,7 @@ fn screen_head(alloc: Global, names: &[&str]) -> Result<String, AllocError>
 
 // What stands before the headings.
 fn head_text(alloc: Global, layout: Layout, names: &[&str]) -> Result<String, AllocError>
-    ensures { IfOk result (λ text. string_bytes text ≡ head_text layout (map (λ n. n.now) names.now)) }
+    ensures { IfOk result (IsText (head_text layout (texts names.now))) }
 {
     match layout {
         Layout::Screen => screen_head(alloc, names),
@@ -54,7 +55,7 @@ fn head_text(alloc: Global, layout: Layout, names: &[&str]) -> Result<String, Al
 // The headings of a run behind the first.
 #[tactic(auto, unfolding(crate::specs::Comparison::heading_text))]
 fn heading_text(alloc: Global, layout: Layout, number: usize) -> Result<String, AllocError>
-    ensures { IfOk result (λ text. string_bytes text ≡ heading_text layout number) }
+    ensures { IfOk result (IsText (heading_text layout number)) }
 {
     let run = format!(in alloc; "run {number}")?;
     let change = format!(in alloc; "change {number} %")?;
@@ -67,7 +68,7 @@ fn heading_text(alloc: Global, layout: Layout, number: usize) -> Result<String, 
 #[tactic(auto, using(crate::proofs::More::flat_map_below_more), unfolding(crate::specs::Comparison::headings_text))]
 fn headings_text(alloc: Global, layout: Layout, others: usize) -> Result<String, AllocError>
     requires { others < 2 ^ 63 }
-    ensures { IfOk result (λ text. string_bytes text ≡ headings_text layout others) }
+    ensures { IfOk result (IsText (headings_text layout others)) }
 {
     let mut headings = cell_text(alloc, layout, VALUE_WIDTH, "run 1")?;
     for place in 0..others {
@@ -88,7 +89,7 @@ fn runs_text(
     lines: &str,
 ) -> Result<String, AllocError>
     requires { others < 2 ^ 63 }
-    ensures { IfOk result (λ text. string_bytes text ≡ runs_text layout (map (λ n. n.now) names.now) others lines.now) }
+    ensures { IfOk result (IsText (runs_text layout (texts names.now) others lines.now)) }
 {
     let mut text = head_text(alloc, layout, names)?;
     let headings = headings_text(alloc, layout, others)?;
@@ -97,18 +98,22 @@ fn runs_text(
     Ok(text)
 }
 
-/// Runs beside the first of them, a column for each, and for each of the others how much it is above or below the first, in percent of that, rounded
-/// half up. Nothing for no runs. On a screen the names of the runs stand first.
+/// Runs beside the first of them, a column for each, and for each of the others how much it is above or below the
+/// first, in percent of that, rounded half up. Nothing for no runs. On a screen the names of the runs stand first.
 ///
-/// The lines are: the cycles; the entries a cycle of all cores, of the core that retired the fewest and of the one that retired the most; RDs and
-/// WRs; the row hits in % of them; the cycles in which the data buses were taken, in % of the cycles of all channels; the mean latency in cycles of the
-/// reads that were answered, and behind it the 99th percentile, where it is given; the mean length of a queue, and the greatest; the cycles in which a refresh was due, and in which writes were drained, in %; and
-/// the cores whose entries a cycle gained and lost most of those that the run and the first one have, by their numbers, with the change of that core.
+/// The lines are: the cycles; the entries a cycle of all cores, of the core that retired the fewest and of the one that
+/// retired the most; RDs and WRs; the row hits in % of them; the cycles in which the data buses were taken, in % of the
+/// cycles of all channels; the mean latency in cycles of the reads that were answered, and behind it the 99th
+/// percentile, where it is given; the mean length of a queue, and the greatest; the cycles in which a refresh was due,
+/// and in which writes were drained, in %; and the cores whose entries a cycle gained and lost most of those that the
+/// run and the first one have, by their numbers, with the change of that core.
 ///
-/// The 99th percentile of read latency is given of each run, or of none: then there is no line for it. It is missing of a run of which no read was answered.
+/// The 99th percentile of read latency is given of each run, or of none: then there is no line for it. It is missing of
+/// a run of which no read was answered.
 ///
-/// There is no value where there is nothing to divide by, of the drain where no channel ever does, or of a core where none gained or lost; and no change where a
-/// value is missing or that of the first run is 0. Only memory can be refused.
+/// There is no value where there is nothing to divide by, of the drain where no channel ever does, or of a core where
+/// none gained or lost; and no change where a value is missing or that of the first run is 0. Only memory can be
+/// refused.
 pub fn compare_text(
     alloc: Global,
     layout: Layout,
@@ -116,7 +121,7 @@ pub fn compare_text(
     runs: &[Stats],
     tails: &[Option<Cycle>],
 ) -> Result<String, AllocError>
-    ensures { IfOk result (λ text. string_bytes text ≡ comparison_text layout (map (λ n. n.now) names.now) runs.now tails.now) }
+    ensures { IfOk result (IsText (comparison_text layout (texts names.now) runs.now tails.now)) }
 {
     match runs.split_first() {
         Some((base, others)) => {

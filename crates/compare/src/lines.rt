@@ -1,7 +1,8 @@
 //! The lines of a comparison.
 
-ghost use Rattle.std.specs.Prelude.{◌≡◌, flat_map, IfOk, string_bytes};
+ghost use Rattle.std.specs.Prelude.{flat_map, IfOk};
 ghost use Rattle.compare.specs.Lines.{cells_text, beginning_text, line_text, lines_text};
+ghost use Rattle.compare.specs.Strings.{IsText};
 
 use crate::cells::cell_of;
 use crate::layout::Layout;
@@ -27,7 +28,7 @@ fn cells_text(
     measure: Measure,
     run: &Stats,
 ) -> Result<String, AllocError>
-    ensures { IfOk result (λ text. string_bytes text ≡ cells_text layout base.now measure run.now) }
+    ensures { IfOk result (IsText (cells_text layout base.now measure run.now)) }
 {
     let cell = cell_of(measure, base, run);
     let value = value_text(alloc, layout, decimals_of(measure), cell.value)?;
@@ -45,7 +46,7 @@ fn beginning_text(
     base: &Stats,
     measure: Measure,
 ) -> Result<String, AllocError>
-    ensures { IfOk result (λ text. string_bytes text ≡ beginning_text layout base.now measure) }
+    ensures { IfOk result (IsText (beginning_text layout base.now measure)) }
 {
     let label = label_text(alloc, layout, label_of(measure))?;
     let value = value_text(alloc, layout, decimals_of(measure), value_of(measure, base))?;
@@ -62,7 +63,7 @@ fn line_text(
     others: &[Stats],
     measure: Measure,
 ) -> Result<String, AllocError>
-    ensures { IfOk result (λ text. string_bytes text ≡ line_text layout base.now others.now measure) }
+    ensures { IfOk result (IsText (line_text layout base.now others.now measure)) }
 {
     let mut line = beginning_text(alloc, layout, base, measure)?;
     for run in others {
@@ -82,7 +83,7 @@ fn lines_of(
     others: &[Stats],
     measures: &[Measure],
 ) -> Result<String, AllocError>
-    ensures { IfOk result (λ text. string_bytes text ≡ flat_map (line_text layout base.now others.now) measures.now) }
+    ensures { IfOk result (IsText (flat_map (line_text layout base.now others.now) measures.now)) }
 {
     let mut lines = String::new(alloc);
     for measure in measures {
@@ -101,7 +102,7 @@ pub(crate) fn lines_text(
     others: &[Stats],
     tails: &[Option<Cycle>],
 ) -> Result<String, AllocError>
-    ensures { IfOk result (λ text. string_bytes text ≡ lines_text layout base.now others.now tails.now) }
+    ensures { IfOk result (IsText (lines_text layout base.now others.now tails.now)) }
 {
     let first = lines_of(alloc, layout, base, others, &FIRST_MEASURES)?;
     let tail = tails_text(alloc, layout, tails)?;

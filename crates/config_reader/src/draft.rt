@@ -43,17 +43,18 @@ pub(super) struct Draft {
 }
 
 impl Draft {
-    ghost use Rattle.std.specs.Prelude.{◌≡◌, ◌≢◌, ◌↔◌, Ok, Err, IfOk, IfErr, IsOk};
+    ghost use Rattle.std.specs.Prelude.{◌≡◌, ◌↔◌, Ok, IfOk, IfErr, IsOk};
     ghost use Rattle.toml.specs.View.{table_view};
     ghost use Rattle.sim_base.specs.Values.{values_of};
     ghost use Rattle.config_reader.specs.Document.{draft_values, keys_of};
     ghost use Rattle.config_reader.specs.Document.Relations.{IsRelated, relations_of};
+    ghost use Rattle.config_reader.specs.Refusals.{IsRefusalOf};
 
     /// Reads the keys of a document one after the other, and then refuses a key that no configuration has.
     #[tactic(auto, unfolding(crate::specs::Document::keys_of))]
     pub(super) fn read(alloc: Global, table: &Table) -> Result<Draft, Fault>
         ensures ok { IfOk result (λ d. keys_of (table_view table.now) ≡ Ok (draft_values d)) }
-        ensures refused { IfErr result (λ e. e ≢ Fault.Memory → keys_of (table_view table.now) ≡ Err e) }
+        ensures refused { IfErr result (IsRefusalOf (keys_of (table_view table.now))) }
     {
         let machine = MachineSize::read(table)?;
         let memory = MemoryShape::read(table)?;

@@ -1,11 +1,12 @@
 //! Reads the document of a configuration.
 #![tactic(auto)]
 
-ghost use Rattle.std.specs.Prelude.{◌≡◌, ◌≢◌, Ok, Err, IfOk, IfErr, IsUtf8};
+ghost use Rattle.std.specs.Prelude.{◌≡◌, Ok, Err, IfOk, IfErr, IsUtf8};
 ghost use Rattle.toml.specs.Parse.{parse_document};
 ghost use Rattle.toml.specs.View.{table_view};
 ghost use Rattle.sim_base.specs.Values.{values_of};
 ghost use Rattle.config_reader.specs.Document.{config_of, config_from, document_of};
+ghost use Rattle.config_reader.specs.Refusals.{IsRefusalOf};
 
 mod draft;
 mod end;
@@ -26,7 +27,7 @@ use toml::Table;
 #[tactic(auto, unfolding(crate::specs::Document::config_of))]
 fn read_table(alloc: Global, table: &Table) -> Result<Config, Fault>
     ensures ok { IfOk result (λ c. config_of (table_view table.now) ≡ Ok (values_of c)) }
-    ensures refused { IfErr result (λ e. e ≢ Fault.Memory → config_of (table_view table.now) ≡ Err e) }
+    ensures refused { IfErr result (IsRefusalOf (config_of (table_view table.now))) }
 {
     let draft = Draft::read(alloc, table)?;
     draft.check_relations()?;
@@ -36,7 +37,7 @@ fn read_table(alloc: Global, table: &Table) -> Result<Config, Fault>
 /// The configuration that a text states.
 fn read_text(alloc: Global, text: &str) -> Result<Config, Fault>
     ensures ok { IfOk result (λ c. config_from (parse_document text.now) ≡ Ok (values_of c)) }
-    ensures refused { IfErr result (λ e. e ≢ Fault.Memory → config_from (parse_document text.now) ≡ Err e) }
+    ensures refused { IfErr result (IsRefusalOf (config_from (parse_document text.now))) }
 {
     match toml::table_from_str(alloc, text) {
         Ok(table) => read_table(alloc, &table),
@@ -45,13 +46,13 @@ fn read_text(alloc: Global, text: &str) -> Result<Config, Fault>
     }
 }
 
-/// Reads a configuration. If the document is refused, the fault is the first one found: the keys are tested one after the other,
-/// then comes any key that no configuration has, and then the relations in the order of their numbers. If memory is refused,
-/// the fault is `Memory`.
+/// Reads a configuration. If the document is refused, the fault is the first one found: the keys are tested one after
+/// the other, then comes any key that no configuration has, and then the relations in the order of their numbers. If
+/// memory is refused, the fault is `Memory`.
 #[tactic(auto, using(crate::proofs::DocumentTexts::document_of_text, crate::proofs::DocumentTexts::document_of_bytes))]
 pub fn read_config(alloc: Global, bytes: &[u8]) -> Result<Config, Fault>
     ensures ok { IfOk result (λ c. document_of bytes.now ≡ Ok (values_of c)) }
-    ensures refused { IfErr result (λ e. e ≢ Fault.Memory → document_of bytes.now ≡ Err e) }
+    ensures refused { IfErr result (IsRefusalOf (document_of bytes.now)) }
     ensures no_text { ¬ (IsUtf8 bytes.now) → result ≡ Err Fault.ConfigSyntax }
 {
     match str::from_utf8(bytes) {

@@ -1,10 +1,11 @@
 //! The links of a document that have a latency of their own.
 
-ghost use Rattle.std.specs.Prelude.{◌≡◌, ◌≢◌, Ok, Err, IfOk, IfErr};
+ghost use Rattle.std.specs.Prelude.{◌≡◌, Ok, IfOk, IfErr};
 ghost use Rattle.toml.specs.Data.{as_table};
 ghost use Rattle.toml.specs.View.{view, array_view, table_view};
 ghost use Rattle.sim_base.specs.Ranges.{LatencyInRange, OverridesInRange};
 ghost use Rattle.config_reader.specs.Document.Links.{override_of, override_from, overrides_in, overrides_of};
+ghost use Rattle.config_reader.specs.Refusals.{IsRefusalOf};
 
 use crate::keys::{in_range, integer_at, key_count, value_at};
 use sim_base::fault::Fault;
@@ -48,7 +49,7 @@ fn override_in(value: &Value) -> Result<Override, Fault>
 /// The overrides that the items state, one after the other.
 fn overrides_in(alloc: Global, array: &Array) -> Result<Vec<Override>, Fault>
     ensures ok { IfOk result (λ v. overrides_in (array_view array.now) ≡ Ok v.items) }
-    ensures refused { IfErr result (λ e. e ≢ Fault.Memory → overrides_in (array_view array.now) ≡ Err e) }
+    ensures refused { IfErr result (IsRefusalOf (overrides_in (array_view array.now))) }
     ensures range { IfOk result (λ v. OverridesInRange v.items) }
 {
     let mut overrides = Vec::new(alloc);
@@ -63,7 +64,7 @@ fn overrides_in(alloc: Global, array: &Array) -> Result<Vec<Override>, Fault>
 #[tactic(auto, unfolding(crate::specs::Document::Links::overrides_of))]
 pub(super) fn read_overrides(alloc: Global, table: &Table) -> Result<Vec<Override>, Fault>
     ensures ok { IfOk result (λ v. overrides_of (table_view table.now) ≡ Ok v.items) }
-    ensures refused { IfErr result (λ e. e ≢ Fault.Memory → overrides_of (table_view table.now) ≡ Err e) }
+    ensures refused { IfErr result (IsRefusalOf (overrides_of (table_view table.now))) }
     ensures range { IfOk result (λ v. OverridesInRange v.items) }
 {
     match value_at(table, Key::Link) {

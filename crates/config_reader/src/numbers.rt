@@ -89,13 +89,12 @@ impl MemoryShape {
 }
 
 impl CoreLimits {
-    ghost use Rattle.sim_base.specs.Ranges.{CoreInRange};
-    ghost use Rattle.config_reader.specs.Document.Numbers.{core_of};
+    ghost use Rattle.config_reader.specs.Document.Numbers.{LimitsInRange, core_of};
 
     #[tactic(auto, unfolding(crate::specs::Document::Numbers::core_of))]
     pub(super) fn read(table: &Table) -> Result<CoreLimits, Fault>
         ensures value { result ≡ core_of (table_view table.now) }
-        ensures range { IfOk result (λ c. CoreInRange c.window c.width c.read_credits c.write_credits) }
+        ensures range { IfOk result LimitsInRange }
     {
         let window = number_at(table, Key::Window, 1, 4096)?;
         let width = number_at(table, Key::Width, 1, 16)?;

@@ -3,8 +3,8 @@
 ghost use Rattle.std.specs.Prelude.{◌≡◌, ◌↔◌, ◌*◌, ◌≤◌, ◌==◌, ◌<◌, All, IsOk, IsTrue, nat_lt};
 ghost use Rattle.std.specs.List.{list_all, list_any};
 ghost use Rattle.sim_base.specs.Ranges.{MachineInRange, CoreInRange, TimingInRange, DrainInRange, Within};
-ghost use Rattle.sim_base.specs.Relations.{refresh_slack_of, DistancesFit, RefreshFits, CreditsFit, LinksExist, LinksDiffer, RanksHaveField, DrainFits};
-ghost use Rattle.config_reader.specs.Document.Relations.{relation, distances_of, refresh_of, credits_of, links_differ, links_of, ranks_of, drain_fits_of};
+ghost use Rattle.sim_base.specs.Relations.{refresh_slack_of, DistancesFit, RefreshFits, CreditsFit, LinksDiffer, RanksHaveField, DrainFits};
+ghost use Rattle.config_reader.specs.Document.Relations.{LinksFit, relation, distances_of, refresh_of, credits_of, links_differ, links_of, ranks_of, drain_fits_of};
 
 use crate::fields::count;
 use crate::numbers::{CoreLimits, Drain, MachineSize};
@@ -123,7 +123,7 @@ fn links_differ(overrides: &[Override]) -> bool
 pub(super) fn check_links(machine: MachineSize, overrides: &[Override]) -> Result<(), Fault>
     requires { MachineInRange machine.cores machine.channels }
     ensures value { result ≡ links_of machine.cores machine.channels overrides.now }
-    ensures fit { IsOk result ↔ (LinksExist machine.cores machine.channels overrides.now × LinksDiffer overrides.now) }
+    ensures fit { IsOk result ↔ LinksFit machine.cores machine.channels overrides.now }
 {
     let links = 3 * u64::from(machine.cores) * u64::from(machine.channels);
     relation(8, are_below(overrides, links))?;

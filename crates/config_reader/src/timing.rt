@@ -2,8 +2,8 @@
 
 ghost use Rattle.std.specs.Prelude.{◌≡◌, IfOk};
 ghost use Rattle.toml.specs.View.{table_view};
-ghost use Rattle.sim_base.specs.Ranges.{DistanceInRange, TimingInRange};
-ghost use Rattle.config_reader.specs.Document.Numbers.{distances_at, timing_of};
+ghost use Rattle.sim_base.specs.Ranges.{TimingInRange};
+ghost use Rattle.config_reader.specs.Document.Numbers.{DistancesInRange, distances_at, timing_of};
 
 use crate::keys::{number_at, number_or};
 use sim_base::fault::Fault;
@@ -21,7 +21,7 @@ fn distances_at(
     d: Key,
 ) -> Result<(u32, u32, u32, u32), Fault>
     ensures value { result ≡ distances_at (table_view table.now) a b c d }
-    ensures range { IfOk result (λ n. DistanceInRange n.0 × DistanceInRange n.1 × DistanceInRange n.2 × DistanceInRange n.3) }
+    ensures range { IfOk result DistancesInRange }
 {
     let first = number_at(table, a, 1, 100_000)?;
     let second = number_at(table, b, 1, 100_000)?;

@@ -79,7 +79,7 @@ fn run_started<
     W: Work<T, D> + Sync,
     B: Room + Send + Sync,
     R: Threads + Wait + Sync,
-    E: Drop,
+    E,
     C: PhasedRun<T, D, E> + Drop,
 >(
     scope: &'s Scope<'s, &'e ()>,
@@ -111,7 +111,7 @@ fn crewed<
     W: Work<T, D> + Sync,
     B: Room + Send + Sync,
     R: Threads + Wait + Sync,
-    E: Drop,
+    E,
     C: PhasedRun<T, D, E> + Drop,
 >(
     rt: &R,
@@ -148,7 +148,7 @@ fn named<
     W: Work<T, D> + Sync,
     B: Room + Send + Sync,
     R: Threads + Wait + Sync,
-    E: Drop,
+    E,
     C: PhasedRun<T, D, E> + Drop,
 >(
     rt: &R,
@@ -177,7 +177,7 @@ pub fn with_crew<
     D: DoneOf<T> + Drop + Send,
     W: Work<T, D> + Sync,
     R: Threads + Wait + Sync,
-    E: Drop,
+    E,
     C: PhasedRun<T, D, E> + Drop,
 >(
     rt: &R,

@@ -1,7 +1,7 @@
 //! Why a configuration is refused.
 
-ghost use Rattle.std.specs.Prelude.{◌≡◌, true, false, [], IfOk, string_bytes};
-ghost use Rattle.explain.specs.Heads.{Begins, file_head};
+ghost use Rattle.std.specs.Prelude.{◌≡◌, true, false, IfOk};
+ghost use Rattle.explain.specs.Heads.{StartsBy, IsSilent, file_head};
 ghost use Rattle.explain.specs.Silence.{is_of_config};
 
 use crate::heads::behind;
@@ -16,8 +16,8 @@ pub fn of_config(
     path: &str,
     document: &[u8],
 ) -> Result<String, AllocError>
-    ensures silent { is_of_config fault ≡ false → IfOk result (λ s. string_bytes s ≡ []) }
-    ensures file { is_of_config fault ≡ true → IfOk result (λ s. Begins (file_head path.now) (string_bytes s)) }
+    ensures silent { is_of_config fault ≡ false → IfOk result IsSilent }
+    ensures file { is_of_config fault ≡ true → IfOk result (StartsBy (file_head path.now)) }
 {
     match fault {
         Fault::ConfigSyntax

@@ -1,6 +1,8 @@
-//! Texts that explain a refusal to a user: what stands where the fault is, and what may stand there. `explain_text` makes what follows the place.
+//! Texts that explain a refusal to a user: what stands where the fault is, and what may stand there. `explain_text`
+//! makes what follows the place.
 //!
-//! A text has lines, each ended by a line feed; it is empty where there is nothing to say. The calls fail only if memory is refused.
+//! A text has lines, each ended by a line feed; it is empty where there is nothing to say. The calls fail only if
+//! memory is refused.
 #![tactic(auto)]
 
 mod config;

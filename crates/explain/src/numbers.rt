@@ -1,14 +1,15 @@
 //! Why the numbers of a command line are refused.
 
-ghost use Rattle.std.specs.Prelude.{◌≡◌, IfOk, string_bytes};
+ghost use Rattle.std.specs.Prelude.{IfOk};
+ghost use Rattle.explain.specs.Heads.{IsText};
 ghost use Rattle.explain.specs.Numbers.{numbers_text};
 
 use crate::counts::of_count;
 use sim_base::fault::Fault;
 use std::alloc::{AllocError, Global};
 
-/// Explains a fault of the number of traces, the workers or the cycles, 7 to 9. `cores` is how many cores the configuration has, where
-/// that is known.
+/// Explains a fault of the number of traces, the workers or the cycles, 7 to 9. `cores` is how many cores the
+/// configuration has, where that is known.
 pub fn of_numbers(
     alloc: Global,
     fault: Fault,
@@ -17,7 +18,7 @@ pub fn of_numbers(
     cycles: u64,
     workers: u64,
 ) -> Result<String, AllocError>
-    ensures { IfOk result (λ s. string_bytes s ≡ numbers_text fault cores traces cycles workers) }
+    ensures { IfOk result (IsText (numbers_text fault cores traces cycles workers)) }
 {
     match fault {
         Fault::TraceCount => of_count(alloc, cores, traces),

@@ -1,8 +1,8 @@
 //! Why a table is refused.
 
-ghost use Rattle.std.specs.Prelude.{◌≡◌, ℕ, false, [], IfOk, string_bytes};
+ghost use Rattle.std.specs.Prelude.{◌≡◌, ℕ, false, IfOk};
 ghost use Rattle.sim_base.specs.declared.fault.Fault.TheVariants.{CheckRow};
-ghost use Rattle.explain.specs.Heads.{Begins, row_head};
+ghost use Rattle.explain.specs.Heads.{StartsBy, IsSilent, row_head};
 ghost use Rattle.explain.specs.Silence.{is_of_table};
 
 use crate::heads::behind;
@@ -18,7 +18,7 @@ fn of_row(
     row: u64,
     table: &[u8],
 ) -> Result<String, AllocError>
-    ensures { IfOk result (λ s. Begins (row_head path.now row) (string_bytes s)) }
+    ensures { IfOk result (StartsBy (row_head path.now row)) }
 {
     let head = format!(in alloc; "{path}: row {row}")?;
     let rest = row_text(alloc, kind, row, table)?;
@@ -34,8 +34,9 @@ pub fn of_table(
     path: &str,
     table: &[u8],
 ) -> Result<String, AllocError>
-    ensures silent { is_of_table fault ≡ false → IfOk result (λ s. string_bytes s ≡ []) }
-    ensures row { (row : ℕ) → fault ≡ CheckRow row → IfOk result (λ s. Begins (row_head path.now row) (string_bytes s)) }
+    ensures silent { is_of_table fault ≡ false → IfOk result IsSilent }
+    ensures row { (row : ℕ) → fault ≡ CheckRow row
+        → IfOk result (StartsBy (row_head path.now row)) }
 {
     match fault {
         Fault::CheckRow(row) => of_row(alloc, kind, path, row, table),

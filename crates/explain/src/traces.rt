@@ -1,10 +1,9 @@
 //! Why a trace is refused.
 
-ghost use Rattle.std.specs.Prelude.{◌≡◌, ℕ, false, [], IfOk, string_bytes, codes, slice_get};
-ghost use Rattle.std.specs.Option.{option_map_or};
+ghost use Rattle.std.specs.Prelude.{◌≡◌, ℕ, false, IfOk};
 ghost use Rattle.sim_base.specs.declared.fault.Fault.TheVariants.{TraceLine, TraceTooLong};
 ghost use Rattle.sim_base.specs.declared.fault.LineCause.{LineCause};
-ghost use Rattle.explain.specs.Heads.{Begins, line_head, length_text};
+ghost use Rattle.explain.specs.Heads.{StartsBy, IsText, IsSilent, trace_path, line_head, length_text};
 ghost use Rattle.explain.specs.Silence.{is_of_traces};
 
 use crate::heads::behind;
@@ -14,7 +13,7 @@ use sim_base::message::CoreId;
 use std::alloc::{AllocError, Global};
 
 fn path_of<'a>(paths: &[&'a str], core: CoreId) -> &'a str
-    ensures { result.now ≡ option_map_or (λ p. p.now) (slice_get paths.now core) (codes "trace") }
+    ensures { result.now ≡ trace_path paths.now core }
 {
     match paths.get(usize::from(core)) {
         Some(path) => path,
@@ -37,7 +36,7 @@ fn of_line(
     paths: &[&str],
     texts: &[&[u8]],
 ) -> Result<String, AllocError>
-    ensures { IfOk result (λ s. Begins (line_head (option_map_or (λ p. p.now) (slice_get paths.now core) (codes "trace")) line) (string_bytes s)) }
+    ensures { IfOk result (StartsBy (line_head (trace_path paths.now core) line)) }
 {
     let path = path_of(paths, core);
     let head = format!(in alloc; "{path}:{line}: ")?;
@@ -53,11 +52,11 @@ pub fn of_traces(
     paths: &[&str],
     texts: &[&[u8]],
 ) -> Result<String, AllocError>
-    ensures silent { is_of_traces fault ≡ false → IfOk result (λ s. string_bytes s ≡ []) }
+    ensures silent { is_of_traces fault ≡ false → IfOk result IsSilent }
     ensures line { (core line : ℕ) (cause : LineCause) → fault ≡ TraceLine core line cause
-        → IfOk result (λ s. Begins (line_head (option_map_or (λ p. p.now) (slice_get paths.now core) (codes "trace")) line) (string_bytes s)) }
+        → IfOk result (StartsBy (line_head (trace_path paths.now core) line)) }
     ensures long { (core : ℕ) → fault ≡ TraceTooLong core
-        → IfOk result (λ s. string_bytes s ≡ length_text (option_map_or (λ p. p.now) (slice_get paths.now core) (codes "trace"))) }
+        → IfOk result (IsText (length_text (trace_path paths.now core))) }
 {
     match fault {
         Fault::TraceLine { core, line, .. } => of_line(alloc, core, line, paths, texts),

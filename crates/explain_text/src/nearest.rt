@@ -21,8 +21,8 @@ fn edits(alloc: Global, from: &str, to: &str) -> Result<usize, AllocError> {
     osa_distance(alloc, from.as_str(), to.as_str())
 }
 
-/// The key that a name may be meant for: of those that the table does not have, the first one whose name is the nearest, if it is near, which
-/// is at most one edit for three letters of the name.
+/// The key that a name may be meant for: of those that the table does not have, the first one whose name is the
+/// nearest, if it is near, which is at most one edit for three letters of the name.
 pub(crate) fn nearest(
     alloc: Global,
     keys: &[Key],

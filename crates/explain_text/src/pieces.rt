@@ -14,8 +14,8 @@ const HEAD: usize = 4 * (MOST + 1);
 pub(crate) enum Piece<'a> {
     Words(&'a str),
     Number(u64),
-    /// Bytes that someone else wrote: at most 80 characters are shown, and `...` where more follow; `?` for what is not UTF-8, a space for a
-    /// tab, and escapes for characters that a terminal does not print.
+    /// Bytes that someone else wrote: at most 80 characters are shown, and `...` where more follow; `?` for what is not
+    /// UTF-8, a space for a tab, and escapes for characters that a terminal does not print.
     Foreign(&'a [u8]),
 }
 

@@ -216,7 +216,8 @@ fn sides_text(alloc: Global, number: u8, table: &Table) -> Result<String, AllocE
     broken_sides(alloc, rule, numbers.as_str(), least)
 }
 
-// A relation that does not hold, with numbers in place of the keys, and what its right side comes to where the numbers do not show that.
+// A relation that does not hold, with numbers in place of the keys, and what its right side comes to where the numbers
+// do not show that.
 fn broken_sides<'a>(
     alloc: Global,
     rule: &'a str,

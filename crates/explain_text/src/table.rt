@@ -6,7 +6,7 @@ use csv::{ByteRecord, Reader, ReaderBuilder};
 use std::alloc::{AllocError, Global};
 
 /// The tables that a row may stand in.
-#[derive(Clone, Copy, Debug)]
+#[derive(Clone, Copy)]
 pub enum TableKind {
     /// A table of commands, as `commands.csv`.
     Commands,
@@ -99,16 +99,13 @@ fn first_that_is_no_number(record: &ByteRecord) -> Option<&[u8]> {
 }
 
 // What the header must be.
-fn header_text(alloc: Global, kind: TableKind) -> Result<String, AllocError> {
-    String::from_str(
-        alloc,
-        match kind {
-            TableKind::Commands => {
-                "the header must be cycle,channel,command,group,bank,row,column,core,entry, with rank before group where a channel has several ranks\n"
-            }
-            TableKind::Statistics => "the header must be scope,id,name,value\n",
-        },
-    )
+fn header_words(kind: TableKind) -> &'static str {
+    match kind {
+        TableKind::Commands => {
+            "the header must be cycle,channel,command,group,bank,row,column,core,entry, with rank before group where a channel has several ranks\n"
+        }
+        TableKind::Statistics => "the header must be scope,id,name,value\n",
+    }
 }
 
 // What is wrong with a row of commands that has as many fields as the header.
@@ -131,50 +128,53 @@ fn command_text(alloc: Global, record: &ByteRecord) -> Result<String, AllocError
 }
 
 // What is wrong with a row below the header.
-fn flaw_text(alloc: Global, kind: TableKind, row: &Row) -> Result<String, AllocError> {
-    let fields = row.record.len();
-    if fields != row.columns {
-        return joined(
-            alloc,
-            &[
-                Words("it has "),
-                Number(fields as u64),
-                Words(" fields, and the header has "),
-                Number(row.columns as u64),
-                Words("\n"),
-            ],
-        );
+fn flaw_text(alloc: Global, kind: TableKind, found: &Row) -> Result<String, AllocError> {
+    let fields = found.record.len();
+    if fields != found.columns {
+        let pieces = [
+            Words("it has "),
+            Number(fields as u64),
+            Words(" fields, and the header has "),
+            Number(found.columns as u64),
+            Words("\n"),
+        ];
+        return joined(alloc, &pieces);
     }
     match kind {
-        TableKind::Commands => command_text(alloc, &row.record),
+        TableKind::Commands => command_text(alloc, &found.record),
         TableKind::Statistics => String::from_str(alloc, "a run writes another record there\n"),
     }
 }
 
-/// Says what stands in a row of a table, and what is wrong with it, after the path and the row's number; row 0 is the header.
+// What stands in a row, and what is wrong with it.
+fn found_text(alloc: Global, kind: TableKind, row: u64, found: &Row) -> Result<String, AllocError> {
+    let fields = fields_of(alloc, &found.record)?;
+    let flaw = match row {
+        0 => String::from_str(alloc, header_words(kind))?,
+        _ => flaw_text(alloc, kind, found)?,
+    };
+    let pieces = [
+        Words(": "),
+        Foreign(fields.get(1..).unwrap_or(b"")),
+        Words("\n"),
+        Words(flaw.as_str()),
+    ];
+    joined(alloc, &pieces)
+}
+
+/// Says what stands in a row of a table, and what is wrong with it, after the path and the row's number; row 0 is the
+/// header.
 pub fn row_text(
     alloc: Global,
     kind: TableKind,
     row: u64,
     table: &[u8],
 ) -> Result<String, AllocError> {
-    let found = row_at(alloc, table, row)?;
-    let flaw = match (row, &found) {
-        (0, _) => header_text(alloc, kind)?,
-        (_, Some(found)) => flaw_text(alloc, kind, found)?,
-        (_, None) => String::new(alloc),
-    };
-    let text = match &found {
-        Some(found) => fields_of(alloc, &found.record)?,
-        None => Vec::new(alloc),
-    };
-    joined(
-        alloc,
-        &[
-            Words(if found.is_some() { ": " } else { " is missing" }),
-            Foreign(text.get(1..).unwrap_or(b"")),
-            Words("\n"),
-            Words(flaw.as_str()),
-        ],
-    )
+    match row_at(alloc, table, row)? {
+        Some(found) => found_text(alloc, kind, row, &found),
+        None => {
+            let wanted = if row == 0 { header_words(kind) } else { "" };
+            joined(alloc, &[Words(" is missing\n"), Words(wanted)])
+        }
+    }
 }

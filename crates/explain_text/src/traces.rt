@@ -88,8 +88,8 @@ fn flaw_text(alloc: Global, line: &[u8]) -> Result<String, AllocError> {
     joined(alloc, &pieces)
 }
 
-/// Says what stands on a line of a trace, counted from 1, and what is wrong with it, after the path and the line's number. Of a compressed
-/// trace it says how to name it.
+/// Says what stands on a line of a trace, counted from 1, and what is wrong with it, after the path and the line's
+/// number. Of a compressed trace it says how to name it.
 pub fn line_text(alloc: Global, path: &str, line: u64, trace: &[u8]) -> Result<String, AllocError> {
     if trace.starts_with(&GZIP) {
         let pieces = [

@@ -10,11 +10,14 @@
 --     memory_refusal memory pasts other request      why a request is refused, if it is
 --     with_request s pasts request, with_command_of pasts taken, with_reply_of pasts taken      pasts with one message more that was sent, or that was taken
 --     command_cycles pasts now, reply_arrivals pasts now      the cycles of the first command and reply of each channel that was not taken
+--     IsFirstCommand memory pasts first, IsFirstReply memory pasts first      the channel with the earliest of these, and its cycle
+--     command_from pasts now number, reply_from pasts now number      the next command and reply of a channel
 --     IsNextCommand channels pasts now next, IsNextReply channels pasts now next      the first of all, if there is one
 --     IsNextActOf channels pasts now next      the next cycle in which a channel acts, if there is one
 --     TakesCommand old new taken, TakesReply old new taken      what was given was taken
 --     AreNewChannels s sessions      the channels of a machine before their first cycle
---     EachMayRun until sessions, MayRun until session, HasRunTo until old new      a session may run up to a cycle, and has
+--     EachMayRun until sessions, MayRun until session      a session, or each of several, may run up to a cycle
+--     EachHasRun until old new, HasRunTo until old new      it has
 --     stats_of channels pasts now number      the statistics of a channel, if there is that channel
 use Rattle.std.specs.Prelude.{◌≡◌, ◌⊎◌, ℕ, ◌<◌, ◌≤◌, ◌^◌, ◌==◌, nat_lt, true, if◌then◌else◌, List, length, slice_index_or, is_some, option_map, Option, Some, None, Vec}
 use Rattle.std.specs.declared.alloc.Global.{Global}
@@ -31,7 +34,7 @@ use Rattle.channel_session.specs.Sessions.{Past, IsSession, IsOpen, no_past, nex
 use Rattle.channel_session.specs.declared.fault.SessionFault.{SessionFault}
 use Rattle.channel_session.specs.declared.requests.SentRequest.{SentRequest}
 use Rattle.channel_session.specs.declared.session.Session.{Session}
-use Rattle.memory_session.specs.Earliest.{IsEarliestAt}
+use Rattle.memory_session.specs.Earliest.{IsEarliest, IsEarliestAt}
 use Rattle.memory_session.specs.declared.memory.MemorySession.{MemorySession}
 
 -- a session is the channel with a number of a machine with a configuration, stands at a cycle, and has this past
@@ -111,6 +114,22 @@ command_cycles pasts now k = option_map (λ (c : IssuedCommand). c.cycle) (next_
 abbrev pub reply_arrivals : Pasts → ℕ → ℕ → Option ℕ
 reply_arrivals pasts now k = option_map (λ (m : Message). m.arrival) (next_reply_of (pasts.past k) now)
 
+-- the channel with the first command that was not taken, and its cycle, if there is one
+abbrev pub IsFirstCommand : MemorySession → Pasts → Option (ℕ × ℕ) → Type 0
+IsFirstCommand memory pasts first = IsEarliest (command_cycles pasts memory.cycle) (length memory.sessions.items) first
+
+-- the channel with the first reply that was not taken, and its arrival, if there is one
+abbrev pub IsFirstReply : MemorySession → Pasts → Option (ℕ × ℕ) → Type 0
+IsFirstReply memory pasts first = IsEarliest (reply_arrivals pasts memory.cycle) (length memory.sessions.items) first
+
+-- the next command of a channel that was not taken, with the channel's number
+abbrev pub command_from : Pasts → ℕ → ℕ → Option (ℕ × IssuedCommand)
+command_from pasts now number = option_map (λ (command : IssuedCommand). (number, command)) (next_command_of (pasts.past number) now)
+
+-- the next reply of a channel that was not taken, with the channel's number
+abbrev pub reply_from : Pasts → ℕ → ℕ → Option (ℕ × Message)
+reply_from pasts now number = option_map (λ (reply : Message). (number, reply)) (next_reply_of (pasts.past number) now)
+
 -- what a call gave was taken from a memory, if it gave a command
 abbrev pub TakesCommand : MemorySession → MemorySession → Option (ℕ × IssuedCommand) → Type 0
 TakesCommand old new taken = ForPasts old (λ pasts. IsMemory new (with_command_of pasts taken))
@@ -178,3 +197,8 @@ EachMayRun until sessions = (k : ℕ) (other : Session) → k < length sessions 
 pub record HasRunTo (until : ℕ) (old new : Session) : Type 0 where
   pub past : (p : Past) → IsSession old p → IsSession new p
   pub now : new.cycle ≡ until
+
+-- each of several sessions has
+abbrev pub EachHasRun : ℕ → List Session → List Session → Type 0
+EachHasRun until old new =
+    (k : ℕ) (other : Session) → k < length old → HasRunTo until (slice_index_or old k other) (slice_index_or new k other)

@@ -1,15 +1,15 @@
 //! All channels of a machine as a session.
 
-ghost use Rattle.std.specs.Prelude.{◌≡◌, ◌≢◌, ℕ, ◌<◌, ◌^◌, length, slice_index_or, option_map, None, IfOk, IfErr, OnOk, OnErr};
+ghost use Rattle.std.specs.Prelude.{◌≡◌, ◌≢◌, ◌<◌, length, None, IfOk, IfErr, OnOk, OnErr};
 ghost use Rattle.sim_base.specs.Places.{place_of};
 ghost use Rattle.channel_session.specs.Addresses.{IsAddress};
-ghost use Rattle.channel_session.specs.Sessions.{core_of, end_refusal, IsAnswer, next_command_of, next_reply_of};
+ghost use Rattle.channel_session.specs.Sessions.{core_of, end_refusal, IsAnswer};
 ghost use Rattle.channel_session.specs.declared.fault.SessionFault.TheVariants.{Memory};
 ghost use Rattle.channel_session.specs.declared.session.Session.{Session};
-ghost use Rattle.memory_session.specs.Earliest.{IsEarliest};
-ghost use Rattle.memory_session.specs.Memories.{Pasts, IsMemory, ForPasts, IsOpenMemory, no_pasts, AreNewChannels, memory_refusal, with_request, TakesCommand, TakesReply, command_cycles, reply_arrivals, IsNextCommand, IsNextReply, IsNextActOf, stats_of, EachMayRun, HasRunTo};
+ghost use Rattle.memory_session.specs.Memories.{Pasts, IsMemory, ForPasts, IsOpenMemory, no_pasts, AreNewChannels, memory_refusal, with_request, TakesCommand, TakesReply, IsFirstCommand, IsFirstReply, command_from, reply_from, IsNextCommand, IsNextReply, IsNextActOf, stats_of, EachMayRun, EachHasRun};
 
-use crate::cycles::{earlier, sooner};
+use crate::cycles::sooner;
+use channel_session::cycles::{earlier, end_refusal};
 use channel_session::fault::SessionFault;
 use channel_session::places::address_of;
 use channel_session::requests::SentRequest;
@@ -20,9 +20,6 @@ use sim_base::message::{ChannelId, Cycle, Message};
 use sim_base::place::Place;
 use statistics::channels::ChannelStats;
 use std::alloc::Global;
-
-/// The last cycle at which a memory may stand: 2^62.
-const LAST_CYCLE: Cycle = 1 << 62;
 
 /// All channels of a machine, each of which is sent the requests for its addresses. Its contracts are about every past
 /// that each channel may have.
@@ -52,8 +49,7 @@ fn opened(alloc: Global, config: &Config) -> Result<Vec<Session>, SessionFault>
 fn run_all(alloc: Global, sessions: &mut [Session], until: Cycle) -> Result<(), SessionFault>
     requires may { EachMayRun until sessions.old }
     ensures count { length sessions.new ≡ length sessions.old }
-    ensures done { OnOk result ((k : ℕ) (other : Session) → k < length sessions.old
-        → HasRunTo until (slice_index_or sessions.old k other) (slice_index_or sessions.new k other)) }
+    ensures done { OnOk result (EachHasRun until sessions.old sessions.new) }
     ensures memory { IfErr result (λ e. e ≡ Memory) }
 {
     for session in sessions.iter_mut() {
@@ -116,19 +112,6 @@ impl MemorySession {
         self.sessions[place.channel as usize].send_to(request, place)
     }
 
-    /// Why a run up to a cycle is refused, if it is.
-    fn end_refusal(&self, until: Cycle) -> Option<SessionFault>
-        ensures { result ≡ end_refusal self.now.cycle until }
-    {
-        if until < self.cycle {
-            Some(SessionFault::EndPassed)
-        } else if LAST_CYCLE < until {
-            Some(SessionFault::EndTooLate)
-        } else {
-            None
-        }
-    }
-
     /// Runs all channels up to a cycle that is not refused. The only error is out of memory.
     fn advance(&mut self, alloc: Global, until: Cycle) -> Result<(), SessionFault>
         requires open { IsOpenMemory self.old }
@@ -155,7 +138,7 @@ impl MemorySession {
         ensures open { OnOk result (IsOpenMemory self.new) }
         ensures config { self.new.config ≡ self.old.config }
     {
-        match self.end_refusal(until) {
+        match end_refusal(self.cycle, until) {
             Some(fault) => Err(fault),
             None => self.advance(alloc, until),
         }
@@ -164,7 +147,7 @@ impl MemorySession {
     /// The channel with the first command that was not taken, and its cycle.
     fn first_command(&self) -> Option<(Cycle, usize)>
         ensures { (pasts : Pasts) → IsMemory self.now pasts
-            → IsEarliest (command_cycles pasts self.now.cycle) (length self.now.sessions.items) result }
+            → IsFirstCommand self.now pasts result }
     {
         let mut first = None;
         for (number, session) in self.sessions.iter().enumerate() {
@@ -176,7 +159,7 @@ impl MemorySession {
     /// The channel with the first reply that was not taken, and when it arrives.
     fn first_reply(&self) -> Option<(Cycle, usize)>
         ensures { (pasts : Pasts) → IsMemory self.now pasts
-            → IsEarliest (reply_arrivals pasts self.now.cycle) (length self.now.sessions.items) result }
+            → IsFirstReply self.now pasts result }
     {
         let mut first = None;
         for (number, session) in self.sessions.iter().enumerate() {
@@ -189,8 +172,8 @@ impl MemorySession {
     fn take_command(&mut self, number: usize) -> Option<(ChannelId, IssuedCommand)>
         requires open { IsOpenMemory self.old }
         requires inside { number < length self.old.sessions.items }
-        ensures next { ForPasts self.old (λ pasts. result
-            ≡ option_map (λ command. (number, command)) (next_command_of (pasts.past number) self.old.cycle)) }
+        ensures next { ForPasts self.old (λ pasts.
+            result ≡ command_from pasts self.old.cycle number) }
         ensures taken { TakesCommand self.old self.new result }
         ensures open { IsOpenMemory self.new }
         ensures now { self.new.cycle ≡ self.old.cycle }
@@ -223,8 +206,8 @@ impl MemorySession {
     fn take_reply(&mut self, number: usize) -> Option<(ChannelId, Message)>
         requires open { IsOpenMemory self.old }
         requires inside { number < length self.old.sessions.items }
-        ensures next { ForPasts self.old (λ pasts. result
-            ≡ option_map (λ reply. (number, reply)) (next_reply_of (pasts.past number) self.old.cycle)) }
+        ensures next { ForPasts self.old (λ pasts.
+            result ≡ reply_from pasts self.old.cycle number) }
         ensures taken { TakesReply self.old self.new result }
         ensures open { IsOpenMemory self.new }
         ensures now { self.new.cycle ≡ self.old.cycle }

@@ -1,8 +1,7 @@
 //! What a cycle of one core and of one channel adds to their statistics.
 
 ghost use Rattle.std.specs.Prelude.{◌≡◌, ◌+◌, ◌<◌, ◌≤◌, ◌^◌, length, count_by, slice_get, IfOk};
-ghost use Rattle.std.specs.List.{list_any};
-ghost use Rattle.sim_base.specs.Counts.{replied_entry, issue_cycle, wait_of, is_stop, is_act_for, is_hit_of, is_hit};
+ghost use Rattle.sim_base.specs.Counts.{replied_entry, issue_cycle, wait_of, is_stop};
 ghost use Rattle.sim_base.specs.History.{below, retired_before, issued_before};
 ghost use Rattle.statistics.specs.Counts.{one_if};
 ghost use Rattle.statistics.specs.Cores.{is_reply_in, replies_in, waited, core_cycle_with};
@@ -12,8 +11,9 @@ ghost use Rattle.one_clock.specs.Counts.{finishing_cycle, channel_counts, no_cha
 
 use cpu_trace::trace::Trace;
 use plain_steps::cores::entry_of;
+use plain_steps::hits::is_command_hit;
 use plain_steps::scheduling::{self, ChannelStep};
-use sim_base::command::{Command, IssuedCommand, Kind, Source};
+use sim_base::command::{Command, IssuedCommand, Kind};
 use sim_base::config::Config;
 use sim_base::history::CoreStep;
 use sim_base::message::{Load, Message, Request};
@@ -203,38 +203,6 @@ fn does_issue(kind: Kind, command: Option<Command>) -> bool
         Some(command) => command.kind().is_kind(kind),
         None => false,
     }
-}
-
-fn opens_for(source: Source, command: Command) -> bool
-    ensures { result ≡ is_act_for source command }
-{
-    match command {
-        Command::Act { source: other, .. } => {
-            source.core == other.core && source.entry == other.entry
-        }
-        _ => false,
-    }
-}
-
-fn was_opened_for(source: Source, history: &[IssuedCommand]) -> bool
-    ensures { result ≡ list_any (λ i. is_act_for source i.command) history.now }
-{
-    history.iter().any(|i| opens_for(source, i.command))
-}
-
-fn needs_no_act(history: &[IssuedCommand], source: Option<Source>) -> bool
-    ensures { result ≡ is_hit_of history.now source }
-{
-    match source {
-        Some(source) => !was_opened_for(source, history),
-        None => false,
-    }
-}
-
-pub(crate) fn is_command_hit(history: &[IssuedCommand], command: Command) -> bool
-    ensures { result ≡ is_hit history.now command }
-{
-    command.is_column() && needs_no_act(history, command.source())
 }
 
 /// Whether the channel moves data for a request that no ACT was issued for.

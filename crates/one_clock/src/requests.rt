@@ -6,10 +6,11 @@ ghost use Rattle.one_clock.specs.Cycles.{cores_before, channels_before};
 ghost use Rattle.one_clock.specs.Cycles.{arrival_in, is_hit_in, request_for, request_of_row, requests_of_rows, requests_before};
 ghost use Rattle.one_clock.specs.Held.{HoldsBefore};
 
-use crate::counting::{cycle_of_issue, is_command_hit};
+use crate::counting::cycle_of_issue;
 use crate::machine::Machine;
 use crate::run_cycle::RunCycle;
 use crate::state::{ChannelPast, CorePast};
+use plain_steps::hits::is_command_hit;
 use request_table::left::ServedList;
 use request_table::table::RequestTable;
 use served_requests::ServedRequest;

@@ -1,4 +1,5 @@
-//! The small machine's channel in a session, whose commands and replies are worked out by hand, and calls that it refuses.
+//! The small machine's channel in a session, whose commands and replies are worked out by hand, and calls that it
+//! refuses.
 
 ghost use Rattle.std.specs.Prelude.{OnOk};
 ghost use Rattle.channel_session.specs.Sessions.{IsOpen};
@@ -87,7 +88,8 @@ fn send_spans(session: &mut Session, spans: &[Span<'_>]) -> Result<(), SessionFa
     Ok(())
 }
 
-/// Sends the requests of all spans at once, runs the session cycle by cycle for some cycles, and then to the end of the last span.
+/// Sends the requests of all spans at once, runs the session cycle by cycle for some cycles, and then to the end of the
+/// last span.
 fn run_by_cycles(
     alloc: Global,
     session: &mut Session,
@@ -215,8 +217,8 @@ static CASES: [Case<'static>; 5] = [
             ..NO_CHANNEL
         },
     },
-    // One Read to a bank that is closed: ACT, and RD after nRCD = 3 cycles. The Read waits in cycles 2, 3, 4 and in 5, the cycle of
-    // its service.
+    // One Read to a bank that is closed: ACT, and RD after nRCD = 3 cycles. The Read waits in cycles 2, 3, 4 and in 5,
+    // the cycle of its service.
     Case {
         changes: &[],
         spans: &[(&[FIRST], 64)],
@@ -232,8 +234,8 @@ static CASES: [Case<'static>; 5] = [
             ..NO_CHANNEL
         },
     },
-    // Reads of two lines of a row, over a span that ends between two commands. The second hits the row nCCD_L = 5 cycles after the
-    // first; it waits in cycles 3 to 10.
+    // Reads of two lines of a row, over a span that ends between two commands. The second hits the row nCCD_L = 5
+    // cycles after the first; it waits in cycles 3 to 10.
     Case {
         changes: &[],
         spans: &[(&[FIRST, (1, 1, 3)], 5), (&[], 6), (&[], 16)],
@@ -250,8 +252,8 @@ static CASES: [Case<'static>; 5] = [
             ..NO_CHANNEL
         },
     },
-    // One Read comes in the first span and one in the third, where it hits the row that the first one opened and waits in cycles 8,
-    // 9 and 10.
+    // One Read comes in the first span and one in the third, where it hits the row that the first one opened and waits
+    // in cycles 8, 9 and 10.
     Case {
         changes: &[],
         spans: &[(&[FIRST], 3), (&[], 6), (&[(1, 0, 8)], 64)],
@@ -283,17 +285,23 @@ fn assert_gives(rt: &impl Abort, session: &mut Session, case: &Case<'_>) {
     expect_at(rt, &case.end, &session.stats(), &case.stats);
 }
 
-fn run_case(rt: &impl Abort, alloc: Global, case: &Case<'_>) -> Result<(), Fail> {
-    let config = small(alloc, case.changes, "")?;
-    let mut session = Session::open(alloc, &config, 0)?;
-    run_all(alloc, &mut session, case.spans)?;
+/// The session of a machine with other lines for some keys.
+fn opened(rt: &impl Abort, alloc: Global, changes: &[&str]) -> Session
+    ensures { IsOpen result }
+{
+    let config = small(alloc, changes, "").expect(rt, "a machine");
+    Session::open(alloc, &config, 0).expect(rt, "a session")
+}
+
+fn run_case(rt: &impl Abort, alloc: Global, case: &Case<'_>) {
+    let mut session = opened(rt, alloc, case.changes);
+    run_all(alloc, &mut session, case.spans).expect(rt, "spans");
     assert_gives(rt, &mut session, case);
     for cycles in [0, 1, 12] {
-        let mut session = Session::open(alloc, &config, 0)?;
-        run_by_cycles(alloc, &mut session, case, cycles)?;
+        let mut session = opened(rt, alloc, case.changes);
+        run_by_cycles(alloc, &mut session, case, cycles).expect(rt, "cycles");
         assert_gives(rt, &mut session, case);
     }
-    Ok(())
 }
 
 /// What is asked of a session.
@@ -434,7 +442,7 @@ fn go_on_after(rt: &impl Abort, alloc: Global, case: &Case<'_>) -> Result<(), Fa
 #[test]
 fn sessions_do_what_is_worked_out(rt: HostRuntime) -> Result<(), Fail> {
     for case in &CASES {
-        run_case(&rt, rt.alloc(), case)?;
+        run_case(&rt, rt.alloc(), case);
     }
     go_on_after(&rt, rt.alloc(), &CASES[4])
 }

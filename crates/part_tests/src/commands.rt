@@ -1,17 +1,13 @@
 //! Commands of two channels, whose order in a table is known by hand.
 
-ghost use Rattle.std.specs.Prelude.{◌≤◌};
-ghost use Rattle.command_table.specs.Tables.{IsRising};
-
 use crate::expect::expect;
 use command_table::list::CommandList;
 use command_table::table::CommandTable;
 use fixtures::lists::list_of_two;
 use sim_base::command::{Command, IssuedCommand, Source};
 use sim_base::place::BankId;
-use std::alloc::{AllocError, Global};
+use std::alloc::Global;
 use std::process::Abort;
-use std::test::Fail;
 
 const BANK: BankId = BankId {
     rank: 1,
@@ -65,23 +61,12 @@ const REF: IssuedCommand = IssuedCommand {
     command: Command::Ref { rank: 1 },
 };
 
-fn table_of(
-    alloc: Global,
-    first: CommandList,
-    second: CommandList,
-) -> Result<CommandTable, AllocError>
-    requires first { IsRising first }
-    requires second { IsRising second }
-{
-    Ok(CommandTable::of(vec![in alloc; first, second]?))
-}
-
 /// The commands of two lists by cycle; of one cycle, the command of the first list comes first.
 static ALL: [IssuedCommand; 4] = [ACT, PRE, REF, RD];
 
 /// A list has two commands, and a list with nothing none.
-fn assert_kept(rt: &impl Abort, alloc: Global, list: &CommandList) -> Result<(), AllocError> {
-    let rows = list.to_vec(alloc)?;
+fn assert_kept(rt: &impl Abort, alloc: Global, list: &CommandList) {
+    let rows = list.to_vec(alloc).expect(rt, "memory");
     let none = CommandList::new(alloc);
     expect(
         rt,
@@ -92,49 +77,32 @@ fn assert_kept(rt: &impl Abort, alloc: Global, list: &CommandList) -> Result<(),
         ),
         &((2, false, 0, true), (Some(RD), None), [ACT, RD].as_slice()),
     );
-    Ok(())
 }
 
 /// Asserts all commands of a table, and that it gives them one after the other.
-fn assert_all(
-    rt: &impl Abort,
-    alloc: Global,
-    table: &CommandTable,
-    want: &[IssuedCommand],
-) -> Result<(), AllocError> {
-    let all = table.to_vec(alloc)?;
-    let mut rows = table.rows(alloc)?;
+fn assert_all(rt: &impl Abort, alloc: Global, table: &CommandTable, want: &[IssuedCommand]) {
+    let all = table.to_vec(alloc).expect(rt, "memory");
+    let mut rows = table.rows(alloc).expect(rt, "memory");
     let first = [rows.next(), rows.next()];
     expect(
         rt,
         &(all.as_slice(), first),
         &(want, [want.first().copied(), want.get(1).copied()]),
     );
-    Ok(())
-}
-
-fn table_of_rows(
-    alloc: Global,
-    first: IssuedCommand,
-    second: IssuedCommand,
-) -> Result<CommandTable, AllocError>
-    requires { first.cycle ≤ second.cycle }
-{
-    CommandTable::of_rows(alloc, &[first, second])
 }
 
 /// Two commands of one cycle.
 const REF_TOO: IssuedCommand = IssuedCommand { cycle: 3, ..REF };
 
 #[test]
-fn keeps_commands_by_cycle(rt: HostRuntime) -> Result<(), Fail> {
+fn keeps_commands_by_cycle(rt: HostRuntime) {
     let alloc = rt.alloc();
-    let first = list_of_two(alloc, ACT, RD)?;
-    assert_kept(&rt, alloc, &first)?;
-    let second = list_of_two(alloc, PRE, REF)?;
-    let table = table_of(alloc, first, second)?;
-    assert_all(&rt, alloc, &table, &ALL)?;
-    let table = table_of_rows(alloc, PRE, REF_TOO)?;
-    assert_all(&rt, alloc, &table, &[PRE, REF_TOO])?;
-    Ok(())
+    let first = list_of_two(alloc, ACT, RD).expect(&rt, "memory");
+    assert_kept(&rt, alloc, &first);
+    let second = list_of_two(alloc, PRE, REF).expect(&rt, "memory");
+    let lists = Vec::from_array(alloc, [first, second]).expect(&rt, "memory");
+    assert_all(&rt, alloc, &CommandTable::of(lists), &ALL);
+    let rows = [PRE, REF_TOO];
+    let table = CommandTable::of_rows(alloc, &rows).expect(&rt, "memory");
+    assert_all(&rt, alloc, &table, &rows);
 }

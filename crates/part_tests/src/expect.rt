@@ -5,7 +5,8 @@ ghost use Rattle.std.specs.Prelude.{◌≡◌, true};
 use std::fmt::Debug;
 use std::process::Abort;
 
-/// Ends the test where a value is not the one that is wanted, and prints both; in a table of cases, each of them with its case.
+/// Ends the test where a value is not the one that is wanted, and prints both; in a table of cases, each of them with
+/// its case.
 pub fn expect<T: PartialEq + Debug>(rt: &impl Abort, found: &T, want: &T)
     ensures { T.eq found.now want.now ≡ true }
 {

@@ -1,28 +1,22 @@
 //! Both kernels on columns of each length up to a maximum, with a different word at each place in turn, and at none.
 
-ghost use Rattle.std.specs.Prelude.{◌≡◌, length, IfOk};
+ghost use Rattle.std.specs.Prelude.{◌≡◌, length};
 
 use crate::expect::expect;
 use lane_scan::{first_below, least};
-use std::alloc::{AllocError, Global};
+use std::alloc::Global;
 use std::process::Abort;
-use std::test::Fail;
 
-/// A column with a different word at one place, if the place is in it.
-fn column(
-    alloc: Global,
-    len: usize,
-    place: usize,
-    there: u64,
-    elsewhere: u64,
-) -> Result<Vec<u64>, AllocError>
-    ensures { IfOk result (λ v. length v.items ≡ len) }
+/// A column with the first word of a pair at one place, if the place is in it, and with the second elsewhere.
+fn column(rt: &impl Abort, alloc: Global, len: usize, place: usize, pair: (u64, u64)) -> Vec<u64>
+    ensures { length result.items ≡ len }
 {
-    let mut words = vec![in alloc; elsewhere; len]?;
+    let (there, elsewhere) = pair;
+    let mut words = vec![in alloc; elsewhere; len].expect(rt, "memory");
     if place < len {
         words[place] = there;
     }
-    Ok(words)
+    words
 }
 
 const HIGH: u64 = 1 << 63;
@@ -35,7 +29,8 @@ static WORDS: [(u64, u64); 4] = [
     (u64::MAX - 1, u64::MAX),
 ];
 
-/// Of a column whose words are `more`, but for some that are `less`, of which `first` is the first, if it is in the column.
+/// Of a column whose words are `more`, but for some that are `less`, of which `first` is the first, if it is in the
+/// column.
 fn check_words(rt: &impl Abort, words: &[u64], first: usize, (less, more): (u64, u64)) {
     let found = if first < words.len() {
         Some(first)
@@ -55,22 +50,20 @@ fn check_words(rt: &impl Abort, words: &[u64], first: usize, (less, more): (u64,
     );
 }
 
-fn check(rt: &impl Abort, alloc: Global, len: usize, place: usize) -> Result<(), AllocError> {
+fn check(rt: &impl Abort, alloc: Global, len: usize, place: usize) {
     for (less, more) in &WORDS {
-        let words = column(alloc, len, place, *less, *more)?;
+        let words = column(rt, alloc, len, place, (*less, *more));
         check_words(rt, &words, place, (*less, *more));
-        let words = column(alloc, len, place, *more, *less)?;
+        let words = column(rt, alloc, len, place, (*more, *less));
         check_words(rt, &words, usize::from(place == 0), (*less, *more));
     }
-    Ok(())
 }
 
 #[test]
-fn scans_columns(rt: HostRuntime) -> Result<(), Fail> {
+fn scans_columns(rt: HostRuntime) {
     for len in 0..71 {
         for place in 0..len + 1 {
-            check(&rt, rt.alloc(), len, place)?;
+            check(&rt, rt.alloc(), len, place);
         }
     }
-    Ok(())
 }

@@ -13,7 +13,6 @@ use sim_base::message::Cycle;
 use sim_base::place::BankId;
 use std::alloc::Global;
 use std::process::Abort;
-use std::test::Fail;
 
 /// The banks of two ranks, which take turns without a pause.
 fn banks(alloc: Global, n_cwl: &str) -> Result<Banks, Fault>
@@ -63,10 +62,10 @@ fn rd(bank: BankId) -> Command
     }
 }
 
-/// An ACT in cycle 2: 3 cycles to a RD, 8 to a PRE, 11 to an ACT of the same bank, 3 in its group, 2 in another. No rule binds
-/// it to a REF.
-fn act_holds_back_its_bank_group_and_rank(rt: &impl Abort, alloc: Global) -> Result<(), Fault> {
-    let mut banks = banks(alloc, "nCWL = 3")?;
+/// An ACT in cycle 2: 3 cycles to a RD, 8 to a PRE, 11 to an ACT of the same bank, 3 in its group, 2 in another. No
+/// rule binds it to a REF.
+fn act_holds_back_its_bank_group_and_rank(rt: &impl Abort, alloc: Global) {
+    let mut banks = banks(alloc, "nCWL = 3").expect(rt, "banks");
     banks.note(act(bank(0, 0, 0)), 2);
     let own = [
         earliest(&banks, Kind::Rd, bank(0, 0, 0)),
@@ -82,12 +81,11 @@ fn act_holds_back_its_bank_group_and_rank(rt: &impl Abort, alloc: Global) -> Res
         banks.earliest_all(Kind::Ref, 0),
     ];
     expect(rt, &(own, others, all), &([5, 10, 13], [5, 4], [10, 0]));
-    Ok(())
 }
 
 /// Four ACTs in cycles 2 to 8: a fifth one in the rank comes 12 cycles after the first, and another rank is free.
-fn fifth_act_waits_for_the_window(rt: &impl Abort, alloc: Global) -> Result<(), Fault> {
-    let mut banks = banks(alloc, "nCWL = 3")?;
+fn fifth_act_waits_for_the_window(rt: &impl Abort, alloc: Global) {
+    let mut banks = banks(alloc, "nCWL = 3").expect(rt, "banks");
     banks.note(act(bank(0, 0, 0)), 2);
     banks.note(act(bank(0, 1, 0)), 4);
     banks.note(act(bank(0, 0, 1)), 6);
@@ -96,13 +94,12 @@ fn fifth_act_waits_for_the_window(rt: &impl Abort, alloc: Global) -> Result<(), 
     let fifth = earliest(&banks, Kind::Act, bank(0, 0, 2));
     let other = earliest(&banks, Kind::Act, bank(1, 0, 2));
     expect(rt, &(fourth, fifth, other), &(8, 14, 0));
-    Ok(())
 }
 
-/// A RD in cycle 50: 4 cycles to a RD of another group, and 5 to a WR of another rank, are the least to any bank. An ACT and a REF
-/// change neither.
-fn floors_are_the_least_of_all_banks(rt: &impl Abort, alloc: Global) -> Result<(), Fault> {
-    let mut banks = banks(alloc, "nCWL = 3")?;
+/// A RD in cycle 50: 4 cycles to a RD of another group, and 5 to a WR of another rank, are the least to any bank. An
+/// ACT and a REF change neither.
+fn floors_are_the_least_of_all_banks(rt: &impl Abort, alloc: Global) {
+    let mut banks = banks(alloc, "nCWL = 3").expect(rt, "banks");
     let at_first = banks.data_floor(Kind::Rd);
     banks.note(act(bank(0, 0, 0)), 2);
     let opened = banks.data_floor(Kind::Rd);
@@ -115,23 +112,20 @@ fn floors_are_the_least_of_all_banks(rt: &impl Abort, alloc: Global) -> Result<(
         &(at_first, opened, done, refreshed),
         &(0, 0, (54, 55), (54, 55)),
     );
-    Ok(())
 }
 
-/// Where a write's data begins so late that the distance between ranks is 0, the earlier command still holds the later one back
-/// in its own cycle.
-fn distance_of_no_cycles_holds_back_too(rt: &impl Abort, alloc: Global) -> Result<(), Fault> {
-    let mut banks = banks(alloc, "nCWL = 8")?;
+/// Where a write's data begins so late that the distance between ranks is 0, the earlier command still holds the later
+/// one back in its own cycle.
+fn distance_of_no_cycles_holds_back_too(rt: &impl Abort, alloc: Global) {
+    let mut banks = banks(alloc, "nCWL = 8").expect(rt, "banks");
     banks.note(rd(bank(0, 0, 0)), 50);
     expect(rt, &earliest(&banks, Kind::Wr, bank(1, 0, 0)), &50);
-    Ok(())
 }
 
 #[test]
-fn commands_hold_others_back(rt: HostRuntime) -> Result<(), Fail> {
-    act_holds_back_its_bank_group_and_rank(&rt, rt.alloc())?;
-    fifth_act_waits_for_the_window(&rt, rt.alloc())?;
-    floors_are_the_least_of_all_banks(&rt, rt.alloc())?;
-    distance_of_no_cycles_holds_back_too(&rt, rt.alloc())?;
-    Ok(())
+fn commands_hold_others_back(rt: HostRuntime) {
+    act_holds_back_its_bank_group_and_rank(&rt, rt.alloc());
+    fifth_act_waits_for_the_window(&rt, rt.alloc());
+    floors_are_the_least_of_all_banks(&rt, rt.alloc());
+    distance_of_no_cycles_holds_back_too(&rt, rt.alloc());
 }

@@ -4,6 +4,7 @@
 pub mod channel_cycle;
 pub mod core_cycle;
 pub mod cores;
+pub mod hits;
 pub mod mail;
 pub mod rules;
 pub mod scheduling;

@@ -241,7 +241,7 @@ fn refresh_command_of(s: &Config, history: &[IssuedCommand], rank: u32) -> Comma
 }
 
 /// What a channel does in a cycle: its command, if there is one, and whether it drains its writes.
-#[derive(Clone, Copy, PartialEq, Eq, Debug)]
+#[derive(Clone, Copy)]
 pub struct ChannelStep {
     pub command: Option<Command>,
     pub draining: bool,

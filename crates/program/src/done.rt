@@ -6,7 +6,7 @@ use refusal::status::DONE;
 use refusal::warning::LargePage;
 
 /// What has been done: the status of the program, and what it warns of.
-#[derive(Clone, Copy, PartialEq, Eq, Debug)]
+#[derive(Clone, Copy)]
 pub(crate) struct Done {
     pub(crate) status: u8,
     pub(crate) warning: Option<LargePage>,

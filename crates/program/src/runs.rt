@@ -69,7 +69,9 @@ fn read_texts<F: FileSet>(
     let mut texts = Vec::new(alloc);
     for path in paths {
         let text = next_text(alloc, files, paths, &texts, path)?;
-        texts.push(text).map_err(|_| Fault::Memory)?;
+        let Ok(()) = texts.push(text) else {
+            return Err(Reason::from(Fault::Memory));
+        };
     }
     Ok(texts)
 }

@@ -2,9 +2,8 @@
 
 use crate::program_runs::assert_text;
 use command_line::words::read_words;
-use std::alloc::{AllocError, Global};
+use std::alloc::Global;
 use std::process::Abort;
-use std::test::Fail;
 
 // A line of words, and the whole text or the beginning of what it asks for, as `Debug` prints it; or the fault by which
 // it is refused.
@@ -95,31 +94,29 @@ static LINES: [Case; 30] = [
 ];
 
 // What a line of words asks for, or the fault by which it is refused.
-fn asked(alloc: Global, line: &str) -> Result<String, AllocError> {
-    let words: Vec<&str> = line.split(' ').collect(alloc)?;
+fn asked(rt: &impl Abort, alloc: Global, line: &str) -> String {
+    let words: Vec<&str> = line.split(' ').collect(alloc).expect(rt, "memory");
     match read_words(alloc, &words) {
-        Ok(ask) => format!(in alloc; "{ask:?}"),
-        Err(reason) => reason.fault().to_string(alloc),
+        Ok(ask) => format!(in alloc; "{ask:?}").expect(rt, "memory"),
+        Err(reason) => reason.fault().to_string(alloc).expect(rt, "memory"),
     }
 }
 
 // Asserts what a line asks for. The texts of calls for help are long: of them the beginning is known, and that they
 // tell the usage.
-fn assert_asked(rt: &impl Abort, alloc: Global, line: &str, want: &str) -> Result<(), Fail> {
-    let text = asked(alloc, line)?;
+fn assert_asked(rt: &impl Abort, alloc: Global, line: &str, want: &str) {
+    let text = asked(rt, alloc, line);
     let text = text.as_str();
     if text.starts_with("Help(") && text.contains("Usage:") {
         assert_text(rt, line, text.get(..want.len()).unwrap_or(""), want);
     } else {
         assert_text(rt, line, text, want);
     }
-    Ok(())
 }
 
 #[test]
-fn reads_words(rt: HostRuntime) -> Result<(), Fail> {
+fn reads_words(rt: HostRuntime) {
     for (line, want) in &LINES {
-        assert_asked(&rt, rt.alloc(), line, want)?;
+        assert_asked(&rt, rt.alloc(), line, want);
     }
-    Ok(())
 }

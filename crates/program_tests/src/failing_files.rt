@@ -3,12 +3,10 @@
 
 use crate::expect::expect_at;
 use crate::files_in_memory::{Failure, MemoryFiles, files_with};
-use crate::program_runs::{files_by, machine_of, said_to_run};
-use fixtures::worked_runs::ONE_READ;
-use std::alloc::{AllocError, Global};
+use crate::program_runs::{files_of_run, said_to_run};
+use std::alloc::Global;
 use std::process::Abort;
 use std::sync::Wait;
-use std::test::Fail;
 use std::thread::Threads;
 
 const OLD: &str = "of an earlier run\n";
@@ -43,16 +41,16 @@ fn standing(files: &MemoryFiles, path: &str, new: &str) -> &'static str {
 }
 
 // What stands in the place of each table and beside it, from the first table to the last.
-fn left_of(alloc: Global, files: &MemoryFiles, good: &MemoryFiles) -> Result<String, AllocError> {
+fn left_of(rt: &impl Abort, alloc: Global, files: &MemoryFiles, good: &MemoryFiles) -> String {
     let mut left = String::new(alloc);
     for (table, part) in &TABLES {
         let new = good.text_at(table).unwrap_or("no table");
-        left.push_str(standing(files, table, new))?;
-        left.push_str(" ")?;
-        left.push_str(standing(files, part, new))?;
-        left.push_str("; ")?;
+        let (there, beside) = (standing(files, table, new), standing(files, part, new));
+        for piece in [there, " ", beside, "; "] {
+            left.push_str(piece).expect(rt, "memory");
+        }
     }
-    Ok(left)
+    left
 }
 
 const WRITE: &str = "fault 12: write\n";
@@ -214,26 +212,24 @@ fn assert_ends<R: Abort + Threads + Wait + Sync + AllocGlobal>(
     rt: &R,
     good: &MemoryFiles,
     (failure, path, told, opened, left): &Case,
-) -> Result<(), Fail> {
-    let mut files = files_with(rt.alloc(), &OLD_FILES)?;
+) {
+    let mut files = files_with(rt, rt.alloc(), &OLD_FILES);
     files.failing = (*failure, *path);
-    let said = said_to_run(rt, &mut files, machine_of(&ONE_READ), WORDS)?;
+    let said = said_to_run(rt, &mut files, WORDS);
     said.assert_is(rt, path, (if told.is_empty() { 0 } else { 2 }, "", told));
-    let found = left_of(rt.alloc(), &files, good)?;
+    let found = left_of(rt, rt.alloc(), &files, good);
     expect_at(
         rt,
         path,
         &(files.opened.as_str(), found.as_str()),
         &(*opened, *left),
     );
-    Ok(())
 }
 
 #[test]
-fn keeps_old_tables_or_tells_what_is_left(rt: HostRuntime) -> Result<(), Fail> {
-    let good = files_by(&rt, &ONE_READ, 1)?;
+fn keeps_old_tables_or_tells_what_is_left(rt: HostRuntime) {
+    let good = files_of_run(&rt);
     for case in &CASES {
-        assert_ends(&rt, &good, case)?;
+        assert_ends(&rt, &good, case);
     }
-    Ok(())
 }

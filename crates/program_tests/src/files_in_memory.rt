@@ -8,6 +8,7 @@ use std::alloc::{AllocError, Global};
 use std::collections::BTreeMap;
 use std::io;
 use std::io::{ErrorKind, Write};
+use std::process::Abort;
 use whole_files::files::FileSet;
 
 // What goes wrong with a file. A placing or a renaming fails by the path that the file is to have.
@@ -66,9 +67,9 @@ impl MemoryFiles {
         Ok(())
     }
 
-    pub(crate) fn add(&mut self, alloc: Global, path: &str, text: &str) -> Result<(), AllocError> {
-        let bytes = Vec::from_slice(alloc, text.as_bytes())?;
-        self.put(alloc, path, bytes)
+    pub(crate) fn add(&mut self, rt: &impl Abort, alloc: Global, path: &str, text: &str) {
+        let bytes = Vec::from_slice(alloc, text.as_bytes()).expect(rt, "memory");
+        self.put(alloc, path, bytes).expect(rt, "memory");
     }
 
     // The text of a file that was added or written, if it is one.
@@ -139,10 +140,10 @@ impl FileSet for MemoryFiles {
 }
 
 // Files in memory that hold these texts.
-pub(crate) fn files_with(alloc: Global, texts: &[(&str, &str)]) -> Result<MemoryFiles, AllocError> {
+pub(crate) fn files_with(rt: &impl Abort, alloc: Global, texts: &[(&str, &str)]) -> MemoryFiles {
     let mut files = MemoryFiles::new(alloc);
     for (path, text) in texts {
-        files.add(alloc, path, text)?;
+        files.add(rt, alloc, path, text);
     }
-    Ok(files)
+    files
 }

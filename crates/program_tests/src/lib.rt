@@ -1,4 +1,5 @@
-//! Tests of the program: of its command line, and of whole runs over files in memory.
+//! Tests of the program: of its command line, and of runs and pages over files in memory, which may fail. What it says
+//! to further lines of words is tried on the built program.
 #![tactic(auto)]
 
 #[cfg(test)]
@@ -12,16 +13,10 @@ mod failing_files;
 #[cfg(test)]
 mod files_in_memory;
 #[cfg(test)]
-mod lines;
-#[cfg(test)]
 mod pages;
 #[cfg(test)]
 mod program_runs;
 #[cfg(test)]
-mod refusals;
-#[cfg(test)]
 mod refusing_streams;
 #[cfg(test)]
 mod told_files;
-#[cfg(test)]
-mod whole_tables;

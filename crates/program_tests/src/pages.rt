@@ -6,7 +6,6 @@ use crate::program_runs::{assert_text, said_to};
 use fixtures::one_read::STATS;
 use std::process::Abort;
 use std::sync::Wait;
-use std::test::Fail;
 use std::thread::Threads;
 
 const OLD: &str = "an earlier page\n";
@@ -157,10 +156,10 @@ fn assert_has(rt: &impl Abort, words: &str, text: &str, parts: &str) {
 fn assert_page<R: Abort + Threads + Wait + Sync + AllocGlobal>(
     rt: &R,
     (words, failing, told, opened, parts): &Case,
-) -> Result<(), Fail> {
-    let mut files = files_with(rt.alloc(), &FILES)?;
+) {
+    let mut files = files_with(rt, rt.alloc(), &FILES);
     files.failing = *failing;
-    let said = said_to(rt, &mut files, words)?;
+    let said = said_to(rt, &mut files, words);
     said.assert_is(rt, words, (if told.is_empty() { 0 } else { 2 }, "", told));
     assert_text(rt, words, files.opened.as_str(), opened);
     let page = files.text_at("p.html").unwrap_or("");
@@ -168,13 +167,11 @@ fn assert_page<R: Abort + Threads + Wait + Sync + AllocGlobal>(
     let is_old = page == OLD;
     let beside = files.text_at("p.html.part");
     expect_at(rt, words, &(is_old, beside), &(!told.is_empty(), None));
-    Ok(())
 }
 
 #[test]
-fn draws_a_run_or_keeps_an_earlier_page(rt: HostRuntime) -> Result<(), Fail> {
+fn draws_a_run_or_keeps_an_earlier_page(rt: HostRuntime) {
     for case in &CASES {
-        assert_page(&rt, case)?;
+        assert_page(&rt, case);
     }
-    Ok(())
 }

@@ -7,7 +7,6 @@ use refusal::refusal::Refusal;
 use sim_base::fault::Fault;
 use std::io::{self, ErrorKind, Write};
 use std::process::Abort;
-use std::test::Fail;
 
 /// A stream that takes at most five bytes at a time, refuses once it has as many bytes as it has room for, and before
 /// each other answer is interrupted.
@@ -58,9 +57,8 @@ fn assert_told(rt: &(impl Abort + AllocGlobal), room: usize, is_whole: bool, tex
 }
 
 #[test]
-fn tells_as_far_as_a_stream_takes_it(rt: HostRuntime) -> Result<(), Fail> {
+fn tells_as_far_as_a_stream_takes_it(rt: HostRuntime) {
     for (room, is_whole, text) in &TOLD {
         assert_told(&rt, *room, *is_whole, text);
     }
-    Ok(())
 }

@@ -16,7 +16,6 @@ use sim_base::fault::Fault;
 use std::alloc::{AllocError, Global};
 use std::collections::BTreeMap;
 use std::sync::Wait;
-use std::test::Fail;
 use std::thread::Threads;
 use whole_files::files::FileSet;
 use workers::watch::Unwatched;
@@ -141,13 +140,13 @@ static RUN: [&str; 10] = [
 ];
 
 #[test]
-fn tells_of_a_run(rt: HostRuntime) -> Result<(), Fail> {
+fn tells_of_a_run(rt: HostRuntime) {
     let alloc = rt.alloc();
-    let mut files = files_of(alloc, &[("c.toml", SMALL), ("t0", "0 0\n")])?;
+    let texts = [("c.toml", SMALL), ("t0", "0 0\n")];
+    let mut files = files_of(alloc, &texts).expect(&rt, "memory");
     let mut output = Vec::new(alloc);
     let mut errors = ErrorStream::new(Vec::new(alloc));
     let status = perform_told(&rt, alloc, &RUN, &mut files, &mut output, &mut errors);
     let counts = [files.files.len(), files.opened.len(), output.len()];
     expect_at(&rt, &"a run", &(status, counts), &(0, [5, 3, 0]));
-    Ok(())
 }

@@ -12,11 +12,11 @@ use simulation::input::read_input;
 use std::alloc::Global;
 use std::thread::Threads;
 
-/// The run of `simulation::runs::simulate` by the one-clock machine, one cycle after the other, with no workers: their number is
-/// only tested, and threads are used only to read long traces. Tests compare with it.
+/// The run of `simulation::runs::simulate` by the one-clock machine, one cycle after the other, with no workers: their
+/// number is only tested, and threads are used only to read long traces. Tests compare with it.
 ///
-/// The input is tested in the same order, and its first fault is returned. `Fault::Memory` may come at any time; the run itself is
-/// refused only with this.
+/// The input is tested in the same order, and its first fault is returned. `Fault::Memory` may come at any time; the
+/// run itself is refused only with this.
 pub fn simulate_plain<R: Threads + Sync>(
     rt: &R,
     alloc: Global,

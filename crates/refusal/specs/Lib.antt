@@ -2,3 +2,4 @@ pub mod Refusals
 pub mod Lines
 pub mod Streams
 pub mod Warnings
+pub mod Telling

@@ -1,15 +1,14 @@
 //! The stream that refusals are told on.
 
-ghost use Rattle.std.specs.Prelude.{◌≡◌, ◌≢◌, ◌<◌, false, IsTrue, IfOk, IfErr, OnErr};
+ghost use Rattle.std.specs.Prelude.{◌≡◌, ◌<◌, false, IsTrue, IfOk, IfErr, OnErr};
 ghost use Rattle.std.specs.Io.{WritesAtMost};
 ghost use Rattle.std.specs.IoError.{error_kind};
-ghost use Rattle.std.specs.Io.KnownBytes.{WriteAppends};
-ghost use Rattle.refusal.specs.Streams.{has_refused, stream_of};
+ghost use Rattle.refusal.specs.Streams.{has_refused, stream_of, Writes, StandsAsBefore, RefusesFor, StandsFor};
 
 use std::io::{self, ErrorKind, Write};
 
-/// A stream that refusals are told on. It keeps whether the stream has refused: it answered a write by an error other than an
-/// interruption, or took none of its bytes.
+/// A stream that refusals are told on. It keeps whether the stream has refused: it answered a write by an error other
+/// than an interruption, or took none of its bytes.
 #[derive(Drop)]
 pub struct ErrorStream<E> {
     stream: E,
@@ -45,11 +44,11 @@ impl<E: Write> ErrorStream<E> {
     // Writes bytes, as many as the stream takes.
     fn write(&mut self, bytes: &[u8]) -> io::Result<usize>
         ensures bound { WritesAtMost result bytes.now }
-        ensures bytes { WriteAppends (E.contents (stream_of self.old)) (E.contents (stream_of self.new)) result bytes.now }
+        ensures bytes { Writes E.Write self.old self.new result bytes.now }
         ensures none { IfOk result (λ n. n ≡ 0 → IsTrue (has_refused self.new)) }
-        ensures refused { IfErr result (λ e. error_kind e ≢ ErrorKind.Interrupted → IsTrue (has_refused self.new)) }
-        ensures taken { IfOk result (λ n. 0 < n → has_refused self.new ≡ has_refused self.old) }
-        ensures interrupted { IfErr result (λ e. error_kind e ≡ ErrorKind.Interrupted → has_refused self.new ≡ has_refused self.old) }
+        ensures refused { IfErr result (λ e. RefusesFor (error_kind e) self.new) }
+        ensures taken { IfOk result (λ n. 0 < n → StandsAsBefore self.old self.new) }
+        ensures interrupted { IfErr result (λ e. StandsFor (error_kind e) self.old self.new) }
     {
         let answer = self.stream.write(bytes);
         match &answer {
@@ -60,13 +59,14 @@ impl<E: Write> ErrorStream<E> {
         answer
     }
 
-    /// Writes bytes, as many as the stream takes, again where a signal interrupts that. It has refused where it takes none.
+    /// Writes bytes, as many as the stream takes, again where a signal interrupts that. It has refused where it takes
+    /// none.
     pub(crate) fn write_some(&mut self, bytes: &[u8]) -> io::Result<usize>
         ensures bound { WritesAtMost result bytes.now }
-        ensures bytes { WriteAppends (E.contents (stream_of self.old)) (E.contents (stream_of self.new)) result bytes.now }
+        ensures bytes { Writes E.Write self.old self.new result bytes.now }
         ensures none { IfOk result (λ n. n ≡ 0 → IsTrue (has_refused self.new)) }
         ensures refused { OnErr result (IsTrue (has_refused self.new)) }
-        ensures taken { IfOk result (λ n. 0 < n → has_refused self.new ≡ has_refused self.old) }
+        ensures taken { IfOk result (λ n. 0 < n → StandsAsBefore self.old self.new) }
     {
         for _ in 0..u64::MAX {
             match self.write(bytes) {

@@ -1,9 +1,9 @@
 //! The lines that tell a refusal.
 
 ghost use Rattle.std.specs.Prelude.{◌≡◌, ◌≤◌, [], length, IsTrue, OnOk, OnErr};
-ghost use Rattle.std.specs.Io.KnownBytes.{Appends};
-ghost use Rattle.refusal.specs.Lines.{cause_word, fault_line, refusal_lines, AppendsBeginning, IsExplained, IsExplainedWhole};
-ghost use Rattle.refusal.specs.Streams.{has_refused, stream_of};
+ghost use Rattle.refusal.specs.Lines.{cause_word, fault_line, refusal_lines};
+ghost use Rattle.refusal.specs.Streams.{has_refused};
+ghost use Rattle.refusal.specs.Telling.{Takes, TakesBeginning, TakesRefusal, Tells};
 
 use crate::error_stream::ErrorStream;
 use crate::line_buffer::LineBuffer;
@@ -84,8 +84,8 @@ fn lines_of(refusal: &Refusal) -> LineBuffer
 
 // Writes a text, as far as the stream takes it.
 pub(crate) fn put<E: Write>(errors: &mut ErrorStream<E>, text: &[u8]) -> io::Result<()>
-    ensures whole { OnOk result (Appends (E.contents (stream_of errors.old)) (E.contents (stream_of errors.new)) text.now) }
-    ensures part { AppendsBeginning (E.contents (stream_of errors.old)) (E.contents (stream_of errors.new)) text.now }
+    ensures whole { OnOk result (Takes E.Write errors.old errors.new text.now) }
+    ensures part { TakesBeginning E.Write errors.old errors.new text.now }
     ensures refused { OnErr result (IsTrue (has_refused errors.new)) }
 {
     let mut rest = text;
@@ -98,11 +98,11 @@ pub(crate) fn put<E: Write>(errors: &mut ErrorStream<E>, text: &[u8]) -> io::Res
     Ok(())
 }
 
-/// Tells a refusal, as far as the stream takes it: its lines, which need no memory, and then those that explain it. It is told
-/// whole unless the stream refuses.
+/// Tells a refusal, as far as the stream takes it: its lines, which need no memory, and then those that explain it. It
+/// is told whole unless the stream refuses.
 pub fn write_lines<E: Write>(errors: &mut ErrorStream<E>, refusal: &Refusal) -> io::Result<()>
-    ensures whole { OnOk result (IsExplainedWhole (E.contents (stream_of errors.old)) (E.contents (stream_of errors.new)) (refusal_lines refusal.now)) }
-    ensures told { IsExplained (has_refused errors.new) (E.contents (stream_of errors.old)) (E.contents (stream_of errors.new)) (refusal_lines refusal.now) }
+    ensures whole { OnOk result (TakesRefusal E.Write errors.old errors.new refusal.now) }
+    ensures told { Tells E.Write errors.old errors.new refusal.now }
     ensures refused { OnErr result (IsTrue (has_refused errors.new)) }
 {
     put(errors, lines_of(refusal).as_bytes())?;

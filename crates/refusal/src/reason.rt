@@ -8,7 +8,7 @@ use std::fmt::Display;
 use std::marker::Model;
 
 /// A fault, and lines that explain it, if there are any. A contract sees the fault alone.
-#[derive(Debug, Drop)]
+#[derive(Drop)]
 pub struct Reason {
     fault: Fault,
     more: Option<String>,

@@ -1,8 +1,9 @@
 //! What the program warns of, although it does what it is asked.
 
 ghost use Rattle.std.specs.Prelude.{◌≡◌, ◌≤◌, ◌+◌, ◌++◌, length, IsTrue, OnErr, None};
-ghost use Rattle.refusal.specs.Streams.{has_refused, stream_of};
-ghost use Rattle.refusal.specs.Warnings.{fitting_words, warning_line, IsLine, IsWarned};
+ghost use Rattle.refusal.specs.Streams.{has_refused};
+ghost use Rattle.refusal.specs.Telling.{TellsLine, Warns};
+ghost use Rattle.refusal.specs.Warnings.{fitting_words, warning_line};
 
 use crate::error_stream::ErrorStream;
 use crate::line_buffer::LineBuffer;
@@ -13,7 +14,7 @@ use std::io::{self, Write};
 pub const LARGE_PAGE: u64 = 50_000_000;
 
 /// A page that is longer than 50 MB.
-#[derive(Clone, Copy, PartialEq, Eq, Debug)]
+#[derive(Clone, Copy)]
 pub struct LargePage {
     /// Its length in bytes.
     pub bytes: u64,
@@ -50,16 +51,16 @@ fn line_of(page: LargePage) -> LineBuffer
 
 // Tells a page that is too long, as far as the stream takes it.
 fn write_line<E: Write>(errors: &mut ErrorStream<E>, page: LargePage) -> io::Result<()>
-    ensures told { IsLine (has_refused errors.new) (E.contents (stream_of errors.old)) (E.contents (stream_of errors.new)) (warning_line page) }
+    ensures told { TellsLine E.Write errors.old errors.new (warning_line page) }
     ensures refused { OnErr result (IsTrue (has_refused errors.new)) }
 {
     put(errors, line_of(page).as_bytes())
 }
 
-/// Tells what is warned of, as far as the stream takes it, in one line that needs no memory. It is told whole unless the stream refuses.
-/// Where there is nothing to warn of, nothing is told.
+/// Tells what is warned of, as far as the stream takes it, in one line that needs no memory. It is told whole unless the
+/// stream refuses. Where there is nothing to warn of, nothing is told.
 pub fn write_warning<E: Write>(errors: &mut ErrorStream<E>, warning: Option<LargePage>)
-    ensures told { IsWarned warning (has_refused errors.new) (E.contents (stream_of errors.old)) (E.contents (stream_of errors.new)) }
+    ensures told { Warns E.Write errors.old errors.new warning }
     ensures silent { warning ≡ None → errors.new ≡ errors.old }
 {
     if let Some(page) = warning {

@@ -1,6 +1,6 @@
 -- What `csv` makes of a line, and what a writer and the rows that wait for it hold then.
-use Rattle.std.proofs.Common.{◌≡◌, ℕ, ◌<◌, List, [], ◌∷◌, ◌++◌, length, codes, Option, None, Some, Result, Ok, Err, OnOk, refl, sym, ap, ◌∙◌, arith, append_assoc}
-use Rattle.std.proofs.KnownBytes.{Appends-kept, Keeps-refl, append_known-grown}
+use Rattle.std.proofs.Common.{◌≡◌, ℕ, ◌<◌, List, [], ◌∷◌, ◌++◌, length, codes, Option, None, Some, Result, Ok, Err, OnOk, refl, sym, ap, subst, ◌∙◌, arith, append_assoc}
+use Rattle.std.proofs.KnownBytes.{Appends-kept, Appends-nil, Appends-trans, append_known-grown}
 use Rattle.std.proofs.lemmas.Bool.{ne_eqb}
 use Rattle.std.proofs.lemmas.List.{append-nil}
 use Rattle.std.specs.Io.KnownBytes.{Appends, Keeps, append_known}
@@ -15,18 +15,12 @@ unfolding fields_text is_blank
 row_text-plain [] some = absurd (omega arith)
 row_text-plain (byte ∷ rest) some = rw (ne_eqb (length (byte ∷ rest)) 0 (λ none. omega arith)) (ap (λ t. t ++ 10 ∷ []) (append-nil (byte ∷ rest)))
 
--- more rows wait
-pub held-more : (known : Option (List ℕ)) (old new text : List ℕ) → new ≡ old ++ text → Appends (append_known known old) (append_known known new) text
-held-more known old new text more = append_known-grown _ known old new text (Keeps-refl _) more
-
 -- a row waits behind a block of others, where what waited may have moved before
-pub held-behind : (known new : Option (List ℕ)) (front block row : List ℕ) → Keeps known (append_known new (front ++ block)) → Appends known (append_known new (front ++ (block ++ row))) row
-held-behind known new front block row kept = append_known-grown known new (front ++ block) (front ++ (block ++ row)) row kept (sym (append_assoc front block row))
-
--- and go out, if they do
-pub held-sent : {T E : Type 0} (r : Result T E) (old mid new : Option (List ℕ)) (text : List ℕ) → Appends old mid text → OnOk r (Keeps mid new) → OnOk r (Appends old new text)
-held-sent (Ok x) old mid new text more kept = Appends-kept old mid new text more kept
-held-sent (Err e) old mid new text more kept = tt
+pub row-added : {Before Whole : Type 0} (known new : Option (List ℕ)) (front block row : List ℕ)
+    → (Whole → Before × Keeps known (append_known new (front ++ block))) → Whole → Before × Appends known (append_known new (front ++ (block ++ row))) row
+row-added known new front block row kept whole =
+    let before = kept whole in
+    (before.0, append_known-grown known new (front ++ block) (front ++ (block ++ row)) row before.1 (sym (append_assoc front block row)))
 
 -- what waits before a block of no row
 pub emptied : (front block waits : List ℕ) → block ≡ [] → front ++ block ≡ waits → front ≡ waits
@@ -52,7 +46,29 @@ unfolding row_text
 line-row fields = refl
 
 -- no row waits when a table begins
-pub held-first : (known new : Option (List ℕ)) (waits text : List ℕ) → waits ≡ [] → Appends (append_known known waits) new text → Appends known new text
+held-first : (known new : Option (List ℕ)) (waits text : List ℕ) → waits ≡ [] → Appends (append_known known waits) new text → Appends known new text
 held-first None new waits text none more = tt
 held-first (Some x) None waits text none more = absurd more
 held-first (Some x) (Some y) waits text none more = more ∙ ap (λ t. t ++ text) (ap (λ t. x ++ t) none ∙ append-nil x)
+
+-- what is added to a table that begins, and sent, is written
+pub held-sent : {T E Before Whole : Type 0} (r : Result T E) (known mid new : Option (List ℕ)) (waits text : List ℕ) → waits ≡ []
+    → (Whole → Before × Appends (append_known known waits) mid text) → OnOk r (Whole × Keeps mid new) → OnOk r (Appends known new text)
+held-sent (Ok x) known mid new waits text none more sent = Appends-kept known mid new text (held-first known mid waits text none ((more sent.0).1)) sent.1
+held-sent (Err e) known mid new waits text none more sent = tt
+
+-- what is added after other rows
+pub added-more : {A B C : Type 0} (old mid new : Option (List ℕ)) (first more : List ℕ)
+    → (B → A × Appends old mid first) → (C → B × Appends mid new more) → C → A × Appends old new (first ++ more)
+added-more old mid new first more before after whole =
+    let last = after whole in
+    let was = before last.0 in (was.0, Appends-trans old mid new first more was.1 last.1)
+
+-- nothing is added
+pub nothing_added : {A : Type 0} (old : Option (List ℕ)) (text : List ℕ) → text ≡ [] → A → A × Appends old old text
+nothing_added old text none whole = (whole, subst (Appends old old) (sym none) (Appends-nil old))
+
+-- on Ok, no row was lost, and what waited goes out
+pub whole-sent : {T E Whole : Type 0} (r : Result T E) (old new : Option (List ℕ)) → Whole → OnOk r (Keeps old new) → OnOk r (Whole × Keeps old new)
+whole-sent (Ok x) old new whole kept = (whole, kept)
+whole-sent (Err e) old new whole kept = tt

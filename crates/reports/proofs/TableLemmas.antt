@@ -1,6 +1,6 @@
 -- What a writer holds, with more rows.
-use Rattle.std.proofs.Common.{◌≡◌, ℕ, ◌+◌, ◌<◌, ◌≤◌, List, [], ◌∷◌, ◌++◌, length, get_or, take, map, codes, Option, Some, None, Result, Ok, Err, OnOk, refl, sym, ap, subst, ◌∙◌, arith, zero-add, append_assoc, length-take-le}
-use Rattle.std.proofs.KnownBytes.{Appends-nil, Appends-trans}
+use Rattle.std.proofs.Common.{◌≡◌, ℕ, ◌+◌, ◌<◌, ◌≤◌, List, [], ◌∷◌, ◌++◌, length, get_or, take, map, codes, Option, Some, None, refl, sym, ap, subst, ◌∙◌, arith, zero-add, append_assoc, length-take-le}
+use Rattle.std.proofs.KnownBytes.{Appends-nil}
 use Rattle.std.proofs.lemmas.Grind.{flat_map-append}
 use Rattle.std.proofs.lemmas.List.{append-nil, map-append, map_more, take_more}
 use Rattle.std.specs.Io.KnownBytes.{Appends}
@@ -99,11 +99,6 @@ nothing_written old text none = subst (Appends old old) (sym none) (Appends-nil 
 -- two rows
 pub rows_text-two : (first second : List (List ℕ)) → rows_text (first ∷ second ∷ []) ≡ row_text first ++ row_text second
 rows_text-two first second = rows_text-first first (second ∷ []) ∙ ap (λ t. row_text first ++ t) (rows_text-one second)
-
--- what is written last, if it is
-pub written_last : {T E : Type 0} (r : Result T E) (old mid new : Option (List ℕ)) (first more : List ℕ) → Appends old mid first → OnOk r (Appends mid new more) → OnOk r (Appends old new (first ++ more))
-written_last (Ok x) old mid new first more before after = Appends-trans old mid new first more before after
-written_last (Err e) old mid new first more before after = tt
 
 -- rows after rows, of items of one kind
 pub lines-append : {A : Type 0} (fields : A → List (List ℕ)) (rows more : List A) → rows_text (map fields (rows ++ more)) ≡ rows_text (map fields rows) ++ rows_text (map fields more)

@@ -2,10 +2,12 @@
 -- and after it.
 --     waiting table      the text of the rows that wait
 --     held contents writer table      what the writer holds, and then the rows that wait
---     AddsOnOk result contents writer table writer' table' text      on Ok, this text was added to what both hold
+--     IsWhole table      no row was lost
+--     AddsRows contents writer table writer' table' text      unless a row was lost, this text was added to what both hold
+--     KeepsRows contents writer table writer' table'      unless a row was lost, both hold what they held
 --     KeepsOnOk result contents writer table writer' table'      on Ok, both hold what they held
---     SendsOnOk result contents writer table writer'      on Ok, the writer alone holds what both held
-use Rattle.std.specs.Prelude.{ℕ, List, ◌++◌, Option, Result, OnOk}
+--     SendsOnOk result contents writer table writer'      on Ok, no row was lost, and the writer alone holds what both held
+use Rattle.std.specs.Prelude.{◌≡◌, ℕ, List, ◌++◌, Option, None, Result, OnOk}
 use Rattle.std.specs.Io.KnownBytes.{Appends, Keeps, append_known}
 use Rattle.csv.specs.Writing.{writer_under, writer_pending}
 use Rattle.reports.specs.declared.table.Table.{Table}
@@ -18,16 +20,26 @@ waiting table = (writer_under table.rows).items ++ writer_pending table.rows ++ 
 abbrev pub held : {W : Type 0} → (W → Option (List ℕ)) → W → Table → Option (List ℕ)
 held contents writer table = append_known (contents writer) (waiting table)
 
--- on Ok, this text was added to what the writer and the table hold
-abbrev pub AddsOnOk : {T E W : Type 0} → Result T E → (W → Option (List ℕ)) → W → Table → W → Table → List ℕ → Type 0
-AddsOnOk result contents writer table writer' table' text =
-    OnOk result (Appends (held contents writer table) (held contents writer' table') text)
+-- no row was lost
+abbrev pub IsWhole : Table → Type 0
+IsWhole table = table.lost ≡ None
+
+-- if no row was lost up to then, none had been lost before, and this text was added to what the writer and the table hold
+abbrev pub AddsRows : {W : Type 0} → (W → Option (List ℕ)) → W → Table → W → Table → List ℕ → Type 0
+AddsRows contents writer table writer' table' text =
+    IsWhole table' → IsWhole table × Appends (held contents writer table) (held contents writer' table') text
+
+-- if no row was lost up to then, none had been lost before, and the writer and the table together hold what they held
+abbrev pub KeepsRows : {W : Type 0} → (W → Option (List ℕ)) → W → Table → W → Table → Type 0
+KeepsRows contents writer table writer' table' =
+    IsWhole table' → IsWhole table × Keeps (held contents writer table) (held contents writer' table')
 
 -- on Ok, the writer and the table together hold what they held
 abbrev pub KeepsOnOk : {T E W : Type 0} → Result T E → (W → Option (List ℕ)) → W → Table → W → Table → Type 0
 KeepsOnOk result contents writer table writer' table' =
     OnOk result (Keeps (held contents writer table) (held contents writer' table'))
 
--- on Ok, the writer alone holds what it and the table held
+-- on Ok, no row was lost, and the writer alone holds what it and the table held
 abbrev pub SendsOnOk : {T E W : Type 0} → Result T E → (W → Option (List ℕ)) → W → Table → W → Type 0
-SendsOnOk result contents writer table writer' = OnOk result (Keeps (held contents writer table) (contents writer'))
+SendsOnOk result contents writer table writer' =
+    OnOk result (IsWhole table × Keeps (held contents writer table) (contents writer'))

@@ -1,13 +1,13 @@
 //! The table of commands, `commands.csv`.
 
-ghost use Rattle.std.specs.Prelude.{◌≡◌, ◌<◌, ◌≤◌, ◌+◌, ◌∷◌, ◌++◌, length, drop, IfErr};
+ghost use Rattle.std.specs.Prelude.{◌≡◌, ◌<◌, ◌≤◌, ◌+◌, ◌∷◌, ◌++◌, length, drop, codes, IfErr};
 ghost use Rattle.reports.specs.Rows.{comma, fields_text, row_text, IsReportFault, WritesOnOk};
-ghost use Rattle.reports.specs.Tables.{AddsOnOk};
+ghost use Rattle.reports.specs.Tables.{AddsRows};
 ghost use Rattle.reports.specs.Commands.{header, kind_word, request_operands, operand_fields, command_fields, lines_text, commands_text};
 
 use crate::line::{Line, put, put_last, put_last_word, put_rank, put_word};
 use crate::pieces::{Crew, MOST, TableLines, write_pieces, write_whole};
-use crate::table::Table;
+use crate::table::{Loss, Table};
 use command_table::table::{CommandTable, Rows};
 use sim_base::command::{Command, IssuedCommand, Kind, Source};
 use sim_base::fault::Fault;
@@ -106,35 +106,22 @@ fn put_command(line: &mut Line, ranks: u32, row: &IssuedCommand) -> usize
     put(line, start, Some(row.cycle))
 }
 
-fn write_command<W: Write>(
-    table: &mut Table,
-    ranks: u32,
-    row: &IssuedCommand,
-    writer: &mut W,
-) -> Result<(), Fault>
-    ensures written { AddsOnOk result W.contents writer.old table.old writer.new table.new
+fn write_command<W: Write>(table: &mut Table, ranks: u32, row: &IssuedCommand, writer: &mut W)
+    ensures { AddsRows W.contents writer.old table.old writer.new table.new
         (row_text (command_fields ranks row.now)) }
-    ensures refused { IfErr result (λ e. IsReportFault e) }
 {
     let start = put_command(&mut table.line, ranks, row);
-    table.write_row(start, writer)
+    table.write_row(start, writer);
 }
 
 // Each command that is left.
-fn write_each<W: Write>(
-    table: &mut Table,
-    ranks: u32,
-    mut rows: Rows<'_>,
-    writer: &mut W,
-) -> Result<(), Fault>
-    ensures written { AddsOnOk result W.contents writer.old table.old writer.new table.new
+fn write_each<W: Write>(table: &mut Table, ranks: u32, mut rows: Rows<'_>, writer: &mut W)
+    ensures { AddsRows W.contents writer.old table.old writer.new table.new
         (lines_text ranks rows.entry) }
-    ensures refused { IfErr result (λ e. IsReportFault e) }
 {
     while let Some(row) = rows.next() {
-        write_command(table, ranks, &row, writer)?;
+        write_command(table, ranks, &row, writer);
     }
-    Ok(())
 }
 
 /// The lines of the table of commands, for channels of so many ranks.
@@ -148,13 +135,12 @@ impl<'a> TableLines<Rows<'a>> for CommandLines {
 
     ghost lines = { λ of rows. lines_text of.ranks rows };
 
-    fn write_header<W: Write>(&self, table: &mut Table, writer: &mut W) -> Result<(), Fault>
-        ensures written { AddsOnOk result W.contents writer.old table.old writer.new table.new
-            (row_text (header self.now.ranks)) }
-        ensures refused { IfErr result (λ e. IsReportFault e) }
+    fn columns(&self) -> &'static [u8]
+        ensures names { result.now ++ codes "\n" ≡ row_text (header self.now.ranks) }
+        ensures some { 0 < length result.now }
+        ensures short { length result.now ≤ 256 }
     {
-        let start = put_last_word(&mut table.line, columns(self.ranks));
-        table.write_row(start, writer)
+        columns(self.ranks)
     }
 
     fn write_lines<W: Write>(
@@ -163,12 +149,14 @@ impl<'a> TableLines<Rows<'a>> for CommandLines {
         piece: &Rows<'a>,
         table: &mut Table,
         writer: &mut W,
-    ) -> Result<(), Fault>
-        ensures written { AddsOnOk result W.contents writer.old table.old writer.new table.new
+    )
+        ensures { AddsRows W.contents writer.old table.old writer.new table.new
             (lines_text self.now.ranks piece.now) }
-        ensures refused { IfErr result (λ e. IsReportFault e) }
     {
-        write_each(table, self.ranks, piece.copied(alloc)?, writer)
+        match piece.copied(alloc) {
+            Ok(rows) => write_each(table, self.ranks, rows, writer),
+            Err(_) => table.lose(Loss::Memory),
+        }
     }
 }
 

@@ -3,9 +3,9 @@
 ghost use Rattle.std.specs.Prelude.{◌≡◌, ◌<◌, ◌≤◌, length, drop, map, Some, IfErr};
 ghost use Rattle.reports.specs.Rows.{fields_text, row_text, rows_text, numbered, IsReportFault, WritesOnOk};
 ghost use Rattle.reports.specs.Final.{final_header, final_fields, progress_rows, credit_rows, credits_of_core, due_rows, open_numbers, open_fields, queued_item, queued_numbers, queued_fields, channel_rows, flight_item, flight_entry, core_of_link, channel_of_link, flight_numbers, flight_fields, final_text};
-ghost use Rattle.reports.specs.Tables.{AddsOnOk};
+ghost use Rattle.reports.specs.Tables.{AddsRows};
 
-use crate::line::{Line, put, put_last, put_last_word, put_rank, put_word};
+use crate::line::{Line, put, put_last, put_rank, put_word};
 use crate::table::Table;
 use sim_base::fault::Fault;
 use sim_base::message::{LinkId, Load, Message, Request};
@@ -49,15 +49,6 @@ fn columns(ranks: u32) -> &'static [u8]
     }
 }
 
-fn write_header<W: Write>(table: &mut Table, ranks: u32, writer: &mut W) -> Result<(), Fault>
-    ensures written { AddsOnOk result W.contents writer.old table.old writer.new table.new
-        (row_text (final_header ranks)) }
-    ensures refused { IfErr result (λ e. IsReportFault e) }
-{
-    let start = put_last_word(&mut table.line, columns(ranks));
-    table.write_row(start, writer)
-}
-
 // The fields of a row, from the last to the first.
 fn put_numbers(line: &mut Line, ranks: u32, item: &[u8], numbers: &Numbers) -> usize
     requires { length item.now ≤ 32 }
@@ -81,14 +72,13 @@ fn write_numbers<W: Write>(
     item: &[u8],
     numbers: &Numbers,
     writer: &mut W,
-) -> Result<(), Fault>
+)
     requires { length item.now ≤ 32 }
-    ensures written { AddsOnOk result W.contents writer.old table.old writer.new table.new
+    ensures { AddsRows W.contents writer.old table.old writer.new table.new
         (row_text (final_fields ranks item.now numbers.now)) }
-    ensures refused { IfErr result (λ e. IsReportFault e) }
 {
     let start = put_numbers(&mut table.line, ranks, item, numbers);
-    table.write_row(start, writer)
+    table.write_row(start, writer);
 }
 
 fn write_progress<W: Write>(
@@ -97,10 +87,9 @@ fn write_progress<W: Write>(
     core: u64,
     state: &CoreState,
     writer: &mut W,
-) -> Result<(), Fault>
-    ensures written { AddsOnOk result W.contents writer.old table.old writer.new table.new
+)
+    ensures { AddsRows W.contents writer.old table.old writer.new table.new
         (rows_text (progress_rows ranks core state.now)) }
-    ensures refused { IfErr result (λ e. IsReportFault e) }
 {
     let issued = Numbers {
         core: Some(core),
@@ -112,8 +101,8 @@ fn write_progress<W: Write>(
         value: Some(state.retired),
         ..BLANK
     };
-    write_numbers(table, ranks, b"issued", &issued, writer)?;
-    write_numbers(table, ranks, b"retired", &retired, writer)
+    write_numbers(table, ranks, b"issued", &issued, writer);
+    write_numbers(table, ranks, b"retired", &retired, writer);
 }
 
 fn write_progress_of_all<W: Write>(
@@ -121,15 +110,13 @@ fn write_progress_of_all<W: Write>(
     ranks: u32,
     cores: &[CoreState],
     writer: &mut W,
-) -> Result<(), Fault>
-    ensures written { AddsOnOk result W.contents writer.old table.old writer.new table.new
+)
+    ensures { AddsRows W.contents writer.old table.old writer.new table.new
         (rows_text (numbered (progress_rows ranks) cores.now)) }
-    ensures refused { IfErr result (λ e. IsReportFault e) }
 {
     for (core, state) in cores.iter().enumerate() {
-        write_progress(table, ranks, core as u64, state, writer)?;
+        write_progress(table, ranks, core as u64, state, writer);
     }
-    Ok(())
 }
 
 // A core and the channel for which it holds credits.
@@ -145,10 +132,9 @@ fn write_credits<W: Write>(
     pair: Pair,
     credits: Credits,
     writer: &mut W,
-) -> Result<(), Fault>
-    ensures written { AddsOnOk result W.contents writer.old table.old writer.new table.new
+)
+    ensures { AddsRows W.contents writer.old table.old writer.new table.new
         (rows_text (credit_rows ranks pair.core pair.channel credits)) }
-    ensures refused { IfErr result (λ e. IsReportFault e) }
 {
     let of_reads = Numbers {
         core: Some(pair.core),
@@ -162,8 +148,8 @@ fn write_credits<W: Write>(
         value: Some(credits.write),
         ..BLANK
     };
-    write_numbers(table, ranks, b"credit_read", &of_reads, writer)?;
-    write_numbers(table, ranks, b"credit_write", &of_writes, writer)
+    write_numbers(table, ranks, b"credit_read", &of_reads, writer);
+    write_numbers(table, ranks, b"credit_write", &of_writes, writer);
 }
 
 fn write_credits_of_core<W: Write>(
@@ -172,16 +158,14 @@ fn write_credits_of_core<W: Write>(
     core: u64,
     credits: &[Credits],
     writer: &mut W,
-) -> Result<(), Fault>
-    ensures written { AddsOnOk result W.contents writer.old table.old writer.new table.new
+)
+    ensures { AddsRows W.contents writer.old table.old writer.new table.new
         (rows_text (numbered (credit_rows ranks core) credits.now)) }
-    ensures refused { IfErr result (λ e. IsReportFault e) }
 {
     for (channel, held) in credits.iter().enumerate() {
         let channel = channel as u64;
-        write_credits(table, ranks, Pair { core, channel }, *held, writer)?;
+        write_credits(table, ranks, Pair { core, channel }, *held, writer);
     }
-    Ok(())
 }
 
 fn write_credits_of_all<W: Write>(
@@ -189,27 +173,18 @@ fn write_credits_of_all<W: Write>(
     ranks: u32,
     cores: &[CoreState],
     writer: &mut W,
-) -> Result<(), Fault>
-    ensures written { AddsOnOk result W.contents writer.old table.old writer.new table.new
+)
+    ensures { AddsRows W.contents writer.old table.old writer.new table.new
         (rows_text (numbered (credits_of_core ranks) cores.now)) }
-    ensures refused { IfErr result (λ e. IsReportFault e) }
 {
     for (core, state) in cores.iter().enumerate() {
-        write_credits_of_core(table, ranks, core as u64, &state.credits, writer)?;
+        write_credits_of_core(table, ranks, core as u64, &state.credits, writer);
     }
-    Ok(())
 }
 
-fn write_due<W: Write>(
-    table: &mut Table,
-    ranks: u32,
-    channel: u64,
-    due: &[u64],
-    writer: &mut W,
-) -> Result<(), Fault>
-    ensures written { AddsOnOk result W.contents writer.old table.old writer.new table.new
+fn write_due<W: Write>(table: &mut Table, ranks: u32, channel: u64, due: &[u64], writer: &mut W)
+    ensures { AddsRows W.contents writer.old table.old writer.new table.new
         (rows_text (numbered (due_rows ranks channel) due.now)) }
-    ensures refused { IfErr result (λ e. IsReportFault e) }
 {
     for (rank, count) in due.iter().enumerate() {
         let numbers = Numbers {
@@ -218,9 +193,8 @@ fn write_due<W: Write>(
             value: Some(*count),
             ..BLANK
         };
-        write_numbers(table, ranks, b"due", &numbers, writer)?;
+        write_numbers(table, ranks, b"due", &numbers, writer);
     }
-    Ok(())
 }
 
 fn numbers_of_open(channel: u64, opened: OpenRow) -> Numbers
@@ -242,10 +216,9 @@ fn write_open_rows<W: Write>(
     channel: u64,
     open_rows: &[OpenRow],
     writer: &mut W,
-) -> Result<(), Fault>
-    ensures written { AddsOnOk result W.contents writer.old table.old writer.new table.new
+)
+    ensures { AddsRows W.contents writer.old table.old writer.new table.new
         (rows_text (map (open_fields ranks channel) open_rows.now)) }
-    ensures refused { IfErr result (λ e. IsReportFault e) }
 {
     for opened in open_rows {
         write_numbers(
@@ -254,9 +227,8 @@ fn write_open_rows<W: Write>(
             b"open",
             &numbers_of_open(channel, *opened),
             writer,
-        )?;
+        );
     }
-    Ok(())
 }
 
 fn queued_word(write: bool) -> &'static [u8]
@@ -291,10 +263,9 @@ fn write_queue<W: Write>(
     channel: u64,
     queue: &[Request],
     writer: &mut W,
-) -> Result<(), Fault>
-    ensures written { AddsOnOk result W.contents writer.old table.old writer.new table.new
+)
+    ensures { AddsRows W.contents writer.old table.old writer.new table.new
         (rows_text (map (queued_fields ranks channel) queue.now)) }
-    ensures refused { IfErr result (λ e. IsReportFault e) }
 {
     for request in queue {
         let item = queued_word(request.write);
@@ -304,9 +275,8 @@ fn write_queue<W: Write>(
             item,
             &numbers_of_queued(channel, *request),
             writer,
-        )?;
+        );
     }
-    Ok(())
 }
 
 fn write_channel<W: Write>(
@@ -315,14 +285,13 @@ fn write_channel<W: Write>(
     channel: u64,
     state: &ChannelState,
     writer: &mut W,
-) -> Result<(), Fault>
-    ensures written { AddsOnOk result W.contents writer.old table.old writer.new table.new
+)
+    ensures { AddsRows W.contents writer.old table.old writer.new table.new
         (rows_text (channel_rows ranks channel state.now)) }
-    ensures refused { IfErr result (λ e. IsReportFault e) }
 {
-    write_due(table, ranks, channel, &state.due, writer)?;
-    write_open_rows(table, ranks, channel, &state.open_rows, writer)?;
-    write_queue(table, ranks, channel, &state.queue, writer)
+    write_due(table, ranks, channel, &state.due, writer);
+    write_open_rows(table, ranks, channel, &state.open_rows, writer);
+    write_queue(table, ranks, channel, &state.queue, writer);
 }
 
 fn write_channels<W: Write>(
@@ -330,15 +299,13 @@ fn write_channels<W: Write>(
     ranks: u32,
     channels: &[ChannelState],
     writer: &mut W,
-) -> Result<(), Fault>
-    ensures written { AddsOnOk result W.contents writer.old table.old writer.new table.new
+)
+    ensures { AddsRows W.contents writer.old table.old writer.new table.new
         (rows_text (numbered (channel_rows ranks) channels.now)) }
-    ensures refused { IfErr result (λ e. IsReportFault e) }
 {
     for (channel, state) in channels.iter().enumerate() {
-        write_channel(table, ranks, channel as u64, state, writer)?;
+        write_channel(table, ranks, channel as u64, state, writer);
     }
-    Ok(())
 }
 
 fn flight_word(load: Load) -> &'static [u8]
@@ -401,10 +368,9 @@ fn write_in_flight<W: Write>(
     channels: u64,
     in_flight: &[Message],
     writer: &mut W,
-) -> Result<(), Fault>
-    ensures written { AddsOnOk result W.contents writer.old table.old writer.new table.new
+)
+    ensures { AddsRows W.contents writer.old table.old writer.new table.new
         (rows_text (map (flight_fields ranks channels) in_flight.now)) }
-    ensures refused { IfErr result (λ e. IsReportFault e) }
 {
     for message in in_flight {
         let item = flight_word(message.load);
@@ -414,28 +380,21 @@ fn write_in_flight<W: Write>(
             item,
             &numbers_of_flight(channels, *message),
             writer,
-        )?;
+        );
     }
-    Ok(())
 }
 
 // The header, and then each core, each channel and each message in flight.
-fn write_rows<W: Write>(
-    table: &mut Table,
-    state: &FinalState,
-    ranks: u32,
-    writer: &mut W,
-) -> Result<(), Fault>
-    ensures written { AddsOnOk result W.contents writer.old table.old writer.new table.new
+fn write_rows<W: Write>(table: &mut Table, state: &FinalState, ranks: u32, writer: &mut W)
+    ensures { AddsRows W.contents writer.old table.old writer.new table.new
         (final_text ranks state.now) }
-    ensures refused { IfErr result (λ e. IsReportFault e) }
 {
-    write_header(table, ranks, writer)?;
-    write_progress_of_all(table, ranks, &state.cores, writer)?;
-    write_credits_of_all(table, ranks, &state.cores, writer)?;
-    write_channels(table, ranks, &state.channels, writer)?;
+    table.write_text(columns(ranks), writer);
+    write_progress_of_all(table, ranks, &state.cores, writer);
+    write_credits_of_all(table, ranks, &state.cores, writer);
+    write_channels(table, ranks, &state.channels, writer);
     let channels = state.channels.len() as u64;
-    write_in_flight(table, ranks, channels, &state.in_flight, writer)
+    write_in_flight(table, ranks, channels, &state.in_flight, writer);
 }
 
 /// Writes the table of the state in which a run ends: a header; the entries that each core issued and retired; the
@@ -460,6 +419,6 @@ pub fn write_final<W: Write>(
     ensures refused { IfErr result (λ e. IsReportFault e) }
 {
     let mut table = Table::new(alloc);
-    write_rows(&mut table, state, ranks, writer)?;
+    write_rows(&mut table, state, ranks, writer);
     table.finish(writer)
 }

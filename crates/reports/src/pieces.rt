@@ -1,8 +1,8 @@
 //! Tables whose rows come in pieces, the texts of which are put together in parallel.
 
-ghost use Rattle.std.specs.Prelude.{◌≡◌, ◌<◌, ◌++◌, List, ℕ, flat_map, IfOk, IfErr};
+ghost use Rattle.std.specs.Prelude.{◌≡◌, ◌<◌, ◌≤◌, ◌++◌, List, ℕ, length, codes, flat_map, IfOk, IfErr};
 ghost use Rattle.reports.specs.Rows.{all_of, IsTextOf, IsReportFault, WritesOnOk};
-ghost use Rattle.reports.specs.Tables.{AddsOnOk};
+ghost use Rattle.reports.specs.Tables.{AddsRows};
 
 use crate::table::Table;
 use rayon::prelude::*;
@@ -22,27 +22,20 @@ pub(crate) trait TableLines<P> {
     /// The lines of the rows of a piece.
     ghost lines: { Self → P → List ℕ };
 
-    /// Writes the header.
-    fn write_header<W: Write>(&self, table: &mut Table, writer: &mut W) -> Result<(), Fault>
-        ensures written { AddsOnOk result W.contents writer.old table.old writer.new table.new
-            (header_line self.now) }
-        ensures refused { IfErr result (λ e. IsReportFault e) };
+    /// The names of the columns, with commas between them.
+    fn columns(&self) -> &'static [u8]
+        ensures names { result.now ++ codes "\n" ≡ header_line self.now }
+        ensures some { 0 < length result.now }
+        ensures short { length result.now ≤ 256 };
 
     /// Writes the rows of a piece.
-    fn write_lines<W: Write>(
-        &self,
-        alloc: Global,
-        piece: &P,
-        table: &mut Table,
-        writer: &mut W,
-    ) -> Result<(), Fault>
-        ensures written { AddsOnOk result W.contents writer.old table.old writer.new table.new
-            (lines self.now piece.now) }
-        ensures refused { IfErr result (λ e. IsReportFault e) };
+    fn write_lines<W: Write>(&self, alloc: Global, piece: &P, table: &mut Table, writer: &mut W)
+        ensures { AddsRows W.contents writer.old table.old writer.new table.new
+            (lines self.now piece.now) };
 }
 
 // Writes the header alone.
-fn write_header_alone<P, T: TableLines<P>, W: Write>(
+fn write_header<P, T: TableLines<P>, W: Write>(
     alloc: Global,
     of: &T,
     writer: &mut W,
@@ -51,7 +44,7 @@ fn write_header_alone<P, T: TableLines<P>, W: Write>(
     ensures refused { IfErr result (λ e. IsReportFault e) }
 {
     let mut table = Table::new(alloc);
-    of.write_header(&mut table, writer)?;
+    table.write_text(of.columns(), writer);
     table.finish(writer)
 }
 
@@ -67,24 +60,8 @@ fn write_piece<P, T: TableLines<P>, W: Write>(
     ensures refused { IfErr result (λ e. IsReportFault e) }
 {
     let mut table = Table::new(alloc);
-    of.write_lines(alloc, piece, &mut table, writer)?;
+    of.write_lines(alloc, piece, &mut table, writer);
     table.finish(writer)
-}
-
-// Writes the header and the rows of a piece through a table.
-fn write_both<P, T: TableLines<P>, W: Write>(
-    alloc: Global,
-    of: &T,
-    rows: &P,
-    table: &mut Table,
-    writer: &mut W,
-) -> Result<(), Fault>
-    ensures written { AddsOnOk result W.contents writer.old table.old writer.new table.new
-        (T.header_line of.now ++ T.lines of.now rows.now) }
-    ensures refused { IfErr result (λ e. IsReportFault e) }
-{
-    of.write_header(table, writer)?;
-    of.write_lines(alloc, rows, table, writer)
 }
 
 /// Writes a table whose rows are one piece: the header, and then the rows.
@@ -99,7 +76,8 @@ pub(crate) fn write_whole<P, T: TableLines<P>, W: Write>(
     ensures refused { IfErr result (λ e. IsReportFault e) }
 {
     let mut table = Table::new(alloc);
-    write_both(alloc, of, rows, &mut table, writer)?;
+    table.write_text(of.columns(), writer);
+    of.write_lines(alloc, rows, &mut table, writer);
     table.finish(writer)
 }
 
@@ -204,6 +182,6 @@ pub(crate) fn write_pieces<R: Threads + Sync, P: Sync, T: TableLines<P> + Sync, 
         (T.header_line of.now ++ flat_map (T.lines of.now) pieces.now) }
     ensures refused { IfErr result (λ e. IsReportFault e) }
 {
-    write_header_alone(crew.alloc, of, writer)?;
+    write_header(crew.alloc, of, writer)?;
     write_rounds(crew, of, pieces, writer)
 }

@@ -1,27 +1,19 @@
 //! The table of requests, `requests.csv`.
 
-ghost use Rattle.std.specs.Prelude.{◌≡◌, ◌<◌, ◌≤◌, ◌+◌, ◌++◌, ◌∷◌, length, drop, IfErr};
+ghost use Rattle.std.specs.Prelude.{◌≡◌, ◌<◌, ◌≤◌, ◌+◌, ◌++◌, ◌∷◌, length, drop, codes, IfErr};
 ghost use Rattle.reports.specs.Rows.{comma, fields_text, row_text, IsReportFault, WritesOnOk};
-ghost use Rattle.reports.specs.Tables.{AddsOnOk};
+ghost use Rattle.reports.specs.Tables.{AddsRows};
 ghost use Rattle.reports.specs.Requests.{request_header, access_word, time_fields, request_fields, request_lines, requests_text};
 
-use crate::line::{Line, put, put_last, put_last_word, put_word};
+use crate::line::{Line, put, put_last, put_word};
 use crate::pieces::{Crew, MOST, TableLines, write_pieces, write_whole};
-use crate::table::Table;
+use crate::table::{Loss, Table};
 use request_table::table::{RequestTable, Rows};
 use request_table::times::{Access, RequestTimes};
 use sim_base::fault::Fault;
 use std::alloc::Global;
 use std::io::Write;
 use std::thread::Threads;
-
-fn columns() -> &'static [u8]
-    ensures names { result.now ≡ fields_text request_header }
-    ensures some { 0 < length result.now }
-    ensures short { length result.now ≤ 64 }
-{
-    b"core,entry,access,channel,issued,arrived,served,replied,hit"
-}
 
 // The word of what a request asks, before the fields behind it.
 #[inline(always)]
@@ -64,29 +56,22 @@ fn put_request(line: &mut Line, row: &RequestTimes) -> usize
     put(line, start, Some(u64::from(row.core)))
 }
 
-fn write_request<W: Write>(
-    table: &mut Table,
-    row: &RequestTimes,
-    writer: &mut W,
-) -> Result<(), Fault>
-    ensures written { AddsOnOk result W.contents writer.old table.old writer.new table.new
+fn write_request<W: Write>(table: &mut Table, row: &RequestTimes, writer: &mut W)
+    ensures { AddsRows W.contents writer.old table.old writer.new table.new
         (row_text (request_fields row.now)) }
-    ensures refused { IfErr result (λ e. IsReportFault e) }
 {
     let start = put_request(&mut table.line, row);
-    table.write_row(start, writer)
+    table.write_row(start, writer);
 }
 
 // Each request that is left.
-fn write_each<W: Write>(table: &mut Table, mut rows: Rows<'_>, writer: &mut W) -> Result<(), Fault>
-    ensures written { AddsOnOk result W.contents writer.old table.old writer.new table.new
+fn write_each<W: Write>(table: &mut Table, mut rows: Rows<'_>, writer: &mut W)
+    ensures { AddsRows W.contents writer.old table.old writer.new table.new
         (request_lines rows.entry) }
-    ensures refused { IfErr result (λ e. IsReportFault e) }
 {
     while let Some(row) = rows.next() {
-        write_request(table, &row, writer)?;
+        write_request(table, &row, writer);
     }
-    Ok(())
 }
 
 /// The lines of the table of requests.
@@ -98,13 +83,12 @@ impl<'a> TableLines<Rows<'a>> for RequestLines {
 
     ghost lines = { λ of rows. request_lines rows };
 
-    fn write_header<W: Write>(&self, table: &mut Table, writer: &mut W) -> Result<(), Fault>
-        ensures written { AddsOnOk result W.contents writer.old table.old writer.new table.new
-            (row_text request_header) }
-        ensures refused { IfErr result (λ e. IsReportFault e) }
+    fn columns(&self) -> &'static [u8]
+        ensures names { result.now ++ codes "\n" ≡ row_text request_header }
+        ensures some { 0 < length result.now }
+        ensures short { length result.now ≤ 256 }
     {
-        let start = put_last_word(&mut table.line, columns());
-        table.write_row(start, writer)
+        b"core,entry,access,channel,issued,arrived,served,replied,hit"
     }
 
     fn write_lines<W: Write>(
@@ -113,12 +97,14 @@ impl<'a> TableLines<Rows<'a>> for RequestLines {
         piece: &Rows<'a>,
         table: &mut Table,
         writer: &mut W,
-    ) -> Result<(), Fault>
-        ensures written { AddsOnOk result W.contents writer.old table.old writer.new table.new
+    )
+        ensures { AddsRows W.contents writer.old table.old writer.new table.new
             (request_lines piece.now) }
-        ensures refused { IfErr result (λ e. IsReportFault e) }
     {
-        write_each(table, piece.copied(alloc)?, writer)
+        match piece.copied(alloc) {
+            Ok(rows) => write_each(table, rows, writer),
+            Err(_) => table.lose(Loss::Memory),
+        }
     }
 }
 

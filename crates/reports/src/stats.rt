@@ -3,12 +3,12 @@
 ghost use Rattle.std.specs.Prelude.{◌≡◌, ◌<◌, ◌≤◌, length, drop, map, IfErr};
 ghost use Rattle.reports.specs.Rows.{fields_text, row_text, rows_text, numbered, IsReportFault, WritesOnOk};
 ghost use Rattle.reports.specs.Stats.{count_named, value_fields, count_fields, core_values, usual_values, core_rows, channel_rows, stats_text};
-ghost use Rattle.reports.specs.Tables.{AddsOnOk};
+ghost use Rattle.reports.specs.Tables.{AddsRows};
 
 mod named;
 
 use self::named::{NamedCount, named};
-use crate::line::{Line, put, put_last_wide, put_last_word, put_word};
+use crate::line::{Line, put, put_last_wide, put_word};
 use crate::table::Table;
 use sim_base::fault::Fault;
 use statistics::channels::ChannelStats;
@@ -90,14 +90,13 @@ fn write_count<W: Write>(
     id: u64,
     count: NamedCount,
     writer: &mut W,
-) -> Result<(), Fault>
+)
     requires { length scope.now ≤ 32 }
-    ensures written { AddsOnOk result W.contents writer.old table.old writer.new table.new
+    ensures { AddsRows W.contents writer.old table.old writer.new table.new
         (row_text (count_fields scope.now id count)) }
-    ensures refused { IfErr result (λ e. IsReportFault e) }
 {
     let start = put_count(&mut table.line, scope, id, count);
-    table.write_row(start, writer)
+    table.write_row(start, writer);
 }
 
 fn write_counts<W: Write>(
@@ -106,80 +105,56 @@ fn write_counts<W: Write>(
     id: u64,
     counts: &[NamedCount],
     writer: &mut W,
-) -> Result<(), Fault>
+)
     requires { length scope.now ≤ 32 }
-    ensures written { AddsOnOk result W.contents writer.old table.old writer.new table.new
+    ensures { AddsRows W.contents writer.old table.old writer.new table.new
         (rows_text (map (value_fields scope.now id) (map count_named counts.now))) }
-    ensures refused { IfErr result (λ e. IsReportFault e) }
 {
     for count in counts {
-        write_count(table, scope, id, *count, writer)?;
+        write_count(table, scope, id, *count, writer);
     }
-    Ok(())
 }
 
-fn write_cores<W: Write>(
-    table: &mut Table,
-    cores: &[CoreStats],
-    writer: &mut W,
-) -> Result<(), Fault>
-    ensures written { AddsOnOk result W.contents writer.old table.old writer.new table.new
+fn write_cores<W: Write>(table: &mut Table, cores: &[CoreStats], writer: &mut W)
+    ensures { AddsRows W.contents writer.old table.old writer.new table.new
         (rows_text (numbered core_rows cores.now)) }
-    ensures refused { IfErr result (λ e. IsReportFault e) }
 {
     for (id, core) in cores.iter().enumerate() {
-        write_counts(table, b"core", id as u64, &core_counts(core), writer)?;
+        write_counts(table, b"core", id as u64, &core_counts(core), writer);
     }
-    Ok(())
 }
 
-fn write_channel<W: Write>(
-    table: &mut Table,
-    id: u64,
-    channel: &ChannelStats,
-    writer: &mut W,
-) -> Result<(), Fault>
-    ensures written { AddsOnOk result W.contents writer.old table.old writer.new table.new
+fn write_channel<W: Write>(table: &mut Table, id: u64, channel: &ChannelStats, writer: &mut W)
+    ensures { AddsRows W.contents writer.old table.old writer.new table.new
         (rows_text (channel_rows id channel.now)) }
-    ensures refused { IfErr result (λ e. IsReportFault e) }
 {
-    write_counts(table, b"channel", id, &channel_counts(channel), writer)?;
-    match channel.draining {
-        Some(cycles) => {
-            let draining = named(b"draining", cycles);
-            write_count(table, b"channel", id, draining, writer)
-        }
-        None => Ok(()),
-    }
+    write_counts(table, b"channel", id, &channel_counts(channel), writer);
+    let Some(cycles) = channel.draining else {
+        return;
+    };
+    let draining = named(b"draining", cycles);
+    write_count(table, b"channel", id, draining, writer);
 }
 
-fn write_channels<W: Write>(
-    table: &mut Table,
-    channels: &[ChannelStats],
-    writer: &mut W,
-) -> Result<(), Fault>
-    ensures written { AddsOnOk result W.contents writer.old table.old writer.new table.new
+fn write_channels<W: Write>(table: &mut Table, channels: &[ChannelStats], writer: &mut W)
+    ensures { AddsRows W.contents writer.old table.old writer.new table.new
         (rows_text (numbered channel_rows channels.now)) }
-    ensures refused { IfErr result (λ e. IsReportFault e) }
 {
     for (id, channel) in channels.iter().enumerate() {
-        write_channel(table, id as u64, channel, writer)?;
+        write_channel(table, id as u64, channel, writer);
     }
-    Ok(())
 }
 
 // The header, how many cycles there were, and then each core and each channel.
-fn write_rows<W: Write>(table: &mut Table, stats: &Stats, writer: &mut W) -> Result<(), Fault>
-    ensures written { AddsOnOk result W.contents writer.old table.old writer.new table.new
+fn write_rows<W: Write>(table: &mut Table, stats: &Stats, writer: &mut W)
+    ensures { AddsRows W.contents writer.old table.old writer.new table.new
         (stats_text stats.now) }
-    ensures refused { IfErr result (λ e. IsReportFault e) }
 {
-    let start = put_last_word(&mut table.line, b"scope,id,name,value");
-    table.write_row(start, writer)?;
+    table.write_text(b"scope,id,name,value", writer);
     let cycles = named(b"cycles", stats.cycles);
-    write_count(table, b"run", 0, cycles, writer)?;
-    write_cores(table, &stats.cores, writer)?;
-    write_channels(table, &stats.channels, writer)
+    write_count(table, b"run", 0, cycles, writer);
+    write_cores(table, &stats.cores, writer);
+    write_channels(table, &stats.channels, writer);
 }
 
 /// Writes the table of statistics: a header, how many cycles there were, and then a row for each count of each core and
@@ -197,6 +172,6 @@ pub fn write_stats<W: Write>(alloc: Global, stats: &Stats, writer: &mut W) -> Re
     ensures refused { IfErr result (λ e. IsReportFault e) }
 {
     let mut table = Table::new(alloc);
-    write_rows(&mut table, stats, writer)?;
+    write_rows(&mut table, stats, writer);
     table.finish(writer)
 }

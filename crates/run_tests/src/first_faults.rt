@@ -1,5 +1,5 @@
-//! Runs that are refused where two things are wrong at once: the first of them in the order of the tests is told, by the machine
-//! with workers and by the plain one.
+//! Runs that are refused where two things are wrong at once: the first of them in the order of the tests is told, by
+//! the machine with workers and by the plain one.
 
 use crate::expect::expect;
 use crate::outcomes::{Texts, always, outcome_of, plain_outcome};
@@ -16,8 +16,8 @@ use workers::watch::Unwatched;
 /// One cycle more than a run may have.
 const TOO_LONG: Cycle = 1_000_000_000_001;
 
-/// A line in the place of one of the small machine's, or none, the first `count` of some traces, and what else is wrong of a run; and the fault that
-/// is told.
+/// A line in the place of one of the small machine's, or none, the first `count` of some traces, and what else is wrong
+/// of a run; and the fault that is told.
 struct Case<'x> {
     change: &'x str,
     traces: [&'x str; 3],

@@ -1,8 +1,8 @@
 //! Runs whose workers pass a gate, which shows that several of them are at work at once.
 //!
-//! The runs are made as the program makes them, by workers that share each machine out. No gate waits forever. A phase has two jobs for each
-//! worker, or as many as there are units, and no worker takes a job while it holds another; so a job that is held is held by one worker, and the
-//! others take all other jobs.
+//! The runs are made as the program makes them, by workers that share each machine out. No gate waits forever. A phase
+//! has two jobs for each worker, or as many as there are units, and no worker takes a job while it holds another; so a
+//! job that is held is held by one worker, and the others take all other jobs.
 
 use crate::expect::expect;
 use crate::outcomes::{Run, Texts, always, auto, has_tables, outcome_of, plain_tables};
@@ -23,9 +23,9 @@ use workers::watch::Unwatched;
 /// How often a job that is held looks whether it may go on, where something is wrong.
 const TURNS: u64 = 20_000_000;
 
-/// The phases of two cores that read a line each, of the same row. The requests are sent in cycle 0 and come in 2, where the row is opened.
-/// The lines are read in the cycles 5 and 10, as they lie in one group. The credits come in 7 and 12, and the replies in 15 and 20. In
-/// the other cycles nothing happens.
+/// The phases of two cores that read a line each, of the same row. The requests are sent in cycle 0 and come in 2,
+/// where the row is opened. The lines are read in the cycles 5 and 10, as they lie in one group. The credits come in 7
+/// and 12, and the replies in 15 and 20. In the other cycles nothing happens.
 static SPANS: [(Cycle, Cycle); 8] = [
     (0, 2),
     (2, 4),
@@ -142,8 +142,8 @@ impl Gate for Meeting {
     }
 }
 
-/// What a gate saw of a run with these numbers of workers, and of jobs in each phase: whether the tables are the plain machine's, the faults,
-/// and whether each job was run once.
+/// What a gate saw of a run with these numbers of workers, and of jobs in each phase: whether the tables are the plain
+/// machine's, the faults, and whether each job was run once.
 fn met_by<R: Threads + Wait + Sync>(
     rt: &R,
     alloc: Global,
@@ -178,8 +178,8 @@ fn assert_meetings<R: Abort + Threads + Wait + Sync>(
     Ok(())
 }
 
-/// In each phase all workers are at work at once, or as many as there are units: two cores and a channel. Each job is run
-/// once.
+/// In each phase all workers are at work at once, or as many as there are units: two cores and a channel. Each job is
+/// run once.
 #[test]
 fn workers_meet_in_every_phase(rt: HostRuntime) -> Result<(), Fail> {
     let texts = Texts::of(rt.alloc(), &["cores = 2"], "", &["0 0\n", "0 64\n"])?;
@@ -330,8 +330,8 @@ fn is_shared_out<R: Threads + Wait + Sync>(
     Ok(gate.jobs() > 0)
 }
 
-/// All requests of 24 cores are in flight for a long time, so the units are shared out. Where there are few units, or one worker, the caller
-/// runs them, unless several workers always share.
+/// All requests of 24 cores are in flight for a long time, so the units are shared out. Where there are few units, or
+/// one worker, the caller runs them, unless several workers always share.
 #[test]
 fn a_large_machine_is_shared_out(rt: HostRuntime) -> Result<(), Fail> {
     for (workers, want) in [

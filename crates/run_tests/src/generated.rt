@@ -79,8 +79,8 @@ fn assert_shared_later<R: Abort + Threads + Wait + Sync>(
     Ok(())
 }
 
-/// The requests of the same machine are on their way for 100 cycles: 56 of them at least, from cycle 50 on. So the caller, who runs it
-/// alone while less is in flight, shares it out before they come.
+/// The requests of the same machine are on their way for 100 cycles: 56 of them at least, from cycle 50 on. So the
+/// caller, who runs it alone while less is in flight, shares it out before they come.
 #[test]
 fn a_busy_machine_does_not_show_its_workers(rt: HostRuntime) -> Result<(), Fail> {
     let changes = ["cores = 24", "channels = 2", "request_latency = 100"];

@@ -1,4 +1,5 @@
-//! Tests of runs: of a machine from its bytes, of its workers and of their phases, and of the order in which the results of a phase come.
+//! Tests of runs: of a machine from its bytes, of its workers and of their phases, and of the order in which the
+//! results of a phase come.
 #![tactic(auto)]
 
 #[cfg(test)]

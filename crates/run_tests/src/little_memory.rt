@@ -1,5 +1,5 @@
-//! A small run that is refused memory: it gives fault 10, or 11 where a worker did not start, or its usual result. To be run
-//! with each allocation failing in turn; what these tests take of memory themselves counts too.
+//! A small run that is refused memory: it gives fault 10, or 11 where a worker did not start, or its usual result. To
+//! be run with each allocation failing in turn; what these tests take of memory themselves counts too.
 
 use crate::expect::expect;
 use crate::outcomes::{always, commands_of};
@@ -16,8 +16,8 @@ use std::thread::Threads;
 use workers::gate::Open;
 use workers::watch::Unwatched;
 
-/// Whether these are the commands of one core that reads one line: an ACT in cycle 2 and an RD in cycle 5. Where the list of them is
-/// refused memory, that is not known.
+/// Whether these are the commands of one core that reads one line: an ACT in cycle 2 and an RD in cycle 5. Where the
+/// list of them is refused memory, that is not known.
 fn has_commands(alloc: Global, outcome: &Outcome) -> bool {
     let Ok(rows) = commands_of(alloc, outcome) else {
         return true;

@@ -99,7 +99,8 @@ impl Order for Brings {
     }
 }
 
-/// The small machine with two cores that read one line each, before their first cycle. `AllocError` stands for each fault.
+/// The small machine with two cores that read one line each, before their first cycle. `AllocError` stands for each
+/// fault.
 fn started(alloc: Global, changes: &[&str]) -> Result<Sim, AllocError>
     ensures { IfOk result (λ sim. sim.now ≡ 0) }
 {
@@ -160,8 +161,9 @@ fn ends_of(did: &Did) -> Ends {
     ]
 }
 
-/// ACT 2, RD 5, and RD 10, as a burst of the same group comes at the earliest 5 cycles after another. The replies arrive in the
-/// cycles 15 and 20; the second is in flight before cycle 16. With three shards each unit is one of its own.
+/// ACT 2, RD 5, and RD 10, as a burst of the same group comes at the earliest 5 cycles after another. The replies
+/// arrive in the cycles 15 and 20; the second is in flight before cycle 16. With three shards each unit is one of its
+/// own.
 #[test]
 fn orders_do_not_matter(rt: HostRuntime) -> Result<(), Fail> {
     let whole = did_by(rt.alloc(), 3, &mut AsTheyCome)?;
@@ -218,8 +220,8 @@ fn brought(alloc: Global) -> Result<Option<Fault>, AllocError> {
     Ok(run_in_order(sim, alloc, 3, 16, &mut Brings(others)).err())
 }
 
-/// The first phase has three results of its own, up to cycle 2. Behind them stands one of the first phase of the other machine, up to cycle 8,
-/// with the same number.
+/// The first phase has three results of its own, up to cycle 2. Behind them stands one of the first phase of the other
+/// machine, up to cycle 8, with the same number.
 #[test]
 fn a_stranger_stops_a_run(rt: HostRuntime) -> Result<(), Fail> {
     let fault = brought(rt.alloc())?;

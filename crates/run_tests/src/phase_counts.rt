@@ -1,5 +1,5 @@
-//! How many phases a run has, and over which cycles. Where a machine is split each unit is asked, in a phase of its own; after that, one begins where
-//! something is sent or arrives.
+//! How many phases a run has, and over which cycles. Where a machine is split each unit is asked, in a phase of its
+//! own; after that, one begins where something is sent or arrives.
 
 use crate::expect::expect;
 use crate::outcomes::{EVERY, Texts};
@@ -33,7 +33,8 @@ impl<'a> Runner for Noting<'a> {
     }
 }
 
-/// Other lines of the small machine, the trace of its core, and a limit; and the phases up to it, with each unit in a shard of its own.
+/// Other lines of the small machine, the trace of its core, and a limit; and the phases up to it, with each unit in a
+/// shard of its own.
 struct Counted {
     changes: &'static [&'static str],
     trace: &'static str,
@@ -42,8 +43,8 @@ struct Counted {
 }
 
 static COUNTED: [Counted; 3] = [
-    // A read is sent in cycle 0 and comes in 2, where its row is opened; the row is ready in 5, and the line is read. The credit comes in 7 and the
-    // reply in 15. In the other cycles nothing is sent and nothing arrives.
+    // A read is sent in cycle 0 and comes in 2, where its row is opened; the row is ready in 5, and the line is read.
+    // The credit comes in 7 and the reply in 15. In the other cycles nothing is sent and nothing arrives.
     Counted {
         changes: &[],
         trace: "0 0\n",
@@ -57,8 +58,8 @@ static COUNTED: [Counted; 3] = [
         cycles: 250,
         spans: &[(0, 2), (100, 102), (200, 202)],
     },
-    // The same read over links of a million cycles, up to the last cycle of all: it comes in cycle 1,000,000 and is read in 1,000,003, the credit comes
-    // in 2,000,003, and the reply in 2,000,011, in the same phase.
+    // The same read over links of a million cycles, up to the last cycle of all: it comes in cycle 1,000,000 and is
+    // read in 1,000,003, the credit comes in 2,000,003, and the reply in 2,000,011, in the same phase.
     Counted {
         changes: &[
             "request_latency = 1000000",

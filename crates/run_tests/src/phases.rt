@@ -1,4 +1,5 @@
-//! Phases of a small machine and of toy tasks, run by one thread and by several; and the board from which threads take them.
+//! Phases of a small machine and of toy tasks, run by one thread and by several; and the board from which threads take
+//! them.
 
 ghost use Rattle.std.specs.Prelude.{◌≡◌, ◌+◌, ◌<◌, ◌≤◌, [], length, vec_len};
 ghost use Rattle.crew.specs.Rule.{put_view};
@@ -218,8 +219,8 @@ impl PhasedRun<Number, Square, u64> for ManyPhases {
     }
 }
 
-/// Of no memory refused: a number of phases, how many tasks of one the board has room for, and workers. Where there is no room for all, the
-/// caller has the others.
+/// Of no memory refused: a number of phases, how many tasks of one the board has room for, and workers. Where there is
+/// no room for all, the caller has the others.
 static WHOLE: [(u64, usize, usize); 4] = [
     (10_000, 17, 1),
     (10_000, 17, 2),
@@ -289,8 +290,8 @@ fn take_number<R: Wait, B: Room>(
     }
 }
 
-/// Tasks are put and taken by two seats in turn, and once more by each; then both come home. The numbers of what was taken, and how
-/// many were missing before, between and after.
+/// Tasks are put and taken by two seats in turn, and once more by each; then both come home. The numbers of what was
+/// taken, and how many were missing before, between and after.
 fn take_in_turn<R: Wait, B: Room>(
     rt: &R,
     blank: Blank<Number>,

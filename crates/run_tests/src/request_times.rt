@@ -1,8 +1,9 @@
-//! When three requests of the small machine were where, worked out by hand: a read and a write of one entry, and a read of the next one.
+//! When three requests of the small machine were where, worked out by hand: a read and a write of one entry, and a read
+//! of the next one.
 //!
-//! The core issues them in cycles 0, 1 and 2, and each travels 2 cycles. The ACT for the first is issued in cycle 2, its RD 3 cycles later (nRCD), and
-//! its data is there 4 + 4 + 2 cycles after that. The write has its WR 7 cycles after the RD (nRTW), and the second read its RD 9 cycles after the WR
-//! (nCWL + 4 + nWTR_L), both in the row that is open.
+//! The core issues them in cycles 0, 1 and 2, and each travels 2 cycles. The ACT for the first is issued in cycle 2,
+//! its RD 3 cycles later (nRCD), and its data is there 4 + 4 + 2 cycles after that. The write has its WR 7 cycles after
+//! the RD (nRTW), and the second read its RD 9 cycles after the WR (nCWL + 4 + nWTR_L), both in the row that is open.
 
 use crate::expect::expect_at;
 use crate::outcomes::{Texts, always, outcome_of};

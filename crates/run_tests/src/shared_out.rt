@@ -1,5 +1,5 @@
-//! Machines in shards that `run_with` runs with a runner of the tests: neither how many shards there are affects the outcome, nor the order in which the
-//! results of a phase come.
+//! Machines in shards that `run_with` runs with a runner of the tests: neither how many shards there are affects the
+//! outcome, nor the order in which the results of a phase come.
 
 ghost use Rattle.std.specs.Prelude.{◌<◌};
 
@@ -106,7 +106,8 @@ fn tables_by<R: Threads + Sync>(
     tables_of(alloc, &outcome)
 }
 
-/// A run that stops at a cycle has the tables of the plain machine, in however many shards. Some machines have fewer units than there are shards.
+/// A run that stops at a cycle has the tables of the plain machine, in however many shards. Some machines have fewer
+/// units than there are shards.
 fn assert_shared<R: Abort + Threads + Sync>(
     rt: &R,
     alloc: Global,

@@ -66,7 +66,8 @@ fn is_same<R: Threads + Wait + Sync>(
 /// How many cycles the watcher answers.
 static STRETCHES: [Cycle; 5] = [0, 1, 2, 7, Cycle::MAX];
 
-/// A run that is watched has the tables of the plain machine, in shards and in place, and its watcher is told once of its end.
+/// A run that is watched has the tables of the plain machine, in shards and in place, and its watcher is told once of
+/// its end.
 fn assert_same_watched<R: Abort + Threads + Wait + Sync>(
     rt: &R,
     alloc: Global,
@@ -119,8 +120,8 @@ fn told_of<R: Threads + Wait + Sync>(
     Ok((watch.told, watch.ends))
 }
 
-/// A core reads one line, whose reply comes in cycle 15, in which the entry retires. A run of 20 cycles is asked about before cycle 0, and
-/// then after 8 cycles each time; a run of no cycles is not.
+/// A core reads one line, whose reply comes in cycle 15, in which the entry retires. A run of 20 cycles is asked about
+/// before cycle 0, and then after 8 cycles each time; a run of no cycles is not.
 #[test]
 fn a_watcher_is_told_what_retired(rt: HostRuntime) -> Result<(), Fail> {
     let (told, ends) = told_of(&rt, rt.alloc(), 8, 20)?;

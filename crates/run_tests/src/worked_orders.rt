@@ -1,5 +1,5 @@
-//! The runs of the first twelve worked cases, in 1 and 2 shards and with each unit in one of its own, with the results of each phase in several orders: each
-//! gives the tables of the plain machine.
+//! The runs of the first twelve worked cases, in 1 and 2 shards and with each unit in one of its own, with the results
+//! of each phase in several orders: each gives the tables of the plain machine.
 
 ghost use Rattle.std.specs.Prelude.{◌<◌};
 

@@ -95,10 +95,11 @@ fn banks_of_channels(
     Ok(text)
 }
 
-/// What a run did, as `show_text` shows it, and below that for each channel a line for each bank that one of its commands names, by rank, group
-/// and bank: its ACTs, RDs and WRs; how often its row was closed, by its PREs and the PREAs of its rank; the percentage of its RDs and WRs
-/// that were row hits, for whose request it had no ACT; and its conflicts, which are its PREs, each issued for a request that needs another
-/// row than the open one. The banks are never summarized. Only memory can be refused.
+/// What a run did, as `show_text` shows it, and below that for each channel a line for each bank that one of its
+/// commands names, by rank, group and bank: its ACTs, RDs and WRs; how often its row was closed, by its PREs and the
+/// PREAs of its rank; the percentage of its RDs and WRs that were row hits, for whose request it had no ACT; and its
+/// conflicts, which are its PREs, each issued for a request that needs another row than the open one. The banks are
+/// never summarized. Only memory can be refused.
 pub fn show_banks(
     alloc: Global,
     stats: &Stats,

@@ -37,8 +37,8 @@ impl Form {
 /// A number of the screen.
 #[derive(Clone, Copy)]
 pub(crate) struct Number {
-    /// The number in halves of a thousandth, rounded down; none where there is nothing to divide by. Rounding it to thousandths or
-    /// coarser therefore gives the same as rounding the exact number.
+    /// The number in halves of a thousandth, rounded down; none where there is nothing to divide by. Rounding it to
+    /// thousandths or coarser therefore gives the same as rounding the exact number.
     pub(crate) halves: Option<u128>,
     pub(crate) form: Form,
 }

@@ -3,7 +3,7 @@
 ghost use Rattle.std.specs.Prelude.{◌≡◌, ◌≤◌, length, IfOk, OnOk, string_bytes};
 ghost use Rattle.request_measures.specs.Latency.{read_latencies, AreLatenciesOf};
 ghost use Rattle.show.specs.Requests.{latencies_head, waits_head, replies_of, AreRequests};
-ghost use Rattle.show.specs.Screen.{Extends};
+ghost use Rattle.show.specs.Screen.{BeginsBy, Extends};
 
 use crate::number::Number;
 use crate::options::Options;
@@ -168,7 +168,7 @@ fn text_of_latencies(
     requests: &[RequestTimes],
     options: Options,
 ) -> Result<String, AllocError>
-    ensures { IfOk result (λ text. Extends (latencies_head (length (read_latencies requests.now))) (string_bytes text)) }
+    ensures { IfOk result (BeginsBy (latencies_head (length (read_latencies requests.now)))) }
 {
     let rows = latency_rows(alloc, cores, requests, options.khz)?;
     let all = latency_percentiles(alloc, requests)?;
@@ -187,7 +187,7 @@ fn text_of_waits(
     requests: &[RequestTimes],
     options: Options,
 ) -> Result<String, AllocError>
-    ensures { IfOk result (λ text. Extends (waits_head (length requests.now)) (string_bytes text)) }
+    ensures { IfOk result (BeginsBy (waits_head (length requests.now))) }
 {
     let rows = wait_rows(alloc, channels, requests, options.khz)?;
     let count = requests.len();
@@ -205,13 +205,14 @@ fn text_of_waits(
 
 /// What stands below the screen of a run of so many cores and channels whose requests are known.
 ///
-/// - Of a core, and last of all cores: the reads whose reply came in the run, and how long these took from their issue to their reply, as the
-///   median, the 95th and the 99th percentile by the nearest rank, and the greatest.
-/// - Of a channel: its reads, its writes and its row hits among both, and for each how long they were in the queue, from their arrival to
-///   their RD or WR, as a mean.
+/// - Of a core, and last of all cores: the reads whose reply came in the run, and how long these took from their issue
+///   to their reply, as the median, the 95th and the 99th percentile by the nearest rank, and the greatest.
+/// - Of a channel: its reads, its writes and its row hits among both, and for each how long they were in the queue,
+///   from their arrival to their RD or WR, as a mean.
 /// - Where the clock is given, the same times in ns.
 ///
-/// All times are in cycles. Numbers, and tables of more than 16 units, are as on the screen. Only memory can be refused.
+/// All times are in cycles. Numbers, and tables of more than 16 units, are as on the screen. Only memory can be
+/// refused.
 pub fn show_requests(
     alloc: Global,
     cores: CoreId,

@@ -97,7 +97,8 @@ fn refreshes(cycles: u64, channel: &ChannelStats, config: Option<&Config>) -> Nu
 /// A greater part counts as this one.
 const GREATEST_PART: u128 = 1 << 79;
 
-// A kHz is 1,000 cycles a second, and a RD or WR moves 64 bytes: a GB/s is 15,625 of them in so many cycles as a kHz counts.
+// A kHz is 1,000 cycles a second, and a RD or WR moves 64 bytes: a GB/s is 15,625 of them in so many cycles as a kHz
+// counts.
 const MOVES_OF_A_GIGABYTE: u128 = 15_625;
 
 // The data that a channel moved, in GB/s.
@@ -235,8 +236,8 @@ pub(crate) fn core_rows(
     Ok(rows)
 }
 
-// The least, the median and the greatest of the numbers in a column that are there. The median of an even count is the lower of the
-// two in the middle.
+// The least, the median and the greatest of the numbers in a column that are there. The median of an even count is the
+// lower of the two in the middle.
 fn summary_of(alloc: Global, rows: &[Row], column: usize) -> Result<[Number; 3], AllocError> {
     let mut known = Vec::new(alloc);
     let mut form = Form::Count;

@@ -1,7 +1,7 @@
 //! The screen: the cycles, a table of channels and a table of cores.
 
 ghost use Rattle.std.specs.Prelude.{IfOk, OnOk, length, string_bytes};
-ghost use Rattle.show.specs.Screen.{Extends, IsScreen, channels_head, cores_head};
+ghost use Rattle.show.specs.Screen.{BeginsBy, Extends, IsScreen, channels_head, cores_head};
 
 use crate::options::Options;
 use crate::rows::{
@@ -36,7 +36,7 @@ fn text_of_channels(
     options: Options,
     config: Option<&Config>,
 ) -> Result<String, AllocError>
-    ensures { IfOk result (λ text. Extends (channels_head stats.now.cycles (length stats.now.channels)) (string_bytes text)) }
+    ensures { IfOk result (BeginsBy (channels_head stats.now.cycles (length stats.now.channels))) }
 {
     let (cycles, channels) = (stats.cycles, stats.channels.len());
     let rows = channel_rows(alloc, cycles, &stats.channels, config, options.khz)?;
@@ -54,7 +54,7 @@ fn text_of_channels(
 
 // The cores of a run.
 fn text_of_cores(alloc: Global, stats: &Stats, options: Options) -> Result<String, AllocError>
-    ensures { IfOk result (λ text. Extends (cores_head (length stats.now.cores)) (string_bytes text)) }
+    ensures { IfOk result (BeginsBy (cores_head (length stats.now.cores))) }
 {
     let cores = stats.cores.len();
     let rows = core_rows(alloc, stats.cycles, &stats.cores, options.khz)?;
@@ -88,22 +88,24 @@ fn put_time(
     out.push_str(" ns\n")
 }
 
-/// What a run did, on one screen of lines of at most 100 characters, or 122 with a clock: its cycles, a table of its channels and one of its cores.
+/// What a run did, on one screen of lines of at most 100 characters, or 122 with a clock: its cycles, a table of its
+/// channels and one of its cores.
 ///
-/// - Of a channel: its RDs and WRs, the percentage of them that were row hits, the percentage of cycles in which its data bus was taken
-///   (4 cycles for each RD and WR), the mean and the greatest length of its queue, and the percentages of cycles in which its queue was
-///   empty, a refresh was due, and it drained its writes; and, where the configuration is given, the percentage of cycles that its REFs
-///   take, nRFC each.
-/// - Of a core: the entries that it retired, in total and per cycle, the cycle in which the last one retired, and the entries per cycle
-///   up to that one, the reads that it issued, the mean latency in cycles of those that were answered, and, for each reason, the
-///   percentage of cycles in which it issued no more for that reason.
-/// - Where the clock is given: of a channel the data that it moved in GB/s, 64 bytes for each RD and WR, of a core the finish and the mean latency
-///   in ns, and last the cycles in ns.
+/// - Of a channel: its RDs and WRs, the percentage of them that were row hits, the percentage of cycles in which its
+///   data bus was taken (4 cycles for each RD and WR), the mean and the greatest length of its queue, and the
+///   percentages of cycles in which its queue was empty, a refresh was due, and it drained its writes; and, where the
+///   configuration is given, the percentage of cycles that its REFs take, nRFC each.
+/// - Of a core: the entries that it retired, in total and per cycle, the cycle in which the last one retired, and the
+///   entries per cycle up to that one, the reads that it issued, the mean latency in cycles of those that were
+///   answered, and, for each reason, the percentage of cycles in which it issued no more for that reason.
+/// - Where the clock is given: of a channel the data that it moved in GB/s, 64 bytes for each RD and WR, of a core the
+///   finish and the mean latency in ns, and last the cycles in ns.
 ///
-/// Numbers have at most four digits, rounded half up, with `k` for a thousand, `M` for a million and so on. `-` stands where there is
-/// nothing to divide by, for the drain of a channel that never does, and for the finish of a core that has not finished. A table of more
-/// than 16 units has the least, the median and the greatest number of each column instead, unless all are asked for; the median of an even
-/// count is the lower of the two in the middle. Only memory can be refused.
+/// Numbers have at most four digits, rounded half up, with `k` for a thousand, `M` for a million and so on. `-` stands
+/// where there is nothing to divide by, for the drain of a channel that never does, and for the finish of a core that
+/// has not finished. A table of more than 16 units has the least, the median and the greatest number of each column
+/// instead, unless all are asked for; the median of an even count is the lower of the two in the middle. Only memory
+/// can be refused.
 pub fn show_text(
     alloc: Global,
     stats: &Stats,

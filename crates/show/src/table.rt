@@ -56,8 +56,8 @@ fn put_number(
     put_cell(text.as_str(), width, out)
 }
 
-/// The headings of a table, `label` that of its first column, which says what each line is about; and whether each row has a line, however
-/// many there are.
+/// The headings of a table, `label` that of its first column, which says what each line is about; and whether each row
+/// has a line, however many there are.
 #[derive(Clone, Copy)]
 pub(crate) struct Table<'a> {
     pub(crate) label: &'a str,

@@ -6,7 +6,6 @@ use show::options::Options;
 use show::show_banks;
 use sim_base::command::{Command, IssuedCommand, Source};
 use sim_base::place::BankId;
-use std::test::Fail;
 
 const PLAIN: Options = Options {
     all: false,
@@ -134,11 +133,11 @@ r1 g0 b1      1      0      0      0       -          0
 ";
 
 #[test]
-fn banks_below_the_screen(rt: HostRuntime) -> Result<(), Fail> {
+fn banks_below_the_screen(rt: HostRuntime) {
     let alloc = rt.alloc();
-    let stats = stats_of(alloc, 1000)?;
-    let list = list_of(alloc, &COMMANDS)?;
-    let text = show_banks(alloc, &stats, &list, PLAIN, None)?;
+    let stats = stats_of(&rt, alloc, 1000);
+    let list = list_of(&rt, alloc, &COMMANDS);
+    let text = show_banks(alloc, &stats, &list, PLAIN, None).expect(&rt, "memory");
     let text = text.as_str();
     let screen = text.starts_with("cycles 1000\n\nChannels (1): ");
     expect(
@@ -146,5 +145,4 @@ fn banks_below_the_screen(rt: HostRuntime) -> Result<(), Fail> {
         &(screen, text.strip_suffix(BANKS).is_some()),
         &(true, true),
     );
-    Ok(())
 }

@@ -1,12 +1,11 @@
 //! What is read of a table of commands, and what is refused.
 
 use crate::expect::{expect, expect_at};
+use crate::stats_read::joined;
 use run_tables::read_commands;
 use sim_base::command::{Command, IssuedCommand, Source};
 use sim_base::fault::Fault;
 use sim_base::place::BankId;
-use std::alloc::Global;
-use std::test::Fail;
 
 const WITH_RANK: &str = "cycle,channel,command,rank,group,bank,row,column,core,entry
 0,0,ACT,1,2,3,262143,,255,4611686018427387903
@@ -23,7 +22,7 @@ const WITHOUT_RANK: &str = "cycle,channel,command,group,bank,row,column,core,ent
 ";
 
 // The commands of that table.
-static ROWS: [IssuedCommand; 6] = [
+const ROWS: [IssuedCommand; 6] = [
     IssuedCommand {
         cycle: 0,
         channel: 0,
@@ -93,7 +92,7 @@ static ROWS: [IssuedCommand; 6] = [
 ];
 
 // Those of the other.
-static ROWS_WITHOUT_RANK: [IssuedCommand; 2] = [
+const ROWS_WITHOUT_RANK: [IssuedCommand; 2] = [
     IssuedCommand {
         cycle: 5,
         channel: 1,
@@ -114,18 +113,19 @@ static ROWS_WITHOUT_RANK: [IssuedCommand; 2] = [
     },
 ];
 
-fn read(alloc: Global, table: &str) -> Result<Vec<IssuedCommand>, Fault> {
-    let list = read_commands(alloc, table.as_bytes())?;
-    Ok(list.to_vec(alloc)?)
-}
+// The two tables.
+static READ: [(&str, &[IssuedCommand]); 2] = [
+    (WITH_RANK, &ROWS),
+    (WITHOUT_RANK, &ROWS_WITHOUT_RANK),
+];
 
 #[test]
-fn each_kind_of_command(rt: HostRuntime) -> Result<(), Fail> {
-    let rows = read(rt.alloc(), WITH_RANK)?;
-    expect(&rt, &rows.as_slice(), &ROWS.as_slice());
-    let rows = read(rt.alloc(), WITHOUT_RANK)?;
-    expect(&rt, &rows.as_slice(), &ROWS_WITHOUT_RANK.as_slice());
-    Ok(())
+fn each_kind_of_command(rt: HostRuntime) {
+    for (table, want) in &READ {
+        let list = read_commands(rt.alloc(), table.as_bytes()).expect(&rt, "a table");
+        let rows = list.to_vec(rt.alloc()).expect(&rt, "memory");
+        expect(&rt, &rows.as_slice(), want);
+    }
 }
 
 // A header, and a first row in cycle 9.
@@ -174,11 +174,10 @@ static REFUSED: [(&str, &str, u64); 29] = [
 ];
 
 #[test]
-fn wrong_headers_and_rows(rt: HostRuntime) -> Result<(), Fail> {
+fn wrong_headers_and_rows(rt: HostRuntime) {
     for (head, line, row) in &REFUSED {
-        let table = format!(in rt.alloc(); "{head}{line}")?;
+        let table = joined(&rt, rt.alloc(), &[*head, *line]);
         let refused = read_commands(rt.alloc(), table.as_bytes()).err();
         expect_at(&rt, line, &refused, &Some(Fault::CheckRow(*row)));
     }
-    Ok(())
 }

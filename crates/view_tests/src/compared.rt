@@ -8,8 +8,8 @@ use sim_base::message::Cycle;
 use statistics::channels::ChannelStats;
 use statistics::cores::CoreStats;
 use statistics::stats::Stats;
-use std::alloc::{AllocError, Global};
-use std::test::Fail;
+use std::alloc::Global;
+use std::process::Abort;
 
 // Of the first run 800 entries in 1,000 cycles are 0.8, 10 hits of 25 are 40 %, 4 * 25 cycles 10 %, 1,200 / 20 is 60.
 // Of the second 710 / 800 is 0.8875, 10.9375 % above 0.8, 210 / 800 is 0.2625, 12.5 % below 0.3, and 6 is a seventh
@@ -184,37 +184,39 @@ static RUNS: [Run; 4] = [
     ),
 ];
 
-fn all_runs(alloc: Global) -> Result<Vec<Stats>, AllocError> {
+fn all_runs(rt: &impl Abort, alloc: Global) -> Vec<Stats> {
     let mut runs = Vec::new(alloc);
     for (cycles, cores, channels) in &RUNS {
-        runs.push(Stats::of_parts(alloc, *cycles, cores, channels)?)?;
+        let stats = Stats::of_parts(alloc, *cycles, cores, channels).expect(rt, "memory");
+        runs.push(stats).expect(rt, "memory");
     }
-    Ok(runs)
+    runs
 }
-
-static NAMES: [&str; 3] = ["base", "wide", "out/two channels"];
 
 const TAILS: [Option<Cycle>; 3] = [Some(99), Some(120), None];
 
-// Comparisons of the three runs: whole, or in part, with percentiles of their latencies.
-static CASES: [(Layout, &[Option<Cycle>], &str); 4] = [
-    (Layout::Screen, &[], THREE),
-    (Layout::Csv, &[], THREE_CSV),
-    (Layout::Screen, &TAILS, TAIL),
-    (Layout::Csv, &TAILS, TAIL_CSV),
+// The names of runs, of which the first has this place among the four; how they are compared, with which percentiles of
+// their latencies; and the text, or, with percentiles, a part of it.
+type Case<'x> = (&'x [&'x str], usize, Layout, &'x [Option<Cycle>], &'x str);
+
+const NAMES: &[&str] = &["base", "wide", "out/two channels"];
+
+static CASES: [Case<'static>; 5] = [
+    (NAMES, 1, Layout::Screen, &[], THREE),
+    (NAMES, 1, Layout::Csv, &[], THREE_CSV),
+    (NAMES, 1, Layout::Screen, &TAILS, TAIL),
+    (NAMES, 1, Layout::Csv, &TAILS, TAIL_CSV),
+    (&["none", "base"], 0, Layout::Screen, &[], NO_CYCLES),
 ];
 
 #[test]
-fn three_runs(rt: HostRuntime) -> Result<(), Fail> {
-    let runs = all_runs(rt.alloc())?;
-    for (layout, tails, want) in &CASES {
-        let text = compare_text(
-            rt.alloc(),
-            *layout,
-            &NAMES,
-            runs.get(1..4).unwrap_or(&[]),
-            tails,
-        )?;
+fn runs_are_compared(rt: HostRuntime) {
+    let runs = all_runs(&rt, rt.alloc());
+    for (names, first, layout, tails, want) in &CASES {
+        let from = runs.get(*first..).unwrap_or(&[]);
+        let compared = from.get(..names.len()).unwrap_or(&[]);
+        let text = compare_text(rt.alloc(), *layout, names, compared, tails);
+        let text = text.expect(&rt, "memory");
         let text = text.as_str();
         let is_right = if tails.is_empty() {
             text == *want
@@ -223,19 +225,4 @@ fn three_runs(rt: HostRuntime) -> Result<(), Fail> {
         };
         expect_at(&rt, &text, &is_right, &true);
     }
-    Ok(())
-}
-
-#[test]
-fn a_first_run_of_no_cycles(rt: HostRuntime) -> Result<(), Fail> {
-    let runs = all_runs(rt.alloc())?;
-    let text = compare_text(
-        rt.alloc(),
-        Layout::Screen,
-        &["none", "base"],
-        runs.get(..2).unwrap_or(&[]),
-        &[],
-    )?;
-    expect_at(&rt, &"", &text.as_str(), &NO_CYCLES);
-    Ok(())
 }

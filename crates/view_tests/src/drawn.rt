@@ -4,7 +4,6 @@ use crate::expect::{expect, expect_at, expect_parts};
 use drawing::axes::{Quantity, put_cycle_ticks, put_value_ticks};
 use drawing::markup::{LegendEntry, Piece, put, put_legend};
 use drawing::scales::{axis_end, share_of, tick_step};
-use std::test::Fail;
 
 static PIECES: [(Piece, &str); 9] = [
     (Piece::Text("a <b>"), "a <b>"),
@@ -19,13 +18,12 @@ static PIECES: [(Piece, &str); 9] = [
 ];
 
 #[test]
-fn pieces_print(rt: HostRuntime) -> Result<(), Fail> {
+fn pieces_print(rt: HostRuntime) {
     for (piece, want) in &PIECES {
         let mut text = String::new(rt.alloc());
-        put(&[*piece], &mut text)?;
+        put(&[*piece], &mut text).expect(&rt, "memory");
         expect(&rt, &text.as_str(), want);
     }
-    Ok(())
 }
 
 // A part, a whole, the units of the whole, and the share. A half is rounded up.
@@ -79,19 +77,22 @@ const PUT: &str = r#"<i class="y" style="bottom:41.67%"><b>1.0</b></i>
 <rect class="act" width="10" height="10"/></svg>ACT</li></ul>"#;
 
 #[test]
-fn ticks_have_one_unit(rt: HostRuntime) -> Result<(), Fail> {
+fn ticks_have_one_unit(rt: HostRuntime) {
     let mut text = String::new(rt.alloc());
     // Up to 2.4 %, and up to 80 %.
-    put_value_ticks(Quantity::Percent, 24, &mut text)?;
-    put_value_ticks(Quantity::Percent, 800, &mut text)?;
-    put_value_ticks(Quantity::Count, 20, &mut text)?;
-    put_cycle_ticks(0, 2_500_000, &mut text)?;
-    put_cycle_ticks(1_100, 200, &mut text)?;
+    for (quantity, end) in [
+        (Quantity::Percent, 24),
+        (Quantity::Percent, 800),
+        (Quantity::Count, 20),
+    ] {
+        put_value_ticks(quantity, end, &mut text).expect(&rt, "memory");
+    }
+    put_cycle_ticks(0, 2_500_000, &mut text).expect(&rt, "memory");
+    put_cycle_ticks(1_100, 200, &mut text).expect(&rt, "memory");
     let entry = LegendEntry {
         class: "act",
         text: "ACT",
     };
-    put_legend(&[entry], &mut text)?;
+    put_legend(&[entry], &mut text).expect(&rt, "memory");
     expect_parts(&rt, text.as_str(), PUT, true);
-    Ok(())
 }

@@ -7,7 +7,6 @@ use explain::{TableKind, of_config, of_host, of_numbers, of_table, of_traces};
 use sim_base::fault::{Fault, LineCause};
 use std::alloc::{AllocError, Global};
 use std::process::Abort;
-use std::test::Fail;
 
 /// What is to be explained.
 #[derive(Clone, Copy)]
@@ -67,17 +66,15 @@ fn text_of(alloc: Global, asked: Asked) -> Result<String, AllocError> {
 }
 
 /// Ends the test where a text is not the one that is wanted, and prints both.
-fn expect_texts(rt: &impl Abort, alloc: Global, cases: &[Case]) -> Result<(), AllocError> {
+fn expect_texts(rt: &impl Abort, alloc: Global, cases: &[Case]) {
     for (asked, want) in cases {
-        let text = text_of(alloc, *asked)?;
+        let text = text_of(alloc, *asked).expect(rt, "memory");
         expect(rt, &text.as_str(), want);
     }
-    Ok(())
 }
 
 #[test]
-fn faults_are_explained(rt: HostRuntime) -> Result<(), Fail> {
-    expect_texts(&rt, rt.alloc(), &OF_CONFIGS)?;
-    expect_texts(&rt, rt.alloc(), &OF_OTHERS)?;
-    Ok(())
+fn faults_are_explained(rt: HostRuntime) {
+    expect_texts(&rt, rt.alloc(), &OF_CONFIGS);
+    expect_texts(&rt, rt.alloc(), &OF_OTHERS);
 }

@@ -6,7 +6,6 @@ use page::fault::PageFault;
 use page::page::write_page;
 use std::io;
 use std::io::{ErrorKind, Write};
-use std::test::Fail;
 
 /// Takes `left` writes, of at most 1,000 bytes each. Then it takes no byte, or fails.
 #[derive(Drop)]
@@ -48,9 +47,9 @@ static ENDS: [(u64, bool, Result<(), PageFault>); 11] = [
 ];
 
 #[test]
-fn a_writer_that_fails_is_told(rt: HostRuntime) -> Result<(), Fail> {
-    let stats = stats_of(rt.alloc(), 1000)?;
-    let commands = list_of(rt.alloc(), &ONE_READ)?;
+fn a_writer_that_fails_is_told(rt: HostRuntime) {
+    let stats = stats_of(&rt, rt.alloc(), 1000);
+    let commands = list_of(&rt, rt.alloc(), &ONE_READ);
     for (left, fails, want) in &ENDS {
         let mut writer = Failing {
             left: *left,
@@ -59,5 +58,4 @@ fn a_writer_that_fails_is_told(rt: HostRuntime) -> Result<(), Fail> {
         let ended = write_page(rt.alloc(), &stats, &commands, ALONE, WHOLE, &mut writer);
         expect_at(&rt, left, &ended, want);
     }
-    Ok(())
 }

@@ -12,7 +12,6 @@ use sim_base::config::Config;
 use statistics::stats::Stats;
 use std::alloc::Global;
 use std::process::Abort;
-use std::test::Fail;
 
 // Asserts what the page of a run with these requests has.
 fn assert_latency(
@@ -21,7 +20,7 @@ fn assert_latency(
     stats: &Stats,
     (config, requests): (Option<&Config>, Option<&[RequestTimes]>),
     parts: Parts<'_>,
-) -> Result<(), Fail> {
+) {
     let window = Window {
         from: 0,
         cycles: 64,
@@ -32,7 +31,7 @@ fn assert_latency(
         beside: Beside { config, requests },
         view: View { window, khz: None },
     };
-    assert_page(rt, alloc, &shown, parts)
+    assert_page(rt, alloc, &shown, parts);
 }
 
 // An axis of 30 cycles has a bin for each, and the picture's y is from its top: a read in the bin of 15 and one in that
@@ -90,14 +89,13 @@ static CASES: [Case; 6] = [
 const WRITTEN: [RequestTimes; 1] = [SECOND];
 
 #[test]
-fn pictures_of_requests(rt: HostRuntime) -> Result<(), Fail> {
-    let stats = run_of(rt.alloc(), 44, 1)?;
-    let config = small(rt.alloc(), &[], "")?;
+fn pictures_of_requests(rt: HostRuntime) {
+    let stats = run_of(&rt, rt.alloc(), 44, 1);
+    let config = small(rt.alloc(), &[], "").expect(&rt, "a machine");
     for (is_known, requests, parts) in &CASES {
         let known = if *is_known { Some(&config) } else { None };
-        assert_latency(&rt, rt.alloc(), &stats, (known, *requests), *parts)?;
+        assert_latency(&rt, rt.alloc(), &stats, (known, *requests), *parts);
     }
-    Ok(())
 }
 
 const READ: [RequestTimes; 1] = [RequestTimes {
@@ -127,7 +125,8 @@ channel 1 went: 50.00 cycles" viewBox="0 0 5200 1"><rect class="end" x="0" width
 // Cores of which one has no reply, folded as there are more than 16; the channel that has no read has a bar with no
 // part.
 #[test]
-fn many_cores_are_folded(rt: HostRuntime) -> Result<(), Fail> {
-    let stats = Stats::of_parts(rt.alloc(), 64, &[NO_CORE; 17], &[NO_CHANNEL; 2])?;
-    assert_latency(&rt, rt.alloc(), &stats, (None, Some(&READ)), (FOLDED, ""))
+fn many_cores_are_folded(rt: HostRuntime) {
+    let stats = Stats::of_parts(rt.alloc(), 64, &[NO_CORE; 17], &[NO_CHANNEL; 2]);
+    let stats = stats.expect(&rt, "memory");
+    assert_latency(&rt, rt.alloc(), &stats, (None, Some(&READ)), (FOLDED, ""));
 }

@@ -12,9 +12,8 @@ use sim_base::place::BankId;
 use statistics::channels::ChannelStats;
 use statistics::cores::CoreStats;
 use statistics::stats::Stats;
-use std::alloc::{AllocError, Global};
+use std::alloc::Global;
 use std::process::Abort;
-use std::test::Fail;
 
 /// Nothing is known of a run beside its statistics and its commands.
 pub(crate) const ALONE: Beside<'static> = Beside {
@@ -101,17 +100,17 @@ static CHANNEL: [ChannelStats; 1] = [ChannelStats {
 }];
 
 /// The statistics of a run of one core and one channel over `cycles` cycles, with a refresh.
-pub(crate) fn stats_of(alloc: Global, cycles: Cycle) -> Result<Stats, AllocError> {
-    Stats::of_parts(alloc, cycles, &CORE, &CHANNEL)
+pub(crate) fn stats_of(rt: &impl Abort, alloc: Global, cycles: Cycle) -> Stats {
+    Stats::of_parts(alloc, cycles, &CORE, &CHANNEL).expect(rt, "memory")
 }
 
 /// A list of commands.
-pub(crate) fn list_of(alloc: Global, rows: &[IssuedCommand]) -> Result<CommandList, AllocError> {
+pub(crate) fn list_of(rt: &impl Abort, alloc: Global, rows: &[IssuedCommand]) -> CommandList {
     let mut list = CommandList::new(alloc);
     for row in rows {
-        list.push(*row)?;
+        list.push(*row).expect(rt, "memory");
     }
-    Ok(list)
+    list
 }
 
 /// A run, its commands, and what is shown of it.
@@ -123,12 +122,9 @@ pub(crate) struct Shown<'a> {
     pub(crate) view: View,
 }
 
-/// The page of a run, and how the call ended.
-pub(crate) fn page_of(
-    alloc: Global,
-    shown: &Shown<'_>,
-) -> Result<(Vec<u8>, Result<(), PageFault>), AllocError> {
-    let list = list_of(alloc, shown.rows)?;
+// The page of a run, and how the call ended.
+fn page_of(rt: &impl Abort, alloc: Global, shown: &Shown<'_>) -> (Vec<u8>, Result<(), PageFault>) {
+    let list = list_of(rt, alloc, shown.rows);
     let mut page = Vec::new(alloc);
     let ended = write_page(
         alloc,
@@ -138,7 +134,7 @@ pub(crate) fn page_of(
         shown.view,
         &mut page,
     );
-    Ok((page, ended))
+    (page, ended)
 }
 
 /// Parts that a page has, and others that it has not, with a blank line between two.
@@ -150,9 +146,9 @@ pub(crate) fn assert_page(
     alloc: Global,
     shown: &Shown<'_>,
     (present, absent): Parts<'_>,
-) -> Result<(), Fail> {
-    let (page, ended) = page_of(alloc, shown)?;
-    let page = str::from_utf8(page.as_slice())?;
+) {
+    let (page, ended) = page_of(rt, alloc, shown);
+    let page = str::from_utf8(page.as_slice()).unwrap_or("no text");
     expect_at(
         rt,
         &(),
@@ -161,5 +157,4 @@ pub(crate) fn assert_page(
     );
     expect_parts(rt, page, present, true);
     expect_parts(rt, page, absent, false);
-    Ok(())
 }

@@ -3,18 +3,19 @@
 
 use crate::expect::expect_at;
 use crate::page_runs::{
-    ACT, BANK, ONE_READ, PRE, Parts, RD, SOURCE, Shown, WHOLE, assert_page, page_of, stats_of,
+    ACT, ALONE, BANK, ONE_READ, PRE, Parts, RD, SOURCE, Shown, WHOLE, assert_page, list_of,
+    stats_of,
 };
 use fixtures::small::small;
 use page::fault::PageFault;
+use page::page::write_page;
 use page::window::{Beside, View, Window};
 use sim_base::command::{Command, IssuedCommand};
 use sim_base::config::Config;
 use sim_base::message::Cycle;
 use sim_base::place::BankId;
-use std::alloc::{AllocError, Global};
+use std::alloc::Global;
 use std::process::Abort;
-use std::test::Fail;
 
 // The cycles of a run, its commands, what is shown of it, and what its page has and has not.
 type Case = (Cycle, &'static [IssuedCommand], View, Parts<'static>);
@@ -25,8 +26,8 @@ fn assert_case(
     alloc: Global,
     (cycles, rows, view, parts): &Case,
     config: Option<&Config>,
-) -> Result<(), Fail> {
-    let stats = stats_of(alloc, *cycles)?;
+) {
+    let stats = stats_of(rt, alloc, *cycles);
     let shown = Shown {
         stats: &stats,
         rows,
@@ -36,7 +37,7 @@ fn assert_case(
         },
         view: *view,
     };
-    assert_page(rt, alloc, &shown, *parts)
+    assert_page(rt, alloc, &shown, *parts);
 }
 
 // 1,235 entries in 1,000 cycles, and in the 800 up to the finish; halves are rounded up. The RD takes four of the five
@@ -260,60 +261,44 @@ const RANKS: [IssuedCommand; 5] = [
 ];
 
 #[test]
-fn pages_of_runs(rt: HostRuntime) -> Result<(), Fail> {
+fn pages_of_runs(rt: HostRuntime) {
     for case in &CASES {
-        assert_case(&rt, rt.alloc(), case, None)?;
+        assert_case(&rt, rt.alloc(), case, None);
     }
-    let config = small(rt.alloc(), &["nRFC = 350"], "")?;
-    assert_case(&rt, rt.alloc(), &OF_RANKS, Some(&config))
+    let config = small(rt.alloc(), &["nRFC = 350"], "").expect(&rt, "a machine");
+    assert_case(&rt, rt.alloc(), &OF_RANKS, Some(&config));
 }
 
-// The page of a run, and how the writing of it ends.
-fn written(
-    alloc: Global,
-    (cycles, rows, view, _): &Case,
-    config: Option<&Config>,
-) -> Result<(Vec<u8>, Result<(), PageFault>), AllocError> {
-    let stats = stats_of(alloc, *cycles)?;
-    let shown = Shown {
-        stats: &stats,
-        rows,
-        beside: Beside {
-            config,
-            requests: None,
-        },
-        view: *view,
-    };
-    page_of(alloc, &shown)
-}
+// The cycles of a run, its commands, and how the writing of its page ends.
+type Ended = (Cycle, &'static [IssuedCommand], Result<(), PageFault>);
 
-// Runs, and how the writing of their pages ends.
-static OTHERS: [(Case, Result<(), PageFault>); 3] = [
+static OTHERS: [Ended; 3] = [
     (
-        (
-            1000,
-            &[ACT, IssuedCommand { channel: 1, ..RD }, PRE],
-            WHOLE,
-            ("", ""),
-        ),
+        1000,
+        &[ACT, IssuedCommand { channel: 1, ..RD }, PRE],
         Err(PageFault::Command(1)),
     ),
-    ((60, &ONE_READ, WHOLE, ("", "")), Err(PageFault::Command(2))),
-    ((61, &ONE_READ, WHOLE, ("", "")), Ok(())),
+    (60, &ONE_READ, Err(PageFault::Command(2))),
+    (61, &ONE_READ, Ok(())),
 ];
 
+// Asserts how the writing of a page ends, and that nothing of it is there where it is refused.
+fn assert_ended(rt: &impl Abort, alloc: Global, (cycles, rows, want): &Ended) {
+    let stats = stats_of(rt, alloc, *cycles);
+    let list = list_of(rt, alloc, rows);
+    let mut page = Vec::new(alloc);
+    let ended = write_page(alloc, &stats, &list, ALONE, WHOLE, &mut page);
+    let found = (page.is_empty(), ended);
+    expect_at(rt, cycles, &found, &(want.is_err(), *want));
+}
+
 #[test]
-fn a_command_of_another_run_is_refused(rt: HostRuntime) -> Result<(), Fail> {
-    for (case, want) in &OTHERS {
-        let (page, ended) = written(rt.alloc(), case, None)?;
-        expect_at(
-            &rt,
-            &case.0,
-            &(page.is_empty(), ended),
-            &(want.is_err(), *want),
-        );
+fn a_command_of_another_run_is_refused(rt: HostRuntime) {
+    for ended in &OTHERS {
+        assert_ended(&rt, rt.alloc(), ended);
     }
-    let text = PageFault::Command(1).to_string(rt.alloc())?;
+    let text = PageFault::Command(1)
+        .to_string(rt.alloc())
+        .expect(&rt, "memory");
     expect_at(&rt, &1, &text.as_str(), &"command 1 is none of the run");
-    Ok(())
 }

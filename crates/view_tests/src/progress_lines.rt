@@ -6,12 +6,12 @@ use progress::line::line_of;
 use progress::pace::next_stretch;
 use progress::watcher::ProgressLine;
 use sim_base::message::Cycle;
-use std::alloc::{AllocError, Global};
+use std::alloc::Global;
 use std::cell::Cell;
 use std::io;
 use std::io::ErrorKind;
+use std::process::Abort;
 use std::rt::Clock;
-use std::test::Fail;
 use std::time::Duration;
 use workers::watch::{Stage, Watch};
 
@@ -57,12 +57,11 @@ static TEXTS: [(Figures, &str); 4] = [
 ];
 
 #[test]
-fn figures_are_told(rt: HostRuntime) -> Result<(), Fail> {
+fn figures_are_told(rt: HostRuntime) {
     for (figures, text) in &TEXTS {
-        let found = figures.to_string(rt.alloc())?;
+        let found = figures.to_string(rt.alloc()).expect(&rt, "memory");
         expect_at(&rt, figures, &found.as_str(), text);
     }
-    Ok(())
 }
 
 /// A stage of a run, the milliseconds up to it, and its figures. A quarter of the limit is done in 4 seconds, so 12
@@ -174,11 +173,7 @@ fn stage_at(now: Cycle) -> Stage {
 
 /// What is drawn of a run that is looked at in each of these cycles, by a clock that shows these times, and how far it
 /// goes each time.
-fn drawn(
-    alloc: Global,
-    times: &[u64],
-    cycles: &[Cycle],
-) -> Result<(Vec<u8>, Vec<Cycle>), AllocError> {
+fn drawn(rt: &impl Abort, alloc: Global, times: &[u64], cycles: &[Cycle]) -> (Vec<u8>, Vec<Cycle>) {
     let clock = Shown {
         times,
         next: Cell::new(0),
@@ -187,24 +182,27 @@ fn drawn(
     let mut lines = Vec::new(alloc);
     let mut watch = ProgressLine::new(alloc, &clock, &mut lines, true);
     for now in cycles {
-        stretches.push(watch.next_stretch(&stage_at(*now)))?;
+        let stretch = watch.next_stretch(&stage_at(*now));
+        stretches.push(stretch).expect(rt, "memory");
     }
     watch.end();
     drop(watch);
-    Ok((lines, stretches))
+    (lines, stretches)
 }
 
 /// The lines of these texts, and a carriage return; nothing where there are none.
-fn lines_of(alloc: Global, texts: &[&str]) -> Result<Vec<u8>, AllocError> {
+fn lines_of(rt: &impl Abort, alloc: Global, texts: &[&str]) -> Vec<u8> {
     let mut lines = Vec::new(alloc);
     for text in texts {
-        let line = line_of(alloc, text)?;
-        lines.extend_from_slice(line.as_bytes())?;
+        let line = line_of(alloc, text).expect(rt, "memory");
+        lines
+            .extend_from_slice(line.as_bytes())
+            .expect(rt, "memory");
     }
     if !texts.is_empty() {
-        lines.push(b'\r')?;
+        lines.push(b'\r').expect(rt, "memory");
     }
-    Ok(lines)
+    lines
 }
 
 /// The times that a clock shows, the cycles in which a run is looked at, the texts that are drawn of it, if any is, and
@@ -230,22 +228,21 @@ static DRAWN: [(&[u64], &[Cycle], &[&str], &[Cycle]); 3] = [
 ];
 
 #[test]
-fn the_line_is_drawn_twice_a_second(rt: HostRuntime) -> Result<(), Fail> {
+fn the_line_is_drawn_twice_a_second(rt: HostRuntime) {
     for (times, cycles, texts, stretches) in &DRAWN {
-        let found = drawn(rt.alloc(), times, cycles)?;
-        let lines = lines_of(rt.alloc(), texts)?;
+        let found = drawn(&rt, rt.alloc(), times, cycles);
+        let lines = lines_of(&rt, rt.alloc(), texts);
         expect_at(&rt, times, &found.0, &lines);
         expect_at(&rt, times, &found.1.as_slice(), stretches);
     }
-    Ok(())
 }
 
 /// A text is filled with spaces, or cut, to 79 characters.
 #[test]
-fn a_line_has_79_characters(rt: HostRuntime) -> Result<(), Fail> {
-    let long = "0123456789".repeat(rt.alloc(), 8)?;
+fn a_line_has_79_characters(rt: HostRuntime) {
+    let long = "0123456789".repeat(rt.alloc(), 8).expect(&rt, "memory");
     for text in ["", "12 cycles", long.as_str()] {
-        let line = line_of(rt.alloc(), text)?;
+        let line = line_of(rt.alloc(), text).expect(&rt, "memory");
         let shown = text.get(..79).unwrap_or(text);
         let trimmed = line.as_str().trim_end_matches(' ');
         expect_at(
@@ -255,5 +252,4 @@ fn a_line_has_79_characters(rt: HostRuntime) -> Result<(), Fail> {
             &(80, Some(shown)),
         );
     }
-    Ok(())
 }

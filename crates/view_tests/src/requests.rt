@@ -2,6 +2,7 @@
 //! hand.
 
 use crate::expect::{expect, expect_at};
+use crate::stats_read::joined;
 use fixtures::none::{NO_CHANNEL, NO_CORE};
 use request_check::agreement::{Mismatch, check_requests};
 use request_check::tally::Tally;
@@ -13,8 +14,8 @@ use sim_base::fault::Fault;
 use statistics::channels::ChannelStats;
 use statistics::cores::CoreStats;
 use statistics::stats::Stats;
-use std::alloc::{AllocError, Global};
-use std::test::Fail;
+use std::alloc::Global;
+use std::process::Abort;
 
 const HEADER: &str = "core,entry,access,channel,issued,arrived,served,replied,hit\n";
 
@@ -103,21 +104,20 @@ static REFUSED: [(&str, &str, &str, u64); 19] = [
 ];
 
 #[test]
-fn rows_are_read_or_refused(rt: HostRuntime) -> Result<(), Fail> {
+fn rows_are_read_or_refused(rt: HostRuntime) {
     let alloc = rt.alloc();
     for (header, first, more, row) in &REFUSED {
-        let text = format!(in alloc; "{header}{first}{more}")?;
+        let text = joined(&rt, alloc, &[*header, *first, *more]);
         let found = read_requests(alloc, text.as_bytes()).err();
         expect_at(&rt, more, &found, &Some(Fault::CheckRow(*row)));
     }
-    let text = format!(in alloc; "{HEADER}{ROWS}")?;
-    let rows = read_requests(alloc, text.as_bytes())?;
+    let text = joined(&rt, alloc, &[HEADER, ROWS]);
+    let rows = read_requests(alloc, text.as_bytes()).expect(&rt, "a table");
     expect(&rt, &rows.as_slice(), &TABLE.as_slice());
-    Ok(())
 }
 
 /// The statistics of the run of the three requests, but for what is given: 15 and 29 cycles are 44.
-pub(crate) fn run_of(alloc: Global, read_latency: u128, wr: u64) -> Result<Stats, AllocError> {
+pub(crate) fn run_of(rt: &impl Abort, alloc: Global, read_latency: u128, wr: u64) -> Stats {
     let core = CoreStats {
         replies: 2,
         read_latency,
@@ -129,7 +129,7 @@ pub(crate) fn run_of(alloc: Global, read_latency: u128, wr: u64) -> Result<Stats
         hits: 1,
         ..NO_CHANNEL
     };
-    Stats::of_parts(alloc, 64, &[core], &[channel])
+    Stats::of_parts(alloc, 64, &[core], &[channel]).expect(rt, "memory")
 }
 
 // A sum of latencies and a number of writes, requests, and how they differ from the run. The last four have a request
@@ -198,12 +198,11 @@ static AGREEMENTS: [(u128, u64, &[RequestTimes], Result<(), Mismatch>); 9] = [
 ];
 
 #[test]
-fn requests_of_a_run(rt: HostRuntime) -> Result<(), Fail> {
+fn requests_of_a_run(rt: HostRuntime) {
     for (latency, writes, requests, want) in &AGREEMENTS {
-        let stats = run_of(rt.alloc(), *latency, *writes)?;
+        let stats = run_of(&rt, rt.alloc(), *latency, *writes);
         expect_at(&rt, requests, &check_requests(&stats, requests), want);
     }
-    Ok(())
 }
 
 // The reads took 15 and 29 cycles and waited 3 and 17, the write waited 9, and the second read is a hit; core 1 has no
@@ -234,10 +233,10 @@ Queues (3 requests): mean cycles from arrival to RD or WR
 ";
 
 #[test]
-fn requests_below_the_screen(rt: HostRuntime) -> Result<(), Fail> {
+fn requests_below_the_screen(rt: HostRuntime) {
     for (khz, want) in [(None, SHOWN), (Some(500_000), SHOWN_IN_NS)] {
-        let text = show_requests(rt.alloc(), 2, 1, &TABLE, Options { all: false, khz })?;
+        let options = Options { all: false, khz };
+        let text = show_requests(rt.alloc(), 2, 1, &TABLE, options).expect(&rt, "memory");
         expect(&rt, &text.as_str(), &want);
     }
-    Ok(())
 }

@@ -1,7 +1,7 @@
 //! Screens that were worked out by hand.
 
 use crate::expect::expect;
-use crate::stats_read::two_cores;
+use crate::stats_read::{WHOLE, joined};
 use fixtures::none::{NO_CHANNEL, NO_CORE};
 use fixtures::small::small;
 use run_tables::read_stats;
@@ -10,8 +10,8 @@ use show::show_text;
 use statistics::channels::ChannelStats;
 use statistics::cores::CoreStats;
 use statistics::stats::Stats;
-use std::alloc::{AllocError, Global};
-use std::test::Fail;
+use std::alloc::Global;
+use std::process::Abort;
 
 // Core 0 has not finished. 12,345 of 20,000 cycles are 0.61725, 612 hits of 649 are 94.299 %, 4 * 649 cycles 12.98 %,
 // 123,456 / 20,000 is 6.1728, 45,678 / 637 is 71.708; 20.05 and 1.25 are rounded up.
@@ -114,18 +114,17 @@ const AT_1250_MHZ: Options = Options {
 };
 
 #[test]
-fn two_cores_and_a_channel(rt: HostRuntime) -> Result<(), Fail> {
-    let table = two_cores(rt.alloc())?;
-    let stats = read_stats(rt.alloc(), table.as_bytes())?;
+fn two_cores_and_a_channel(rt: HostRuntime) {
+    let table = joined(&rt, rt.alloc(), WHOLE);
+    let stats = read_stats(rt.alloc(), table.as_bytes()).expect(&rt, "a table");
     for (options, want) in [
         (PLAIN, TWO_CORES),
         (EACH, TWO_CORES),
         (AT_1250_MHZ, CLOCKED),
     ] {
-        let text = show_text(rt.alloc(), &stats, options, None)?;
+        let text = show_text(rt.alloc(), &stats, options, None).expect(&rt, "memory");
         expect(&rt, &text.as_str(), &want);
     }
-    Ok(())
 }
 
 // Core k retired k thousand entries in a thousand cycles, and read k times, with a latency of 10 k cycles each.
@@ -143,17 +142,17 @@ fn core_of(k: u8) -> CoreStats {
     }
 }
 
-fn run_of(alloc: Global, order: &[u8]) -> Result<Stats, AllocError> {
+fn run_of(rt: &impl Abort, alloc: Global, order: &[u8]) -> Stats {
     let mut cores = Vec::new(alloc);
     for k in order {
-        cores.push(core_of(*k))?;
+        cores.push(core_of(*k)).expect(rt, "memory");
     }
     let channel = ChannelStats {
         idle: 1_000,
         refs: 2,
         ..NO_CHANNEL
     };
-    Stats::of_parts(alloc, 1_000, &cores, &[channel])
+    Stats::of_parts(alloc, 1_000, &cores, &[channel]).expect(rt, "memory")
 }
 
 static BY_NUMBER: [u8; 17] = [0, 1, 2, 3, 4, 5, 6, 7, 8, 9, 10, 11, 12, 13, 14, 15, 16];
@@ -161,24 +160,22 @@ static BY_NUMBER: [u8; 17] = [0, 1, 2, 3, 4, 5, 6, 7, 8, 9, 10, 11, 12, 13, 14, 
 static MIXED: [u8; 17] = [3, 16, 1, 0, 2, 5, 4, 7, 6, 9, 8, 11, 10, 13, 12, 15, 14];
 
 #[test]
-fn seventeen_cores(rt: HostRuntime) -> Result<(), Fail> {
-    let config = small(rt.alloc(), &[], "")?;
+fn seventeen_cores(rt: HostRuntime) {
+    let config = small(rt.alloc(), &[], "").expect(&rt, "a machine");
     for (order, options, want) in [
         (&BY_NUMBER, PLAIN, SEVENTEEN),
         (&BY_NUMBER, EACH, ALL_SEVENTEEN),
         (&MIXED, PLAIN, SEVENTEEN),
     ] {
-        let stats = run_of(rt.alloc(), order)?;
-        let text = show_text(rt.alloc(), &stats, options, Some(&config))?;
+        let stats = run_of(&rt, rt.alloc(), order);
+        let text = show_text(rt.alloc(), &stats, options, Some(&config)).expect(&rt, "memory");
         expect(&rt, &text.as_str(), &want);
     }
-    Ok(())
 }
 
 #[test]
-fn no_cycles(rt: HostRuntime) -> Result<(), Fail> {
-    let stats = Stats::of_parts(rt.alloc(), 0, &[NO_CORE], &[NO_CHANNEL])?;
-    let text = show_text(rt.alloc(), &stats, PLAIN, None)?;
+fn no_cycles(rt: HostRuntime) {
+    let stats = Stats::of_parts(rt.alloc(), 0, &[NO_CORE], &[NO_CHANNEL]).expect(&rt, "memory");
+    let text = show_text(rt.alloc(), &stats, PLAIN, None).expect(&rt, "memory");
     expect(&rt, &text.as_str(), &NO_CYCLES);
-    Ok(())
 }

@@ -6,8 +6,8 @@ use run_tables::read_stats;
 use sim_base::fault::Fault;
 use statistics::channels::ChannelStats;
 use statistics::cores::CoreStats;
-use std::alloc::{AllocError, Global};
-use std::test::Fail;
+use std::alloc::Global;
+use std::process::Abort;
 
 const HEADER: &str = "scope,id,name,value\n";
 
@@ -58,20 +58,16 @@ channel,0,refreshing,1999
 
 const DRAINING: &str = "channel,0,draining,250\n";
 
-// The pieces of the table of two cores and a channel.
-const WHOLE: &[&str] = &[HEADER, CYCLES, CORE_0, CORE_1, FINISH_1, CHANNEL, DRAINING];
+/// The pieces of the table of two cores and a channel.
+pub(crate) const WHOLE: &[&str] = &[HEADER, CYCLES, CORE_0, CORE_1, FINISH_1, CHANNEL, DRAINING];
 
-fn joined(alloc: Global, pieces: &[&str]) -> Result<String, AllocError> {
+/// The text that some pieces are.
+pub(crate) fn joined(rt: &impl Abort, alloc: Global, pieces: &[&str]) -> String {
     let mut text = String::new(alloc);
     for piece in pieces {
-        text.push_str(piece)?;
+        text.push_str(piece).expect(rt, "memory");
     }
-    Ok(text)
-}
-
-/// The table of two cores and a channel.
-pub(crate) fn two_cores(alloc: Global) -> Result<String, AllocError> {
-    joined(alloc, WHOLE)
+    text
 }
 
 static CORES: [CoreStats; 2] = [
@@ -124,10 +120,10 @@ static READ: [(&[&str], usize, ChannelStats); 2] = [
 ];
 
 #[test]
-fn each_count(rt: HostRuntime) -> Result<(), Fail> {
+fn each_count(rt: HostRuntime) {
     for (pieces, cores, channel) in &READ {
-        let table = joined(rt.alloc(), pieces)?;
-        let stats = read_stats(rt.alloc(), table.as_bytes())?;
+        let table = joined(&rt, rt.alloc(), pieces);
+        let stats = read_stats(rt.alloc(), table.as_bytes()).expect(&rt, "a table");
         expect_at(
             &rt,
             cores,
@@ -143,7 +139,6 @@ fn each_count(rt: HostRuntime) -> Result<(), Fail> {
             ),
         );
     }
-    Ok(())
 }
 
 // The pieces of a table, and the row because of which it is refused. The second core's rows are 14 to 25, and the
@@ -189,11 +184,10 @@ static REFUSED: [(&[&str], u64); 21] = [
 ];
 
 #[test]
-fn wrong_tables(rt: HostRuntime) -> Result<(), Fail> {
+fn wrong_tables(rt: HostRuntime) {
     for (pieces, row) in &REFUSED {
-        let table = joined(rt.alloc(), pieces)?;
+        let table = joined(&rt, rt.alloc(), pieces);
         let refused = read_stats(rt.alloc(), table.as_bytes()).err();
         expect_at(&rt, &table.as_str(), &refused, &Some(Fault::CheckRow(*row)));
     }
-    Ok(())
 }

@@ -7,7 +7,7 @@ use sim_base::message::Cycle;
 /// When several workers share a machine out: it is split into shards, and in each phase each shard is a job that a
 /// worker takes. Where it is not, and with one worker always, the caller runs the machine in place. What a run does
 /// is the same for every value.
-#[derive(Clone, Copy, PartialEq, Eq, Debug)]
+#[derive(Clone, Copy)]
 pub struct Sharing {
     /// A machine is shared out that has at least this many units, cores and channels.
     pub units: usize,
@@ -53,7 +53,7 @@ impl Default for Sharing {
 }
 
 /// How many workers run a machine, and when they share it out.
-#[derive(Clone, Copy, PartialEq, Eq, Debug)]
+#[derive(Clone, Copy)]
 pub struct Workers {
     /// How many there are, 1 to 64, with the caller.
     pub count: u64,

@@ -38,7 +38,7 @@ pub trait Watch {
 }
 
 /// The watcher that does not watch.
-#[derive(Clone, Copy, Debug)]
+#[derive(Clone, Copy)]
 pub struct Unwatched;
 
 impl Watch for Unwatched {

@@ -1,4 +1,5 @@
 -- The order of an address's fields in a document.
+--     items_at ms key      the items of an array
 --     each_once order      each field occurs once in the order; only the rank may be left out
 --     fields_of ms      the order that a document states
 use Rattle.std.specs.Prelude.{ℕ, List, [], ◌∷◌, Bool, true, ◌==◌, nat_le, ◌&&◌, if◌then◌else◌, codes, Option, Some, None, is_some, option_and_then, count_by, Result, Ok, Err}
@@ -7,10 +8,15 @@ use Rattle.toml.specs.Data.{Items, no_items, item, Members, as_str, as_array}
 use Rattle.sim_base.specs.Fields.{is_field}
 use Rattle.sim_base.specs.declared.fault.Fault.{Fault}
 use Rattle.sim_base.specs.declared.fault.Fault.TheVariants.{ConfigKey, ConfigRange}
+use Rattle.sim_base.specs.declared.key.Key.{Key}
 use Rattle.sim_base.specs.declared.key.Key.TheVariants as key
 use Rattle.sim_base.specs.declared.place.Field.{Field}
 use Rattle.sim_base.specs.declared.place.Field.TheVariants.{Channel, Column, Rank, Group, Bank, Row}
 use Rattle.config_reader.specs.Document.Keys.{◌>>=◌, data_at}
+
+-- the items at a key, if it holds an array
+abbrev pub items_at : Members → Key → Option Items
+items_at ms key = option_and_then as_array (data_at ms key)
 
 -- the field of a name
 abbrev pub field_named : Option (List ℕ) → Result Field Fault

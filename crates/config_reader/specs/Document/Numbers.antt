@@ -1,4 +1,5 @@
 -- The numbers of a document, key by key.
+--     DistancesInRange n, LimitsInRange core      four distances are in range, and the limits of a core
 --     distances_at      four distances at consecutive keys
 --     machine_of, memory_of, core_of, latencies_of, timing_of, drain_of      groups of consecutive keys
 --     end_of      whether the run ends as soon as all is done
@@ -10,12 +11,21 @@ use Rattle.config_reader.specs.declared.numbers.MemoryShape.{MemoryShape}
 use Rattle.config_reader.specs.declared.numbers.CoreLimits.{CoreLimits}
 use Rattle.config_reader.specs.declared.numbers.Latencies.{Latencies}
 use Rattle.config_reader.specs.declared.numbers.Drain.{Drain}
+use Rattle.sim_base.specs.Ranges.{DistanceInRange, CoreInRange}
 use Rattle.sim_base.specs.declared.fault.Fault.{Fault}
 use Rattle.sim_base.specs.declared.fault.Fault.TheVariants.{ConfigKey, ConfigRange}
 use Rattle.sim_base.specs.declared.key.Key.{Key}
 use Rattle.sim_base.specs.declared.key.Key.TheVariants as key
 use Rattle.sim_base.specs.declared.timing.Timing.{Timing}
 use Rattle.config_reader.specs.Document.Keys.{◌>>=◌, data_at, number_of, number_or, power_of, power_or}
+
+-- four distances are in their range
+abbrev pub DistancesInRange : ℕ × ℕ × ℕ × ℕ → Type 0
+DistancesInRange n = DistanceInRange n.0 × DistanceInRange n.1 × DistanceInRange n.2 × DistanceInRange n.3
+
+-- what a core may hold and do at once is in its range
+abbrev pub LimitsInRange : CoreLimits → Type 0
+LimitsInRange core = CoreInRange core.window core.width core.read_credits core.write_credits
 
 -- how many cores and channels there are
 unfoldable pub machine_of : Members → Result MachineSize Fault

@@ -16,6 +16,10 @@ use Rattle.sim_base.specs.declared.place.Field.TheVariants.{Rank}
 use Rattle.sim_base.specs.declared.timing.Timing.{Timing}
 use Rattle.config_reader.specs.Document.Keys.{◌>>=◌}
 
+-- what relations 8 and 9 say: each override is for a link of the machine, no two for the same one
+abbrev pub LinksFit : ℕ → ℕ → List Override → Type 0
+LinksFit cores channels overrides = LinksExist cores channels overrides × LinksDiffer overrides
+
 -- refuses a relation that does not hold, by its number
 abbrev pub relation : ℕ → Bool → Result (Unit {0}) Fault
 relation n holds = if holds then Ok tt else Err (ConfigRelation n)

@@ -3,14 +3,12 @@ use Rattle.c_interface.specs.Channels.{IsNewSession, open_refusal}
 use Rattle.c_interface.proofs.Keeping.{new-boxed, boxed-answer, is-opened, not-opened}
 use Rattle.c_interface.proofs.channel.opened.Goals as goal
 
--- src/channel.rt:47:1
 pub returns-in-Ok-open-clause-opened : goal.returns-in-Ok-open-clause-opened
 returns-in-Ok-open-clause-opened c =
     let session = c.in-Ok-open.ensures {u = tt} in
     new-boxed (IsNewSession c.args.text.now c.args.number) (λ owner. owner.value) c.in-Ok-open.session c.boxed.result c.boxed.ensures.value
     (record { config = c.in-Ok.config; configured = (c.in-Ok.ensures {u = tt}).ok; past = session.opened; now = session.now })
 
--- src/channel.rt:44:1
 pub returns-in-Ok-open-clause-answer : goal.returns-in-Ok-open-clause-answer
 returns-in-Ok-open-clause-answer c =
     boxed-answer (open_refusal (document_of c.args.text.now) c.args.number) c.boxed.result c.boxed.ensures.memory

@@ -1,14 +1,14 @@
 use Rattle.std.proofs.Common.{◌<◌, length, arith}
-use Rattle.std.proofs.KnownBytes.{Appends-trans}
 use Rattle.reports.specs.Final.{credit_rows}
-use Rattle.reports.proofs.TableLemmas.{numbered_none, numbered_more, nothing_written}
+use Rattle.reports.proofs.RowLemmas.{added-more, nothing_added}
+use Rattle.reports.proofs.TableLemmas.{numbered_none, numbered_more}
 use Rattle.reports.proofs.final_state.write_credits_of_core.Goals as goal
 
 pub loop-channel-init : goal.loop-channel-init
-loop-channel-init g c = nothing_written _ _ (numbered_none (credit_rows c.args.ranks c.args.core))
+loop-channel-init g c = nothing_added _ _ (numbered_none (credit_rows c.args.ranks c.args.core))
 
 pub loop-channel-preserved : goal.loop-channel-preserved
 loop-channel-preserved g c =
     let here : c.loop-channel.channel < length c.args.credits.now = omega arith in
-    let joined = Appends-trans _ _ _ _ _ c.loop-channel.invariant c.in_ok-write_credits.ensures.written in
+    let joined = added-more _ _ _ _ _ c.loop-channel.invariant c.write_credits.ensures in
     rw (← numbered_more (credit_rows c.args.ranks c.args.core) c.args.credits.now c.loop-channel.channel _ here) at joined

@@ -1,15 +1,14 @@
--- What was written or waits are the rows that came. Those that are left follow them.
+-- Unless a row was lost, what was written or waits are the rows that came. Those that are left follow them.
 use Rattle.std.proofs.Common.{◌≡◌, List, ◌++◌, length}
-use Rattle.std.specs.Io.KnownBytes.{Appends}
 use Rattle.request_table.specs.declared.times.RequestTimes.{RequestTimes}
 use Rattle.reports.specs.Requests.{request_lines}
-use Rattle.reports.specs.Tables.{held}
+use Rattle.reports.specs.Tables.{AddsRows}
 use Rattle.reports.proofs.requests.write_each.Given as goal
 
 abbrev pub invariant-loop-row : goal.invariant-loop-row
 invariant-loop-row g l =
     (came : List RequestTimes) × (came ++ l.rows ≡ l.fn.rows)
-    × Appends (held g.W.Write.contents l.fn.writer l.fn.table) (held g.W.Write.contents l.writer l.table) (request_lines came)
+    × AddsRows g.W.Write.contents l.fn.writer l.fn.table l.writer l.table (request_lines came)
 
 abbrev pub decreases-loop-row : goal.decreases-loop-row
 decreases-loop-row g l = length l.rows

@@ -2,7 +2,6 @@ use Rattle.channel_session.specs.Sessions.{IsOpen}
 use Rattle.c_interface.proofs.Keeping.{new-is-open, well-put}
 use Rattle.c_interface.proofs.channel.KeptChannel.open.Goals as goal
 
--- src/channel.rt:86:5
 pub returns-clause-well : goal.returns-clause-well
 returns-clause-well c =
     let session = c.in_ok-session.session.value in

@@ -3,7 +3,6 @@ use Rattle.channel_session.specs.Sessions.{IsOpen}
 use Rattle.c_interface.proofs.Keeping.{well-open}
 use Rattle.c_interface.proofs.channel.KeptChannel.run.Goals as goal
 
--- src/channel.rt:143:15
 pub run-requires : goal.run-requires
 run-requires c =
     let kept = c.args.self.now in

@@ -5,7 +5,6 @@ use Rattle.channel_session.specs.declared.session.Session.{Session}
 use Rattle.c_interface.proofs.Keeping.{refused, same-value}
 use Rattle.c_interface.proofs.channel.KeptChannel.send.Goals as goal
 
--- src/channel.rt:103:5
 pub returns-in-Err-clause-answer : goal.returns-in-Err-clause-answer
 returns-in-Err-clause-answer c s p is h =
     let request = c.args.request.now in
