@@ -7,8 +7,8 @@ use Rattle.sim_base.specs.declared.fault.Fault.TheVariants.{Memory, CheckRow}
 use Rattle.statistics.specs.Values.{RunStats}
 use Rattle.whole_files.specs.Files.{Held, SameFiles}
 use Rattle.answers.specs.Refused.{IsReady, IsAnswerFault, IsRowRefusal, IsShowFault, IsRightShow, IsPageFault, IsRightPage, IsCompareFault, IsRightCompare}
-use Rattle.request_check.specs.Agreement.{IsMismatch, row_of}
-use Rattle.request_check.specs.declared.agreement.Mismatch.{Mismatch}
+use Rattle.measures.specs.Agreement.{IsMismatch, row_of}
+use Rattle.measures.specs.declared.request_check.agreement.Mismatch.{Mismatch}
 use Rattle.rule_check.specs.Verdict.{records_of}
 use Rattle.run_tables.specs.Records.{IsRefusedFor}
 use Rattle.run_tables.specs.Requests.{IsRequestTable, HoldsRequests}

@@ -11,10 +11,10 @@ use Rattle.std.specs.Prelude.{◌≡◌, ◌⊎◌, ℕ, ⊤, List, [], ◌++◌
 use Rattle.sim_base.specs.declared.command.IssuedCommand.{IssuedCommand}
 use Rattle.sim_base.specs.declared.fault.Fault.{Fault}
 use Rattle.sim_base.specs.declared.fault.Fault.TheVariants.{CheckRow, Memory}
-use Rattle.percentiles.specs.Percentile.{IsPercentile}
-use Rattle.request_check.specs.Agreement.{AreOfRun, IsMismatch, row_of}
-use Rattle.request_check.specs.declared.agreement.Mismatch.{Mismatch}
-use Rattle.request_measures.specs.Latency.{read_latencies}
+use Rattle.measures.specs.Percentile.{IsPercentile}
+use Rattle.measures.specs.Agreement.{AreOfRun, IsMismatch, row_of}
+use Rattle.measures.specs.declared.request_check.agreement.Mismatch.{Mismatch}
+use Rattle.measures.specs.Latency.{read_latencies}
 use Rattle.request_table.specs.declared.times.RequestTimes.{RequestTimes}
 use Rattle.rule_check.specs.Verdict.{records_of}
 use Rattle.run_tables.specs.Records.{IsFirstWrong}

@@ -9,9 +9,9 @@ ghost use Rattle.answers.specs.Refused.{IsRowRefusal};
 ghost use Rattle.answers.specs.Requests.{AreRequestsOf, IsNoRequests};
 ghost use Rattle.answers.specs.Inputs.{IsTextAt, ReadsRequests, BarsRequests, FindsRequests, BarsRequestsIn, GetsRequests};
 
+use measures::request_check::agreement::{Mismatch, check_requests, row_of};
+use measures::request_check::tally::{Tally, told};
 use refusal::reason::Reason;
-use request_check::agreement::{Mismatch, check_requests, row_of};
-use request_check::tally::{Tally, told};
 use request_table::times::RequestTimes;
 use run_tables::read_requests;
 use show::options::Options;

@@ -5,3 +5,5 @@ pub mod Readiness
 pub mod Window
 pub mod Allowed
 pub mod Stood
+pub mod Due
+pub mod LeastCount

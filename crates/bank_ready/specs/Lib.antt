@@ -3,3 +3,5 @@ pub mod Words
 pub mod Raised
 pub mod Noted
 pub mod Stands
+pub mod Refreshes
+pub mod Kept

@@ -8,8 +8,8 @@ use Rattle.std.proofs.BoxSteps.Form.{Bx}
 use Rattle.std.specs.contracts.alloc.Global as heap
 use Rattle.std.specs.contracts.impls.GlobalAllocator.TheImpl.{ghosts, dict}
 use Rattle.std.proofs.alloc.Global.TheLaws as heap_laws
-use Rattle.channel_session.specs.contracts.session.Session as session
-use Rattle.channel_session.proofs.session.Session.TheLaws as session_laws
+use Rattle.sessions.specs.contracts.channel_session.session.Session as session
+use Rattle.sessions.proofs.channel_session.session.Session.TheLaws as session_laws
 use Rattle.c_interface.specs.Owned.{Holds}
 use Rattle.c_interface.specs.contracts.handle.Handle as handle
 use Rattle.c_interface.specs.contracts.loose.Loose as loose

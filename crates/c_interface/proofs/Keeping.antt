@@ -1,10 +1,10 @@
 -- A session that a channel keeps, and how its answers are passed on.
 use Rattle.std.proofs.Common.{◌≡◌, ◌⊎◌, inl, inr, ℕ, List, Bool, true, false, Option, Some, None, Result, Ok, Err, refl, sym, subst, ap, ◌∙◌, IfOk, IfErr, nat_lt, if◌then◌else◌}
 use Rattle.config_reader.specs.Document.{document_of}
-use Rattle.channel_session.specs.Sessions.{IsOpen, IsAnswer, no_past, number_refusal}
-use Rattle.channel_session.specs.declared.fault.SessionFault.{SessionFault}
-use Rattle.channel_session.specs.declared.fault.SessionFault.TheVariants.{Memory, NoSuchChannel}
-use Rattle.channel_session.specs.declared.session.Session.{Session}
+use Rattle.sessions.specs.Sessions.{IsOpen, IsAnswer, no_past, number_refusal}
+use Rattle.sessions.specs.declared.channel_session.fault.SessionFault.{SessionFault}
+use Rattle.sessions.specs.declared.channel_session.fault.SessionFault.TheVariants.{Memory, NoSuchChannel}
+use Rattle.sessions.specs.declared.channel_session.session.Session.{Session}
 use Rattle.sim_base.specs.Values.{Values, values_of}
 use Rattle.sim_base.specs.declared.config.Config.{Config}
 use Rattle.sim_base.specs.declared.fault.Fault.{Fault}

@@ -10,10 +10,10 @@
 --     IsAddressAnswer s place result      the answer of a call that looks for an address
 use Rattle.std.specs.Prelude.{◌≡◌, ℕ, List, false, Option, Some, None, Result, Ok, Err, nat_lt, if◌then◌else◌}
 use Rattle.config_reader.specs.Document.{document_of}
-use Rattle.channel_session.specs.Addresses.{is_place, IsAddressOf}
-use Rattle.channel_session.specs.Sessions.{Past, IsSession, IsOpen, no_past}
-use Rattle.channel_session.specs.declared.fault.SessionFault.TheVariants.{NoSuchChannel}
-use Rattle.channel_session.specs.declared.session.Session.{Session}
+use Rattle.sessions.specs.Addresses.{is_place, IsAddressOf}
+use Rattle.sessions.specs.Sessions.{Past, IsSession, IsOpen, no_past}
+use Rattle.sessions.specs.declared.channel_session.fault.SessionFault.TheVariants.{NoSuchChannel}
+use Rattle.sessions.specs.declared.channel_session.session.Session.{Session}
 use Rattle.sim_base.specs.Values.{Values, values_of}
 use Rattle.sim_base.specs.declared.config.Config.{Config}
 use Rattle.sim_base.specs.declared.fault.Fault.{Fault}

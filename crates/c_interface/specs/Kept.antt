@@ -5,8 +5,8 @@
 --     IsOpenAnswer refusal result      the answer of a call that opens it
 --     IsCallAnswer refusal result      the answer of a call whose session refuses it so
 use Rattle.std.specs.Prelude.{◌≡◌, ◌⊎◌, Bool, true, false, Option, Some, None, Result, Err, IfErr, MatchResult}
-use Rattle.channel_session.specs.declared.fault.SessionFault.{SessionFault}
-use Rattle.channel_session.specs.declared.fault.SessionFault.TheVariants.{Memory}
+use Rattle.sessions.specs.declared.channel_session.fault.SessionFault.{SessionFault}
+use Rattle.sessions.specs.declared.channel_session.fault.SessionFault.TheVariants.{Memory}
 use Rattle.sim_base.specs.declared.fault.Fault.TheVariants as fault
 use Rattle.c_interface.specs.declared.fault.CallFault.{CallFault}
 use Rattle.c_interface.specs.declared.fault.CallFault.TheVariants as call

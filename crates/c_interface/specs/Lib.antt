@@ -5,3 +5,5 @@ pub mod Verdicts
 pub mod Statuses
 pub mod Kept
 pub mod Channels
+pub mod CMemoryOwned
+pub mod Memories

@@ -10,7 +10,7 @@ use Rattle.std.specs.Coded.{coded_option}
 use Rattle.std.specs.Box.Ownership.{box_owns}
 use Rattle.std.specs.Global.{Global}
 use Rattle.std.specs.contracts.impls.GlobalAllocator.TheImpl.{ghosts}
-use Rattle.channel_session.specs.contracts.session.Session.{the_row}
+use Rattle.sessions.specs.contracts.channel_session.session.Session.{the_row}
 
 -- what a handle owns: a box at its pointer, if it holds a value
 abbrev pub handle_owns : (R : RattleType) → Global → Ptr → Option R.Denot → Fml

@@ -7,8 +7,8 @@
 --     place_in row      the place that a row states
 --     stats_row stats      the row of a channel's statistics
 use Rattle.std.specs.Prelude.{ℕ, ◌/◌, ◌%◌, ◌^◌, true, false, Option, Some, None}
-use Rattle.channel_session.specs.Sessions.{core_of}
-use Rattle.channel_session.specs.declared.requests.SentRequest.{SentRequest}
+use Rattle.sessions.specs.Sessions.{core_of}
+use Rattle.sessions.specs.declared.channel_session.requests.SentRequest.{SentRequest}
 use Rattle.sim_base.specs.Counts.{source_in}
 use Rattle.sim_base.specs.Rules.{kind_of, rank_of, bank_of}
 use Rattle.sim_base.specs.declared.command.Command.{Command}

@@ -7,8 +7,8 @@
 --     IsJudgedAs text table old new number      a table was judged, and the status of the call
 --     open_status refusal      the status of a call that opens a channel
 use Rattle.std.specs.Prelude.{◌≡◌, ◌⊎◌, ℕ, nat_le, if◌then◌else◌, List, length, Option, Some, None, Result, Ok, Err}
-use Rattle.channel_session.specs.declared.fault.SessionFault.{SessionFault}
-use Rattle.channel_session.specs.declared.fault.SessionFault.TheVariants as refused
+use Rattle.sessions.specs.declared.channel_session.fault.SessionFault.{SessionFault}
+use Rattle.sessions.specs.declared.channel_session.fault.SessionFault.TheVariants as refused
 use Rattle.config_reader.specs.Document.{document_of}
 use Rattle.rule_check.specs.Verdict.{records_of, verdict}
 use Rattle.rule_check.specs.declared.verdict.Verdict.{Verdict}

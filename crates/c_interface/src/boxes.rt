@@ -1,11 +1,11 @@
 //! A value in a box of its own.
 
 ghost use Rattle.std.specs.Prelude.{◌≡◌, IfOk, IfErr};
-ghost use Rattle.channel_session.specs.declared.fault.SessionFault.TheVariants.{Memory};
+ghost use Rattle.sessions.specs.declared.channel_session.fault.SessionFault.TheVariants.{Memory};
 ghost use Rattle.c_interface.specs.declared.fault.CallFault.TheVariants as call;
 
 use crate::fault::CallFault;
-use channel_session::fault::SessionFault;
+use sessions::channel_session::fault::SessionFault;
 use std::alloc::Global;
 
 /// A value in a box. The only error is out of memory.

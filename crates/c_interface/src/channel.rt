@@ -1,10 +1,10 @@
 //! A channel that a program in C keeps.
 
 ghost use Rattle.std.specs.Prelude.{◌≡◌, ◌≢◌, ℕ, None, Some, Err, true, option_map, IfOk, IfErr, OnOk, OnErr};
-ghost use Rattle.channel_session.specs.Ahead.{IsNextAct};
-ghost use Rattle.channel_session.specs.Sessions.{Past, IsSession, IsOpen, next_command_of, next_reply_of, statistics_of, waiting_of, with_request, with_command, with_reply, refusal, end_refusal};
-ghost use Rattle.channel_session.specs.declared.session.Session.{Session};
-ghost use Rattle.channel_session.specs.declared.fault.SessionFault.TheVariants.{Memory};
+ghost use Rattle.sessions.specs.Ahead.{IsNextAct};
+ghost use Rattle.sessions.specs.Sessions.{Past, IsSession, IsOpen, next_command_of, next_reply_of, statistics_of, waiting_of, with_request, with_command, with_reply, refusal, end_refusal};
+ghost use Rattle.sessions.specs.declared.channel_session.session.Session.{Session};
+ghost use Rattle.sessions.specs.declared.channel_session.fault.SessionFault.TheVariants.{Memory};
 ghost use Rattle.c_interface.specs.Channels.{IsWell, ForPasts, HasPast, StandsAt, IsClosed, IsNewSession, IsOpened, open_refusal, IsOpenedAs, IsAddressAnswer};
 ghost use Rattle.c_interface.specs.Kept.{IsOpenAnswer, IsCallAnswer};
 ghost use Rattle.config_reader.specs.Document.{document_of};
@@ -16,10 +16,10 @@ use crate::boxes::boxed;
 use crate::fault::CallFault;
 use crate::handle::Handle;
 use crate::rows::ReplyRow;
-use channel_session::fault::SessionFault;
-use channel_session::requests::SentRequest;
-use channel_session::session::Session;
 use config_reader::read_config;
+use sessions::channel_session::fault::SessionFault;
+use sessions::channel_session::requests::SentRequest;
+use sessions::channel_session::session::Session;
 use sim_base::command::IssuedCommand;
 use sim_base::message::{ChannelId, Cycle};
 use sim_base::place::Place;

@@ -3,7 +3,7 @@
 ghost use Rattle.std.specs.Prelude.{◌≡◌};
 ghost use Rattle.c_interface.specs.Statuses.{session_number, fault_number, status};
 
-use channel_session::fault::SessionFault;
+use sessions::channel_session::fault::SessionFault;
 use sim_base::fault::Fault;
 
 /// Why a call is refused.

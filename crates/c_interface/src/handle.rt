@@ -1,11 +1,11 @@
 //! A handle of a session.
 
 ghost use Rattle.std.specs.Prelude.{Option};
-ghost use Rattle.channel_session.specs.declared.session.Session.{Session};
+ghost use Rattle.sessions.specs.declared.channel_session.session.Session.{Session};
 ghost use Rattle.c_interface.specs.Owned.{session_owns, session_coded, Holds};
 
 use crate::loose::Loose;
-use channel_session::session::Session;
+use sessions::channel_session::session::Session;
 use std::alloc::Global;
 use std::marker::Model;
 use std::ptr;

@@ -3,6 +3,7 @@
 #![tactic(auto)]
 
 pub mod boxes;
+pub mod c_memory;
 pub mod channel;
 pub mod fault;
 mod handle;

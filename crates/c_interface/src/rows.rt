@@ -3,7 +3,7 @@
 ghost use Rattle.std.specs.Prelude.{◌≡◌};
 ghost use Rattle.c_interface.specs.Rows.{sent_request, kind_number, row_in, column_in, bank_or_0, source_or_0, command_row, entry_in, reply_kind, message_row, place_row, place_in, count_or_0, stats_row};
 
-use channel_session::requests::SentRequest;
+use sessions::channel_session::requests::SentRequest;
 use sim_base::command::{Command, IssuedCommand, Kind, Source};
 use sim_base::message::{Load, Message};
 use sim_base::place::{BankId, Place};

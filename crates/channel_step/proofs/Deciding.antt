@@ -9,8 +9,8 @@ use Rattle.sim_base.specs.Scheduling.{drains_with, drains_before, candidates, ch
 use Rattle.sim_base.specs.declared.command.Command.{Command}
 use Rattle.sim_base.specs.declared.message.Message.{Message}
 use Rattle.bank_ready.specs.Stands.{rank_count}
-use Rattle.request_log.specs.Log.{waiting_requests, all_requests}
-use Rattle.request_log.specs.Columns.{write_count}
+use Rattle.queue.specs.Log.{waiting_requests, all_requests}
+use Rattle.queue.specs.Columns.{write_count}
 use Rattle.queue.specs.View.{is_draining, drains_by}
 use Rattle.fr_fcfs.specs.Requests.{IsInBanks}
 use Rattle.fr_fcfs.specs.Choices.{StandFor, choice_in, command_of, IsFor}

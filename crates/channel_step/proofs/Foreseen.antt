@@ -5,8 +5,8 @@ use Rattle.sim_base.specs.declared.config.Config.{Config}
 use Rattle.sim_base.specs.Scheduling.{candidates, choice_between, lowest_due, needed, refresh_command}
 use Rattle.sim_base.specs.declared.command.Command.{Command}
 use Rattle.sim_base.specs.declared.command.IssuedCommand.{IssuedCommand}
-use Rattle.request_log.specs.declared.Arrived.{Arrived}
-use Rattle.request_log.specs.Log.{waiting_requests, all_requests, waits_at}
+use Rattle.queue.specs.declared.request_log.Arrived.{Arrived}
+use Rattle.queue.specs.Log.{waiting_requests, all_requests, waits_at}
 use Rattle.queue.specs.View.{QueueView, is_draining}
 use Rattle.fr_fcfs.specs.Arrivals.{KeepsNext}
 use Rattle.fr_fcfs.specs.Choices.{choice_in, command_of, IsFor}

@@ -17,7 +17,7 @@ use Rattle.statistics.proofs.ChannelMail.{AgreeUpTo-later}
 use Rattle.statistics.proofs.ChannelSteps.{issued_commands-push}
 use Rattle.channel_step.specs.Past.{requests_of, CarriesRequest}
 use Rattle.channel_step.specs.Fit.{IsUnnamed, ComeByAge, IsFit, IsIdle}
-use Rattle.request_log.specs.Log.{waiting_requests}
+use Rattle.queue.specs.Log.{waiting_requests}
 use Rattle.channel_step.specs.Queued.{marks_in}
 use Rattle.channel_step.specs.Stands.{HasJoined}
 use Rattle.channel_step.specs.Channels.{StandsFor, IsInCycle, IsNextIn}

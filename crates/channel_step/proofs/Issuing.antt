@@ -20,23 +20,23 @@ use Rattle.sim_base.specs.declared.message.Message.{Message}
 use Rattle.sim_base.specs.declared.place.BankId.{BankId}
 use Rattle.bank_ready.specs.Stands.{rank_count, StandsFor as BanksStandFor}
 use Rattle.bank_ready.specs.declared.banks.Banks.{Banks}
-use Rattle.refresh.specs.Refreshes.{RefreshCounts, owed, lowest_owed, StandsFor as RefreshesStandFor}
-use Rattle.refresh.proofs.Due.{due_from_owed, lowest_due_from_owed}
+use Rattle.bank_ready.specs.Refreshes.{RefreshCounts, owed, lowest_owed, StandsFor as RefreshesStandFor}
+use Rattle.bank_ready.proofs.Due.{due_from_owed, lowest_due_from_owed}
 use Rattle.statistics.specs.Channels.{channel_stats, channel_cycle_with, channel_joined, moves_hit, is_late_act, ChannelFits}
 use Rattle.statistics.specs.declared.channels.ChannelStats.{ChannelStats}
 use Rattle.statistics.proofs.ChannelBounds.{channel_stats-fit}
 use Rattle.statistics.proofs.ChannelChoices.{choice-not_late}
 use Rattle.statistics.proofs.ChannelSteps.{issued_commands-push, channel_stats-push}
 use Rattle.statistics.proofs.Lists.{length-push_suc}
-use Rattle.request_log.specs.declared.Arrived.{Arrived}
-use Rattle.request_log.specs.Log.{waiting_requests, all_requests}
+use Rattle.queue.specs.declared.request_log.Arrived.{Arrived}
+use Rattle.queue.specs.Log.{waiting_requests, all_requests}
 use Rattle.queue.specs.View.{is_draining}
-use Rattle.bank_candidates.specs.declared.all_banks.BankCandidates.{BankCandidates}
-use Rattle.bank_candidates.specs.Candidates.{bank_at}
-use Rattle.bank_candidates.specs.Stands.{bank_count, StandsFor as CandidatesStandFor}
-use Rattle.bank_candidates.proofs.Stood.{same_rows}
+use Rattle.queue.specs.declared.bank_candidates.all_banks.BankCandidates.{BankCandidates}
+use Rattle.queue.specs.Candidates.{bank_at}
+use Rattle.queue.specs.Stands.{bank_count, StandsFor as CandidatesStandFor}
+use Rattle.queue.proofs.Stood.{same_rows}
 use Rattle.fr_fcfs.specs.Requests.{IsInBanks}
-use Rattle.served_requests.specs.declared.ServedRequest.{ServedRequest}
+use Rattle.request_table.specs.declared.served_requests.ServedRequest.{ServedRequest}
 use Rattle.channel_step.specs.Fit.{queue_room}
 use Rattle.channel_step.specs.Stands.{marks_of}
 use Rattle.channel_step.specs.Queued.{marks_in}

@@ -8,9 +8,9 @@ use Rattle.std.proofs.lemmas.List.Elements.{All-from_recursion, recursion_from_A
 use Rattle.sim_base.proofs.Ordered.{Each-weaker}
 use Rattle.sim_base.specs.Scheduling.{is_source, source_of, column_command}
 use Rattle.sim_base.specs.declared.message.Request.{Request}
-use Rattle.request_log.specs.declared.Arrived.{Arrived}
-use Rattle.request_log.specs.Log.{absent, waiting, waiting_requests, all_requests, served_at, activated_at, waits_at}
-use Rattle.request_log.proofs.Places.{waiting_at, waiting_within, waiting_served}
+use Rattle.queue.specs.declared.request_log.Arrived.{Arrived}
+use Rattle.queue.specs.Log.{absent, waiting, waiting_requests, all_requests, served_at, activated_at, waits_at}
+use Rattle.queue.proofs.Places.{waiting_at, waiting_within, waiting_served}
 use Rattle.channel_step.specs.Past.{IsOther, Differ}
 use Rattle.channel_step.specs.Queued.{marks_in, request_at}
 use Rattle.channel_step.proofs.Requests.{unserved_by, same_source, own_source}

@@ -5,8 +5,8 @@ use Rattle.std.proofs.Math.Seq.{drop-append_seam}
 use Rattle.std.proofs.lemmas.List.{map-append}
 use Rattle.std.proofs.lemmas.List.Elements.{All-from_recursion, filter-append}
 use Rattle.sim_base.specs.declared.message.Request.{Request}
-use Rattle.request_log.specs.declared.Arrived.{Arrived}
-use Rattle.request_log.specs.Log.{waiting, waiting_requests, all_requests, arrived_now}
+use Rattle.queue.specs.declared.request_log.Arrived.{Arrived}
+use Rattle.queue.specs.Log.{waiting, waiting_requests, all_requests, arrived_now}
 use Rattle.channel_step.specs.Queued.{marks_in}
 
 -- those that have just arrived wait

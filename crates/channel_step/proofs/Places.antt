@@ -15,9 +15,9 @@ use Rattle.sim_base.specs.declared.message.Request.{Request}
 use Rattle.sim_base.specs.declared.place.Place.{Place}
 use Rattle.sim_base.specs.declared.place.Field.{Field}
 use Rattle.sim_base.specs.declared.place.Field.TheVariants.{Rank, Group, Bank}
-use Rattle.request_log.specs.declared.Arrived.{Arrived}
-use Rattle.request_log.specs.Log.{all_requests}
-use Rattle.request_log.specs.Columns.{bank_number}
+use Rattle.queue.specs.declared.request_log.Arrived.{Arrived}
+use Rattle.queue.specs.Log.{all_requests}
+use Rattle.queue.specs.Columns.{bank_number}
 use Rattle.std.proofs.lemmas.List.{get_or-map, length-map}
 use Rattle.fr_fcfs.specs.Requests.{IsInBanks}
 use Rattle.channel_step.specs.Past.{requests_of, IsRequestOf, CarriesRequest}

@@ -16,15 +16,15 @@ use Rattle.sim_base.specs.declared.command.IssuedCommand.{IssuedCommand}
 use Rattle.sim_base.specs.declared.message.Message.{Message}
 use Rattle.sim_base.specs.declared.message.Request.{Request}
 use Rattle.sim_base.specs.declared.place.BankId.{BankId}
-use Rattle.request_log.specs.Log.{absent, waiting_requests, served_at, activated_at, waits_at}
-use Rattle.request_log.proofs.Activated.{all_activated, waiting_activated}
-use Rattle.request_log.proofs.Places.{all_served}
-use Rattle.bank_candidates.specs.declared.all_banks.BankCandidates.{BankCandidates}
-use Rattle.bank_candidates.specs.Candidates.{bank_at, number_of}
-use Rattle.bank_candidates.specs.Stands.{bank_count, IsAmong, with_row, closed_in, StandsFor as CandidatesStandFor}
-use Rattle.bank_candidates.proofs.Stood.{same_rows, bank_named}
-use Rattle.bank_candidates.proofs.Waits.{request_at as placed_at}
-use Rattle.served_requests.specs.declared.ServedRequest.{ServedRequest}
+use Rattle.queue.specs.Log.{absent, waiting_requests, served_at, activated_at, waits_at}
+use Rattle.queue.proofs.Activated.{all_activated, waiting_activated}
+use Rattle.queue.proofs.Places.{all_served}
+use Rattle.queue.specs.declared.bank_candidates.all_banks.BankCandidates.{BankCandidates}
+use Rattle.queue.specs.Candidates.{bank_at, number_of}
+use Rattle.queue.specs.Stands.{bank_count, IsAmong, with_row, closed_in, StandsFor as CandidatesStandFor}
+use Rattle.queue.proofs.Stood.{same_rows, bank_named}
+use Rattle.queue.proofs.Waits.{request_at as placed_at}
+use Rattle.request_table.specs.declared.served_requests.ServedRequest.{ServedRequest}
 use Rattle.statistics.specs.Channels.{moves_hit}
 use Rattle.fr_fcfs.specs.Requests.{IsInBanks, KnowsRows}
 use Rattle.channel_step.specs.Past.{is_named}

@@ -4,11 +4,11 @@ use Rattle.sim_base.specs.declared.config.Config.{Config}
 use Rattle.sim_base.specs.History.{issued_commands}
 use Rattle.sim_base.specs.declared.command.Command.{Command}
 use Rattle.sim_base.specs.declared.message.Message.{Message}
-use Rattle.request_log.specs.declared.Arrived.{Arrived}
-use Rattle.request_log.specs.Log.{waiting, waiting_requests}
-use Rattle.request_log.proofs.Renumbered.{waiting_twice}
-use Rattle.bank_candidates.specs.declared.all_banks.BankCandidates.{BankCandidates}
-use Rattle.bank_candidates.specs.Stands.{bank_count}
+use Rattle.queue.specs.declared.request_log.Arrived.{Arrived}
+use Rattle.queue.specs.Log.{waiting, waiting_requests}
+use Rattle.queue.proofs.Renumbered.{waiting_twice}
+use Rattle.queue.specs.declared.bank_candidates.all_banks.BankCandidates.{BankCandidates}
+use Rattle.queue.specs.Stands.{bank_count}
 use Rattle.fr_fcfs.specs.Requests.{IsInBanks}
 use Rattle.channel_step.specs.Stands.{marks_of}
 use Rattle.channel_step.specs.Channels.{CandidatesStand, StandsFor}

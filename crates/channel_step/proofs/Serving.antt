@@ -19,8 +19,8 @@ use Rattle.sim_base.specs.declared.message.Message.{Message}
 use Rattle.sim_base.specs.declared.message.Request.{Request}
 use Rattle.sim_base.specs.declared.place.BankId.{BankId}
 use Rattle.statistics.specs.Channels.{is_entry, moves_data_of, is_late_act}
-use Rattle.served_requests.specs.Served.{served_by, served_in, served_requests}
-use Rattle.served_requests.specs.declared.ServedRequest.{ServedRequest}
+use Rattle.request_table.specs.Served.{served_by, served_in, served_requests}
+use Rattle.request_table.specs.declared.served_requests.ServedRequest.{ServedRequest}
 use Rattle.channel_step.specs.Past.{requests_of}
 use Rattle.channel_step.specs.Queued.{served_now}
 use Rattle.channel_step.specs.Runs.{with_more}

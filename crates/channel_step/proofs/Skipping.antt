@@ -18,14 +18,14 @@ use Rattle.statistics.proofs.ChannelBounds.{channel_stats-fit}
 use Rattle.statistics.proofs.ChannelStretches.{channel_joined-assoc, channel_joined-none}
 use Rattle.statistics.proofs.Repeats.{channel_stretch-replicate}
 use Rattle.bank_ready.specs.Stands.{StandsFor as BanksStandFor}
-use Rattle.refresh.specs.Refreshes.{RefreshCounts, lowest_owed, StandsFor as RefreshesStandFor}
-use Rattle.refresh.proofs.Due.{lowest_due_from_owed}
+use Rattle.bank_ready.specs.Refreshes.{RefreshCounts, lowest_owed, StandsFor as RefreshesStandFor}
+use Rattle.bank_ready.proofs.Due.{lowest_due_from_owed}
 use Rattle.channel_step.specs.Past.{requests_of}
 use Rattle.channel_step.specs.Stands.{marks_of}
 use Rattle.channel_step.specs.Counted.{cycle_with_hit}
 use Rattle.channel_step.specs.Fit.{queue_room}
 use Rattle.channel_step.specs.Queued.{drain_decided}
-use Rattle.request_log.specs.Log.{waiting_requests}
+use Rattle.queue.specs.Log.{waiting_requests}
 use Rattle.channel_step.specs.Channels.{CandidatesStand, IsForeseen, KeepsServed, StandsFor, IsInCycle, passed}
 use Rattle.channel_step.specs.declared.channel.Channel.{Channel}
 use Rattle.channel_step.proofs.Requests.{ArrivedBefore, requests-arrived, queued_requests-until}

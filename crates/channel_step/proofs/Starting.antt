@@ -11,16 +11,16 @@ use Rattle.sim_base.specs.Scheduling.{queued_requests, drains_with, drains_befor
 use Rattle.sim_base.specs.declared.command.Command.{Command}
 use Rattle.sim_base.specs.declared.message.Message.{Message}
 use Rattle.bank_ready.specs.Stands.{rank_count, StandsFor as BanksStandFor}
-use Rattle.refresh.specs.Refreshes.{StandsFor as RefreshesStandFor}
+use Rattle.bank_ready.specs.Refreshes.{StandsFor as RefreshesStandFor}
 use Rattle.statistics.specs.declared.channels.ChannelStats.{ChannelStats}
 use Rattle.channel_step.specs.Fit.{queue_room}
 use Rattle.channel_step.specs.Queued.{marks_in}
 use Rattle.statistics.specs.Channels.{channel_none, channel_stats, draining_of}
 use Rattle.sim_base.specs.Rules.{open_row}
-use Rattle.bank_candidates.specs.Stands.{bank_count, StandsFor as CandidatesStandFor}
+use Rattle.queue.specs.Stands.{bank_count, StandsFor as CandidatesStandFor}
 use Rattle.std.proofs.lemmas.List.Elements.{All-from_recursion}
-use Rattle.request_log.specs.Log.{waiting, waiting_requests, all_requests}
-use Rattle.request_log.specs.Columns.{write_count}
+use Rattle.queue.specs.Log.{waiting, waiting_requests, all_requests}
+use Rattle.queue.specs.Columns.{write_count}
 use Rattle.queue.specs.View.{QueueView, places_for, is_draining, drains_by}
 use Rattle.fr_fcfs.specs.Requests.{IsInBanks}
 use Rattle.fr_fcfs.specs.Choices.{StandFor, choice_in}
@@ -37,7 +37,7 @@ use Rattle.channel_step.proofs.Stretches.{idle-choice}
 use Rattle.channel_step.proofs.Deciding.{made-in_banks}
 use Rattle.channel_step.proofs.Foreseen.{foreseen-unknown}
 use Rattle.channel_step.proofs.Serving.{kept-none}
-use Rattle.served_requests.specs.declared.ServedRequest.{ServedRequest}
+use Rattle.request_table.specs.declared.served_requests.ServedRequest.{ServedRequest}
 
 -- there is no past yet
 pub recalls-none : (s : Config) (channel : ℕ) → Recalls [] false [] (record channel_none { draining = draining_of s 0 }) s channel [] []

@@ -5,7 +5,7 @@ use Rattle.std.proofs.lemmas.List.{append-nil, append_assoc, map-append, length-
 use Rattle.sim_base.specs.Scheduling.{request_in}
 use Rattle.sim_base.specs.declared.message.Message.{Message}
 use Rattle.sim_base.specs.declared.message.Request.{Request}
-use Rattle.request_log.specs.Log.{waiting_requests, arrived_now}
+use Rattle.queue.specs.Log.{waiting_requests, arrived_now}
 use Rattle.queue.specs.View.{QueueView}
 use Rattle.channel_step.specs.Past.{requests_of}
 use Rattle.channel_step.specs.Queued.{joined_with}

@@ -36,12 +36,12 @@ use Rattle.sim_base.specs.declared.message.Message.{Message}
 use Rattle.sim_base.specs.declared.message.Request.{Request}
 use Rattle.sim_base.specs.declared.place.BankId.{BankId}
 use Rattle.bank_ready.specs.Stands.{StandsFor as BanksStandFor}
-use Rattle.refresh.specs.Refreshes.{lowest_owed, StandsFor as RefreshesStandFor}
-use Rattle.bank_candidates.specs.declared.all_banks.BankCandidates.{BankCandidates}
-use Rattle.bank_candidates.specs.Candidates.{rows_after}
-use Rattle.bank_candidates.specs.Stands.{bank_count, StandsFor as CandidatesStandFor}
-use Rattle.request_log.specs.declared.Arrived.{Arrived}
-use Rattle.request_log.specs.Log.{waiting_requests, all_requests}
+use Rattle.bank_ready.specs.Refreshes.{lowest_owed, StandsFor as RefreshesStandFor}
+use Rattle.queue.specs.declared.bank_candidates.all_banks.BankCandidates.{BankCandidates}
+use Rattle.queue.specs.Candidates.{rows_after}
+use Rattle.queue.specs.Stands.{bank_count, StandsFor as CandidatesStandFor}
+use Rattle.queue.specs.declared.request_log.Arrived.{Arrived}
+use Rattle.queue.specs.Log.{waiting_requests, all_requests}
 use Rattle.queue.specs.View.{QueueView, is_draining}
 use Rattle.statistics.specs.Channels.{channel_joined, channel_times}
 use Rattle.statistics.specs.declared.channels.ChannelStats.{ChannelStats}
@@ -50,8 +50,8 @@ use Rattle.fr_fcfs.specs.Choices.{StandFor, choice_in, command_of, IsFor, HasPla
 use Rattle.fr_fcfs.specs.Requests.{IsInBanks}
 use Rattle.fr_fcfs.specs.Cycles.{IsNext}
 use Rattle.fr_fcfs.specs.declared.choice.Choice.{Choice}
-use Rattle.served_requests.specs.Served.{served_requests}
-use Rattle.served_requests.specs.declared.ServedRequest.{ServedRequest}
+use Rattle.request_table.specs.Served.{served_requests}
+use Rattle.request_table.specs.declared.served_requests.ServedRequest.{ServedRequest}
 use Rattle.channel_step.specs.Past.{Steps, requests_of}
 use Rattle.channel_step.specs.Fit.{queue_room, idle_until, IsIdle}
 use Rattle.channel_step.specs.Queued.{marks_in}

@@ -3,7 +3,7 @@
 use Rattle.std.specs.Prelude.{ℕ, ◌<◌}
 use Rattle.sim_base.specs.declared.command.Command.{Command}
 use Rattle.sim_base.specs.declared.command.Command.TheVariants.{Act, Rd, Wr, Pre, Prea, Ref}
-use Rattle.refresh.specs.Refreshes.{RefreshCounts, owed}
+use Rattle.bank_ready.specs.Refreshes.{RefreshCounts, owed}
 
 -- if a command is a REF, it is due for a rank that exists
 abbrev pub RefIsOwed : RefreshCounts → ℕ → Command → Type 0

@@ -9,10 +9,10 @@
 use Rattle.std.specs.Prelude.{ℕ, Bool, List, Vec, map, ◌++◌, slice_index_or, Option, option_map}
 use Rattle.std.specs.declared.alloc.Global.{Global}
 use Rattle.sim_base.specs.declared.message.Request.{Request}
-use Rattle.request_log.specs.declared.Arrived.{Arrived}
-use Rattle.request_log.specs.Log.{absent, waiting, arrived_now}
+use Rattle.queue.specs.declared.request_log.Arrived.{Arrived}
+use Rattle.queue.specs.Log.{absent, waiting, arrived_now}
 use Rattle.queue.specs.View.{QueueView, is_draining}
-use Rattle.served_requests.specs.declared.ServedRequest.{ServedRequest}
+use Rattle.request_table.specs.declared.served_requests.ServedRequest.{ServedRequest}
 
 -- for which of the requests that wait an ACT was issued
 abbrev pub marks_in : List Arrived → List Bool

@@ -24,8 +24,8 @@ use Rattle.sim_base.specs.declared.command.IssuedCommand.{IssuedCommand}
 use Rattle.sim_base.specs.declared.message.Message.{Message}
 use Rattle.sim_base.specs.declared.message.Request.{Request}
 use Rattle.bank_ready.specs.Stands.{followed_by, StandsFor as BanksStandFor}
-use Rattle.refresh.specs.Refreshes.{StandsFor as RefreshesStandFor}
-use Rattle.request_log.specs.Log.{waiting_requests, waits_at}
+use Rattle.bank_ready.specs.Refreshes.{StandsFor as RefreshesStandFor}
+use Rattle.queue.specs.Log.{waiting_requests, waits_at}
 use Rattle.statistics.specs.Channels.{channel_stats, moves_hit}
 use Rattle.fr_fcfs.specs.Choices.{command_of, IsFor}
 use Rattle.fr_fcfs.specs.declared.choice.Choice.{Choice}

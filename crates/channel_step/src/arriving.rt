@@ -1,7 +1,7 @@
 //! Requests that arrive at a channel.
 
 ghost use Rattle.std.specs.Prelude.{◌≡◌, ◌+◌, ◌<◌, ◌≤◌, [], ◌∷◌, length};
-ghost use Rattle.request_log.specs.Log.{waiting_requests};
+ghost use Rattle.queue.specs.Log.{waiting_requests};
 ghost use Rattle.channel_step.specs.Past.{requests_of};
 ghost use Rattle.channel_step.specs.Queued.{joined_with, with_arrivals};
 

@@ -3,20 +3,20 @@
 ghost use Rattle.std.specs.Prelude.{◌≡◌, ◌<◌, ◌^◌, ◌++◌, List, [], ◌∷◌, OnOk};
 ghost use Rattle.sim_base.specs.declared.config.Config.{Config};
 ghost use Rattle.sim_base.specs.declared.command.IssuedCommand.{IssuedCommand};
-ghost use Rattle.refresh.specs.Refreshes.{StandsFor as RefreshesStandFor};
+ghost use Rattle.bank_ready.specs.Refreshes.{StandsFor as RefreshesStandFor};
 ghost use Rattle.channel_step.specs.Owed.{RefIsOwed};
 ghost use Rattle.channel_step.specs.Runs.{with_more};
 ghost use Rattle.channel_step.specs.Queued.{kept_rows, served_now};
 
-use refresh::Refresh;
-use served_requests::ServedRequest;
+use bank_ready::refresh::Refresh;
+use request_table::served_requests::ServedRequest;
 use sim_base::command::Command;
 use sim_base::message::{ChannelId, Cycle, Request};
 use std::alloc::AllocError;
 
 /// Counts a command, where it is a REF, which is due then.
 #[inline(always)]
-#[tactic(auto, using(crate::proofs::Chosen::no_refresh, refresh::proofs::Due::stands_without_refresh))]
+#[tactic(auto, using(crate::proofs::Chosen::no_refresh, bank_ready::proofs::Due::stands_without_refresh))]
 pub(crate) fn note_refresh(refresh: &mut Refresh, command: Command, now: Cycle)
     requires now { now < 2 ^ 62 }
     requires due { RefIsOwed refresh.old now command }

@@ -16,3 +16,4 @@ pub mod Resting
 pub mod Silent
 pub mod Sticking
 pub mod Masking
+pub mod Memory

@@ -21,7 +21,7 @@ ghost use Rattle.core_window.specs.Outstanding.{IsByNumber};
 ghost use Rattle.core_window.specs.Waiting.{waiting};
 ghost use Rattle.core_window.specs.Counting.{IsCreditedAt};
 
-use crate::counts::{count_cycle, count_cycles};
+use crate::counts::{count_cycle, count_cycles, count_memory};
 use crate::flow::{Flow, WindowNumbers, cycles_within, flow_of};
 use crate::issue::{Ahead, entry_issued, issue_of, look_ahead, most_issued, next_two};
 use crate::issue_effects::{send, spend, wait_for};
@@ -150,6 +150,8 @@ impl Core {
         ensures advances { OnOk result
             (AdvancesBy 1 self.old sent.old.items self.new sent.new.items) }
     {
+        let len = self.trace.len();
+        count_memory(&mut self.stats, cycle_work.memory);
         wait_for(&mut self.outstanding, cycle_work.memory, self.cycle)?;
         spend(&mut self.credits, &self.found.place, cycle_work.memory);
         send(
@@ -160,12 +162,10 @@ impl Core {
             &self.found.place,
             cycle_work.memory,
         )?;
-        let len = self.trace.len();
         count_cycle(
             &mut self.stats,
             cycle_work.core_step,
             cycle_work.why,
-            cycle_work.memory,
             len,
             self.cycle,
         );
@@ -281,6 +281,7 @@ impl Core {
 
     /// Whether the first entry of its full window waits, so that the core does nothing until a message comes.
     fn is_stuck(&self) -> bool
+        requires { self.now.stats.retired ≤ self.now.stats.issued }
         ensures undone { IsTrue result → HeadWaits (view_of self.now) }
         ensures full { IsTrue result → IsFull (view_of self.now) }
     {

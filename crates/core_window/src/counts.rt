@@ -1,6 +1,6 @@
 //! What a core counts in a cycle.
 
-ghost use Rattle.std.specs.Prelude.{◌≡◌};
+ghost use Rattle.std.specs.Prelude.{◌≡◌, None};
 ghost use Rattle.statistics.specs.Cores.{CoreFits};
 ghost use Rattle.core_window.specs.Counting.{counted_cycle, counted_cycles};
 ghost use Rattle.core_window.specs.Steady.{with_stop, with_memory};
@@ -25,8 +25,8 @@ fn count_stop(stats: &mut CoreStats, why: Stop, cycles: u64)
     }
 }
 
-/// The memory entry that issues, if one does.
-fn count_memory(stats: &mut CoreStats, memory: Option<MemoryEntry>)
+/// Counts the memory entry that issues, if one does.
+pub fn count_memory(stats: &mut CoreStats, memory: Option<MemoryEntry>)
     requires { CoreFits (with_memory stats.old memory) }
     ensures { stats.new ≡ with_memory stats.old memory }
 {
@@ -50,17 +50,11 @@ pub fn count_cycles(stats: &mut CoreStats, core_step: CoreStep, why: Stop, cycle
     count_stop(stats, why, cycles);
 }
 
-/// Counts a cycle, except for its replies. The trace of the core has this length.
-pub fn count_cycle(
-    stats: &mut CoreStats,
-    core_step: CoreStep,
-    why: Stop,
-    memory: Option<MemoryEntry>,
-    len: u64,
-    now: Cycle,
-)
-    requires { CoreFits (counted_cycle stats.old core_step why memory len now) }
-    ensures { stats.new ≡ counted_cycle stats.old core_step why memory len now }
+/// Counts a cycle, except for its replies and for the memory entry that issues in it. The trace of the core has this
+/// length.
+pub fn count_cycle(stats: &mut CoreStats, core_step: CoreStep, why: Stop, len: u64, now: Cycle)
+    requires { CoreFits (counted_cycle stats.old core_step why None len now) }
+    ensures { stats.new ≡ counted_cycle stats.old core_step why None len now }
 {
     let retired = stats.retired + u64::from(core_step.retired);
     if stats.retired < len && len <= retired {
@@ -68,6 +62,5 @@ pub fn count_cycle(
     }
     stats.issued += u64::from(core_step.issued);
     stats.retired = retired;
-    count_memory(stats, memory);
     count_stop(stats, why, 1);
 }

@@ -33,13 +33,12 @@ pub fn is_next_done(outstanding: &[OutstandingRead], issued: u64, retired: u64) 
 
 /// Whether the first entry of a full window waits, so that no entry retires and none issues.
 pub fn is_stuck(window: u32, outstanding: &[OutstandingRead], issued: u64, retired: u64) -> bool
+    requires { retired ≤ issued }
     ensures undone { IsTrue result → first_undone issued outstanding.now ≤ retired }
     ensures full { IsTrue result → window ≤ issued - retired }
 {
     match outstanding {
-        [read, ..] => {
-            read.entry <= retired && u64::from(window) <= issued.saturating_sub(retired)
-        }
+        [read, ..] => { read.entry <= retired && u64::from(window) <= issued - retired }
         [] => false,
     }
 }

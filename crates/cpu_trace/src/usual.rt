@@ -31,16 +31,16 @@ fn digit_of(radix: u64, byte: u8) -> Option<u64>
     if digit < radix { Some(digit) } else { None }
 }
 
-// The number that the digits at the start of a text write, of which no more than `most` are read, and what follows
+// The number that the digits among the first `end` bytes of a text write, up to the first that is none, and what follows
 // them; none if no digit is read. It is inlined, so that each radix has a loop of its own.
 #[inline(always)]
-fn split_digits(radix: u64, most: usize, text: &[u8]) -> Option<(u64, &[u8])>
+fn split_within(radix: u64, end: usize, text: &[u8]) -> Option<(u64, &[u8])>
     requires lower { 2 ≤ radix }
     requires upper { radix ≤ 36 }
-    requires room { radix ^ most ≤ 2 ^ 64 }
+    requires room { radix ^ end ≤ 2 ^ 64 }
+    requires within { end ≤ length text.now }
     ensures { IfSome result (λ parts. BeginsWithDigits radix text.now parts.0 parts.1.now) }
 {
-    let end = text.len().min(most);
     let mut number = 0;
     let mut len = 0;
     while len < end {
@@ -54,6 +54,22 @@ fn split_digits(radix: u64, most: usize, text: &[u8]) -> Option<(u64, &[u8])>
         return None;
     }
     Some((number, &text[len..]))
+}
+
+// The number that the digits at the start of a text write, of which no more than `most` are read, and what follows
+// them; none if no digit is read. Where the text is as long as that, how often the loop runs at most is known as it is
+// compiled.
+#[inline(always)]
+fn split_digits(radix: u64, most: usize, text: &[u8]) -> Option<(u64, &[u8])>
+    requires lower { 2 ≤ radix }
+    requires upper { radix ≤ 36 }
+    requires room { radix ^ most ≤ 2 ^ 64 }
+    ensures { IfSome result (λ parts. BeginsWithDigits radix text.now parts.0 parts.1.now) }
+{
+    if text.len() >= most {
+        return split_within(radix, most, text);
+    }
+    split_within(radix, text.len(), text)
 }
 
 // What follows this byte at the start of a text.

@@ -1,7 +1,7 @@
 -- What a status says of the outcome of a call.
 use Rattle.std.proofs.Common.{◌≡◌, ◌≢◌, ◌<◌, ◌⊎◌, inl, inr, ℕ, Bool, true, false, Option, Some, None, Result, Ok, Err, IfErr, OnOk, OnErr, refl, sym, ap, subst, ◌∙◌, lit<, arith}
-use Rattle.channel_session.specs.declared.fault.SessionFault.{SessionFault}
-use Rattle.channel_session.specs.declared.fault.SessionFault.TheVariants as refused
+use Rattle.sessions.specs.declared.channel_session.fault.SessionFault.{SessionFault}
+use Rattle.sessions.specs.declared.channel_session.fault.SessionFault.TheVariants as refused
 use Rattle.sim_base.specs.declared.fault.Fault.{Fault}
 use Rattle.sim_base.specs.declared.fault.Fault.TheVariants as fault
 use Rattle.c_interface.specs.Kept.{IsWellAt, IsThere, IsCallAnswer}

@@ -3,12 +3,12 @@
 
 ghost use Rattle.std.specs.Prelude.{◌≡◌, ◌≢◌, ◌⊎◌, ℕ, ◌+◌, true, false, None, Some, ◌++◌, if◌then◌else◌, drop, length, option_map, is_some};
 ghost use Rattle.config_reader.specs.Document.{document_of};
-ghost use Rattle.channel_session.specs.Sent.{message_of};
-ghost use Rattle.channel_session.specs.Addresses.{is_place, IsAddressOf};
-ghost use Rattle.channel_session.specs.Ahead.{IsNextAct};
-ghost use Rattle.channel_session.specs.Keeps.{steps_of, waiting};
-ghost use Rattle.channel_session.specs.Sessions.{Past, next_command_of, next_reply_of, with_sent, with_command, with_reply, refusal, end_refusal};
-ghost use Rattle.channel_session.specs.declared.session.Session.{Session};
+ghost use Rattle.sessions.specs.Sent.{message_of};
+ghost use Rattle.sessions.specs.Addresses.{is_place, IsAddressOf};
+ghost use Rattle.sessions.specs.Ahead.{IsNextAct};
+ghost use Rattle.sessions.specs.Keeps.{steps_of, waiting};
+ghost use Rattle.sessions.specs.Sessions.{Past, next_command_of, next_reply_of, with_sent, with_command, with_reply, refusal, end_refusal};
+ghost use Rattle.sessions.specs.declared.channel_session.session.Session.{Session};
 ghost use Rattle.sim_base.specs.Places.{place_of};
 ghost use Rattle.statistics.specs.Channels.{channel_stats};
 ghost use Rattle.c_interface.specs.Channels.{open_refusal, IsWell, ForPasts, HasPast, StandsAt, IsClosed, IsOpened};

@@ -2,19 +2,19 @@
 
 ghost use Rattle.std.specs.Prelude.{◌≡◌, ◌≢◌, ◌⊎◌, ℕ, true, false, None, Some, nat_lt, if◌then◌else◌, option_map};
 ghost use Rattle.config_reader.specs.Document.{document_of};
-ghost use Rattle.channel_session.specs.Addresses.{is_place, IsAddressOf};
-ghost use Rattle.channel_session.specs.Sessions.{end_refusal};
-ghost use Rattle.channel_session.specs.declared.session.Session.{Session};
+ghost use Rattle.sessions.specs.Addresses.{is_place, IsAddressOf};
+ghost use Rattle.sessions.specs.Sessions.{end_refusal};
+ghost use Rattle.sessions.specs.declared.channel_session.session.Session.{Session};
 ghost use Rattle.sim_base.specs.Places.{place_of};
 ghost use Rattle.sim_base.specs.declared.config.Config.{Config};
-ghost use Rattle.memory_session.specs.Memories.{Pasts, memory_refusal, with_request, IsNextCommand, IsNextReply, IsNextActOf, stats_of};
+ghost use Rattle.sessions.specs.Memories.{Pasts, memory_refusal, with_request, IsNextCommand, IsNextReply, IsNextActOf, stats_of};
 ghost use Rattle.c_interface.specs.Rows.{sent_request, place_row, place_in, stats_row};
 ghost use Rattle.c_interface.specs.Statuses.{IsStatus, open_status};
-ghost use Rattle.c_memory.specs.Memories.{IsWell, ForPasts, ForOpen, ForMemory, HasPasts, StandsAt, IsOf, IsClosed, IsOpened, configuration_refusal, IsCommandRowAt, IsReplyRowAt, with_command_at, with_reply_at};
+ghost use Rattle.c_interface.specs.Memories.{IsWell, ForPasts, ForOpen, ForMemory, HasPasts, StandsAt, IsOf, IsClosed, IsOpened, configuration_refusal, IsCommandRowAt, IsReplyRowAt, with_command_at, with_reply_at};
 
+use c_interface::c_memory::memory::KeptMemory;
 use c_interface::fault::{fault_number, status};
 use c_interface::rows::{CommandRow, PlaceRow, ReplyRow, RequestRow, StatsRow};
-use c_memory::memory::KeptMemory;
 use std::alloc::Global;
 
 /// Opens a closed memory: all channels of the machine whose configuration a text states, before their first cycle. Any

@@ -4,8 +4,8 @@ ghost use Rattle.std.specs.Prelude.{◌≡◌, true, false, IfOk};
 ghost use Rattle.explain.specs.Heads.{StartsBy, IsSilent, file_head};
 ghost use Rattle.explain.specs.Silence.{is_of_config};
 
+use crate::explain_text::config::config_text;
 use crate::heads::behind;
-use explain_text::config::config_text;
 use sim_base::fault::Fault;
 use std::alloc::{AllocError, Global};
 

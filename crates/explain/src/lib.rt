@@ -7,14 +7,15 @@
 
 mod config;
 mod counts;
+pub mod explain_text;
 mod heads;
 mod host;
 mod numbers;
 mod table;
 mod traces;
 
+pub use crate::explain_text::table::TableKind;
 pub use config::of_config;
-pub use explain_text::table::TableKind;
 pub use host::of_host;
 pub use numbers::of_numbers;
 pub use table::of_table;

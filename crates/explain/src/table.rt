@@ -5,8 +5,8 @@ ghost use Rattle.sim_base.specs.declared.fault.Fault.TheVariants.{CheckRow};
 ghost use Rattle.explain.specs.Heads.{StartsBy, IsSilent, row_head};
 ghost use Rattle.explain.specs.Silence.{is_of_table};
 
+use crate::explain_text::table::{TableKind, row_text};
 use crate::heads::behind;
-use explain_text::table::{TableKind, row_text};
 use sim_base::fault::Fault;
 use std::alloc::{AllocError, Global};
 

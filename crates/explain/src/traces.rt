@@ -6,8 +6,8 @@ ghost use Rattle.sim_base.specs.declared.fault.LineCause.{LineCause};
 ghost use Rattle.explain.specs.Heads.{StartsBy, IsText, IsSilent, trace_path, line_head, length_text};
 ghost use Rattle.explain.specs.Silence.{is_of_traces};
 
+use crate::explain_text::traces::line_text;
 use crate::heads::behind;
-use explain_text::traces::line_text;
 use sim_base::fault::Fault;
 use sim_base::message::CoreId;
 use std::alloc::{AllocError, Global};

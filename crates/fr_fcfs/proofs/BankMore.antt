@@ -15,14 +15,14 @@ use Rattle.sim_base.specs.Scheduling.{needed, ready_hit}
 use Rattle.bank_ready.specs.Ready.{ready_from}
 use Rattle.bank_ready.specs.Stands.{IsAllowedFrom}
 use Rattle.bank_ready.proofs.Allowed.{allowed-other}
-use Rattle.request_log.specs.declared.Arrived.{Arrived}
-use Rattle.request_log.specs.Log.{all_requests}
-use Rattle.request_log.specs.Columns.{bank_number}
-use Rattle.bank_candidates.specs.declared.entry.CandidatesOfBank.{CandidatesOfBank}
-use Rattle.bank_candidates.specs.declared.entry.AccessCandidates.{AccessCandidates}
-use Rattle.bank_candidates.specs.Candidates.{bank_at, hits, first_place, AreFirst, AreCandidates}
-use Rattle.bank_candidates.specs.Moves.{earlier}
-use Rattle.bank_candidates.proofs.Searches.{none_everywhere}
+use Rattle.queue.specs.declared.request_log.Arrived.{Arrived}
+use Rattle.queue.specs.Log.{all_requests}
+use Rattle.queue.specs.Columns.{bank_number}
+use Rattle.queue.specs.declared.bank_candidates.entry.CandidatesOfBank.{CandidatesOfBank}
+use Rattle.queue.specs.declared.bank_candidates.entry.AccessCandidates.{AccessCandidates}
+use Rattle.queue.specs.Candidates.{bank_at, hits, first_place, AreFirst, AreCandidates}
+use Rattle.queue.specs.Moves.{earlier}
+use Rattle.queue.proofs.Searches.{none_everywhere}
 use Rattle.fr_fcfs.specs.declared.accesses.Accesses.{Accesses}
 use Rattle.fr_fcfs.specs.declared.offers.Offer.{Offer}
 use Rattle.fr_fcfs.specs.Requests.{IsInBanks, is_hit}

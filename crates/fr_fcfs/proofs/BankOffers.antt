@@ -12,14 +12,14 @@ use Rattle.sim_base.specs.declared.message.Request.{Request}
 use Rattle.sim_base.specs.Places.{bank_in, is_bank}
 use Rattle.sim_base.specs.Rules.{is_legal, open_row, is_row, kind_of}
 use Rattle.sim_base.specs.Scheduling.{needed, needed_at, column_command, source_of, is_column_command, has_hit, is_withheld, is_row_hit, ready_hit, ready_row}
-use Rattle.request_log.specs.declared.Arrived.{Arrived}
-use Rattle.request_log.specs.Log.{all_requests}
-use Rattle.request_log.specs.Columns.{bank_number}
-use Rattle.bank_candidates.specs.declared.entry.CandidatesOfBank.{CandidatesOfBank}
-use Rattle.bank_candidates.specs.Candidates.{bank_at, asks, hits, first_place, AreCandidates}
-use Rattle.bank_candidates.specs.Moves.{earlier}
-use Rattle.bank_candidates.proofs.Stood.{bank_named}
-use Rattle.bank_candidates.proofs.Searches.{none_everywhere, none_narrower_all}
+use Rattle.queue.specs.declared.request_log.Arrived.{Arrived}
+use Rattle.queue.specs.Log.{all_requests}
+use Rattle.queue.specs.Columns.{bank_number}
+use Rattle.queue.specs.declared.bank_candidates.entry.CandidatesOfBank.{CandidatesOfBank}
+use Rattle.queue.specs.Candidates.{bank_at, asks, hits, first_place, AreCandidates}
+use Rattle.queue.specs.Moves.{earlier}
+use Rattle.queue.proofs.Stood.{bank_named}
+use Rattle.queue.proofs.Searches.{none_everywhere, none_narrower_all}
 use Rattle.fr_fcfs.specs.Requests.{IsInBanks, is_hit}
 use Rattle.fr_fcfs.specs.declared.accesses.Accesses.{Accesses}
 use Rattle.fr_fcfs.specs.Offers.{is_of, if_allowed, hit_candidate, oldest_candidate, going, hits_now, rows_now, hits_in, rows_in, IsReadyFrom, row_kind}

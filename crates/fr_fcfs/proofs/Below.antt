@@ -8,13 +8,13 @@ use Rattle.sim_base.specs.declared.config.Config.{Config}
 use Rattle.sim_base.specs.declared.command.IssuedCommand.{IssuedCommand}
 use Rattle.sim_base.specs.declared.message.Request.{Request}
 use Rattle.sim_base.specs.Scheduling.{needed, or_else, first_ready, ready_hit, ready_row}
-use Rattle.request_log.specs.declared.Arrived.{Arrived}
-use Rattle.request_log.specs.Log.{all_requests, waits_at}
-use Rattle.request_log.specs.Columns.{bank_number}
+use Rattle.queue.specs.declared.request_log.Arrived.{Arrived}
+use Rattle.queue.specs.Log.{all_requests, waits_at}
+use Rattle.queue.specs.Columns.{bank_number}
 use Rattle.queue.specs.View.{QueueView}
-use Rattle.bank_candidates.specs.Candidates.{first_place}
-use Rattle.bank_candidates.specs.Moves.{earlier}
-use Rattle.bank_candidates.proofs.Searches.{none_everywhere}
+use Rattle.queue.specs.Candidates.{first_place}
+use Rattle.queue.specs.Moves.{earlier}
+use Rattle.queue.proofs.Searches.{none_everywhere}
 use Rattle.fr_fcfs.specs.declared.offers.Offer.{Offer}
 use Rattle.fr_fcfs.specs.Requests.{candidates_of}
 use Rattle.fr_fcfs.specs.declared.accesses.Accesses.{Accesses}

@@ -3,12 +3,12 @@ use Rattle.std.proofs.Common.{◌≡◌, ℕ, zero, suc, ◌+◌, ◌<◌, Bool,
 use Rattle.std.proofs.lemmas.Bool.{cases_Bool, cases_eq, false≢true}
 use Rattle.std.specs.List.{All}
 use Rattle.sim_base.specs.declared.message.Request.{Request}
-use Rattle.request_log.specs.declared.Arrived.{Arrived}
-use Rattle.request_log.specs.Log.{all_requests}
-use Rattle.request_log.specs.Columns.{bank_number}
-use Rattle.bank_candidates.specs.Candidates.{first_place}
-use Rattle.bank_candidates.specs.Moves.{earlier}
-use Rattle.bank_candidates.proofs.Searches.{none_everywhere}
+use Rattle.queue.specs.declared.request_log.Arrived.{Arrived}
+use Rattle.queue.specs.Log.{all_requests}
+use Rattle.queue.specs.Columns.{bank_number}
+use Rattle.queue.specs.Candidates.{first_place}
+use Rattle.queue.specs.Moves.{earlier}
+use Rattle.queue.proofs.Searches.{none_everywhere}
 use Rattle.fr_fcfs.proofs.Booleans.{and_false, or_false}
 use Rattle.fr_fcfs.proofs.Firsts.{same_among, either_among}
 use Rattle.fr_fcfs.proofs.Below.{place_below, none_below, place_more, place_all}

@@ -6,11 +6,11 @@ use Rattle.std.specs.Option.{is_some, IfSome}
 use Rattle.sim_base.specs.declared.config.Config.{Config}
 use Rattle.sim_base.specs.declared.message.Request.{Request}
 use Rattle.sim_base.specs.Scheduling.{candidates, favour, is_favoured, first_of_lines}
-use Rattle.request_log.specs.declared.Arrived.{Arrived}
-use Rattle.request_log.specs.Log.{waiting_requests}
+use Rattle.queue.specs.declared.request_log.Arrived.{Arrived}
+use Rattle.queue.specs.Log.{waiting_requests}
 use Rattle.queue.specs.View.{QueueView, is_draining}
-use Rattle.bank_candidates.specs.Candidates.{passes, entries, first_place}
-use Rattle.bank_candidates.proofs.Entries.{length-entries}
+use Rattle.queue.specs.Candidates.{passes, entries, first_place}
+use Rattle.queue.proofs.Entries.{length-entries}
 use Rattle.fr_fcfs.specs.Requests.{candidates_of}
 use Rattle.fr_fcfs.specs.Offers.{is_of, only, all_accesses}
 use Rattle.fr_fcfs.proofs.Firsts.{some_filtered}

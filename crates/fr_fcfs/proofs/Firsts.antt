@@ -9,17 +9,17 @@ use Rattle.std.specs.List.{filter, find, zip, list_any, position, slice_get, All
 use Rattle.std.specs.Option.{is_some, option_map, option_and_then}
 use Rattle.sim_base.specs.declared.message.Request.{Request}
 use Rattle.sim_base.specs.Scheduling.{first_of_lines}
-use Rattle.request_log.specs.declared.Arrived.{Arrived}
-use Rattle.request_log.specs.Marks.{is_marked}
-use Rattle.request_log.specs.Log.{waiting_requests, all_requests, waits_at, eligible_column, absent}
-use Rattle.request_log.specs.Columns.{marked_items}
-use Rattle.request_log.proofs.Eligible.{length-eligible, marked_waits}
-use Rattle.bank_candidates.specs.Candidates.{passes, entries, first_place}
-use Rattle.bank_candidates.specs.Moves.{earlier}
-use Rattle.bank_candidates.proofs.Entries.{length-entries}
-use Rattle.bank_candidates.proofs.Positions.{position-cons, position-either}
-use Rattle.bank_candidates.proofs.Searches.{none_everywhere}
-use Rattle.request_log.proofs.Firsts.{marked_eligible}
+use Rattle.queue.specs.declared.request_log.Arrived.{Arrived}
+use Rattle.queue.specs.Marks.{is_marked}
+use Rattle.queue.specs.Log.{waiting_requests, all_requests, waits_at, eligible_column, absent}
+use Rattle.queue.specs.Columns.{marked_items}
+use Rattle.queue.proofs.Eligible.{length-eligible, marked_waits}
+use Rattle.queue.specs.Candidates.{passes, entries, first_place}
+use Rattle.queue.specs.Moves.{earlier}
+use Rattle.queue.proofs.Entries.{length-entries}
+use Rattle.queue.proofs.Positions.{position-cons, position-either}
+use Rattle.queue.proofs.Searches.{none_everywhere}
+use Rattle.queue.proofs.Firsts.{marked_eligible}
 use Rattle.fr_fcfs.specs.declared.accesses.Accesses.{Accesses}
 use Rattle.fr_fcfs.specs.Offers.{going, is_of}
 

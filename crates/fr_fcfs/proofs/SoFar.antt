@@ -1,7 +1,7 @@
 -- The best offer so far.
 use Rattle.std.proofs.Common.{◌≡◌, ℕ, ◌<◌, ◌≤◌, Bool, true, false, cond, ltb, eqb, max, min, Option, Some, None, refl, sym, ap, subst, ◌∙◌, inl, inr, arith}
 use Rattle.std.proofs.lemmas.Bool.{cases_lt, cases_eq, eq-eqb, ne_eqb, lt-ltb, le-ltb, cond-true, cond-false}
-use Rattle.bank_candidates.specs.Moves.{earlier}
+use Rattle.queue.specs.Moves.{earlier}
 use Rattle.fr_fcfs.specs.declared.offers.Offer.{Offer}
 use Rattle.fr_fcfs.specs.Offers.{goes_before, no_offer, if_within, offer_from, IsAt, IsBestOffer, IsBest, IsBestSoFar}
 use Rattle.fr_fcfs.proofs.Bests.{first_alone, better_is, second_alone_is, best_same}

@@ -17,20 +17,20 @@ use Rattle.sim_base.specs.declared.place.BankId.{BankId}
 use Rattle.sim_base.specs.Places.{bank_in, is_bank}
 use Rattle.sim_base.specs.Rules.{is_legal, open_row, is_row, kind_of, has_open_bank}
 use Rattle.sim_base.specs.Scheduling.{needed, is_column_command, has_hit, is_withheld, is_row_hit, ready_hit, ready_row, or_else, first_ready, first_of_lines, asks_for_line, choice_between, lowest_due, refresh_command}
-use Rattle.request_log.specs.declared.Arrived.{Arrived}
-use Rattle.request_log.specs.Marks.{is_marked}
-use Rattle.request_log.specs.Log.{waiting_requests, all_requests}
-use Rattle.request_log.specs.Columns.{bank_number, marked_items}
-use Rattle.request_log.proofs.Eligible.{marks_after}
+use Rattle.queue.specs.declared.request_log.Arrived.{Arrived}
+use Rattle.queue.specs.Marks.{is_marked}
+use Rattle.queue.specs.Log.{waiting_requests, all_requests}
+use Rattle.queue.specs.Columns.{bank_number, marked_items}
+use Rattle.queue.proofs.Eligible.{marks_after}
 use Rattle.queue.specs.View.{QueueView}
-use Rattle.bank_candidates.specs.Candidates.{bank_at, entries}
-use Rattle.bank_candidates.proofs.Entries.{entries_append}
+use Rattle.queue.specs.Candidates.{bank_at, entries}
+use Rattle.queue.proofs.Entries.{entries_append}
 use Rattle.fr_fcfs.specs.Arrivals.{ComesAfter, KeepsNext}
 use Rattle.fr_fcfs.specs.Choices.{choice_in}
 use Rattle.fr_fcfs.specs.Requests.{IsInBanks, is_hit, candidates_of}
 use Rattle.fr_fcfs.specs.Offers.{IsReadyFrom}
 use Rattle.fr_fcfs.proofs.Booleans.{and_false, or_false}
-use Rattle.request_log.proofs.Firsts.{marked_eligible}
+use Rattle.queue.proofs.Firsts.{marked_eligible}
 use Rattle.fr_fcfs.proofs.Legal.{withheld_is, hit_is, same_bank}
 use Rattle.fr_fcfs.proofs.BankOffers.{legal_then}
 use Rattle.fr_fcfs.proofs.Favoured.{favour_never}

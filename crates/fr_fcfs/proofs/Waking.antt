@@ -8,8 +8,8 @@ use Rattle.sim_base.specs.declared.command.Command.{Command}
 use Rattle.sim_base.specs.declared.command.IssuedCommand.{IssuedCommand}
 use Rattle.sim_base.specs.declared.message.Request.{Request}
 use Rattle.sim_base.specs.Scheduling.{first_ready, due, refresh_command, if_legal, choice_between, lowest_due}
-use Rattle.refresh.specs.Refreshes.{RefreshCounts, lowest_owed, is_due_at, IsDueFrom, StandsFor}
-use Rattle.refresh.proofs.Due.{lowest_due_from_owed, none_owed_before}
+use Rattle.bank_ready.specs.Refreshes.{RefreshCounts, lowest_owed, is_due_at, IsDueFrom, StandsFor}
+use Rattle.bank_ready.proofs.Due.{lowest_due_from_owed, none_owed_before}
 use Rattle.fr_fcfs.specs.declared.choice.Choice.{Choice}
 use Rattle.fr_fcfs.specs.Requests.{IsLegalFrom}
 use Rattle.fr_fcfs.specs.Cycles.{IsFirst, IsNextAt, IsNext}

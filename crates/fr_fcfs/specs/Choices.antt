@@ -12,12 +12,12 @@ use Rattle.sim_base.specs.declared.command.IssuedCommand.{IssuedCommand}
 use Rattle.sim_base.specs.Scheduling.{choice_between, if_legal, lowest_due, needed, refresh_command}
 use Rattle.bank_ready.specs.declared.banks.Banks.{Banks}
 use Rattle.bank_ready.specs.Stands.{StandsFor as BanksStandFor}
-use Rattle.refresh.specs.Refreshes.{RefreshCounts, is_due_at, StandsFor as RefreshesStandFor}
-use Rattle.bank_candidates.specs.declared.all_banks.BankCandidates.{BankCandidates}
-use Rattle.bank_candidates.specs.Candidates.{rows_after}
-use Rattle.bank_candidates.specs.Stands.{StandsFor as CandidatesStandFor}
-use Rattle.request_log.specs.declared.Arrived.{Arrived}
-use Rattle.request_log.specs.Log.{all_requests, waits_at}
+use Rattle.bank_ready.specs.Refreshes.{RefreshCounts, is_due_at, StandsFor as RefreshesStandFor}
+use Rattle.queue.specs.declared.bank_candidates.all_banks.BankCandidates.{BankCandidates}
+use Rattle.queue.specs.Candidates.{rows_after}
+use Rattle.queue.specs.Stands.{StandsFor as CandidatesStandFor}
+use Rattle.queue.specs.declared.request_log.Arrived.{Arrived}
+use Rattle.queue.specs.Log.{all_requests, waits_at}
 use Rattle.queue.specs.View.{QueueView}
 use Rattle.fr_fcfs.specs.Requests.{candidates_of}
 use Rattle.fr_fcfs.specs.declared.choice.Choice.{Choice}

@@ -24,15 +24,15 @@ use Rattle.sim_base.specs.declared.message.Request.{Request}
 use Rattle.sim_base.specs.declared.place.BankId.{BankId}
 use Rattle.sim_base.specs.Rules.{kind_of, bank_of, finds_its_banks}
 use Rattle.sim_base.specs.Scheduling.{needed, ready_hit, ready_row, first_of_lines, first_ready}
-use Rattle.request_log.specs.declared.Arrived.{Arrived}
-use Rattle.request_log.specs.Log.{waiting_requests, all_requests, waits_at}
-use Rattle.request_log.specs.Columns.{bank_number}
+use Rattle.queue.specs.declared.request_log.Arrived.{Arrived}
+use Rattle.queue.specs.Log.{waiting_requests, all_requests, waits_at}
+use Rattle.queue.specs.Columns.{bank_number}
 use Rattle.queue.specs.View.{QueueView}
-use Rattle.bank_candidates.specs.declared.entry.CandidatesOfBank.{CandidatesOfBank}
-use Rattle.bank_candidates.specs.declared.all_banks.BankCandidates.{BankCandidates}
-use Rattle.bank_candidates.specs.Candidates.{first_place}
-use Rattle.bank_candidates.specs.Moves.{earlier}
-use Rattle.bank_candidates.specs.Stands.{candidates_of_bank, row_of_bank}
+use Rattle.queue.specs.declared.bank_candidates.entry.CandidatesOfBank.{CandidatesOfBank}
+use Rattle.queue.specs.declared.bank_candidates.all_banks.BankCandidates.{BankCandidates}
+use Rattle.queue.specs.Candidates.{first_place}
+use Rattle.queue.specs.Moves.{earlier}
+use Rattle.queue.specs.Stands.{candidates_of_bank, row_of_bank}
 use Rattle.fr_fcfs.specs.declared.accesses.Accesses.{Accesses}
 use Rattle.fr_fcfs.specs.declared.first.RowCommands.{RowCommands}
 use Rattle.fr_fcfs.specs.declared.offers.Offer.{Offer}

@@ -2,12 +2,12 @@
 
 ghost use Rattle.std.specs.Prelude.{◌≡◌, ◌<◌, ℕ, Option};
 ghost use Rattle.sim_base.specs.declared.config.Config.{Config};
-ghost use Rattle.bank_candidates.specs.Stands.{StandsFor as CandidatesStandFor};
+ghost use Rattle.queue.specs.Stands.{StandsFor as CandidatesStandFor};
 ghost use Rattle.fr_fcfs.specs.Requests.{candidates_of};
 ghost use Rattle.fr_fcfs.specs.Offers.{only, going};
 
-use bank_candidates::BankCandidates;
 use queue::Queue;
+use queue::bank_candidates::BankCandidates;
 
 /// Whether requests to read go, and requests to write.
 #[derive(Clone, Copy)]

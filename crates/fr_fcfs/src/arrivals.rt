@@ -10,9 +10,9 @@ ghost use Rattle.sim_base.specs.declared.message.Request.{Request};
 ghost use Rattle.bank_ready.specs.Words.{names_bank};
 ghost use Rattle.bank_ready.specs.Stands.{rank_count, StandsFor as BanksStandFor};
 ghost use Rattle.queue.specs.View.{QueueView};
-ghost use Rattle.request_log.specs.Log.{all_requests};
-ghost use Rattle.bank_candidates.specs.Candidates.{rows_after};
-ghost use Rattle.bank_candidates.specs.Stands.{StandsFor as CandidatesStandFor};
+ghost use Rattle.queue.specs.Log.{all_requests};
+ghost use Rattle.queue.specs.Candidates.{rows_after};
+ghost use Rattle.queue.specs.Stands.{StandsFor as CandidatesStandFor};
 ghost use Rattle.fr_fcfs.specs.declared.choice.Choice.TheVariants as chosen;
 ghost use Rattle.fr_fcfs.specs.Arrivals.{ComesAfter, KeepsNext};
 ghost use Rattle.fr_fcfs.specs.Choices.{choice_in, command_of, IsFor};
@@ -20,11 +20,11 @@ ghost use Rattle.fr_fcfs.specs.Requests.{IsInBanks, IsOfBank, AreInBanks, OfSame
 
 use crate::choice::Choice;
 use crate::offers::ready;
-use bank_candidates::BankCandidates;
 use bank_ready::banks::Banks;
 use queue::Queue;
-use request_log::Arrived;
-use request_log::words::bank_number;
+use queue::bank_candidates::BankCandidates;
+use queue::request_log::Arrived;
+use queue::request_log::words::bank_number;
 use sim_base::command::Kind;
 use sim_base::message::{Cycle, Request};
 

@@ -5,19 +5,19 @@ ghost use Rattle.sim_base.specs.declared.config.Config.{Config};
 ghost use Rattle.sim_base.specs.declared.command.Command.{Command};
 ghost use Rattle.sim_base.specs.declared.command.IssuedCommand.{IssuedCommand};
 ghost use Rattle.bank_ready.specs.Stands.{rank_count, StandsFor as BanksStandFor};
-ghost use Rattle.request_log.specs.declared.Arrived.{Arrived};
-ghost use Rattle.bank_candidates.specs.Candidates.{rows_after};
-ghost use Rattle.bank_candidates.specs.Stands.{StandsFor as CandidatesStandFor};
+ghost use Rattle.queue.specs.declared.request_log.Arrived.{Arrived};
+ghost use Rattle.queue.specs.Candidates.{rows_after};
+ghost use Rattle.queue.specs.Stands.{StandsFor as CandidatesStandFor};
 ghost use Rattle.fr_fcfs.specs.Requests.{AreInBanks, OfSameBanks, KnowsRows, first_ready_in};
 ghost use Rattle.fr_fcfs.specs.Cycles.{IsNext};
 ghost use Rattle.fr_fcfs.specs.Choices.{StandFor, choice_in, command_of, HasPlace, HoldsBack};
 
 use crate::needs::refresh_ready;
 use crate::offers::first_offer;
-use bank_candidates::BankCandidates;
 use bank_ready::banks::Banks;
+use bank_ready::refresh::Refresh;
 use queue::Queue;
-use refresh::Refresh;
+use queue::bank_candidates::BankCandidates;
 use sim_base::message::Cycle;
 
 /// What needs the next command.

@@ -5,11 +5,11 @@ ghost use Rattle.sim_base.specs.declared.config.Config.{Config};
 ghost use Rattle.sim_base.specs.declared.command.IssuedCommand.{IssuedCommand};
 ghost use Rattle.bank_ready.specs.Words.{names_bank, moves_data};
 ghost use Rattle.bank_ready.specs.Stands.{rank_count, StandsFor as BanksStandFor};
-ghost use Rattle.request_log.specs.declared.Arrived.{Arrived};
-ghost use Rattle.bank_candidates.specs.Candidates.{rows_after};
-ghost use Rattle.bank_candidates.specs.Moves.{earlier};
-ghost use Rattle.bank_candidates.specs.Sets.{is_in};
-ghost use Rattle.bank_candidates.specs.Stands.{bank_count, StandsFor as CandidatesStandFor};
+ghost use Rattle.queue.specs.declared.request_log.Arrived.{Arrived};
+ghost use Rattle.queue.specs.Candidates.{rows_after};
+ghost use Rattle.queue.specs.Moves.{earlier};
+ghost use Rattle.queue.specs.Sets.{is_in};
+ghost use Rattle.queue.specs.Stands.{bank_count, StandsFor as CandidatesStandFor};
 ghost use Rattle.fr_fcfs.specs.Requests.{AreInBanks, OfSameBanks, StandForLog, candidates_of};
 ghost use Rattle.fr_fcfs.specs.Offers.{only, going, column_kind, if_allowed, oldest_of, hit_of, NeedsRow};
 ghost use Rattle.fr_fcfs.specs.Offers.{hits_in, all_hits, hits_if, rows_in, all_rows, rows_beside, no_place};
@@ -17,9 +17,9 @@ ghost use Rattle.fr_fcfs.specs.Offers.{with_left, AreNotLeft, IsBestSoFar, Takes
 
 use crate::accesses::Accesses;
 use crate::offers::{Offer, improve, ready};
-use bank_candidates::{BankCandidates, BankSet};
 use bank_ready::banks::Banks;
 use queue::Queue;
+use queue::bank_candidates::{BankCandidates, BankSet};
 use sim_base::command::Kind;
 use sim_base::message::Cycle;
 

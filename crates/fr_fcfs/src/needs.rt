@@ -6,11 +6,11 @@ ghost use Rattle.sim_base.specs.Scheduling.{refresh_command};
 ghost use Rattle.sim_base.specs.declared.config.Config.{Config};
 ghost use Rattle.sim_base.specs.declared.command.IssuedCommand.{IssuedCommand};
 ghost use Rattle.bank_ready.specs.Stands.{rank_count, StandsFor};
-ghost use Rattle.bank_candidates.specs.Stands.{bank_count};
+ghost use Rattle.queue.specs.Stands.{bank_count};
 ghost use Rattle.fr_fcfs.specs.Requests.{OfSameBanks, KnowsRows, IsLegalFrom};
 
-use bank_candidates::BankCandidates;
 use bank_ready::banks::Banks;
+use queue::bank_candidates::BankCandidates;
 use sim_base::command::{Command, Kind};
 use sim_base::message::Cycle;
 use sim_base::place::BankId;

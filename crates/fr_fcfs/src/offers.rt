@@ -5,16 +5,16 @@ ghost use Rattle.sim_base.specs.declared.config.Config.{Config};
 ghost use Rattle.sim_base.specs.declared.command.IssuedCommand.{IssuedCommand};
 ghost use Rattle.bank_ready.specs.Words.{names_bank};
 ghost use Rattle.bank_ready.specs.Stands.{rank_count, StandsFor as BanksStandFor};
-ghost use Rattle.bank_candidates.specs.Candidates.{bank_at, rows_after};
-ghost use Rattle.bank_candidates.specs.Stands.{StandsFor as CandidatesStandFor};
+ghost use Rattle.queue.specs.Candidates.{bank_at, rows_after};
+ghost use Rattle.queue.specs.Stands.{StandsFor as CandidatesStandFor};
 ghost use Rattle.fr_fcfs.specs.Requests.{AreInBanks, OfSameBanks};
 ghost use Rattle.fr_fcfs.specs.Offers.{goes_before, better_of, offer_from, IsReadyFrom, IsFirstReady};
 
 use crate::accesses::{ALL_ACCESSES, READS, WRITES, access_that_goes};
 use crate::first::first_of;
-use bank_candidates::BankCandidates;
 use bank_ready::banks::Banks;
 use queue::Queue;
+use queue::bank_candidates::BankCandidates;
 use sim_base::command::Kind;
 use sim_base::message::Cycle;
 

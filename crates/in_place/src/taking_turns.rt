@@ -1,6 +1,6 @@
 //! A machine that is run in place, by the caller alone, its cores and channels in turns.
 
-ghost use Rattle.std.specs.Prelude.{◌≡◌, ◌<◌, ◌≤◌, ◌^◌, ◌-◌, ℕ, List, length, OnOk, All};
+ghost use Rattle.std.specs.Prelude.{◌≡◌, ◌<◌, ◌≤◌, ◌^◌, ◌-◌, ℕ, List, length, OnOk, All, false};
 ghost use Rattle.links.specs.InFlight.{InFlight};
 ghost use Rattle.horizon_laws.specs.Sent.{RequestsTravelFor, AnswersTakeFor};
 ghost use Rattle.units.specs.Units.{unit_count};
@@ -10,12 +10,12 @@ ghost use Rattle.wake_words.specs.declared.slot.Slot.{Slot};
 ghost use Rattle.in_place.specs.Turns.{InTurnsAt, channels_to, cores_to};
 
 use horizon_laws::latencies::{least_request_latency, least_way_back};
-use lane_scan::least;
 use links::flight::Links;
 use sim_base::message::Cycle;
 use std::alloc::AllocError;
 use units::machine::Machine;
 use units::mail::Mail;
+use wake_words::lane_scan::{first_below, least};
 use wake_words::slot::{Slot, Span};
 use wake_words::waking::go_on;
 use wake_words::words::lower_all;
@@ -111,6 +111,13 @@ fn next_wake(words: &[Cycle], limit: Cycle) -> Cycle
     least(words).min(limit)
 }
 
+/// Whether some unit wakes before a cycle.
+fn wakes_before(words: &[Cycle], cycle: Cycle) -> bool
+    ensures { result ≡ false → All (λ word. cycle ≤ word) words.now }
+{
+    first_below(words, cycle).is_some()
+}
+
 /// Where a machine in turns goes on from: where neither kind is past the least word, or the limit, from there.
 fn later(words: &[Cycle], at: Standing, limit: Cycle) -> Standing
     requires order { at.channels_at ≤ at.cores_at }
@@ -121,10 +128,10 @@ fn later(words: &[Cycle], at: Standing, limit: Cycle) -> Standing
     ensures within { result.cores_at ≤ limit }
     ensures since { at.channels_at ≤ result.channels_at }
 {
-    let begin = next_wake(words, limit);
-    if begin < at.cores_at {
+    if wakes_before(words, at.cores_at) {
         return at;
     }
+    let begin = next_wake(words, limit);
     Standing {
         cores_at: begin,
         channels_at: begin,

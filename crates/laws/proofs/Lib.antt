@@ -20,3 +20,8 @@ pub mod Tabled
 pub mod Fitting
 pub mod Named
 pub mod Drained
+pub mod Dated
+pub mod Adding
+pub mod Serving
+pub mod Summing
+pub mod Replying

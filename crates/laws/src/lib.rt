@@ -7,3 +7,5 @@ pub mod credits;
 pub mod drains;
 pub mod messages;
 pub mod refreshes;
+pub mod request_laws;
+pub mod request_totals;

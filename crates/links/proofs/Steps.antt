@@ -1,19 +1,19 @@
 -- The steps of the loops over one ring.
-use Rattle.std.proofs.Common.{ℕ, suc, zero, ◌+◌, ◌-◌, ◌<◌, ◌≤◌, ◌≡◌, Bool, true, false, not, ltb, get_or, set, length, drop, List, [], ◌∷◌, ◌++◌, Some, refl, sym, ap, ◌∙◌, subst, arith}
+use Rattle.std.proofs.Common.{ℕ, suc, zero, ◌+◌, ◌-◌, ◌<◌, ◌≤◌, ◌≡◌, Bool, true, false, not, ltb, get_or, set, length, length-set, drop, List, [], ◌∷◌, ◌++◌, Some, Result, Ok, Err, refl, sym, ap, ◌∙◌, subst, arith}
 use Rattle.std.specs.Prelude.{filter, insert, slice_get}
 use Rattle.std.specs.Option.{option_map_or}
 use Rattle.std.specs.List.{take_while, AllByRecursion as Each}
 use Rattle.std.proofs.lemmas.Bool.{cond-true, cond-false}
-use Rattle.std.proofs.lemmas.List.{get_or-set_other, set-set}
+use Rattle.std.proofs.lemmas.List.{get_or_default, get_or-set_other, set-set}
 use Rattle.std.proofs.lemmas.Bool.Decides.{nat_tests}
 use Rattle.std.proofs.lemmas.List.Sums.{take_while-cons}
-use Rattle.circular_buffer.specs.Buffer.{Buffer, buffer, keep_last}
+use Rattle.std.specs.Result.{IsOk, OnOk}
 use Rattle.sim_base.specs.History.{is_before, insert_by_age, by_age}
 use Rattle.sim_base.specs.declared.message.Message.{Message}
 use Rattle.sim_base.proofs.Arrived.{put, fold-puts}
 use Rattle.sim_base.proofs.Ordered.{Each-weaker, Sorted}
 use Rattle.links.specs.InFlight.{arrives_before}
-use Rattle.links.specs.Rings.{arrives_later}
+use Rattle.links.specs.Rings.{arrives_later, is_younger_last, IsSunk}
 use Rattle.links.proofs.Ages.{in_order-Sorted}
 
 -- ---- putting a message in, from the back
@@ -44,14 +44,6 @@ last_free m (x ∷ xs) = ap (λ z. x ∷ z) (last_free m xs)
 pub length_more : (m : Message) (xs : List Message) → length (xs ++ m ∷ []) ≡ length xs + 1
 length_more m [] = refl
 length_more m (x ∷ xs) = omega (arith, length_more m xs)
-
--- what is pushed into a ring that has room
-pub pushed : (m : Message) (ring after : Buffer Message) → length ring.items < ring.capacity → after ≡ buffer (keep_last ring.capacity (ring.items ++ m ∷ [])) ring.capacity
-    → (after.items ≡ ring.items ++ m ∷ []) × (after.capacity ≡ ring.capacity)
-pushed m ring after l h =
-    let none : length (ring.items ++ m ∷ []) - ring.capacity ≡ 0 = omega (arith, l, length_more m ring.items) in
-    let whole : keep_last ring.capacity (ring.items ++ m ∷ []) ≡ ring.items ++ m ∷ [] = ap (λ k. drop k (ring.items ++ m ∷ [])) none in
-    (ap (λ r. r.items) h ∙ whole, ap (λ r. r.capacity) h)
 
 insert_before : (m d : Message) (q : ℕ) (xs : List Message) → q < length xs → get_or (insert xs (suc q) m) q d ≡ get_or xs q d
 insert_before m d q [] l = absurd (omega arith)
@@ -147,6 +139,59 @@ pub placed_free : (m : Message) (p : ℕ) (xs ys : List Message) → by_age xs �
 placed_free m p xs ys s e l h k =
     placed m p xs (set ys p m) s e l h
     (λ q f. ap (is_before m) (get_or-set_other ys p q m m (λ g. absurd (omega (arith, f, g)))) ∙ k q f)
+
+-- a message sinks from the back: at its place it would stand by age, but for those before it
+pub record Sinks (m : Message) (p : ℕ) (old ys : List Message) : Type 0 where
+  pub within : p + 1 < length old
+  pub length_is : length ys ≡ length old
+  pub moved : (ms : List Message) (y : Message) → old ≡ ms ++ y ∷ [] → slice_get ms (length ms - 1) ≡ Some y → is_before m y ≡ true
+      → (set ys p m ≡ insert ms p m) × AreYounger m p ms
+
+pub sinks_first : (m : Message) (p : ℕ) (old : List Message) → 2 ≤ length old → p ≡ length old - 2 → Sinks m p old old
+sinks_first m p old some e = record {
+  within = omega (arith, some, e);
+  length_is = refl;
+  moved = λ ms y h g b.
+      let at : p ≡ length ms - 1 = omega (arith, e, ap length h, length_more y ms) in
+      let last = sunk_last m y ms g b in (
+        ap (λ z. set z p m) h ∙ ap (λ i. set (ms ++ y ∷ []) i m) at ∙ last.0 ∙ ap (λ i. insert ms i m) (sym at),
+        subst (λ i. AreYounger m i ms) (sym at) last.1,
+      );
+}
+
+pub sinks_more : (m x : Message) (p q : ℕ) (old ys : List Message) → p ≡ q + 1 → get_or ys q x ≡ x → is_before m x ≡ true → Sinks m p old ys → Sinks m q old (set ys p x)
+sinks_more m x p q old ys e g b h = record {
+  within = omega (arith, e, h.within);
+  length_is = length-set ys p x ∙ h.length_is;
+  moved = λ ms y f last young.
+      let l : p ≤ length ms = omega (arith, h.within, ap length f, length_more y ms) in
+      let at = h.moved ms y f last young in
+      (sunk m x p q ms ys e l at.0 g, sunk_younger m x p q ms ys e l at.0 g b at.1);
+}
+
+pub sinks_step : (m d : Message) (p : ℕ) (old ys : List Message) → 0 < p → is_before m (get_or ys (p - 1) m) ≡ true → Sinks m p old ys → Sinks m (p - 1) old (set ys p (get_or ys (p - 1) d))
+sinks_step m d p old ys some b h =
+    let l : p - 1 < length ys = omega (arith, h.within, h.length_is) in
+    sinks_more m (get_or ys (p - 1) d) p (p - 1) old ys (omega (arith, some)) (get_or_default ys (p - 1) (get_or ys (p - 1) d) d l)
+    (ap (is_before m) (get_or_default ys (p - 1) d m l) ∙ b) h
+
+pub sinks_last : (m : Message) (p : ℕ) (old ys : List Message) → Sinks m p old ys → ((q : ℕ) → p ≡ q + 1 → is_before m (get_or ys q m) ≡ false) → IsSunk m old (set ys p m)
+sinks_last m p old ys h none ms y s f last young =
+    let l : p ≤ length ms = omega (arith, h.within, ap length f, length_more y ms) in
+    let at = h.moved ms y f last young in
+    placed_free m p ms ys s at.0 l at.1 none
+
+-- what a message is put among, once the last of it, which is younger, stands twice
+pub sunk_among : (m y : Message) (old pushed new : List Message) → by_age old ≡ old → slice_get old (length old - 1) ≡ Some y → is_younger_last m old ≡ true
+    → pushed ≡ old ++ y ∷ [] → IsSunk m pushed new → new ≡ insert_by_age old m
+sunk_among m y old pushed new s at young e h = h old y s e at (subst (λ o. option_map_or (is_before m) o false ≡ true) at young)
+
+pub stands_twice : (y : Message) (old pushed : List Message) → slice_get old (length old - 1) ≡ Some y → pushed ≡ old ++ y ∷ [] → 2 ≤ length pushed
+stands_twice y old pushed at e = omega (arith, (got y y (length old - 1) old at).0, ap length e, length_more y old)
+
+pub where_ok : (P : Type 0) (r : Result (Unit {0}) Message) → IsOk r → OnOk r P → P
+where_ok P (Ok x) e h = h
+where_ok P (Err x) e h = cc
 
 last_not_younger : (m : Message) (q : ℕ) (xs : List Message) → q < length xs → option_map_or (is_before m) (slice_get xs q) false ≡ false → is_before m (get_or (xs ++ m ∷ []) q m) ≡ false
 last_not_younger m q [] l h = absurd (omega arith)

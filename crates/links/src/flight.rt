@@ -358,6 +358,25 @@ fn take_heads(
     Ok(())
 }
 
+/// Takes what arrives before a cycle out of a core's ring of replies that no ring stands behind, into an empty list.
+/// Where memory is refused, the rings stay as they were.
+#[cold]
+#[inline(never)]
+fn take_from_last(
+    rings: &mut Vec<Ring>,
+    number: usize,
+    until: Cycle,
+    inbox: &mut Vec<Message>,
+) -> Result<(), AllocError>
+    requires empty { inbox.old.items ≡ [] }
+    requires in_order { IsByAge (messages_at rings.old.items number) }
+    ensures taken { OnOk result (inbox.new.items ≡ due_in until rings.old.items number) }
+    ensures rest { OnOk result (contents rings.new.items ≡ left_in until rings.old.items number) }
+    ensures err { OnErr result (contents rings.new.items ≡ contents rings.old.items) }
+{
+    take_from(rings, number, until, inbox)
+}
+
 /// Takes what arrives before a cycle out of a ring and the one behind it, where they exist, into an empty list, by
 /// age. Where memory is refused, the rings stay as they were.
 fn take_from_both(
@@ -375,7 +394,7 @@ fn take_from_both(
     ensures err { OnErr result (contents rings.new.items ≡ contents rings.old.items) }
 {
     if number + 1 >= rings.len() {
-        return take_from(rings, number, until, inbox);
+        return take_from_last(rings, number, until, inbox);
     }
     take_heads(rings, number, until, inbox)
 }

@@ -5,7 +5,7 @@ ghost use Rattle.std.specs.List.{prefix_len};
 ghost use Rattle.std.specs.Option.{option_map_or};
 ghost use Rattle.sim_base.specs.History.{insert_by_age};
 ghost use Rattle.links.specs.InFlight.{arrives_before, first_arrival};
-ghost use Rattle.links.specs.Rings.{IsByAge, due_of, later_of, head_of, head_from, behind_head, merged_heads, HasSpace, IsYoungerBefore, NoneYoungerBefore, is_younger_last, HasArrived, HasNotArrived};
+ghost use Rattle.links.specs.Rings.{IsByAge, due_of, later_of, head_of, head_from, behind_head, merged_heads, HasSpace, IsYoungerBefore, HasYoungerBefore, NoneYoungerBefore, IsSunk, is_younger_last, HasArrived, HasNotArrived};
 
 use circular_buffer::HeapCircularBuffer;
 use sim_base::message::{Cycle, Message};
@@ -56,8 +56,53 @@ fn younger_before(ring: &Ring, place: usize, message: &Message) -> Option<Messag
     }
 }
 
-/// Puts a message that goes before the last one into its place by age, which is searched for from the back: each
-/// younger one moves back by one place.
+/// Whether the message before a place is younger than this one.
+fn is_younger_before(messages: &[Message], place: usize, message: &Message) -> bool
+    requires { place ≤ length messages.now }
+    ensures some { result ≡ true → HasYoungerBefore messages.now place message.now }
+    ensures none { result ≡ false → NoneYoungerBefore messages.now place message.now }
+{
+    place > 0 && message.is_before(&messages[place - 1])
+}
+
+/// Puts a message among others by age, of which the last is younger and stands twice. Its place is searched for from
+/// the back: each younger one moves back by one place.
+fn sink(messages: &mut [Message], message: &Message)
+    requires { 2 ≤ length messages.old }
+    ensures sunk { IsSunk message.now messages.old messages.new }
+    ensures length { length messages.new ≡ length messages.old }
+{
+    let mut place = messages.len() - 2;
+    'sinking: while is_younger_before(messages, place, message) {
+        messages[place] = messages[place - 1];
+        place -= 1;
+    }
+    messages[place] = *message;
+}
+
+/// Does the same in a ring, also where it goes on at the beginning of its block.
+#[cold]
+#[inline(never)]
+fn sink_wrapped(ring: &mut Ring, message: &Message)
+    requires { 2 ≤ length ring.old.items }
+    ensures items { IsSunk message.now ring.old.items ring.new.items }
+    ensures capacity { ring.new.capacity ≡ ring.old.capacity }
+{
+    let mut place = ring.len() - 2;
+    while let Some(younger) = younger_before(ring, place, message) {
+        put_into(ring, place, &younger);
+        place -= 1;
+    }
+    put_into(ring, place, message);
+}
+
+/// Whether a ring holds messages that lie side by side.
+fn lie_side_by_side(ring: &Ring) -> bool {
+    let (front, back) = ring.as_slices();
+    !front.is_empty() && back.is_empty()
+}
+
+/// Puts a message that goes before the last one into its place by age.
 #[cold]
 #[inline(never)]
 fn put_among(ring: &mut Ring, message: &Message)
@@ -71,13 +116,13 @@ fn put_among(ring: &mut Ring, message: &Message)
         unreachable!();
     };
     let last = *last;
-    let mut place = ring.len() - 1;
-    ring.push_back(last);
-    while let Some(younger) = younger_before(ring, place, message) {
-        put_into(ring, place, &younger);
-        place -= 1;
+    // there is room, so it is not refused
+    let _room = ring.try_push_back(last);
+    if lie_side_by_side(ring) {
+        sink(ring.make_contiguous(), message);
+    } else {
+        sink_wrapped(ring, message);
     }
-    put_into(ring, place, message);
 }
 
 /// Whether a message goes before the last one of a ring.
@@ -228,6 +273,7 @@ fn take_wrapped(ring: &mut Ring, until: Cycle, inbox: &mut Vec<Message>) -> Resu
 }
 
 /// Takes out what arrives before a cycle, into an empty list. Where memory is refused, the ring stays as it was.
+#[inline(always)]
 pub fn take_before(
     ring: &mut Ring,
     until: Cycle,

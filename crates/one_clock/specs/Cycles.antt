@@ -26,11 +26,11 @@ use Rattle.statistics.specs.declared.channels.ChannelStats.{ChannelStats}
 use Rattle.statistics.specs.declared.cores.CoreStats.{CoreStats}
 use Rattle.plain_steps.specs.Plain.{CoreView, core_view, ChannelView, channel_view, channel_step_of}
 use Rattle.plain_steps.specs.declared.scheduling.ChannelStep.{ChannelStep}
-use Rattle.request_laws.specs.Timed.{served_in_run}
+use Rattle.laws.specs.Timed.{served_in_run}
 use Rattle.request_table.specs.Requests.{arrival_of, requests_of}
 use Rattle.request_table.specs.declared.times.RequestTimes.{RequestTimes}
-use Rattle.served_requests.specs.Served.{served_of}
-use Rattle.served_requests.specs.declared.ServedRequest.{ServedRequest}
+use Rattle.request_table.specs.Served.{served_of}
+use Rattle.request_table.specs.declared.served_requests.ServedRequest.{ServedRequest}
 use Rattle.one_clock.specs.Steps.{core_step_of}
 use Rattle.one_clock.specs.declared.run_cycle.RunCycle.{RunCycle}
 

@@ -5,4 +5,5 @@
 pub mod fault;
 pub mod page;
 pub mod rows;
+pub mod run_pictures;
 pub mod window;

@@ -5,9 +5,9 @@ ghost use Rattle.page.specs.Rows.{IsOfRunAt, IsReason};
 
 use crate::fault::PageFault;
 use crate::rows::check_rows;
+use crate::run_pictures::document::{Run, write_document};
 use crate::window::{Beside, View};
 use command_table::list::CommandList;
-use run_pictures::document::{Run, write_document};
 use statistics::stats::Stats;
 use std::alloc::Global;
 use std::io::{ErrorKind, Write};

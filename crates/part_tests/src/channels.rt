@@ -1,22 +1,20 @@
 //! The small machine's channel in a session, whose commands and replies are worked out by hand, and calls that it
 //! refuses.
 
-ghost use Rattle.std.specs.Prelude.{OnOk};
-ghost use Rattle.channel_session.specs.Sessions.{IsOpen};
+ghost use Rattle.sessions.specs.Sessions.{IsOpen};
 
 use crate::expect::expect_at;
-use channel_session::fault::SessionFault;
-use channel_session::requests::SentRequest;
-use channel_session::session::Session;
 use fixtures::none::NO_CHANNEL;
 use fixtures::small::small;
+use sessions::channel_session::fault::SessionFault;
+use sessions::channel_session::requests::SentRequest;
+use sessions::channel_session::session::Session;
 use sim_base::command::{Command, IssuedCommand, Source};
-use sim_base::message::{ChannelId, CoreId, Cycle, Load, Message};
+use sim_base::message::{CoreId, Cycle, Load, Message};
 use sim_base::place::BankId;
 use statistics::channels::ChannelStats;
 use std::alloc::Global;
 use std::process::Abort;
-use std::test::Fail;
 
 const BANK: BankId = BankId {
     rank: 0,
@@ -56,53 +54,52 @@ struct Case<'x> {
 }
 
 /// Sends requests, one after the other.
-fn send_all(session: &mut Session, reads: &[Read]) -> Result<(), SessionFault>
-    ensures { IsOpen session.old → IsOpen session.new }
+fn send_all(rt: &impl Abort, session: &mut Session, reads: &[Read])
+    requires { IsOpen session.old }
+    ensures { IsOpen session.new }
 {
     for read in reads {
-        session.send(&read_of(0, *read))?;
+        session.send(&read_of(0, *read)).expect(rt, "a request");
     }
-    Ok(())
 }
 
 /// Runs a session span by span.
-fn run_all(alloc: Global, session: &mut Session, spans: &[Span<'_>]) -> Result<(), SessionFault>
+fn run_all(rt: &impl Abort, alloc: Global, session: &mut Session, spans: &[Span<'_>])
     requires { IsOpen session.old }
-    ensures { OnOk result (IsOpen session.new) }
+    ensures { IsOpen session.new }
 {
-    for span in spans {
-        let (reads, until) = *span;
-        send_all(session, reads)?;
-        session.run(alloc, until)?;
+    for (reads, until) in spans {
+        send_all(rt, session, reads);
+        session.run(alloc, *until).expect(rt, "a span");
     }
-    Ok(())
 }
 
 /// Sends the requests of all spans.
-fn send_spans(session: &mut Session, spans: &[Span<'_>]) -> Result<(), SessionFault>
-    ensures { IsOpen session.old → IsOpen session.new }
+fn send_spans(rt: &impl Abort, session: &mut Session, spans: &[Span<'_>])
+    requires { IsOpen session.old }
+    ensures { IsOpen session.new }
 {
-    for span in spans {
-        send_all(session, span.0)?;
+    for (reads, _) in spans {
+        send_all(rt, session, reads);
     }
-    Ok(())
 }
 
 /// Sends the requests of all spans at once, runs the session cycle by cycle for some cycles, and then to the end of the
 /// last span.
 fn run_by_cycles(
+    rt: &impl Abort,
     alloc: Global,
     session: &mut Session,
     case: &Case<'_>,
     cycles: Cycle,
-) -> Result<(), SessionFault>
+)
     requires { IsOpen session.old }
 {
-    send_spans(session, case.spans)?;
+    send_spans(rt, session, case.spans);
     for cycle in 0..cycles {
-        session.run(alloc, cycle)?;
+        session.run(alloc, cycle).expect(rt, "a cycle");
     }
-    session.run(alloc, case.end)
+    session.run(alloc, case.end).expect(rt, "the end");
 }
 
 /// What the channel does with the first Read.
@@ -295,11 +292,11 @@ fn opened(rt: &impl Abort, alloc: Global, changes: &[&str]) -> Session
 
 fn run_case(rt: &impl Abort, alloc: Global, case: &Case<'_>) {
     let mut session = opened(rt, alloc, case.changes);
-    run_all(alloc, &mut session, case.spans).expect(rt, "spans");
+    run_all(rt, alloc, &mut session, case.spans);
     assert_gives(rt, &mut session, case);
     for cycles in [0, 1, 12] {
         let mut session = opened(rt, alloc, case.changes);
-        run_by_cycles(alloc, &mut session, case, cycles).expect(rt, "cycles");
+        run_by_cycles(rt, alloc, &mut session, case, cycles);
         assert_gives(rt, &mut session, case);
     }
 }
@@ -307,26 +304,16 @@ fn run_case(rt: &impl Abort, alloc: Global, case: &Case<'_>) {
 /// What is asked of a session.
 #[derive(Clone, Copy)]
 enum Call {
-    Open(ChannelId),
     Send(CoreId, Read),
     Run(Cycle),
 }
 
-/// What differs in the machine, what is done first, and a call and why it is refused.
-type Refused<'x> = (&'x [&'x str], &'x [Span<'x>], Call, Option<SessionFault>);
+/// The channels of the machine, how many of eight Reads are sent first and up to which cycle the session is then run,
+/// and a call and why it is refused.
+type Refused = (&'static str, usize, Cycle, Call, Option<SessionFault>);
 
 /// The machine's one core has four credits of each kind, so that there are eight of the channel.
-const SEVEN: [Read; 7] = [
-    FIRST,
-    (1, 0, 3),
-    (2, 0, 4),
-    (3, 0, 5),
-    (4, 0, 6),
-    (5, 0, 7),
-    (6, 0, 8),
-];
-
-const EIGHT: [Read; 8] = [
+static EIGHT: [Read; 8] = [
     FIRST,
     (1, 0, 3),
     (2, 0, 4),
@@ -337,120 +324,141 @@ const EIGHT: [Read; 8] = [
     (7, 0, 9),
 ];
 
-/// The first Read is served in cycle 5.
-const SERVED: &[Span<'static>] = &[(&[FIRST], 6)];
+const ONE: &str = "channels = 1";
 
-/// It is on its way.
-const SENT: &[Span<'static>] = &[(&[FIRST], 0)];
+const TWO: &str = "channels = 2";
 
-static REFUSED: [Refused<'static>; 15] = [
-    (&[], &[], Call::Open(1), Some(SessionFault::NoSuchChannel)),
+// The first Read is served in cycle 5.
+static REFUSED: [Refused; 14] = [
     (
-        &[],
-        &[],
+        ONE,
+        0,
+        0,
         Call::Send(1, FIRST),
         Some(SessionFault::NoSuchCore),
     ),
     // With two channels every second line is of channel 1.
     (
-        &["channels = 2"],
-        &[],
+        TWO,
+        0,
+        0,
         Call::Send(0, (0, 1, 2)),
         Some(SessionFault::OtherChannel),
     ),
-    (&["channels = 2"], &[], Call::Send(0, (0, 2, 2)), None),
+    (TWO, 0, 0, Call::Send(0, (0, 2, 2)), None),
     (
-        &[],
-        SERVED,
+        ONE,
+        1,
+        6,
         Call::Send(0, (1, 0, 5)),
         Some(SessionFault::InThePast),
     ),
-    (&[], SERVED, Call::Send(0, (1, 0, 6)), None),
+    (ONE, 1, 6, Call::Send(0, (1, 0, 6)), None),
     (
-        &[],
-        SENT,
+        ONE,
+        1,
+        0,
         Call::Send(0, (1, 0, 1)),
         Some(SessionFault::OutOfOrder),
     ),
     // Two in a cycle of a link.
     (
-        &[],
-        SENT,
+        ONE,
+        1,
+        0,
         Call::Send(0, (1, 0, 2)),
         Some(SessionFault::OutOfOrder),
     ),
     (
-        &[],
-        SENT,
+        ONE,
+        1,
+        0,
         Call::Send(0, (0, 0, 3)),
         Some(SessionFault::EntryPassed),
     ),
     (
-        &[],
-        SERVED,
+        ONE,
+        1,
+        6,
         Call::Send(0, (0, 0, 10)),
         Some(SessionFault::EntryPassed),
     ),
-    (&[], &[(&SEVEN, 0)], Call::Send(0, (7, 0, 9)), None),
+    (ONE, 7, 0, Call::Send(0, (7, 0, 9)), None),
     (
-        &[],
-        &[(&EIGHT, 0)],
+        ONE,
+        8,
+        0,
         Call::Send(0, (8, 0, 10)),
         Some(SessionFault::NoCredit),
     ),
     // One of the eight is served in cycle 5.
-    (&[], &[(&EIGHT, 6)], Call::Send(0, (8, 0, 10)), None),
-    (&[], SERVED, Call::Run(5), Some(SessionFault::EndPassed)),
+    (ONE, 8, 6, Call::Send(0, (8, 0, 10)), None),
+    (ONE, 1, 6, Call::Run(5), Some(SessionFault::EndPassed)),
     (
-        &[],
-        &[],
+        ONE,
+        0,
+        0,
         Call::Run((1 << 62) + 1),
         Some(SessionFault::EndTooLate),
     ),
 ];
 
-/// Calls a session after what is done first.
-fn answer_of(alloc: Global, refused: &Refused<'_>) -> Result<(), SessionFault> {
-    let (changes, spans, call, _) = *refused;
-    let config = small(alloc, changes, "").map_err(|_| SessionFault::Memory)?;
-    let number = match call {
-        Call::Open(number) => number,
-        Call::Send(..) | Call::Run(_) => 0,
-    };
-    let mut session = Session::open(alloc, &config, number)?;
-    run_all(alloc, &mut session, spans)?;
-    match call {
-        Call::Open(_) => Ok(()),
-        Call::Send(core, read) => session.send(&read_of(core, read)),
-        Call::Run(until) => session.run(alloc, until),
+/// Sends the first of the eight Reads to a session, and runs it; it is not run where none is sent.
+fn begin(rt: &impl Abort, alloc: Global, session: &mut Session, sent: usize, until: Cycle)
+    requires { IsOpen session.old }
+    ensures { IsOpen session.new }
+{
+    if sent == 0 {
+        return;
     }
+    send_all(rt, session, EIGHT.get(..sent).unwrap_or(&EIGHT));
+    session.run(alloc, until).expect(rt, "a span");
+}
+
+/// Calls a session.
+fn answer_of(alloc: Global, session: &mut Session, call: Call) -> Option<SessionFault>
+    requires { IsOpen session.old }
+{
+    match call {
+        Call::Send(core, read) => session.send(&read_of(core, read)).err(),
+        Call::Run(until) => session.run(alloc, until).err(),
+    }
+}
+
+/// Asserts why a call is refused, or that it is not, after what is done first.
+fn assert_refused(rt: &impl Abort, alloc: Global, (channels, sent, until, call, want): &Refused) {
+    let mut session = opened(rt, alloc, &[*channels]);
+    begin(rt, alloc, &mut session, *sent, *until);
+    let fault = answer_of(alloc, &mut session, *call);
+    expect_at(rt, want, &fault, want);
 }
 
 /// A session that has refused a request goes on as if it had not been sent.
-fn go_on_after(rt: &impl Abort, alloc: Global, case: &Case<'_>) -> Result<(), Fail> {
-    let config = small(alloc, case.changes, "")?;
-    let mut session = Session::open(alloc, &config, 0)?;
-    run_all(alloc, &mut session, SERVED)?;
+fn go_on_after(rt: &impl Abort, alloc: Global, case: &Case<'_>) {
+    let mut session = opened(rt, alloc, case.changes);
+    run_all(rt, alloc, &mut session, &[(&[FIRST], 6)]);
     let past = session.send(&read_of(0, (1, 0, 5))).err();
     expect_at(rt, &case.end, &past, &Some(SessionFault::InThePast));
-    session.send(&read_of(0, (1, 0, 8)))?;
-    session.run(alloc, case.end)?;
+    send_all(rt, &mut session, &[(1, 0, 8)]);
+    session.run(alloc, case.end).expect(rt, "the end");
     assert_gives(rt, &mut session, case);
-    Ok(())
 }
 
 #[test]
-fn sessions_do_what_is_worked_out(rt: HostRuntime) -> Result<(), Fail> {
-    for case in &CASES {
+fn sessions_do_what_is_worked_out(rt: HostRuntime) {
+    let cases: &[Case<'static>; 5] = &CASES;
+    for case in cases {
         run_case(&rt, rt.alloc(), case);
     }
-    go_on_after(&rt, rt.alloc(), &CASES[4])
+    go_on_after(&rt, rt.alloc(), &cases[4]);
 }
 
 #[test]
 fn unfit_calls_are_refused(rt: HostRuntime) {
+    let config = small(rt.alloc(), &[], "").expect(&rt, "a machine");
+    let none = Session::open(rt.alloc(), &config, 1).err();
+    expect_at(&rt, &"open", &none, &Some(SessionFault::NoSuchChannel));
     for refused in &REFUSED {
-        let fault = answer_of(rt.alloc(), refused).err();
-        expect_at(&rt, &refused.3, &fault, &refused.3);
+        assert_refused(&rt, rt.alloc(), refused);
     }
 }

@@ -31,7 +31,7 @@ fn write(entry: u64) -> Request
 }
 
 #[test]
-#[tactic(auto, unfolding(request_log::specs::Log::waiting))]
+#[tactic(auto, unfolding(queue::specs::Log::waiting))]
 fn drains_from_three_writes_down_to_one(rt: HostRuntime) -> Result<(), Fail> {
     let mut queue = Queue::with_room(rt.alloc(), 8, 3, 1)?;
     queue.arrive(write(0));

@@ -1,7 +1,7 @@
 //! Short runs, worked out by hand.
 
 use crate::expect::expect;
-use refresh::Refresh;
+use bank_ready::refresh::Refresh;
 
 /// A refresh every 100 cycles: of one rank; of two, of which the lower is refreshed first; and never.
 #[test]

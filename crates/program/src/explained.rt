@@ -13,12 +13,13 @@ use refusal::reason::Reason;
 use run_outcome::outcome::Outcome;
 use sim_base::config::Config;
 use sim_base::fault::Fault;
-use simulation::input::read_input;
+use simulation::input::{InputTexts, read_input};
 use simulation::runs::run_input;
 use std::alloc::{AllocError, Global};
 use std::sync::Wait;
 use std::thread::Threads;
 use workers::gate::Open;
+use workers::input::{Hooks, MachineInput, RunOptions};
 use workers::watch::Watch;
 
 /// A run, and what its files hold: that of its configuration, and those of its traces.
@@ -83,7 +84,11 @@ pub(crate) fn tested_input<R: Threads + Sync>(
         texts,
     } = *input;
     let (cycles, workers) = (asked.cycles, asked.workers.count);
-    match read_input(threads, alloc, document, texts, cycles, workers) {
+    let texts = InputTexts {
+        config: document,
+        traces: texts,
+    };
+    match read_input(threads, alloc, texts, cycles, workers) {
         Ok(read) => {
             folder?;
             Ok(read)
@@ -107,11 +112,20 @@ pub(crate) fn outcome_of<R: Threads + Wait + Sync, W: Watch>(
     ensures legal { IfOk result (EndsLegally asked.now machine.now traces.items) }
     ensures refused { IfErr result (IsRefusedTo asked.now.workers.count) }
 {
-    let (threads, watch) = (host.threads, &mut *host.watch);
-    let (cycles, workers, tables) = (asked.cycles, asked.workers, asked.tables);
-    match run_input(
-        threads, alloc, &Open, watch, machine, traces, cycles, workers, tables,
-    ) {
+    let hooks = Hooks {
+        gate: &Open,
+        watch: &mut *host.watch,
+    };
+    let machine = MachineInput {
+        config: machine,
+        traces,
+    };
+    let options = RunOptions {
+        cycles: asked.cycles,
+        workers: asked.workers,
+        tables: asked.tables,
+    };
+    match run_input(host.threads, alloc, hooks, machine, options) {
         Ok(run) => Ok(run),
         Err(fault) => Err(Reason::explained(fault, of_host(alloc, fault))),
     }

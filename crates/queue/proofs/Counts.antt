@@ -4,11 +4,11 @@ use Rattle.std.proofs.lemmas.List.{length_push}
 use Rattle.std.proofs.lemmas.List.Edits.{length-remove}
 use Rattle.std.proofs.lemmas.List.Sums.{sum_by_push, sum_by-remove}
 use Rattle.sim_base.specs.declared.message.Request.{Request}
-use Rattle.request_log.specs.declared.Arrived.{Arrived}
-use Rattle.request_log.specs.Log.{absent, waiting_requests, arrived_now, served_at, waits_at}
-use Rattle.request_log.specs.Columns.{write_count}
-use Rattle.request_log.proofs.Counted.{requests_push}
-use Rattle.request_log.proofs.Places.{waiting_at, waiting_within, waiting_served}
+use Rattle.queue.specs.declared.request_log.Arrived.{Arrived}
+use Rattle.queue.specs.Log.{absent, waiting_requests, arrived_now, served_at, waits_at}
+use Rattle.queue.specs.Columns.{write_count}
+use Rattle.queue.proofs.Counted.{requests_push}
+use Rattle.queue.proofs.Places.{waiting_at, waiting_within, waiting_served}
 
 -- one more waits
 pub length_arrived : (log : List Arrived) (r : Request) → length (waiting_requests (log ++ arrived_now r ∷ [])) ≡ length (waiting_requests log) + 1

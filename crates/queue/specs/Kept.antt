@@ -4,8 +4,8 @@
 use Rattle.std.specs.Prelude.{◌≡◌, ◌-◌, ◌^◌, ◌<◌, ◌≤◌, length}
 use Rattle.queue.specs.declared.Queue.TheInside.{Inside}
 use Rattle.queue.specs.View.{QueueView, drains_by}
-use Rattle.request_log.specs.Log.{waiting_requests}
-use Rattle.request_log.specs.Columns.{write_count}
+use Rattle.queue.specs.Log.{waiting_requests}
+use Rattle.queue.specs.Columns.{write_count}
 
 -- the queue that contracts see
 abbrev pub view_of : Inside → QueueView

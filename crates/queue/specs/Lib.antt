@@ -1,2 +1,14 @@
 pub mod View
 pub mod Kept
+pub mod Marks
+pub mod Log
+pub mod Columns
+pub mod Lines
+pub mod RequestLogKept
+pub mod Candidates
+pub mod Changes
+pub mod Moves
+pub mod Places
+pub mod Served
+pub mod Sets
+pub mod Stands

@@ -8,9 +8,9 @@
 --     is_draining view      whether it drains with the requests that wait
 use Rattle.std.specs.Prelude.{ℕ, ◌+◌, ◌*◌, min, nat_lt, nat_le, Bool, false, ◌&&◌, ◌||◌, List, []}
 use Rattle.sim_base.specs.declared.message.Request.{Request}
-use Rattle.request_log.specs.declared.Arrived.{Arrived}
-use Rattle.request_log.specs.Log.{waiting, waiting_requests, with_arrival}
-use Rattle.request_log.specs.Columns.{write_count}
+use Rattle.queue.specs.declared.request_log.Arrived.{Arrived}
+use Rattle.queue.specs.Log.{waiting, waiting_requests, with_arrival}
+use Rattle.queue.specs.Columns.{write_count}
 
 -- how many requests may wait, how many have places, the numbers of writes with which a drain begins and ends, the requests that have
 -- arrived by age, of which some wait, and whether the queue drained when that was last decided

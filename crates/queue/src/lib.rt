@@ -1,10 +1,14 @@
-//! The requests that wait in a channel, by age, and whether it drains its writes.
+//! The requests that wait in a channel, by age, and whether it drains its writes. `request_log` has those that have
+//! arrived, `bank_candidates` finds among them what each bank may do next.
 #![tactic(auto)]
+
+pub mod bank_candidates;
+pub mod request_log;
 
 ghost use Rattle.std.specs.Prelude.{◌≡◌, ◌+◌, ◌-◌, ◌^◌, ◌<◌, ◌≤◌, true, false, IfOk, length};
 ghost use Rattle.queue.specs.View.{drains_by, is_draining, places_for, empty_queue, with_request, renumbered};
 
-use request_log::RequestLog;
+use crate::request_log::RequestLog;
 use sim_base::message::Request;
 use std::alloc::{AllocError, Global};
 use std::marker::Model;
@@ -65,11 +69,11 @@ impl Model for Queue {
 
 impl Queue {
     ghost use Rattle.std.specs.Prelude.{IfSome};
-    ghost use Rattle.request_log.specs.Log.{waiting_requests, served_at, activated_at, waits_at, eligible_column, is_eligible_at, marks_once_served};
+    ghost use Rattle.queue.specs.Log.{waiting_requests, served_at, activated_at, waits_at, eligible_column, is_eligible_at, marks_once_served};
 
     /// An empty queue in which `room` requests may wait, and which drains its writes from `high` of them down to `low`, and never
     /// if `high` is 0. Only this call allocates memory.
-    #[tactic(auto, unfolding(request_log::specs::Log::waiting))]
+    #[tactic(auto, unfolding(crate::specs::Log::waiting))]
     pub fn with_room(alloc: Global, room: usize, high: u32, low: u32) -> Result<Self, AllocError>
         requires room { room < 2 ^ 16 - 1 }
         ensures { IfOk result (λ queue. queue ≡ empty_queue room high low) }

@@ -1,16 +1,15 @@
 //! A run of the plain machine, from the bytes of its input.
 
-ghost use Rattle.std.specs.Prelude.{◌≡◌, ◌≢◌, map, Err, IfOk, IfErr};
-ghost use Rattle.simulation.specs.Runs.{input_of, IsRunOf, IsJudgedLegal};
+ghost use Rattle.std.specs.Prelude.{IfOk, IfErr};
+ghost use Rattle.simulation.specs.Runs.{texts_in, IsInputFault, IsRun, IsLegal};
 
 use one_clock::machine::run_plain;
 use run_outcome::outcome::Outcome;
-use run_outcome::tables::Tables;
 use sim_base::fault::Fault;
-use sim_base::message::Cycle;
-use simulation::input::read_input;
+use simulation::input::{InputTexts, read_input};
 use std::alloc::Global;
 use std::thread::Threads;
+use workers::input::RunOptions;
 
 /// The run of `simulation::runs::simulate` by the one-clock machine, one cycle after the other, with no workers: their
 /// number is only tested, and threads are used only to read long traces. Tests compare with it.
@@ -20,17 +19,20 @@ use std::thread::Threads;
 pub fn simulate_plain<R: Threads + Sync>(
     rt: &R,
     alloc: Global,
-    config: &[u8],
-    texts: &[&[u8]],
-    cycles: Cycle,
-    workers: u64,
-    tables: Tables,
+    input: InputTexts<'_>,
+    options: RunOptions,
 ) -> Result<Outcome, Fault>
-    ensures run { IfOk result (IsRunOf config.now (map (λ t. t.now) texts.now) cycles workers tables) }
-    ensures legal { IfOk result (IsJudgedLegal config.now (map (λ t. t.now) texts.now) cycles workers tables) }
-    ensures refused { IfErr result (λ e. e ≢ Fault.Memory → input_of config.now (map (λ t. t.now) texts.now) cycles workers ≡ Err e) }
+    ensures run { IfOk result (IsRun input.entry options) }
+    ensures legal { IfOk result (IsLegal input.entry options) }
+    ensures refused { IfErr result
+        (IsInputFault input.entry.config.now (texts_in input.entry.traces.now) options.cycles options.workers.count) }
 {
-    let (config, traces) = match read_input(rt, alloc, config, texts, cycles, workers) {
+    let RunOptions {
+        cycles,
+        workers,
+        tables,
+    } = options;
+    let (config, traces) = match read_input(rt, alloc, input, cycles, workers.count) {
         Ok(input) => input,
         Err(fault) => return Err(fault),
     };

@@ -1,4 +1,5 @@
 pub mod BlockLemmas
+pub mod HundredLemmas
 pub mod LineLemmas
 pub mod PieceLemmas
 pub mod RowLemmas

@@ -11,8 +11,8 @@ use std::simd::prelude::*;
 /// The room for the text, in bytes.
 const SIZE: usize = 4096;
 
-/// Rows, each ended by a line feed, the last of which `csv` writes. So what `csv` does for a text is done once for many
-/// rows.
+/// Rows, each ended by a line feed. `csv` gets them as one text without the last line feed, which it writes itself. So
+/// what `csv` does for a text is done once for many rows.
 #[derive(Drop)]
 pub(crate) struct Block {
     bytes: [u8; SIZE],
@@ -20,28 +20,26 @@ pub(crate) struct Block {
 }
 
 impl Model for Block {
-    ghost use Rattle.std.specs.Prelude.{ℕ, List, ◌≤◌, take};
+    ghost use Rattle.std.specs.Prelude.{ℕ, List, ◌≡◌, ◌≤◌, ◌-◌, take};
     ghost use Rattle.reports.specs.Rows.{ended};
 
     ghost Value = { List ℕ };
 
-    ghost view = { λ block. ended (take block.len block.bytes) };
+    ghost view = { λ block. take block.len block.bytes };
 
-    ghost invariant = { λ block. block.len ≤ 4096 };
+    ghost invariant = { λ block. (block.len ≤ 4096)
+        × (ended (take (block.len - 1) block.bytes) ≡ take block.len block.bytes) };
 }
 
-// Puts a line feed after the first `len` bytes, if there are any. Returns where the next row begins.
+// Ends a row that stands at the end of the first `len` bytes.
 #[inline(always)]
-fn end_last(bytes: &mut [u8; SIZE], len: usize) -> usize
-    requires { len < 4096 }
-    ensures start { result ≡ length (ended (take len bytes.old)) }
-    ensures text { take result bytes.new ≡ ended (take len bytes.old) }
+fn end_row(bytes: &mut [u8; SIZE], len: usize)
+    requires some { 0 < len }
+    requires room { len < 4096 }
+    ensures text { take (len + 1) bytes.new ≡ take len bytes.old ++ codes "\n" }
+    ensures ended { ended (take len bytes.new) ≡ take (len + 1) bytes.new }
 {
-    if len == 0 {
-        return 0;
-    }
     bytes[len] = b'\n';
-    len + 1
 }
 
 // Copies 16 bytes of a row, from a place in it on, to where the row stands from `start` on.
@@ -104,7 +102,7 @@ impl Block {
     /// Whether there is room for one more row, whatever it is.
     #[inline]
     pub(crate) fn has_room(&self) -> bool
-        ensures { IsTrue result → length self.now + 256 ≤ 4096 }
+        ensures { IsTrue result → length self.now + 256 < 4096 }
     {
         self.len < SIZE - ROOM
     }
@@ -114,7 +112,7 @@ impl Block {
     pub(crate) fn text(&self) -> &[u8]
         ensures { ended result.now ≡ self.now }
     {
-        &self.bytes[..self.len]
+        &self.bytes[..self.len.saturating_sub(1)]
     }
 
     /// Drops all rows.
@@ -129,11 +127,13 @@ impl Block {
     #[inline(always)]
     pub(crate) fn push(&mut self, row: &[u8])
         requires some { 0 < length row.now }
-        requires room { length self.old + length row.now ≤ 4096 }
+        requires room { length self.old + length row.now < 4096 }
         ensures { self.new ≡ self.old ++ (row.now ++ codes "\n") }
     {
-        let start = end_last(&mut self.bytes, self.len);
+        let start = self.len;
         put_row(&mut self.bytes, start, row);
-        self.len = start + row.len();
+        let end = start + row.len();
+        end_row(&mut self.bytes, end);
+        self.len = end + 1;
     }
 }

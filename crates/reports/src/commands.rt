@@ -1,15 +1,17 @@
 //! The table of commands, `commands.csv`.
 
-ghost use Rattle.std.specs.Prelude.{◌≡◌, ◌<◌, ◌≤◌, ◌+◌, ◌∷◌, ◌++◌, length, drop, codes, IfErr};
-ghost use Rattle.reports.specs.Rows.{comma, fields_text, row_text, IsReportFault, WritesOnOk};
+ghost use Rattle.std.specs.Prelude.{◌≡◌, ◌<◌, ◌≤◌, ◌+◌, ◌∷◌, ◌++◌, length, drop, Some, codes, IfErr};
+ghost use Rattle.sim_base.specs.Rules.{kind_of, rank_of};
+ghost use Rattle.reports.specs.Rows.{comma, fields_text, with_rank, row_text, IsReportFault, WritesOnOk};
 ghost use Rattle.reports.specs.Tables.{AddsRows};
 ghost use Rattle.reports.specs.Commands.{header, kind_word, request_operands, operand_fields, command_fields, lines_text, commands_text};
 
-use crate::line::{Line, put, put_last, put_last_word, put_rank, put_word};
+use crate::hundreds::Hundred;
+use crate::line::{Line, put, put_byte, put_last_long, put_last_word, put_rank, put_word};
 use crate::pieces::{Crew, MOST, TableLines, write_pieces, write_whole};
 use crate::table::{Loss, Table};
 use command_table::table::{CommandTable, Rows};
-use sim_base::command::{Command, IssuedCommand, Kind, Source};
+use sim_base::command::{Command, IssuedCommand, Source};
 use sim_base::fault::Fault;
 use sim_base::place::BankId;
 use std::alloc::Global;
@@ -20,16 +22,17 @@ use std::thread::Threads;
 #[inline(always)]
 fn put_request(
     line: &mut Line,
-    bank: BankId,
+    bank: &BankId,
     row: Option<u32>,
     column: Option<u32>,
-    source: Source,
+    source: &Source,
 ) -> usize
-    ensures text { drop result line.new ≡ fields_text (request_operands bank row column source) }
+    ensures text { drop result line.new
+        ≡ fields_text (request_operands bank.now row column source.now) }
     ensures low { 131 ≤ result }
     ensures high { result ≤ 256 }
 {
-    let start = put_last(line, Some(source.entry));
+    let start = put_last_long(line, source.entry);
     let start = put(line, start, Some(u64::from(source.core)));
     let start = put(line, start, column.map(u64::from));
     let start = put(line, start, row.map(u64::from));
@@ -37,47 +40,84 @@ fn put_request(
     put(line, start, Some(u64::from(bank.group)))
 }
 
-// The fields after that of the rank; a command of a whole rank fills none of them.
+// The fields of a command of a whole rank, from this word of its kind on: those behind the rank are empty.
+#[inline(never)]
+fn put_whole_rank(line: &mut Line, ranks: u32, rank: u32, word: &[u8]) -> usize
+    requires { length word.now ≤ 4 }
+    ensures text { drop result line.new
+        ≡ word.now ++ comma ∷ with_rank ranks (Some rank) (codes ",,,,,") }
+    ensures low { 105 ≤ result }
+    ensures high { result ≤ 256 }
+{
+    let start = put_last_word(line, b",,,,,");
+    let start = put_rank(line, start, ranks, Some(u64::from(rank)));
+    put_word(line, start, word)
+}
+
+// A word of two letters before the fields behind it.
 #[inline(always)]
-fn put_operands(line: &mut Line, command: Command) -> usize
-    ensures text { drop result line.new ≡ fields_text (operand_fields command) }
-    ensures low { 131 ≤ result }
+fn put_two(line: &mut Line, end: usize, first: u8, second: u8) -> usize
+    requires { (3 ≤ end) × (end ≤ 256) }
+    ensures text { drop result line.new ≡ first ∷ second ∷ comma ∷ drop end line.old }
+    ensures start { result + 3 ≡ end }
+{
+    let start = put_byte(line, end, b',');
+    let start = put_byte(line, start, second);
+    put_byte(line, start, first)
+}
+
+// A word of three letters before the fields behind it.
+#[inline(always)]
+fn put_three(line: &mut Line, end: usize, first: u8, second: u8, third: u8) -> usize
+    requires { (4 ≤ end) × (end ≤ 256) }
+    ensures text { drop result line.new ≡ first ∷ second ∷ third ∷ comma ∷ drop end line.old }
+    ensures start { result + 4 ≡ end }
+{
+    let start = put_two(line, end, second, third);
+    put_byte(line, start, first)
+}
+
+// The fields from that of the kind on.
+#[inline(always)]
+fn put_kind(line: &mut Line, ranks: u32, command: &Command) -> usize
+    ensures text { drop result line.new ≡ kind_word (kind_of command.now) ++ comma
+        ∷ with_rank ranks (Some (rank_of command.now)) (fields_text (operand_fields command.now)) }
+    ensures low { 105 ≤ result }
     ensures high { result ≤ 256 }
 {
     match command {
-        Command::Act { bank, row, source } => put_request(line, bank, Some(row), None, source),
+        Command::Act { bank, row, source } => {
+            let start = put_request(line, bank, Some(*row), None, source);
+            let start = put_rank(line, start, ranks, Some(u64::from(bank.rank)));
+            put_three(line, start, b'A', b'C', b'T')
+        }
         Command::Rd {
             bank,
             row,
             column,
             source,
+        } => {
+            let start = put_request(line, bank, Some(*row), Some(*column), source);
+            let start = put_rank(line, start, ranks, Some(u64::from(bank.rank)));
+            put_two(line, start, b'R', b'D')
         }
-        | Command::Wr {
+        Command::Wr {
             bank,
             row,
             column,
             source,
-        } => put_request(line, bank, Some(row), Some(column), source),
-        Command::Pre { bank, source } => put_request(line, bank, None, None, source),
-        Command::Prea { .. } | Command::Ref { .. } => put_last_word(line, b",,,,,"),
-    }
-}
-
-// The word of a kind, before the fields behind it.
-#[inline(always)]
-fn put_kind(line: &mut Line, end: usize, kind: Kind) -> usize
-    requires { (5 ≤ end) × (end ≤ 256) }
-    ensures text { drop result line.new ≡ kind_word kind ++ comma ∷ drop end line.old }
-    ensures low { end ≤ result + 5 }
-    ensures high { result < end }
-{
-    match kind {
-        Kind::Act => put_word(line, end, b"ACT"),
-        Kind::Rd => put_word(line, end, b"RD"),
-        Kind::Wr => put_word(line, end, b"WR"),
-        Kind::Pre => put_word(line, end, b"PRE"),
-        Kind::Prea => put_word(line, end, b"PREA"),
-        Kind::Ref => put_word(line, end, b"REF"),
+        } => {
+            let start = put_request(line, bank, Some(*row), Some(*column), source);
+            let start = put_rank(line, start, ranks, Some(u64::from(bank.rank)));
+            put_two(line, start, b'W', b'R')
+        }
+        Command::Pre { bank, source } => {
+            let start = put_request(line, bank, None, None, source);
+            let start = put_rank(line, start, ranks, Some(u64::from(bank.rank)));
+            put_three(line, start, b'P', b'R', b'E')
+        }
+        Command::Prea { rank } => put_whole_rank(line, ranks, *rank, b"PREA"),
+        Command::Ref { rank } => put_whole_rank(line, ranks, *rank, b"REF"),
     }
 }
 
@@ -95,22 +135,26 @@ fn columns(ranks: u32) -> &'static [u8]
 
 // The fields of a row, from the last to the first.
 #[inline(always)]
-fn put_command(line: &mut Line, ranks: u32, row: &IssuedCommand) -> usize
+fn put_command(line: &mut Line, hundred: &mut Hundred, ranks: u32, row: &IssuedCommand) -> usize
     ensures text { drop result line.new ≡ fields_text (command_fields ranks row.now) }
     ensures some { result < 256 }
 {
-    let start = put_operands(line, row.command);
-    let start = put_rank(line, start, ranks, Some(u64::from(row.command.rank())));
-    let start = put_kind(line, start, row.command.kind());
+    let start = put_kind(line, ranks, &row.command);
     let start = put(line, start, Some(u64::from(row.channel)));
-    put(line, start, Some(row.cycle))
+    hundred.put_cycle(line, start, row.cycle)
 }
 
-fn write_command<W: Write>(table: &mut Table, ranks: u32, row: &IssuedCommand, writer: &mut W)
+fn write_command<W: Write>(
+    table: &mut Table,
+    hundred: &mut Hundred,
+    ranks: u32,
+    row: &IssuedCommand,
+    writer: &mut W,
+)
     ensures { AddsRows W.contents writer.old table.old writer.new table.new
         (row_text (command_fields ranks row.now)) }
 {
-    let start = put_command(&mut table.line, ranks, row);
+    let start = put_command(&mut table.line, hundred, ranks, row);
     table.write_row(start, writer);
 }
 
@@ -119,8 +163,9 @@ fn write_each<W: Write>(table: &mut Table, ranks: u32, mut rows: Rows<'_>, write
     ensures { AddsRows W.contents writer.old table.old writer.new table.new
         (lines_text ranks rows.entry) }
 {
+    let mut hundred = Hundred::new();
     while let Some(row) = rows.next() {
-        write_command(table, ranks, &row, writer);
+        write_command(table, &mut hundred, ranks, &row, writer);
     }
 }
 

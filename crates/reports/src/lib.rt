@@ -4,6 +4,7 @@
 mod block;
 mod commands;
 mod final_state;
+mod hundreds;
 mod line;
 mod pieces;
 mod requests;

@@ -35,8 +35,9 @@ pub(crate) fn put_bytes(line: &mut Line, end: usize, bytes: &[u8]) -> usize
     start
 }
 
+/// Puts a byte before a place.
 #[inline(always)]
-fn put_byte(line: &mut Line, end: usize, byte: u8) -> usize
+pub(crate) fn put_byte(line: &mut Line, end: usize, byte: u8) -> usize
     requires { (0 < end) × (end ≤ 256) }
     ensures text { drop result line.new ≡ byte ∷ drop end line.old }
     ensures start { result + 1 ≡ end }
@@ -56,7 +57,34 @@ fn put_digits(line: &mut Line, end: usize, number: u64) -> usize
     if number < 10 {
         return put_byte(line, end, b'0' + number as u8);
     }
+    if number < 100 {
+        return write_digits(u64::from(number as u8), line, end);
+    }
     write_digits(number, line, end)
+}
+
+// The digits of a number that often has five or more.
+#[inline(always)]
+fn put_long_digits(line: &mut Line, end: usize, number: u64) -> usize
+    requires { (20 ≤ end) × (end ≤ 256) }
+    ensures text { drop result line.new ≡ decimal number ++ drop end line.old }
+    ensures low { end ≤ result + 20 }
+    ensures high { result ≤ end }
+{
+    if number >= 10_000 {
+        return write_digits(number, line, end);
+    }
+    put_digits(line, end, number)
+}
+
+/// Puts the last field, a number that often has five digits or more.
+#[inline(always)]
+pub(crate) fn put_last_long(line: &mut Line, number: u64) -> usize
+    ensures text { drop result line.new ≡ decimal number }
+    ensures low { 236 ≤ result }
+    ensures high { result ≤ 256 }
+{
+    put_long_digits(line, ROOM, number)
 }
 
 /// Puts the last field.

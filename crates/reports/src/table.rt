@@ -13,8 +13,8 @@ use std::io::Write;
 use std::mem;
 
 // Once this many bytes wait in the list, everything that waits goes out. Together with what `csv` may hold, that is
-// below 64 KB.
-const BATCH: usize = 48 * 1024;
+// some 54 KB, for which the list need not grow again.
+const BATCH: usize = 44 * 1024;
 
 /// Why rows are lost.
 #[derive(Clone, Copy)]
@@ -167,7 +167,7 @@ impl Table {
     #[inline(always)]
     fn make_room<W: Write>(&mut self, writer: &mut W)
         ensures kept { KeepsRows W.contents writer.old self.old writer.new self.new }
-        ensures room { length self.new.block + 256 ≤ 4096 }
+        ensures room { length self.new.block + 256 < 4096 }
         ensures line { self.new.line ≡ self.old.line }
     {
         if self.block.has_room() {

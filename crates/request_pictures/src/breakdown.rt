@@ -1,7 +1,7 @@
 //! Where the time of the reads of each channel went, as bars. A bar's unit is a hundredth of a cycle.
 
-use drawing::markup::{LegendEntry, Piece, put, put_legend};
-use drawing::scales::share_of;
+use crate::drawing::markup::{LegendEntry, Piece, put, put_legend};
+use crate::drawing::scales::share_of;
 use request_table::times::RequestTimes;
 use std::alloc::{AllocError, Global};
 

@@ -1,9 +1,11 @@
 //! A histogram of the read latency of each core, all on the same axes.
 
-use drawing::axes::{Quantity, put_cycle_ticks, put_value_ticks};
-use drawing::markup::{LegendEntry, Piece, put, put_legend};
-use drawing::scales::axis_end;
-use request_measures::latency::{Latencies, core_latency_percentiles, of_core, read_latencies};
+use crate::drawing::axes::{Quantity, put_cycle_ticks, put_value_ticks};
+use crate::drawing::markup::{LegendEntry, Piece, put, put_legend};
+use crate::drawing::scales::axis_end;
+use measures::request_measures::latency::{
+    Latencies, core_latency_percentiles, of_core, read_latencies,
+};
 use request_table::times::RequestTimes;
 use sim_base::message::CoreId;
 use std::alloc::{AllocError, Global};

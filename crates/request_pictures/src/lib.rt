@@ -2,6 +2,7 @@
 #![tactic(auto)]
 
 mod breakdown;
+pub mod drawing;
 mod histograms;
 pub mod section;
 mod trend;

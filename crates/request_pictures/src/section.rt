@@ -3,7 +3,7 @@
 use crate::breakdown::put_breakdown;
 use crate::histograms::put_histograms;
 use crate::trend::put_trend;
-use request_measures::latency::latency_percentiles;
+use measures::request_measures::latency::latency_percentiles;
 use request_table::times::RequestTimes;
 use statistics::stats::Stats;
 use std::alloc::{AllocError, Global};

@@ -1,9 +1,9 @@
 //! The median and the 99th percentile of read latency over the run, in steps of equal length, the last of which may be shorter.
 
-use drawing::axes::{Quantity, put_cycle_ticks, put_value_ticks};
-use drawing::markup::{LegendEntry, Piece, put, put_legend};
-use drawing::scales::axis_end;
-use percentiles::SortedValues;
+use crate::drawing::axes::{Quantity, put_cycle_ticks, put_value_ticks};
+use crate::drawing::markup::{LegendEntry, Piece, put, put_legend};
+use crate::drawing::scales::axis_end;
+use measures::percentiles::SortedValues;
 use request_table::times::RequestTimes;
 use std::alloc::{AllocError, Global};
 

@@ -4,7 +4,7 @@ use Rattle.std.specs.Prelude.{filter, All}
 use Rattle.std.proofs.lemmas.Bool.{cond-true, cond-false, cond_both, ne_eqb, leb-true, leb-false, le-leb, lt-leb, lt-ltb, le-ltb}
 use Rattle.std.proofs.lemmas.List.{map-append}
 use Rattle.sim_base.specs.declared.config.Config.{Config}
-use Rattle.served_requests.specs.declared.ServedRequest.{ServedRequest}
+use Rattle.request_table.specs.declared.served_requests.ServedRequest.{ServedRequest}
 use Rattle.request_table.specs.Tables.{AreServed, IsInOrder, served_at, by_cycle, rows_up_to, rows_after, times_of, times_by_cycle}
 use Rattle.request_table.proofs.Cycles.{flat-parts}
 

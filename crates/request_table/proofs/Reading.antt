@@ -6,7 +6,7 @@ use Rattle.std.proofs.lemmas.Bool.{cond-true, cond-false, eq-eqb, ne_eqb}
 use Rattle.std.proofs.lemmas.List.{get_or_default}
 use Rattle.std.proofs.lemmas.List.Elements.{recursion_from_All, All-nil, All-cons, All-set}
 use Rattle.sim_base.specs.declared.config.Config.{Config}
-use Rattle.served_requests.specs.declared.ServedRequest.{ServedRequest}
+use Rattle.request_table.specs.declared.served_requests.ServedRequest.{ServedRequest}
 use Rattle.request_table.specs.Lefts.{first_cycle, IsNext}
 use Rattle.request_table.specs.Tables.{AreServed, served_at, by_cycle, times_of, times_by_cycle}
 use Rattle.request_table.proofs.Cycles.{flat-none, flat-first}

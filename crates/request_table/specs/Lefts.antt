@@ -4,7 +4,7 @@
 --     IsNextAmong lists count next      the same, where none of them may have a request
 --     IsNext lists place      the one at this place goes on soonest of all lists
 use Rattle.std.specs.Prelude.{◌≡◌, ℕ, ◌<◌, ◌≤◌, List, [], ◌∷◌, length, slice_index_or, Option, Some, None, IfSome}
-use Rattle.served_requests.specs.declared.ServedRequest.{ServedRequest}
+use Rattle.request_table.specs.declared.served_requests.ServedRequest.{ServedRequest}
 use Rattle.request_table.specs.declared.table.Next.{Next}
 
 -- the cycle in which the first of the requests was served, if there is one

@@ -1,3 +1,4 @@
 pub mod Requests
 pub mod Tables
 pub mod Lefts
+pub mod Served

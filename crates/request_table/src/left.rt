@@ -3,7 +3,7 @@
 ghost use Rattle.std.specs.Prelude.{◌≡◌, ◌≤◌, nat_le, length, take, drop, slice_get, option_map};
 ghost use Rattle.request_table.specs.Tables.{IsInOrder, rows_up_to, rows_after};
 
-use served_requests::ServedRequest;
+use crate::served_requests::ServedRequest;
 use sim_base::message::Cycle;
 use std::marker::Model;
 
@@ -15,7 +15,7 @@ pub struct ServedList {
 
 impl Model for ServedList {
     ghost use Rattle.std.specs.Prelude.{List};
-    ghost use Rattle.served_requests.specs.declared.ServedRequest.{ServedRequest as Row};
+    ghost use Rattle.request_table.specs.declared.served_requests.ServedRequest.{ServedRequest as Row};
 
     ghost Value = { List Row };
 
@@ -39,7 +39,7 @@ pub(crate) struct Left<'a> {
 
 impl<'a> Model for Left<'a> {
     ghost use Rattle.std.specs.Prelude.{List};
-    ghost use Rattle.served_requests.specs.declared.ServedRequest.{ServedRequest as Row};
+    ghost use Rattle.request_table.specs.declared.served_requests.ServedRequest.{ServedRequest as Row};
 
     ghost Value = { List Row };
 

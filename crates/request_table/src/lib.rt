@@ -3,6 +3,7 @@
 
 pub mod cuts;
 pub mod left;
+pub mod served_requests;
 pub mod table;
 pub mod times;
 pub mod travel;

@@ -1,7 +1,7 @@
 //! The served requests of several lists as one table.
 
 ghost use Rattle.std.specs.Prelude.{◌≡◌, ◌+◌, List, [], ◌∷◌, slice_index_or, None, All, IfOk, IfSome, MatchOption};
-ghost use Rattle.served_requests.specs.declared.ServedRequest.{ServedRequest};
+ghost use Rattle.request_table.specs.declared.served_requests.ServedRequest.{ServedRequest};
 ghost use Rattle.request_table.specs.Tables.{AreServed, times_by_cycle};
 ghost use Rattle.request_table.specs.Lefts.{first_cycle, IsNext, IsNextAmong};
 

@@ -4,8 +4,8 @@ ghost use Rattle.std.specs.Prelude.{◌≡◌, ◌+◌};
 ghost use Rattle.request_table.specs.Requests.{replied_in, if_within, reply_cycle};
 ghost use Rattle.request_table.specs.Tables.{access_of, times_of};
 
+use crate::served_requests::ServedRequest;
 use crate::times::{Access, RequestTimes};
-use served_requests::ServedRequest;
 use sim_base::config::Config;
 use sim_base::message::Cycle;
 

@@ -34,7 +34,7 @@ use Rattle.laws.proofs.Tabled.{rows_from, commands-more, tables_are_ordered}
 use Rattle.request_table.specs.Requests.{arrival_of, reply_cycle, replied_in, request_for, request_by, requests_of}
 use Rattle.request_table.specs.declared.times.Access.{Access}
 use Rattle.request_table.specs.declared.times.Access.TheVariants.{Read, Write}
-use Rattle.request_laws.proofs.Dated.{requests_arrive_as_issued}
+use Rattle.laws.proofs.Dated.{requests_arrive_as_issued}
 use Rattle.table_laws.specs.Written.{SourceIsOf, CommandIsOf, RowIsOf}
 use Rattle.table_laws.proofs.InRange.{commands_are_in_range}
 use Rattle.run_tables.specs.Requests.{IsReplyTo, RequestFits, turn, IsInOrder}

@@ -9,11 +9,13 @@ use run_outcome::outcome::Outcome;
 use run_outcome::tables::Tables;
 use sim_base::command::Kind;
 use sim_base::fault::Fault;
+use simulation::input::InputTexts;
 use simulation::runs::simulate;
 use std::alloc::Global;
 use std::sync::Wait;
 use std::thread::Threads;
 use workers::gate::Open;
+use workers::input::{Hooks, RunOptions};
 use workers::watch::Unwatched;
 
 /// Whether these are the commands of one core that reads one line: an ACT in cycle 2 and an RD in cycle 5. Where the
@@ -48,20 +50,20 @@ fn is_right(alloc: Global, outcome: &Outcome) -> bool {
 /// Whether a run by this number of workers gives what it should, or is refused memory, or a worker.
 fn is_right_or_refused<R: Threads + Wait + Sync>(rt: &R, alloc: Global, workers: u64) -> bool {
     let texts: [&[u8]; 1] = [b"0 0\n"];
-    let watch = &mut Unwatched;
-    let config = SMALL.as_bytes();
-    let tables = Tables::usual();
-    match simulate(
-        rt,
-        alloc,
-        &Open,
-        watch,
-        config,
-        &texts,
-        16,
-        always(workers),
-        tables,
-    ) {
+    let hooks = Hooks {
+        gate: &Open,
+        watch: &mut Unwatched,
+    };
+    let input = InputTexts {
+        config: SMALL.as_bytes(),
+        traces: &texts,
+    };
+    let options = RunOptions {
+        cycles: 16,
+        workers: always(workers),
+        tables: Tables::usual(),
+    };
+    match simulate(rt, alloc, hooks, input, options) {
         Ok(outcome) => is_right(alloc, &outcome),
         Err(fault) => fault == Fault::Memory || workers > 1 && fault == Fault::WorkerStart,
     }

@@ -12,12 +12,14 @@ use run_outcome::tables::Tables;
 use sim_base::command::IssuedCommand;
 use sim_base::fault::Fault;
 use sim_base::message::Cycle;
+use simulation::input::InputTexts;
 use simulation::runs::simulate;
 use std::alloc::{AllocError, Global};
 use std::process::Abort;
 use std::sync::Wait;
 use std::thread::Threads;
 use workers::gate::{Gate, Open};
+use workers::input::{Hooks, RunOptions};
 use workers::sharing::{Sharing, Workers};
 use workers::watch::{Unwatched, Watch};
 
@@ -152,15 +154,19 @@ pub(crate) fn plain_outcome<R: Threads + Sync>(
     workers: u64,
 ) -> Result<Outcome, Fault> {
     let texts = slices_of(alloc, run.texts)?;
-    simulate_plain(
-        rt,
-        alloc,
-        run.config.as_bytes(),
-        &texts,
-        run.cycles,
-        workers,
-        EVERY,
-    )
+    let input = InputTexts {
+        config: run.config.as_bytes(),
+        traces: &texts,
+    };
+    let options = RunOptions {
+        cycles: run.cycles,
+        workers: Workers {
+            count: workers,
+            sharing: Sharing::default(),
+        },
+        tables: EVERY,
+    };
+    simulate_plain(rt, alloc, input, options)
 }
 
 /// Its tables.
@@ -182,12 +188,17 @@ pub(crate) fn outcome_of<R: Threads + Wait + Sync, G: Gate + Sync, W: Watch>(
     run: &Run<'_>,
     workers: Workers,
 ) -> Result<Outcome, Fault> {
-    let bytes = run.config.as_bytes();
     let texts = slices_of(alloc, run.texts)?;
-    let tables = EVERY;
-    simulate(
-        rt, alloc, gate, watch, bytes, &texts, run.cycles, workers, tables,
-    )
+    let input = InputTexts {
+        config: run.config.as_bytes(),
+        traces: &texts,
+    };
+    let options = RunOptions {
+        cycles: run.cycles,
+        workers,
+        tables: EVERY,
+    };
+    simulate(rt, alloc, Hooks { gate, watch }, input, options)
 }
 
 /// Whether a watched run by these workers has these tables.

@@ -10,13 +10,13 @@ ghost use Rattle.shards.specs.Lists.{AllEmpty, LowersAll, with_lists};
 ghost use Rattle.shards.specs.Shards.{ChangesOnlyMail, HasGone, HasSent, HaveSent, HoldWhatWasSent, IsSplit, IsWithin, LowersWords, Sleeps};
 
 use crate::post::deal;
-use lane_scan::least;
 use links::flight::Links;
 use sim_base::message::{Cycle, Message};
 use std::alloc::AllocError;
 use std::sync::Arc;
 use units::machine::Machine;
 use units::mail::Mail;
+use wake_words::lane_scan::least;
 use wake_words::slot::{Slot, Span};
 use wake_words::waking::go_on;
 use wake_words::words::lower_all;

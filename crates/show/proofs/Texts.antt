@@ -3,8 +3,8 @@ use Rattle.std.proofs.Common.{◌≡◌, ℕ, ◌+◌, List, [], ◌++◌, Optio
 use Rattle.show.specs.Screen.{Extends, IsScreen, channels_head, cores_head}
 use Rattle.show.specs.Banks.{AreBanksOf, AreBanks}
 use Rattle.show.specs.Requests.{latencies_head, waits_head, replies_of, AreRequests}
-use Rattle.request_measures.specs.Latency.{read_latencies, AreLatenciesOf}
-use Rattle.request_measures.specs.declared.latency.Latencies.{Latencies}
+use Rattle.measures.specs.Latency.{read_latencies, AreLatenciesOf}
+use Rattle.measures.specs.declared.request_measures.latency.Latencies.{Latencies}
 use Rattle.request_table.specs.declared.times.RequestTimes.{RequestTimes}
 use Rattle.sim_base.specs.declared.command.IssuedCommand.{IssuedCommand}
 use Rattle.statistics.specs.Values.{RunStats}

@@ -4,7 +4,7 @@
 --     AreBanks commands channels text      those of the channels below a number, one after the other
 --     IsBanksScreen stats commands text      the screen of a run, and its banks below it
 use Rattle.std.specs.Prelude.{◌≡◌, ℕ, zero, suc, List, [], ◌++◌, length, codes, decimal}
-use Rattle.bank_counts.specs.Banks.{channel_counts}
+use Rattle.measures.specs.Banks.{channel_counts}
 use Rattle.sim_base.specs.declared.command.IssuedCommand.{IssuedCommand}
 use Rattle.statistics.specs.Values.{RunStats}
 use Rattle.show.specs.Screen.{IsScreen}

@@ -3,8 +3,8 @@
 --     replies_of found      how many replies percentiles are of
 --     AreRequests requests text      how long reads took and requests waited
 use Rattle.std.specs.Prelude.{◌≡◌, ℕ, List, ◌++◌, length, codes, decimal, Option, Some, None}
-use Rattle.request_measures.specs.Latency.{read_latencies}
-use Rattle.request_measures.specs.declared.latency.Latencies.{Latencies}
+use Rattle.measures.specs.Latency.{read_latencies}
+use Rattle.measures.specs.declared.request_measures.latency.Latencies.{Latencies}
 use Rattle.request_table.specs.declared.times.RequestTimes.{RequestTimes}
 
 -- the lines above the read latencies, which say how many replies came

@@ -1,7 +1,7 @@
 //! How long reads took and how long requests waited, below the screen of a run.
 
 ghost use Rattle.std.specs.Prelude.{◌≡◌, ◌≤◌, length, IfOk, OnOk, string_bytes};
-ghost use Rattle.request_measures.specs.Latency.{read_latencies, AreLatenciesOf};
+ghost use Rattle.measures.specs.Latency.{read_latencies, AreLatenciesOf};
 ghost use Rattle.show.specs.Requests.{latencies_head, waits_head, replies_of, AreRequests};
 ghost use Rattle.show.specs.Screen.{BeginsBy, Extends};
 
@@ -9,8 +9,10 @@ use crate::number::Number;
 use crate::options::Options;
 use crate::rows::{COLUMNS, Row, nanoseconds};
 use crate::table::Table;
-use request_measures::latency::{Latencies, core_latency_percentiles, latency_percentiles};
-use request_measures::waiting::{Class, Waits, channel_waits};
+use measures::request_measures::latency::{
+    Latencies, core_latency_percentiles, latency_percentiles,
+};
+use measures::request_measures::waiting::{Class, Waits, channel_waits};
 use request_table::times::RequestTimes;
 use sim_base::message::{ChannelId, CoreId};
 use std::alloc::{AllocError, Global};

@@ -1,13 +1,14 @@
 -- What a user may rely on in the outcome of a run.
 --     HoldsUnder config law outcome      a law holds of an outcome, under the configuration that the document states
---     HoldsUnderRead machine traces cycles workers law outcome      so it does, whatever bytes these were read from
+--     HoldsUnderRead machine options law outcome      so it does, whatever bytes these were read from
 use Rattle.std.specs.Prelude.{◌≡◌, ℕ, List, Ok}
-use Rattle.sim_base.specs.declared.trace.Entry.{Entry}
 use Rattle.simulation.specs.Runs.{HoldsOfInput}
 use Rattle.sim_base.specs.declared.config.Config.{Config}
 use Rattle.sim_base.specs.Values.{values_of}
 use Rattle.config_reader.specs.Document.{document_of}
 use Rattle.run_outcome.specs.Values.{RunOutcome}
+use Rattle.workers.specs.declared.input.MachineInput.{MachineInput}
+use Rattle.workers.specs.declared.input.RunOptions.{RunOptions}
 
 -- a law holds of an outcome, under the configuration that the document states
 pub record HoldsUnder (config : List ℕ) (law : Config → RunOutcome → Type 0) (outcome : RunOutcome) : Type 0 where
@@ -16,6 +17,6 @@ pub record HoldsUnder (config : List ℕ) (law : Config → RunOutcome → Type 
   pub holds : law machine outcome
 
 -- so it does, whatever bytes a machine and its traces were read from
-abbrev pub HoldsUnderRead : Config → List (List Entry) → ℕ → ℕ → (Config → RunOutcome → Type 0) → RunOutcome → Type 0
-HoldsUnderRead machine traces cycles workers law outcome =
-    HoldsOfInput cycles workers machine traces (λ config texts. HoldsUnder config law) outcome
+abbrev pub HoldsUnderRead : MachineInput → RunOptions → (Config → RunOutcome → Type 0) → RunOutcome → Type 0
+HoldsUnderRead machine options law outcome =
+    HoldsOfInput options.cycles options.workers.count machine.config.now machine.traces.items (λ config texts. HoldsUnder config law) outcome

@@ -13,11 +13,12 @@
 --     IsRefusal config texts cycles workers fault      why a run with these workers is refused
 --     IsRunOf config texts cycles workers tables outcome      what the one-clock machine did and left
 --     HoldsOfRun config texts cycles workers tables law outcome      the same, and a law holds of the run
---     IsRunOfInput machine traces cycles workers tables outcome      so it is, whatever these were read from
---     IsJudgedOfInput machine traces cycles workers tables outcome      it is then judged legal
---     HoldsOfRead machine traces cycles workers tables law outcome      a law then holds of the run
+--     IsRunOfInput machine options outcome      so it is, whatever these were read from
+--     IsJudgedOfInput machine options outcome      it is then judged legal
+--     HoldsOfRead machine options law outcome      a law then holds of the run
 --     IsLegalRun s traces n      `check` finds the table of the commands of a run legal
 --     IsJudgedLegal config texts cycles workers tables outcome      it finds that of this run legal
+--     IsRun, IsLegal, Keeps law, IsRefused      the same of an input with its options
 use Rattle.std.specs.Prelude.{◌≡◌, ◌≢◌, ◌⊎◌, ℕ, ◌+◌, ◌<◌, ◌≤◌, ◌==◌, nat_le, Bool, ◌&&◌, List, [], ◌∷◌, length, map, slice_index_or, Result, Ok, Err, IsOk, if◌then◌else◌}
 use Rattle.std.specs.Borrow.{Bor}
 use Rattle.sim_base.specs.declared.config.Config.{Config}
@@ -32,6 +33,9 @@ use Rattle.sim_base.specs.Machine.{run, cycles_run}
 use Rattle.run_outcome.specs.Outcomes.{outcome_of}
 use Rattle.run_outcome.specs.Values.{RunOutcome}
 use Rattle.run_outcome.specs.declared.tables.Tables.{Tables}
+use Rattle.simulation.specs.declared.input.InputTexts.{InputTexts}
+use Rattle.workers.specs.declared.input.MachineInput.{MachineInput}
+use Rattle.workers.specs.declared.input.RunOptions.{RunOptions}
 use Rattle.reports.specs.Commands.{commands_text}
 use Rattle.rule_check.specs.Verdict.{records_of, verdict}
 use Rattle.rule_check.specs.declared.verdict.Verdict.TheVariants.{Legal}
@@ -138,16 +142,39 @@ abbrev pub IsJudgedLegal : List ℕ → List (List ℕ) → ℕ → ℕ → Tabl
 IsJudgedLegal config texts cycles workers tables outcome = HoldsOfRun config texts cycles workers tables IsLegalRun outcome
 
 -- Whatever bytes a machine and its traces were read from, the outcome is that of a run over these bytes.
-abbrev pub IsRunOfInput : Config → List (List Entry) → ℕ → ℕ → Tables → RunOutcome → Type 0
-IsRunOfInput machine traces cycles workers tables outcome =
-    HoldsOfInput cycles workers machine traces (λ config texts. IsRunOf config texts cycles workers tables) outcome
+abbrev pub IsRunOfInput : MachineInput → RunOptions → RunOutcome → Type 0
+IsRunOfInput machine options outcome =
+    HoldsOfInput options.cycles options.workers.count machine.config.now machine.traces.items
+    (λ config texts. IsRunOf config texts options.cycles options.workers.count options.tables) outcome
 
 -- so `check` finds the table of its commands legal
-abbrev pub IsJudgedOfInput : Config → List (List Entry) → ℕ → ℕ → Tables → RunOutcome → Type 0
-IsJudgedOfInput machine traces cycles workers tables outcome =
-    HoldsOfInput cycles workers machine traces (λ config texts. IsJudgedLegal config texts cycles workers tables) outcome
+abbrev pub IsJudgedOfInput : MachineInput → RunOptions → RunOutcome → Type 0
+IsJudgedOfInput machine options outcome =
+    HoldsOfInput options.cycles options.workers.count machine.config.now machine.traces.items
+    (λ config texts. IsJudgedLegal config texts options.cycles options.workers.count options.tables) outcome
 
 -- and a law holds of the run
-abbrev pub HoldsOfRead : Config → List (List Entry) → ℕ → ℕ → Tables → (Config → List (List Entry) → ℕ → Type 0) → RunOutcome → Type 0
-HoldsOfRead machine traces cycles workers tables law outcome =
-    HoldsOfInput cycles workers machine traces (λ config texts. HoldsOfRun config texts cycles workers tables law) outcome
+abbrev pub HoldsOfRead : MachineInput → RunOptions → (Config → List (List Entry) → ℕ → Type 0) → RunOutcome → Type 0
+HoldsOfRead machine options law outcome =
+    HoldsOfInput options.cycles options.workers.count machine.config.now machine.traces.items
+    (λ config texts. HoldsOfRun config texts options.cycles options.workers.count options.tables law) outcome
+
+-- the outcome is that of a run of an input with these options: what the one-clock machine did and left
+abbrev pub IsRun : InputTexts → RunOptions → RunOutcome → Type 0
+IsRun input options outcome =
+    IsRunOf input.config.now (texts_in input.traces.now) options.cycles options.workers.count options.tables outcome
+
+-- `check` finds the table of its commands legal
+abbrev pub IsLegal : InputTexts → RunOptions → RunOutcome → Type 0
+IsLegal input options outcome =
+    IsJudgedLegal input.config.now (texts_in input.traces.now) options.cycles options.workers.count options.tables outcome
+
+-- a law holds of its machine, its traces and its cycles
+abbrev pub Keeps : InputTexts → RunOptions → (Config → List (List Entry) → ℕ → Type 0) → RunOutcome → Type 0
+Keeps input options law outcome =
+    HoldsOfRun input.config.now (texts_in input.traces.now) options.cycles options.workers.count options.tables law outcome
+
+-- why a run of an input with these options is refused
+abbrev pub IsRefused : InputTexts → RunOptions → Fault → Type 0
+IsRefused input options fault =
+    IsRefusal input.config.now (texts_in input.traces.now) options.cycles options.workers.count fault

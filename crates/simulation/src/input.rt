@@ -21,6 +21,13 @@ pub const MOST_CYCLES: Cycle = 1_000_000_000_000;
 /// The greatest number of workers.
 pub const MOST_WORKERS: u64 = 64;
 
+/// The bytes of a run's input: of its configuration, and of a trace for each core, by number.
+#[derive(Clone, Copy)]
+pub struct InputTexts<'a> {
+    pub config: &'a [u8],
+    pub traces: &'a [&'a [u8]],
+}
+
 // One trace per core.
 fn check_count(cores: u16, texts: usize) -> Result<(), Fault>
     ensures { result ≡ unless (texts == cores) Fault.TraceCount }
@@ -126,28 +133,28 @@ fn read_traces<R: Threads + Sync>(
 pub fn read_input<R: Threads + Sync>(
     rt: &R,
     alloc: Global,
-    config: &[u8],
-    texts: &[&[u8]],
+    input: InputTexts<'_>,
     cycles: Cycle,
     workers: u64,
 ) -> Result<(Config, Vec<Trace>), Fault>
-    ensures configured { IfOk result (λ r. document_of config.now ≡ Ok (values_of r.0)) }
-    ensures traces { IfOk result (λ r. traces_of 0 (texts_in texts.now) ≡ Ok r.1.items) }
+    ensures configured { IfOk result (λ r. document_of input.entry.config.now ≡ Ok (values_of r.0)) }
+    ensures traces { IfOk result (λ r. traces_of 0 (texts_in input.entry.traces.now) ≡ Ok r.1.items) }
     ensures input { IfOk result
-        (λ r. PassesTests config.now (texts_in texts.now) cycles workers r.1.items) }
+        (λ r. PassesTests input.entry.config.now (texts_in input.entry.traces.now) cycles workers r.1.items) }
     ensures count { IfOk result (λ r. vec_len r.1 ≡ r.0.cores) }
     ensures workers { IfOk result (λ _. (1 ≤ workers) × (workers ≤ 64)) }
     ensures cycles { IfOk result (λ _. cycles ≤ 10 ^ 12) }
-    ensures refused { IfErr result (IsInputFault config.now (texts_in texts.now) cycles workers) }
+    ensures refused { IfErr result
+        (IsInputFault input.entry.config.now (texts_in input.entry.traces.now) cycles workers) }
 {
-    let config = match read_config(alloc, config) {
+    let config = match read_config(alloc, input.config) {
         Ok(config) => config,
         Err(fault) => return Err(fault),
     };
-    if let Err(fault) = check_limits(config.cores, texts.len(), cycles, workers) {
+    if let Err(fault) = check_limits(config.cores, input.traces.len(), cycles, workers) {
         return Err(fault);
     }
-    let traces = match read_traces(rt, alloc, texts) {
+    let traces = match read_traces(rt, alloc, input.traces) {
         Ok(traces) => traces,
         Err(fault) => return Err(fault),
     };

@@ -1,70 +1,54 @@
 //! A run of the simulator, from the bytes of its input.
 
 ghost use Rattle.std.specs.Prelude.{◌≡◌, ◌≤◌, ◌^◌, length, IfOk, IfErr};
-ghost use Rattle.simulation.specs.Runs.{IsRefusal, IsRunOf, IsRunOfInput, HoldsOfRead, HoldsOfRun, IsJudgedLegal, IsJudgedOfInput, texts_in};
+ghost use Rattle.simulation.specs.Runs.{IsRun, IsLegal, Keeps, IsRefused, IsRunOfInput, IsJudgedOfInput, HoldsOfRead};
 ghost use Rattle.simulation.specs.Outcomes.{HoldsUnder, HoldsUnderRead};
 ghost use Rattle.table_laws.specs.Outcomes.{OwnsDataBus, IsRefreshed, HasBoundedQueues, HoldsFewCredits, KeepsCreditsUntil};
 ghost use Rattle.workers.specs.Runs.{IsRefusedTo};
 
-use crate::input::read_input;
-use cpu_trace::trace::Trace;
+use crate::input::{InputTexts, read_input};
 use run_outcome::outcome::Outcome;
-use run_outcome::tables::Tables;
-use sim_base::config::Config;
 use sim_base::fault::Fault;
-use sim_base::message::Cycle;
 use std::alloc::Global;
 use std::sync::Wait;
 use std::thread::Threads;
 use workers::gate::Gate;
+use workers::input::{Hooks, MachineInput, RunOptions};
 use workers::machine::run_machine;
-use workers::sharing::Workers;
 use workers::watch::Watch;
 
-/// Runs the machine of an input that was read, for at most `cycles` cycles, as `simulate` says. Whatever texts the
-/// input was read from, the outcome is that of their run, so that a caller need not hold them while the machine runs.
+/// Runs the machine of an input that was read, for at most `options.cycles` cycles, as `simulate` says. Whatever texts
+/// the input was read from, the outcome is that of their run, so that a caller need not hold them while the machine
+/// runs.
 pub fn run_input<R: Threads + Wait + Sync, G: Gate + Sync, W: Watch>(
     rt: &R,
     alloc: Global,
-    gate: &G,
-    watch: &mut W,
-    machine: &Config,
-    traces: Vec<Trace>,
-    cycles: Cycle,
-    workers: Workers,
-    tables: Tables,
+    hooks: Hooks<'_, G, W>,
+    machine: MachineInput<'_>,
+    options: RunOptions,
 ) -> Result<Outcome, Fault>
-    requires one_trace_a_core { length traces.items ≡ machine.now.cores }
-    requires some { 1 ≤ workers.count }
-    requires few { workers.count ≤ 64 }
-    requires limit { cycles ≤ 10 ^ 12 }
-    ensures run { IfOk result
-        (IsRunOfInput machine.now traces.items cycles workers.count tables) }
-    ensures legal { IfOk result
-        (IsJudgedOfInput machine.now traces.items cycles workers.count tables) }
-    ensures data_bus { IfOk result
-        (HoldsOfRead machine.now traces.items cycles workers.count tables OwnsDataBus) }
-    ensures refreshed { IfOk result
-        (HoldsOfRead machine.now traces.items cycles workers.count tables IsRefreshed) }
-    ensures bounded { IfOk result
-        (HoldsUnderRead machine.now traces.items cycles workers.count HasBoundedQueues) }
-    ensures held { IfOk result
-        (HoldsUnderRead machine.now traces.items cycles workers.count HoldsFewCredits) }
-    ensures credits { IfOk result
-        (HoldsOfRead machine.now traces.items cycles workers.count tables KeepsCreditsUntil) }
-    ensures refused { IfErr result (IsRefusedTo workers.count) }
+    requires one_trace_a_core { length machine.traces.items ≡ machine.config.now.cores }
+    requires some { 1 ≤ options.workers.count }
+    requires few { options.workers.count ≤ 64 }
+    requires limit { options.cycles ≤ 10 ^ 12 }
+    ensures run { IfOk result (IsRunOfInput machine.entry options) }
+    ensures legal { IfOk result (IsJudgedOfInput machine.entry options) }
+    ensures data_bus { IfOk result (HoldsOfRead machine.entry options OwnsDataBus) }
+    ensures refreshed { IfOk result (HoldsOfRead machine.entry options IsRefreshed) }
+    ensures bounded { IfOk result (HoldsUnderRead machine.entry options HasBoundedQueues) }
+    ensures held { IfOk result (HoldsUnderRead machine.entry options HoldsFewCredits) }
+    ensures credits { IfOk result (HoldsOfRead machine.entry options KeepsCreditsUntil) }
+    ensures refused { IfErr result (IsRefusedTo options.workers.count) }
 {
-    run_machine(
-        rt, alloc, gate, watch, workers, machine, traces, tables, cycles,
-    )
+    run_machine(rt, alloc, hooks, machine, options)
 }
 
-/// Runs the machine that a configuration and one trace per core describe, for at most `cycles` cycles, and returns
-/// its commands, if their table is asked for, its statistics and the state in which it ends. At most as many workers
-/// run it as are named, 1 to 64, each in a thread of its own, and `workers.sharing` says when they share it out; one
-/// worker is the thread of the caller, which runs it in place. A worker passes the gate at the beginning and at the
-/// end of each job of a phase. The watcher is told how far the run is, and when it has ended. The result does not
-/// depend on the workers, when they share, the gate or the watcher.
+/// Runs the machine that a configuration and one trace per core describe, for at most `options.cycles` cycles, and
+/// returns its commands, if their table is asked for, its statistics and the state in which it ends. At most as many
+/// workers run it as are named, 1 to 64, each in a thread of its own, and `options.workers.sharing` says when they
+/// share it out; one worker is the thread of the caller, which runs it in place. A worker passes the gate at the
+/// beginning and at the end of each job of a phase. The watcher is told how far the run is, and when it has ended. The
+/// result does not depend on the workers, when they share, the gate or the watcher.
 ///
 /// The input is tested in this order: the configuration, the number of traces, the number of workers (1 to 64), the
 /// limit (at most 10^12 cycles), and the traces by core. The first fault is returned. `Fault::Memory` may come at any
@@ -78,34 +62,31 @@ pub fn run_input<R: Threads + Wait + Sync, G: Gate + Sync, W: Watch>(
 pub fn simulate<R: Threads + Wait + Sync, G: Gate + Sync, W: Watch>(
     rt: &R,
     alloc: Global,
-    gate: &G,
-    watch: &mut W,
-    config: &[u8],
-    texts: &[&[u8]],
-    cycles: Cycle,
-    workers: Workers,
-    tables: Tables,
+    hooks: Hooks<'_, G, W>,
+    input: InputTexts<'_>,
+    options: RunOptions,
 ) -> Result<Outcome, Fault>
-    ensures run { IfOk result
-        (IsRunOf config.now (texts_in texts.now) cycles workers.count tables) }
-    ensures legal { IfOk result
-        (IsJudgedLegal config.now (texts_in texts.now) cycles workers.count tables) }
-    ensures data_bus { IfOk result
-        (HoldsOfRun config.now (texts_in texts.now) cycles workers.count tables OwnsDataBus) }
-    ensures refreshed { IfOk result
-        (HoldsOfRun config.now (texts_in texts.now) cycles workers.count tables IsRefreshed) }
-    ensures bounded { IfOk result (HoldsUnder config.now HasBoundedQueues) }
-    ensures held { IfOk result (HoldsUnder config.now HoldsFewCredits) }
-    ensures credits { IfOk result
-        (HoldsOfRun config.now (texts_in texts.now) cycles workers.count tables KeepsCreditsUntil) }
-    ensures refused { IfErr result
-        (IsRefusal config.now (texts_in texts.now) cycles workers.count) }
+    ensures run { IfOk result (IsRun input.entry options) }
+    ensures legal { IfOk result (IsLegal input.entry options) }
+    ensures data_bus { IfOk result (Keeps input.entry options OwnsDataBus) }
+    ensures refreshed { IfOk result (Keeps input.entry options IsRefreshed) }
+    ensures bounded { IfOk result (HoldsUnder input.entry.config.now HasBoundedQueues) }
+    ensures held { IfOk result (HoldsUnder input.entry.config.now HoldsFewCredits) }
+    ensures credits { IfOk result (Keeps input.entry options KeepsCreditsUntil) }
+    ensures refused { IfErr result (IsRefused input.entry options) }
 {
-    let (config, traces) = match read_input(rt, alloc, config, texts, cycles, workers.count) {
+    let RunOptions {
+        cycles,
+        workers,
+        ..
+    } = options;
+    let (config, traces) = match read_input(rt, alloc, input, cycles, workers.count) {
         Ok(input) => input,
         Err(fault) => return Err(fault),
     };
-    run_input(
-        rt, alloc, gate, watch, &config, traces, cycles, workers, tables,
-    )
+    let machine = MachineInput {
+        config: &config,
+        traces,
+    };
+    run_input(rt, alloc, hooks, machine, options)
 }

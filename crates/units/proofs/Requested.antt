@@ -25,16 +25,16 @@ use Rattle.channel_step.specs.Channels.{KeepsServed}
 use Rattle.channel_step.specs.Past.{requests_of as requests_in}
 use Rattle.laws.specs.Commands.{history_of, channel_steps_of}
 use Rattle.laws.proofs.Legal.{length-channel_steps_of}
-use Rattle.served_requests.specs.Served.{served_in, served_requests}
-use Rattle.served_requests.specs.declared.ServedRequest.{ServedRequest}
+use Rattle.request_table.specs.Served.{served_in, served_requests}
+use Rattle.request_table.specs.declared.served_requests.ServedRequest.{ServedRequest}
 use Rattle.request_table.specs.Requests.{arrival_of, requests_of}
 use Rattle.request_table.specs.Tables.{AreServed, served_at, by_cycle, times_of, times_by_cycle}
 use Rattle.request_table.proofs.Cutting.{at}
 use Rattle.request_table.proofs.Cycles.{flat-same}
 use Rattle.request_table.proofs.Reading.{own-table}
-use Rattle.request_laws.specs.Timed.{served_in_run}
-use Rattle.request_laws.proofs.Dated.{requests_arrive_as_issued}
-use Rattle.request_laws.proofs.Serving.{KeepsCycles, run-keeps, are_timed, are_by_cycle, channel_by_cycle}
+use Rattle.laws.specs.Timed.{served_in_run}
+use Rattle.laws.proofs.Dated.{requests_arrive_as_issued}
+use Rattle.laws.proofs.Serving.{KeepsCycles, run-keeps, are_timed, are_by_cycle, channel_by_cycle}
 use Rattle.span_laws.specs.Mail.{mail_before}
 use Rattle.units.specs.Kept.{served_of}
 use Rattle.units.specs.declared.machine.Machine.{Machine}

@@ -10,8 +10,8 @@ use Rattle.sim_base.specs.declared.command.IssuedCommand.{IssuedCommand}
 use Rattle.request_table.specs.Requests.{arrival_of, requests_of}
 use Rattle.request_table.specs.declared.times.RequestTimes.{RequestTimes}
 use Rattle.run_outcome.specs.Outcomes.{if_asked}
-use Rattle.served_requests.specs.Served.{served_requests}
-use Rattle.served_requests.specs.declared.ServedRequest.{ServedRequest}
+use Rattle.request_table.specs.Served.{served_requests}
+use Rattle.request_table.specs.declared.served_requests.ServedRequest.{ServedRequest}
 use Rattle.units.specs.Runs.{run_of, commands_at}
 use Rattle.units.specs.declared.machine.Machine.{Machine}
 

@@ -2,7 +2,7 @@
 
 ghost use Rattle.std.specs.Prelude.{◌≡◌, ◌<◌, ◌++◌, ℕ, List, [], ◌∷◌, length, is_some, IfOk, IfSome, OnOk};
 ghost use Rattle.sim_base.specs.declared.message.Unit.TheVariants as unit;
-ghost use Rattle.served_requests.specs.declared.ServedRequest.{ServedRequest};
+ghost use Rattle.request_table.specs.declared.served_requests.ServedRequest.{ServedRequest};
 ghost use Rattle.sim_base.specs.declared.command.IssuedCommand.{IssuedCommand};
 ghost use Rattle.units.specs.Kept.{AreHeld, served_of, command_lists, served_lists, command_table_if, request_table_if};
 ghost use Rattle.units.specs.Runs.{HasChannelAt, commands_at};

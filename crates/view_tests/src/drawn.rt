@@ -1,9 +1,9 @@
 //! Numbers, shares, scales and axes, with what they print worked out by hand.
 
 use crate::expect::{expect, expect_at, expect_parts};
-use drawing::axes::{Quantity, put_cycle_ticks, put_value_ticks};
-use drawing::markup::{LegendEntry, Piece, put, put_legend};
-use drawing::scales::{axis_end, share_of, tick_step};
+use request_pictures::drawing::axes::{Quantity, put_cycle_ticks, put_value_ticks};
+use request_pictures::drawing::markup::{LegendEntry, Piece, put, put_legend};
+use request_pictures::drawing::scales::{axis_end, share_of, tick_step};
 
 static PIECES: [(Piece, &str); 9] = [
     (Piece::Text("a <b>"), "a <b>"),

@@ -1,7 +1,7 @@
 //! Percentiles by the nearest rank, from examples of textbooks.
 
 use crate::expect::expect_at;
-use percentiles::SortedValues;
+use measures::percentiles::SortedValues;
 
 // Five values and ten, in any order.
 const FIVE: &[u64] = &[40, 15, 50, 35, 20];

@@ -4,8 +4,8 @@
 use crate::expect::{expect, expect_at};
 use crate::stats_read::joined;
 use fixtures::none::{NO_CHANNEL, NO_CORE};
-use request_check::agreement::{Mismatch, check_requests};
-use request_check::tally::Tally;
+use measures::request_check::agreement::{Mismatch, check_requests};
+use measures::request_check::tally::Tally;
 use request_table::times::{Access, RequestTimes};
 use run_tables::read_requests;
 use show::options::Options;

@@ -1,6 +1,10 @@
+pub mod Bits
 pub mod Waiting
 pub mod Lowering
 pub mod Jumping
 pub mod Going
 pub mod Passing
 pub mod Sharing
+pub mod Vectors
+pub mod FirstBelow
+pub mod LeastWord

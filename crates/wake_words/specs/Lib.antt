@@ -1,2 +1,3 @@
 pub mod Wakes
 pub mod GoingOn
+pub mod Scans

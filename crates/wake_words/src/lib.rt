@@ -2,6 +2,7 @@
 //! arrives at it. Only units that wake in a span are touched.
 #![tactic(auto)]
 
+pub mod lane_scan;
 pub mod slot;
 pub mod waking;
 pub mod words;

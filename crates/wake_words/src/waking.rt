@@ -6,8 +6,8 @@ ghost use Rattle.units.specs.Units.{unit_count};
 ghost use Rattle.wake_words.specs.GoingOn.{WaitAllAt, WaitAllPast, AllBroughtTo, GrowsBy, links_taken_by, sent_over};
 ghost use Rattle.wake_words.specs.Wakes.{WaitAll, AreSlots};
 
+use crate::lane_scan::first_below;
 use crate::slot::{Slot, Span};
-use lane_scan::first_below;
 use links::flight::Links;
 use sim_base::message::Cycle;
 use std::alloc::{AllocError, Global};

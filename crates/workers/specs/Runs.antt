@@ -1,5 +1,6 @@
 -- What a run leaves, and why it is not brought to its end.
 --     outcome_in tables s traces limit      what the run of a machine up to a limit leaves
+--     outcome_with options machine      the same of a machine that is run with these options
 --     IsOfHost fault      the host refused: memory, or a worker's start
 --     IsRefusedTo workers fault      the host refused this number of workers
 use Rattle.std.specs.Prelude.{◌≡◌, ◌⊎◌, ℕ, ◌≤◌, List}
@@ -10,12 +11,18 @@ use Rattle.run_outcome.specs.Outcomes.{outcome_of}
 use Rattle.run_outcome.specs.Values.{RunOutcome}
 use Rattle.run_outcome.specs.declared.tables.Tables.{Tables}
 use Rattle.sim_base.specs.declared.fault.Fault.{Fault}
+use Rattle.workers.specs.declared.input.MachineInput.{MachineInput}
+use Rattle.workers.specs.declared.input.RunOptions.{RunOptions}
 use Rattle.sim_base.specs.declared.fault.Fault.TheVariants.{Memory, WorkerStart}
 
 -- what the run of a machine over its traces leaves, with the tables that are asked for, when it is run up to a limit,
 -- or until all is done where its configuration ends it drained
 abbrev pub outcome_in : Tables → Config → List (List Entry) → ℕ → RunOutcome
 outcome_in tables s traces limit = outcome_of tables s traces (cycles_run s traces limit)
+
+-- the same of a machine that is run with these options
+abbrev pub outcome_with : RunOptions → MachineInput → RunOutcome
+outcome_with options machine = outcome_in options.tables machine.config.now machine.traces.items options.cycles
 
 -- the host refused memory, or to start a worker
 abbrev pub IsOfHost : Fault → Type 0

@@ -2,6 +2,7 @@
 #![tactic(auto)]
 
 pub mod gate;
+pub mod input;
 pub mod machine;
 pub mod runner;
 pub mod sharing;

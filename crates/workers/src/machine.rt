@@ -5,19 +5,18 @@ ghost use Rattle.shards.specs.Phases.{ended, jobs_of};
 ghost use Rattle.units.specs.Drained.{NotEnded};
 ghost use Rattle.units.specs.Stops.{stop_of};
 ghost use Rattle.units.specs.Views.{HasReached};
-ghost use Rattle.workers.specs.Runs.{IsRefusedTo, outcome_in};
+ghost use Rattle.workers.specs.Runs.{IsRefusedTo, outcome_with};
 
 use crate::gate::{AtGate, Gate};
+use crate::input::{Hooks, MachineInput, RunOptions};
 use crate::runner::{Claims, Runner};
 use crate::sharing::{Sharing, Workers};
 use crate::watch::{Plan, Watch, entries_of, stretch_end};
-use cpu_trace::trace::Trace;
 use crew::bell::Patience;
 use crew::caller::Phases;
 use crew::run::{PhasedRun, Refused, with_crew};
 use in_place::rested::run_alone;
 use run_outcome::outcome::Outcome;
-use run_outcome::tables::Tables;
 use shards::job::{Done, Job};
 use shards::merging::{Phase, merge};
 use shards::planning::{Planned, plan};
@@ -202,17 +201,17 @@ impl<N: Runner + Drop> Mode for InShards<N> {
 fn run_by<W: Watch, M: Mode>(
     alloc: Global,
     watch: &mut W,
-    config: &Config,
-    traces: Vec<Trace>,
-    tables: Tables,
-    cycles: Cycle,
+    machine: MachineInput<'_>,
+    options: RunOptions,
     mode: &mut M,
 ) -> Result<Outcome, Fault>
-    requires one_trace_a_core { length traces.items ≡ config.now.cores }
-    requires limit { cycles ≤ 10 ^ 12 }
-    ensures outcome { IfOk result (λ o. o ≡ outcome_in tables config.now traces.items cycles) }
+    requires one_trace_a_core { length machine.traces.items ≡ machine.config.now.cores }
+    requires limit { options.cycles ≤ 10 ^ 12 }
+    ensures outcome { IfOk result (λ o. o ≡ outcome_with options machine.entry) }
     ensures refused { IfErr result (λ fault. fault ≡ Fault.Memory) }
 {
+    let MachineInput { config, traces } = machine;
+    let RunOptions { cycles, tables, .. } = options;
     let plan = Plan {
         limit: cycles,
         ends_drained: config.ends_drained,
@@ -232,35 +231,31 @@ fn run_by<W: Watch, M: Mode>(
 #[derive(Drop)]
 struct CrewRun<'a, W: Watch> {
     watch: &'a mut W,
-    config: &'a Config,
-    traces: Vec<Trace>,
-    tables: Tables,
-    cycles: Cycle,
+    machine: MachineInput<'a>,
+    options: RunOptions,
     split: Split,
-    ghost one_trace_a_core: { length traces.items ≡ config.now.cores },
-    ghost limit: { cycles ≤ 10 ^ 12 },
+    ghost one_trace_a_core: { length machine.traces.items ≡ machine.config.now.cores },
+    ghost limit: { options.cycles ≤ 10 ^ 12 },
 }
 
 impl<'a, W: Watch> PhasedRun<Job, Done, Outcome> for CrewRun<'a, W> {
     ghost use Rattle.std.specs.Prelude.{◌≡◌};
-    ghost use Rattle.workers.specs.Runs.{outcome_in};
+    ghost use Rattle.workers.specs.Runs.{outcome_with};
 
-    ghost gives = { λ r o. o ≡ outcome_in r.tables r.config.now r.traces.items r.cycles };
+    ghost gives = { λ r o. o ≡ outcome_with r.options r.machine };
 
     fn run<P: Phases<Job, Done>>(self, alloc: Global, crew: &mut P) -> Result<Outcome, AllocError> {
         let CrewRun {
             watch,
-            config,
-            traces,
-            tables,
-            cycles,
+            machine,
+            options,
             split,
         } = self;
         let mut mode = InShards {
             split,
             runner: Claims { crew },
         };
-        match run_by(alloc, watch, config, traces, tables, cycles, &mut mode) {
+        match run_by(alloc, watch, machine, options, &mut mode) {
             Ok(outcome) => Ok(outcome),
             Err(_) => Err(AllocError),
         }
@@ -289,30 +284,25 @@ fn shards_for(workers: usize, sharing: Sharing, config: &Config) -> usize
 fn run_together<R: Threads + Wait + Sync, G: Gate + Sync, W: Watch>(
     rt: &R,
     alloc: Global,
-    gate: &G,
-    watch: &mut W,
-    workers: Workers,
-    config: &Config,
-    traces: Vec<Trace>,
-    tables: Tables,
-    cycles: Cycle,
+    hooks: Hooks<'_, G, W>,
+    machine: MachineInput<'_>,
+    options: RunOptions,
 ) -> Result<Outcome, Fault>
-    requires one_trace_a_core { length traces.items ≡ config.now.cores }
-    requires some { 1 ≤ workers.count }
-    requires few { workers.count ≤ 64 }
-    requires limit { cycles ≤ 10 ^ 12 }
-    ensures outcome { IfOk result (λ o. o ≡ outcome_in tables config.now traces.items cycles) }
-    ensures refused { IfErr result (IsRefusedTo workers.count) }
+    requires one_trace_a_core { length machine.traces.items ≡ machine.config.now.cores }
+    requires some { 1 ≤ options.workers.count }
+    requires few { options.workers.count ≤ 64 }
+    requires limit { options.cycles ≤ 10 ^ 12 }
+    ensures outcome { IfOk result (λ o. o ≡ outcome_with options machine.entry) }
+    ensures refused { IfErr result (IsRefusedTo options.workers.count) }
 {
-    let Workers { count, sharing } = workers;
+    let Workers { count, sharing } = options.workers;
     let count = count as usize;
-    let shards = shards_for(count, sharing, config);
+    let shards = shards_for(count, sharing, machine.config);
+    let Hooks { gate, watch } = hooks;
     let run = CrewRun {
         watch,
-        config,
-        traces,
-        tables,
-        cycles,
+        machine,
+        options,
         split: Split { shards, sharing },
     };
     let work = AtGate { gate };
@@ -327,58 +317,52 @@ fn run_together<R: Threads + Wait + Sync, G: Gate + Sync, W: Watch>(
 fn run_watched<R: Threads + Wait + Sync, G: Gate + Sync, W: Watch>(
     rt: &R,
     alloc: Global,
-    gate: &G,
-    watch: &mut W,
-    workers: Workers,
-    config: &Config,
-    traces: Vec<Trace>,
-    tables: Tables,
-    cycles: Cycle,
+    hooks: Hooks<'_, G, W>,
+    machine: MachineInput<'_>,
+    options: RunOptions,
 ) -> Result<Outcome, Fault>
-    requires one_trace_a_core { length traces.items ≡ config.now.cores }
-    requires some { 1 ≤ workers.count }
-    requires few { workers.count ≤ 64 }
-    requires limit { cycles ≤ 10 ^ 12 }
-    ensures outcome { IfOk result (λ o. o ≡ outcome_in tables config.now traces.items cycles) }
-    ensures refused { IfErr result (IsRefusedTo workers.count) }
+    requires one_trace_a_core { length machine.traces.items ≡ machine.config.now.cores }
+    requires some { 1 ≤ options.workers.count }
+    requires few { options.workers.count ≤ 64 }
+    requires limit { options.cycles ≤ 10 ^ 12 }
+    ensures outcome { IfOk result (λ o. o ≡ outcome_with options machine.entry) }
+    ensures refused { IfErr result (IsRefusedTo options.workers.count) }
 {
-    if workers.count > 1 && units_of(config) >= workers.sharing.units {
-        return run_together(
-            rt, alloc, gate, watch, workers, config, traces, tables, cycles,
-        );
+    let Workers { count, sharing } = options.workers;
+    if count > 1 && units_of(machine.config) >= sharing.units {
+        return run_together(rt, alloc, hooks, machine, options);
     }
-    run_by(alloc, watch, config, traces, tables, cycles, &mut InPlace)
+    run_by(alloc, hooks.watch, machine, options, &mut InPlace)
 }
 
 /// Runs a machine over one trace a core, up to a limit of at most 10^12 cycles or, where the configuration ends it
 /// drained, until all is done, and gives its commands, if their table is asked for, its statistics and the state in
 /// which it ends. It is run by at most as many workers as are named, 1 to 64: the caller, and threads that are
-/// started once, which share the machine out when `workers.sharing` says so. With one worker it is run in the thread
-/// of the caller, in place. The watcher is told how far the run is, and when it has ended. What comes out depends on
-/// neither it, nor the workers, nor how they share, nor the order in which they end: it is what the one-clock machine
-/// does. Only the host can refuse: memory (fault 10), or, where there are several workers, a worker's start (fault
-/// 11). All workers have ended when this returns.
+/// started once, which share the machine out when `options.workers.sharing` says so. With one worker it is run in the
+/// thread of the caller, in place. The watcher is told how far the run is, and when it has ended. What comes out
+/// depends on neither it, nor the workers, nor how they share, nor the order in which they end: it is what the
+/// one-clock machine does. Only the host can refuse: memory (fault 10), or, where there are several workers, a
+/// worker's start (fault 11). All workers have ended when this returns.
 pub fn run_machine<R: Threads + Wait + Sync, G: Gate + Sync, W: Watch>(
     rt: &R,
     alloc: Global,
-    gate: &G,
-    watch: &mut W,
-    workers: Workers,
-    config: &Config,
-    traces: Vec<Trace>,
-    tables: Tables,
-    cycles: Cycle,
+    hooks: Hooks<'_, G, W>,
+    machine: MachineInput<'_>,
+    options: RunOptions,
 ) -> Result<Outcome, Fault>
-    requires one_trace_a_core { length traces.items ≡ config.now.cores }
-    requires some { 1 ≤ workers.count }
-    requires few { workers.count ≤ 64 }
-    requires limit { cycles ≤ 10 ^ 12 }
-    ensures outcome { IfOk result (λ o. o ≡ outcome_in tables config.now traces.items cycles) }
-    ensures refused { IfErr result (IsRefusedTo workers.count) }
+    requires one_trace_a_core { length machine.traces.items ≡ machine.config.now.cores }
+    requires some { 1 ≤ options.workers.count }
+    requires few { options.workers.count ≤ 64 }
+    requires limit { options.cycles ≤ 10 ^ 12 }
+    ensures outcome { IfOk result (λ o. o ≡ outcome_with options machine.entry) }
+    ensures refused { IfErr result (IsRefusedTo options.workers.count) }
 {
-    let outcome = run_watched(
-        rt, alloc, gate, watch, workers, config, traces, tables, cycles,
-    );
+    let Hooks { gate, watch } = hooks;
+    let told = Hooks {
+        gate,
+        watch: &mut *watch,
+    };
+    let outcome = run_watched(rt, alloc, told, machine, options);
     watch.end();
     outcome
 }

@@ -1,6 +1,6 @@
 use Rattle.std.proofs.Common.{sym, subst}
-use Rattle.channel_session.specs.Sessions.{IsSession, with_command}
-use Rattle.channel_session.specs.declared.session.Session.{Session}
+use Rattle.sessions.specs.Sessions.{IsSession, with_command}
+use Rattle.sessions.specs.declared.channel_session.session.Session.{Session}
 use Rattle.c_interface.specs.Channels.{HasPast}
 use Rattle.c_interface.specs.Kept.{IsThere}
 use Rattle.dramsim_c.proofs.dramsim_next_command.Goals as goal

@@ -1,6 +1,6 @@
 use Rattle.std.proofs.Common.{subst}
-use Rattle.channel_session.specs.Sent.{message_of}
-use Rattle.channel_session.specs.Sessions.{with_sent}
+use Rattle.sessions.specs.Sent.{message_of}
+use Rattle.sessions.specs.Sessions.{with_sent}
 use Rattle.c_interface.specs.Channels.{HasPast}
 use Rattle.dramsim_c.proofs.Statuses.{done, not-done}
 use Rattle.dramsim_c.proofs.dramsim_send.Goals as goal

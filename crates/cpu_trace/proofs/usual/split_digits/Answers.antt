@@ -1,24 +1,9 @@
-use Rattle.std.proofs.Common.{◌<◌, length, refl, arith, rules}
-use Rattle.cpu_trace.proofs.UsualLines.{one_more}
+use Rattle.std.proofs.Common.{◌≤◌, ◌^◌, length, arith}
+use Rattle.std.proofs.Math.Nat.{pow-le-pow_right}
 use Rattle.cpu_trace.proofs.usual.split_digits.Goals as goal
 
-pub overflow_mul-number : goal.overflow_mul-number
-overflow_mul-number c =
-    let inside : c.loop-len.len < length c.args.text.now = search (rules, arith) in
-    let below : c.loop-len.len < c.args.most = search (rules, arith) in
-    let h = one_more _ _ _ _ _ _ _ c.requires.lower c.requires.room below inside c.loop-len.invariant.all_digits c.loop-len.invariant.value refl c.in-Some.ensures in
-    omega (arith, h.room)
-
-pub overflow_add-number : goal.overflow_add-number
-overflow_add-number c =
-    let inside : c.loop-len.len < length c.args.text.now = search (rules, arith) in
-    let below : c.loop-len.len < c.args.most = search (rules, arith) in
-    let h = one_more _ _ _ _ _ _ _ c.requires.lower c.requires.room below inside c.loop-len.invariant.all_digits c.loop-len.invariant.value refl c.in-Some.ensures in
-    omega (arith, h.room)
-
-pub loop-len-preserved : goal.loop-len-preserved
-loop-len-preserved c =
-    let inside : c.loop-len.len < length c.args.text.now = search (rules, arith) in
-    let below : c.loop-len.len < c.args.most = search (rules, arith) in
-    let h = one_more _ _ _ _ _ _ _ c.requires.lower c.requires.room below inside c.loop-len.invariant.all_digits c.loop-len.invariant.value refl c.in-Some.ensures in
-    record { within = omega (arith, c.loop-len-test.true); all_digits = h.all_digits; value = h.value }
+pub split_within-requires-2-clause-room : goal.split_within-requires-2-clause-room
+split_within-requires-2-clause-room c =
+    let power : c.args.radix ^ length c.args.text.now ≤ c.args.radix ^ c.args.most
+    = pow-le-pow_right {n = c.args.radix} (omega (arith, c.requires.lower)) (omega (arith, c.if-text-most.false)) in
+    omega (arith, power, c.requires.room)

@@ -1,9 +1,9 @@
 use Rattle.std.proofs.Common.{◌∙◌, ap}
-use Rattle.channel_session.specs.Sessions.{end_refusal}
-use Rattle.memory_session.specs.Memories.{IsOpenMemory}
-use Rattle.memory_session.specs.declared.memory.MemorySession.{MemorySession}
+use Rattle.sessions.specs.Sessions.{end_refusal}
+use Rattle.sessions.specs.Memories.{IsOpenMemory}
+use Rattle.sessions.specs.declared.memory_session.memory.MemorySession.{MemorySession}
 use Rattle.c_interface.specs.Statuses.{status}
-use Rattle.c_memory.specs.Memories.{HasPasts, StandsAt, IsClosed}
+use Rattle.c_interface.specs.Memories.{HasPasts, StandsAt, IsClosed}
 use Rattle.dramsim_c.proofs.Statuses.{done, kept, not-memory, lost}
 use Rattle.dramsim_c.proofs.memory.dramsim_memory_run.Goals as goal
 

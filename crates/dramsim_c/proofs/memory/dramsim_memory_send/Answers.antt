@@ -1,7 +1,7 @@
 use Rattle.std.proofs.Common.{subst}
-use Rattle.memory_session.specs.Memories.{memory_refusal, with_request}
+use Rattle.sessions.specs.Memories.{memory_refusal, with_request}
 use Rattle.c_interface.specs.Statuses.{IsStatus}
-use Rattle.c_memory.specs.Memories.{HasPasts}
+use Rattle.c_interface.specs.Memories.{HasPasts}
 use Rattle.dramsim_c.proofs.Statuses.{done, not-done, status-of}
 use Rattle.dramsim_c.proofs.memory.dramsim_memory_send.Goals as goal
 

@@ -3,7 +3,7 @@ use Rattle.std.proofs.Common.{◌<◌, length, sym, ap, ◌∙◌, arith}
 use Rattle.std.proofs.lemmas.Bool.{ltb-true, ltb-false}
 use Rattle.std.specs.List.{filter}
 use Rattle.sim_base.specs.Scheduling.{is_favoured, first_of_lines}
-use Rattle.request_log.specs.Log.{waiting_requests}
+use Rattle.queue.specs.Log.{waiting_requests}
 use Rattle.fr_fcfs.proofs.Favoured.{favour_some, favour_none, some_favoured, of_one_access, of_other_access}
 use Rattle.fr_fcfs.proofs.accesses.access_that_goes.Goals as goal
 

@@ -2,9 +2,9 @@
 use Rattle.std.proofs.Common.{sym, ap, ◌∙◌}
 use Rattle.sim_base.specs.Scheduling.{is_column_command}
 use Rattle.sim_base.specs.Places.{bank_in}
-use Rattle.request_log.specs.Log.{absent}
-use Rattle.bank_candidates.specs.Stands.{IsAmong}
-use Rattle.bank_candidates.proofs.Waits.{request_at}
+use Rattle.queue.specs.Log.{absent}
+use Rattle.queue.specs.Stands.{IsAmong}
+use Rattle.queue.proofs.Waits.{request_at}
 use Rattle.fr_fcfs.specs.Choices.{command_of}
 use Rattle.fr_fcfs.proofs.Staying.{needed_there, refresh_moves_none}
 use Rattle.fr_fcfs.proofs.arrivals.chosen_moves_data.Goals as goal

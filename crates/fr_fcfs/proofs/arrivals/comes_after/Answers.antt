@@ -3,7 +3,7 @@ use Rattle.std.proofs.Common.{◌≡◌, Bool, true, false, not, refl, sym, ap, 
 use Rattle.std.proofs.lemmas.Bool.{true≢false}
 use Rattle.sim_base.specs.Rules.{open_row, kind_of}
 use Rattle.sim_base.specs.Scheduling.{needed, needed_at}
-use Rattle.bank_candidates.specs.Candidates.{bank_at}
+use Rattle.queue.specs.Candidates.{bank_at}
 use Rattle.bank_ready.specs.Stands.{rank_count}
 use Rattle.fr_fcfs.specs.Offers.{IsReadyFrom}
 use Rattle.fr_fcfs.proofs.Staying.{after_ready}

@@ -3,10 +3,10 @@ use Rattle.std.proofs.Common.{◌≡◌, List, ◌++◌, length, drop, refl, sym
 use Rattle.std.proofs.lemmas.List.{take-append-drop, drop-map, get_or-map, length-map}
 use Rattle.std.proofs.lemmas.List.Elements.{AllWithin-more, AllWithin-upto}
 use Rattle.std.specs.List.{All, AllWithin}
-use Rattle.request_log.specs.declared.Arrived.{Arrived}
-use Rattle.request_log.specs.Log.{absent, all_requests}
+use Rattle.queue.specs.declared.request_log.Arrived.{Arrived}
+use Rattle.queue.specs.Log.{absent, all_requests}
 use Rattle.bank_ready.specs.Stands.{rank_count}
-use Rattle.bank_candidates.proofs.Waits.{request_at}
+use Rattle.queue.proofs.Waits.{request_at}
 use Rattle.fr_fcfs.specs.Arrivals.{ComesAfter}
 use Rattle.fr_fcfs.specs.Choices.{command_of}
 use Rattle.fr_fcfs.specs.Requests.{KnowsRows, IsInBanks}

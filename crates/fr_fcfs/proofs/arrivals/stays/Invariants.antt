@@ -3,7 +3,7 @@ use Rattle.std.specs.List.{AllWithin}
 use Rattle.sim_base.specs.declared.config.Config.{Config}
 use Rattle.sim_base.specs.declared.command.IssuedCommand.{IssuedCommand}
 use Rattle.bank_ready.specs.Stands.{StandsFor as BanksStandFor}
-use Rattle.request_log.specs.Log.{all_requests}
+use Rattle.queue.specs.Log.{all_requests}
 use Rattle.fr_fcfs.specs.Arrivals.{ComesAfter}
 use Rattle.fr_fcfs.specs.Requests.{KnowsRows}
 use Rattle.fr_fcfs.proofs.arrivals.stays.Given as goal

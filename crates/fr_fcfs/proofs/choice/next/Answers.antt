@@ -2,7 +2,7 @@
 use Rattle.std.proofs.Common.{◌≡◌, ◌+◌, ◌-◌, false, is_some, sym, ◌∙◌, subst, arith}
 use Rattle.sim_base.specs.Scheduling.{lowest_due}
 use Rattle.fr_fcfs.specs.Requests.{candidates_of}
-use Rattle.refresh.specs.Refreshes.{lowest_owed}
+use Rattle.bank_ready.specs.Refreshes.{lowest_owed}
 use Rattle.fr_fcfs.specs.Choices.{choice_in, command_of}
 use Rattle.fr_fcfs.specs.Cycles.{IsNext}
 use Rattle.fr_fcfs.proofs.Waking.{chosen_from, chosen_start, refreshes_more, next_quiet}

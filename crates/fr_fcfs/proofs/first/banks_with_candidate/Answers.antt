@@ -1,6 +1,6 @@
 use Rattle.std.proofs.Common.{◌&&◌, ◌||◌, sym, ◌∙◌}
-use Rattle.bank_candidates.specs.Sets.{is_in}
-use Rattle.bank_candidates.specs.Stands.{candidates_of_bank}
+use Rattle.queue.specs.Sets.{is_in}
+use Rattle.queue.specs.Stands.{candidates_of_bank}
 use Rattle.fr_fcfs.proofs.BankMore.{some_allowed, either_in}
 use Rattle.fr_fcfs.proofs.first.banks_with_candidate.Goals as goal
 

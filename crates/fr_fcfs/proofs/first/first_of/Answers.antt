@@ -1,6 +1,6 @@
 -- The offers of all banks, from none on.
 use Rattle.std.proofs.Common.{◌≡◌, ap, ◌∙◌, ◌<◌, ◌≤◌, sym, subst, refl, Some, None, length, arith}
-use Rattle.bank_candidates.specs.Candidates.{first_place}
+use Rattle.queue.specs.Candidates.{first_place}
 use Rattle.fr_fcfs.specs.Offers.{no_offer, hits_now, rows_now, IsBestSoFar}
 use Rattle.fr_fcfs.proofs.SoFar.{none_so_far, found, none_found}
 use Rattle.fr_fcfs.proofs.Below.{first_ready_is}

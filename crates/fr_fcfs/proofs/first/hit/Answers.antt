@@ -1,5 +1,5 @@
 use Rattle.std.proofs.Common.{◌&&◌, ◌||◌, ◌∙◌}
-use Rattle.bank_candidates.specs.Stands.{candidates_of_bank}
+use Rattle.queue.specs.Stands.{candidates_of_bank}
 use Rattle.fr_fcfs.proofs.BankMore.{some_allowed}
 use Rattle.fr_fcfs.proofs.first.hit.Goals as goal
 

@@ -2,8 +2,8 @@
 use Rattle.std.proofs.Common.{◌≡◌, ap, sym, ◌∙◌}
 use Rattle.std.proofs.lemmas.Bool.{false≢true}
 use Rattle.std.specs.Option.{is_some}
-use Rattle.bank_candidates.specs.Moves.{earlier}
-use Rattle.bank_candidates.specs.Stands.{candidates_of_bank}
+use Rattle.queue.specs.Moves.{earlier}
+use Rattle.queue.specs.Stands.{candidates_of_bank}
 use Rattle.fr_fcfs.specs.Offers.{if_allowed, oldest_candidate}
 use Rattle.fr_fcfs.proofs.first.oldest.Goals as goal
 

@@ -1,9 +1,9 @@
 -- One bank less is left, and then none.
 use Rattle.std.proofs.Common.{ℕ, refl, sym, ap, length, ◌∙◌}
-use Rattle.bank_candidates.specs.Candidates.{first_place}
-use Rattle.bank_candidates.specs.Moves.{earlier}
-use Rattle.bank_candidates.specs.Sets.{is_in}
-use Rattle.bank_candidates.specs.Stands.{bank_count, candidates_of_bank}
+use Rattle.queue.specs.Candidates.{first_place}
+use Rattle.queue.specs.Moves.{earlier}
+use Rattle.queue.specs.Sets.{is_in}
+use Rattle.queue.specs.Stands.{bank_count, candidates_of_bank}
 use Rattle.fr_fcfs.specs.Offers.{only, hits_now, hits_in}
 use Rattle.fr_fcfs.proofs.Bests.{first_alone}
 use Rattle.fr_fcfs.proofs.Beside.{place_beside, beside_all, beside_more, beside_nothing, left_before, size_less}

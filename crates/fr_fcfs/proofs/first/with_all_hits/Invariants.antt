@@ -1,10 +1,10 @@
 use Rattle.std.proofs.Common.{◌≡◌, ℕ, ◌<◌, true, List, length, Option}
 use Rattle.sim_base.specs.declared.config.Config.{Config}
 use Rattle.sim_base.specs.declared.command.IssuedCommand.{IssuedCommand}
-use Rattle.request_log.specs.declared.Arrived.{Arrived}
-use Rattle.bank_candidates.specs.Moves.{earlier}
-use Rattle.bank_candidates.specs.Sets.{is_in}
-use Rattle.bank_candidates.specs.Stands.{bank_count}
+use Rattle.queue.specs.declared.request_log.Arrived.{Arrived}
+use Rattle.queue.specs.Moves.{earlier}
+use Rattle.queue.specs.Sets.{is_in}
+use Rattle.queue.specs.Stands.{bank_count}
 use Rattle.fr_fcfs.specs.Requests.{StandForLog}
 use Rattle.fr_fcfs.specs.Offers.{only, IsBestSoFar, hits_now}
 use Rattle.fr_fcfs.proofs.Beside.{place_beside, size}

@@ -1,7 +1,7 @@
 -- What opens or closes a row, and then the row hits of each kind that goes.
 use Rattle.std.proofs.Common.{ℕ, true, false, ◌&&◌, None, refl, length}
-use Rattle.bank_candidates.specs.Candidates.{first_place}
-use Rattle.bank_candidates.specs.Moves.{earlier}
+use Rattle.queue.specs.Candidates.{first_place}
+use Rattle.queue.specs.Moves.{earlier}
 use Rattle.fr_fcfs.specs.Offers.{only, hits_now, rows_now}
 use Rattle.fr_fcfs.proofs.BankMore.{both_hits}
 use Rattle.fr_fcfs.proofs.SoFar.{so_far_same}

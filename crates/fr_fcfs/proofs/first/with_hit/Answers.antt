@@ -1,7 +1,7 @@
 -- One bank more, whose row hit is taken.
 use Rattle.std.proofs.Common.{true, refl, sym, ap, subst, ◌∙◌, arith}
-use Rattle.bank_candidates.specs.Candidates.{bank_at}
-use Rattle.bank_candidates.specs.Stands.{candidates_of_bank}
+use Rattle.queue.specs.Candidates.{bank_at}
+use Rattle.queue.specs.Stands.{candidates_of_bank}
 use Rattle.fr_fcfs.specs.Offers.{IsReadyFrom}
 use Rattle.fr_fcfs.proofs.SoFar.{not_taken, taken, none_taken}
 use Rattle.fr_fcfs.proofs.BankMore.{access_candidates, hit_more}

@@ -1,7 +1,7 @@
 -- Row hits that do not go, or are left out since they are ready only after the cycle of the best offer.
 use Rattle.std.proofs.Common.{◌&&◌, refl, ap, sym, length, ◌∙◌, arith}
-use Rattle.bank_candidates.specs.Candidates.{first_place}
-use Rattle.bank_candidates.specs.Moves.{earlier}
+use Rattle.queue.specs.Candidates.{first_place}
+use Rattle.queue.specs.Moves.{earlier}
 use Rattle.fr_fcfs.specs.Offers.{only, hits_now}
 use Rattle.fr_fcfs.proofs.BankMore.{hits_before, none_goes, all_go}
 use Rattle.fr_fcfs.proofs.SoFar.{hits_late, so_far_same}

@@ -1,7 +1,7 @@
 -- One bank more, whose row is opened or closed.
 use Rattle.std.proofs.Common.{false, refl, sym, subst, arith}
-use Rattle.bank_candidates.specs.Candidates.{bank_at}
-use Rattle.bank_candidates.specs.Stands.{candidates_of_bank}
+use Rattle.queue.specs.Candidates.{bank_at}
+use Rattle.queue.specs.Stands.{candidates_of_bank}
 use Rattle.fr_fcfs.specs.Offers.{oldest_candidate, IsReadyFrom}
 use Rattle.fr_fcfs.proofs.SoFar.{not_taken, taken}
 use Rattle.fr_fcfs.proofs.BankMore.{row_more}

@@ -3,9 +3,9 @@ use Rattle.std.proofs.Common.{◌≡◌, ℕ, Bool, true, false, not, ◌&&◌, 
 use Rattle.std.proofs.lemmas.Bool.{and_parts}
 use Rattle.std.specs.Option.{is_some}
 use Rattle.sim_base.specs.declared.command.Kind.TheVariants as kind
-use Rattle.bank_candidates.specs.Candidates.{first_place}
-use Rattle.bank_candidates.specs.Sets.{is_in}
-use Rattle.bank_candidates.specs.Stands.{bank_count, candidates_of_bank, row_of_bank}
+use Rattle.queue.specs.Candidates.{first_place}
+use Rattle.queue.specs.Sets.{is_in}
+use Rattle.queue.specs.Stands.{bank_count, candidates_of_bank, row_of_bank}
 use Rattle.fr_fcfs.specs.Offers.{rows_now, rows_beside, row_kind}
 use Rattle.fr_fcfs.proofs.Beside.{beside_all, beside_same, beside_nothing}
 use Rattle.fr_fcfs.proofs.BankMore.{row_none}

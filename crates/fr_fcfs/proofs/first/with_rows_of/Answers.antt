@@ -1,7 +1,7 @@
 -- One bank less is left, and then none but the others.
 use Rattle.std.proofs.Common.{ℕ, ◌||◌, refl, sym, ap, length, ◌∙◌, arith}
-use Rattle.bank_candidates.specs.Sets.{is_in}
-use Rattle.bank_candidates.specs.Moves.{earlier}
+use Rattle.queue.specs.Sets.{is_in}
+use Rattle.queue.specs.Moves.{earlier}
 use Rattle.fr_fcfs.specs.Offers.{rows_now, rows_in, rows_beside}
 use Rattle.fr_fcfs.proofs.Beside.{beside_more, beside_same, left_before, size_less}
 use Rattle.fr_fcfs.proofs.SoFar.{so_far_same}

@@ -1,8 +1,8 @@
 use Rattle.std.proofs.Common.{◌≡◌, ℕ, Bool, true, List, length, Option}
 use Rattle.sim_base.specs.declared.config.Config.{Config}
 use Rattle.sim_base.specs.declared.command.IssuedCommand.{IssuedCommand}
-use Rattle.request_log.specs.declared.Arrived.{Arrived}
-use Rattle.bank_candidates.specs.Sets.{is_in}
+use Rattle.queue.specs.declared.request_log.Arrived.{Arrived}
+use Rattle.queue.specs.Sets.{is_in}
 use Rattle.fr_fcfs.specs.Requests.{StandForLog}
 use Rattle.fr_fcfs.specs.Offers.{IsBestSoFar, rows_beside, with_left, AreNotLeft}
 use Rattle.fr_fcfs.proofs.Beside.{size}

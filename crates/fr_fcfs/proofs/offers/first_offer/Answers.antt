@@ -1,7 +1,7 @@
 -- All requests go where the channel never drains.
 use Rattle.std.proofs.Common.{◌≡◌, sym, ◌∙◌, arith}
 use Rattle.sim_base.specs.Scheduling.{first_of_lines}
-use Rattle.request_log.specs.Log.{waiting_requests}
+use Rattle.queue.specs.Log.{waiting_requests}
 use Rattle.fr_fcfs.proofs.Favoured.{favour_never, of_all_accesses}
 use Rattle.fr_fcfs.proofs.offers.first_offer.Goals as goal
 

@@ -1,44 +1,34 @@
-use Rattle.std.proofs.Common.{◌≡◌, ◌+◌, ◌-◌, Some, true, false, get_or, length, length-set, refl, sym, ap, subst, ◌∙◌, arith}
-use Rattle.std.specs.Prelude.{slice_get}
-use Rattle.std.specs.Option.{option_map_or}
-use Rattle.sim_base.specs.History.{is_before}
-use Rattle.links.proofs.Steps.{sunk, sunk_younger, sunk_last, got, placed_free, pushed, length_more}
+use Rattle.std.proofs.Common.{◌≡◌, ◌++◌, ◌∷◌, [], length, sym, ap, ◌∙◌}
+use Rattle.circular_buffer.specs.Buffer.{buffer}
+use Rattle.links.proofs.Steps.{sunk_among, stands_twice, where_ok}
 use Rattle.links.proofs.rings.put_among.Goals as goal
 
-pub overflow_sub-place : goal.overflow_sub-place
-overflow_sub-place c = omega (arith, c.len-place.ensures.len, (got c.args.message.now c.in-Some.last.now (length c.args.ring.now.items - 1) c.args.ring.now.items (sym c.in-Some.ensures)).0)
+pub sink-requires : goal.sink-requires
+sink-requires c =
+    let put = c.try_push_back-room.ensures in
+    let now = c.args.ring.now in
+    let pushed = where_ok (c.try_push_back-room.new.self ≡ buffer (now.items ++ c.in-Some.last.now ∷ []) now.capacity) c.try_push_back-room.result (put.variant.1 c.requires.room) put.ok in
+    stands_twice c.in-Some.last.now now.items _ (sym c.in-Some.ensures) (c.make_contiguous.ensures.value ∙ ap (λ ring. ring.items) pushed)
 
-pub loop-younger-init : goal.loop-younger-init
-loop-younger-init c =
-    let items = pushed _ _ c.push_back.new.self c.requires.room c.push_back.ensures.items in
-    let at : slice_get c.args.ring.now.items (length c.args.ring.now.items - 1) ≡ Some c.in-Some.last.now = sym c.in-Some.ensures in
-    let younger = subst (λ o. option_map_or (is_before c.args.message.now) o false ≡ true) at c.requires.younger in
-    let last = sunk_last c.args.message.now c.in-Some.last.now c.args.ring.now.items at younger in
-    record {
-      within = omega (arith, c.len-place.ensures.len);
-      length = ap length items.0 ∙ length_more _ _;
-      items = rw (c.len-place.ensures.len, items.0) last.0;
-      capacity = items.1;
-      younger = rw c.len-place.ensures.len last.1;
-    }
+pub sink_wrapped-requires : goal.sink_wrapped-requires
+sink_wrapped-requires c =
+    let put = c.try_push_back-room.ensures in
+    let now = c.args.ring.now in
+    let pushed = where_ok (c.try_push_back-room.new.self ≡ buffer (now.items ++ c.in-Some.last.now ∷ []) now.capacity) c.try_push_back-room.result (put.variant.1 c.requires.room) put.ok in
+    stands_twice c.in-Some.last.now now.items _ (sym c.in-Some.ensures) (ap (λ ring. ring.items) pushed)
 
-pub loop-younger-preserved : goal.loop-younger-preserved
-loop-younger-preserved c =
-    let found = c.in-Some-younger_before.ensures.some in
-    let p = c.loop-younger.place in
-    let e : p ≡ p - 1 + 1 = omega (arith, found.0) in
-    record {
-      within = omega (arith, c.loop-younger.invariant.within);
-      length = rw (c.put_into.ensures.items) (length-set _ p _ ∙ c.loop-younger.invariant.length);
-      items = rw (c.put_into.ensures.items) (sunk _ _ p (p - 1) _ _ e c.loop-younger.invariant.within c.loop-younger.invariant.items found.2);
-      capacity = cc;
-      younger = sunk_younger _ _ p (p - 1) _ _ e c.loop-younger.invariant.within c.loop-younger.invariant.items found.2 found.3 c.loop-younger.invariant.younger;
-    }
+pub returns-then-lie_side_by_side-clause-items : goal.returns-then-lie_side_by_side-clause-items
+returns-then-lie_side_by_side-clause-items c =
+    let put = c.try_push_back-room.ensures in
+    let now = c.args.ring.now in
+    let pushed = where_ok (c.try_push_back-room.new.self ≡ buffer (now.items ++ c.in-Some.last.now ∷ []) now.capacity) c.try_push_back-room.result (put.variant.1 c.requires.room) put.ok in
+    let value = c.make_contiguous.ensures.value in
+    c.make_contiguous.ensures.same_len c.sink.new.messages (c.sink.ensures.length ∙ ap length value)
+    ∙ sunk_among c.args.message.now c.in-Some.last.now now.items _ _ c.requires.in_order (sym c.in-Some.ensures) c.requires.younger (value ∙ ap (λ ring. ring.items) pushed) c.sink.ensures.sunk
 
-pub returns-clause-items : goal.returns-clause-items
-returns-clause-items c =
-    c.put_into-2.ensures.items
-    ∙ placed_free _ _ _ _ c.requires.in_order c.loop-younger.invariant.items c.loop-younger.invariant.within c.loop-younger.invariant.younger
-    (λ q f. let p : c.loop-younger.place - 1 ≡ q = omega (arith, f) in
-    ap (λ i. is_before c.args.message.now (get_or c.loop-younger.ring.items i c.args.message.now)) (sym p)
-    ∙ c.in_default-younger_before.ensures.none refl (omega (arith, f)) (omega (arith, c.loop-younger.invariant.length, c.loop-younger.invariant.within)))
+pub returns-else-lie_side_by_side-clause-items : goal.returns-else-lie_side_by_side-clause-items
+returns-else-lie_side_by_side-clause-items c =
+    let put = c.try_push_back-room.ensures in
+    let now = c.args.ring.now in
+    let pushed = where_ok (c.try_push_back-room.new.self ≡ buffer (now.items ++ c.in-Some.last.now ∷ []) now.capacity) c.try_push_back-room.result (put.variant.1 c.requires.room) put.ok in
+    sunk_among c.args.message.now c.in-Some.last.now now.items _ _ c.requires.in_order (sym c.in-Some.ensures) c.requires.younger (ap (λ ring. ring.items) pushed) c.sink_wrapped.ensures.items

@@ -1,4 +1,4 @@
 use Rattle.part_tests.proofs.channels.go_on_after.Goals as goal
 
-pub run-requires : goal.run-requires
-run-requires g c = record { «open» = c.send-2.ensures.open (c.send.ensures.open (c.in_ok-run_all.ensures {u = tt})) }
+pub send_all-requires : goal.send_all-requires
+send_all-requires g c = c.send.ensures.open c.run_all.ensures

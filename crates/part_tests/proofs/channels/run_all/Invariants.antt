@@ -1,5 +1,5 @@
-use Rattle.channel_session.specs.Sessions.{IsOpen}
+use Rattle.sessions.specs.Sessions.{IsOpen}
 use Rattle.part_tests.proofs.channels.run_all.Given as goal
 
-abbrev pub invariant-loop-span : goal.invariant-loop-span
-invariant-loop-span l = IsOpen l.session
+abbrev pub invariant-loop-reads : goal.invariant-loop-reads
+invariant-loop-reads g l = IsOpen l.session

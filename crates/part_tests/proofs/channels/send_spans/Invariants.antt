@@ -1,5 +1,5 @@
-use Rattle.channel_session.specs.Sessions.{IsOpen}
+use Rattle.sessions.specs.Sessions.{IsOpen}
 use Rattle.part_tests.proofs.channels.send_spans.Given as goal
 
-abbrev pub invariant-loop-span : goal.invariant-loop-span
-invariant-loop-span l = IsOpen l.fn.session → IsOpen l.session
+abbrev pub invariant-loop-reads : goal.invariant-loop-reads
+invariant-loop-reads g l = IsOpen l.session

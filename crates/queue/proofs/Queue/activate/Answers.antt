@@ -1,7 +1,7 @@
 use Rattle.std.proofs.Common.{◌≡◌, length, sym, ap, ◌∙◌, arith}
-use Rattle.request_log.specs.Log.{waiting_requests}
-use Rattle.request_log.specs.Columns.{write_count}
-use Rattle.request_log.proofs.Activated.{waiting_activated}
+use Rattle.queue.specs.Log.{waiting_requests}
+use Rattle.queue.specs.Columns.{write_count}
+use Rattle.queue.proofs.Activated.{waiting_activated}
 use Rattle.queue.proofs.Queue.activate.Goals as goal
 
 pub invariant_of-self : goal.invariant_of-self

@@ -1,6 +1,6 @@
 use Rattle.std.proofs.Common.{◌≡◌, ◌+◌, ℕ, Bool, cond, length, sym, ap, ◌∙◌, arith}
-use Rattle.request_log.specs.Log.{waiting_requests}
-use Rattle.request_log.specs.Columns.{write_count}
+use Rattle.queue.specs.Log.{waiting_requests}
+use Rattle.queue.specs.Columns.{write_count}
 use Rattle.queue.specs.Kept.{AreKept}
 use Rattle.queue.specs.View.{drains_by}
 use Rattle.queue.proofs.Counts.{length_arrived, writes_arrived}

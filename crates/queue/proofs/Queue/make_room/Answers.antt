@@ -1,8 +1,8 @@
 use Rattle.std.proofs.Common.{◌≡◌, length, map, sym, ap, ◌∙◌, arith}
-use Rattle.request_log.specs.declared.Arrived.{Arrived}
-use Rattle.request_log.specs.Log.{waiting_requests}
-use Rattle.request_log.specs.Columns.{write_count}
-use Rattle.request_log.proofs.Renumbered.{waiting_twice}
+use Rattle.queue.specs.declared.request_log.Arrived.{Arrived}
+use Rattle.queue.specs.Log.{waiting_requests}
+use Rattle.queue.specs.Columns.{write_count}
+use Rattle.queue.proofs.Renumbered.{waiting_twice}
 use Rattle.queue.proofs.Queue.make_room.Goals as goal
 
 pub invariant_of-self : goal.invariant_of-self

@@ -1,7 +1,7 @@
 use Rattle.std.proofs.Common.{◌≡◌, ◌+◌, ◌-◌, ◌<◌, ℕ, Bool, true, false, cond, List, length, get_or, sym, ap, ◌∙◌, arith}
-use Rattle.request_log.specs.declared.Arrived.{Arrived}
-use Rattle.request_log.specs.Log.{absent, waiting_requests, waits_at}
-use Rattle.request_log.specs.Columns.{write_count}
+use Rattle.queue.specs.declared.request_log.Arrived.{Arrived}
+use Rattle.queue.specs.Log.{absent, waiting_requests, waits_at}
+use Rattle.queue.specs.Columns.{write_count}
 use Rattle.queue.specs.Kept.{AreKept}
 use Rattle.queue.specs.View.{drains_by}
 use Rattle.queue.proofs.Counts.{length_served, writes_served}

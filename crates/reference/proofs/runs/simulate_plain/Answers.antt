@@ -21,13 +21,13 @@ returns-clause-run g c =
       read = given.input;
       outcome_is =
           (c.in-Ok-run_plain.ensures {u = tt}).outcome
-          ∙ ap (λ ts. outcome_of c.args.tables c.in-Ok.input.0 ts (cycles_run c.in-Ok.input.0 ts c.args.cycles)) c.deref.ensures.value;
+          ∙ ap (λ ts. outcome_of c.args.options.tables c.in-Ok.input.0 ts (cycles_run c.in-Ok.input.0 ts c.args.options.cycles)) c.deref.ensures.value;
     }
 
 pub returns-clause-legal : goal.returns-clause-legal
 returns-clause-legal g c =
     let given = c.in-Ok.ensures {u = tt} in
-    holds-of c.args.config.now (texts_from c.args.texts.now 0) c.args.cycles c.args.workers c.args.tables c.in-Ok.input.0 c.in-Ok.input.1.items IsLegalRun (Ok c.in-Ok-run_plain.outcome)
-    given.configured given.input (run-judged c.in-Ok.input.0 (texts_from c.args.texts.now 0) c.in-Ok.input.1.items c.args.cycles given.traces given.cycles)
+    holds-of c.args.input.config.now (texts_from c.args.input.traces.now 0) c.args.options.cycles c.args.options.workers.count c.args.options.tables c.in-Ok.input.0 c.in-Ok.input.1.items IsLegalRun (Ok c.in-Ok-run_plain.outcome)
+    given.configured given.input (run-judged c.in-Ok.input.0 (texts_from c.args.input.traces.now 0) c.in-Ok.input.1.items c.args.options.cycles given.traces given.cycles)
     ((c.in-Ok-run_plain.ensures {u = tt}).outcome
-    ∙ ap (λ ts. outcome_of c.args.tables c.in-Ok.input.0 ts (cycles_run c.in-Ok.input.0 ts c.args.cycles)) c.deref.ensures.value)
+    ∙ ap (λ ts. outcome_of c.args.options.tables c.in-Ok.input.0 ts (cycles_run c.in-Ok.input.0 ts c.args.options.cycles)) c.deref.ensures.value)

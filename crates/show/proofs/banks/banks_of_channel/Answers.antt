@@ -1,6 +1,6 @@
 -- The head, and the lines below it.
 use Rattle.std.proofs.Common.{◌≡◌, ◌++◌, ◌∙◌, ap, length, string_bytes, append_assoc, rules}
-use Rattle.bank_counts.specs.Banks.{channel_counts}
+use Rattle.measures.specs.Banks.{channel_counts}
 use Rattle.show.specs.Banks.{banks_head}
 use Rattle.show.proofs.banks.banks_of_channel.Goals as goal
 

@@ -3,7 +3,7 @@ use Rattle.std.specs.Prelude.{Vec}
 use Rattle.std.specs.declared.alloc.Global.{Global}
 use Rattle.sim_base.specs.declared.message.Unit.TheVariants as unit
 use Rattle.laws.specs.Commands.{channel_steps_of}
-use Rattle.served_requests.specs.declared.ServedRequest.{ServedRequest}
+use Rattle.request_table.specs.declared.served_requests.ServedRequest.{ServedRequest}
 use Rattle.span_laws.specs.Mail.{mail_before}
 use Rattle.units.specs.Kept.{served_of}
 use Rattle.units.proofs.Requested.{kept-is}

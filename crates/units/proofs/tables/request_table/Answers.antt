@@ -4,7 +4,7 @@ use Rattle.std.specs.declared.alloc.Global.{Global}
 use Rattle.request_table.specs.Requests.{requests_of}
 use Rattle.request_table.specs.Tables.{AreServed, times_by_cycle}
 use Rattle.run_outcome.specs.Outcomes.{if_asked}
-use Rattle.served_requests.specs.declared.ServedRequest.{ServedRequest}
+use Rattle.request_table.specs.declared.served_requests.ServedRequest.{ServedRequest}
 use Rattle.sim_base.specs.History.{below}
 use Rattle.sim_base.specs.Machine.{run}
 use Rattle.units.specs.Kept.{AreHeld}

@@ -5,8 +5,8 @@ use Rattle.workers.proofs.machine.run_by.Given as goal
 
 abbrev pub invariant-loop-stop : goal.invariant-loop-stop
 invariant-loop-stop g l =
-    (l.sim.machine.config ≡ l.config) × (l.sim.machine.traces.items ≡ l.fn.traces.items) × (l.sim.now ≤ l.cycles)
-    × NotEnded (record { config = l.config; traces = l.fn.traces }) 0 l.sim.now
+    (l.sim.machine.config ≡ l.fn.machine.config.now) × (l.sim.machine.traces.items ≡ l.fn.machine.traces.items) × (l.sim.now ≤ l.cycles)
+    × NotEnded (record { config = l.fn.machine.config.now; traces = l.fn.machine.traces }) 0 l.sim.now
 
 abbrev pub decreases-loop-stop : goal.decreases-loop-stop
 decreases-loop-stop g l = l.cycles - l.sim.now

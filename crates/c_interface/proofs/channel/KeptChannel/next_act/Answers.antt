@@ -1,5 +1,5 @@
 use Rattle.std.proofs.Common.{sym, subst}
-use Rattle.channel_session.specs.Sessions.{IsOpen}
+use Rattle.sessions.specs.Sessions.{IsOpen}
 use Rattle.c_interface.proofs.Keeping.{well-open}
 use Rattle.c_interface.proofs.channel.KeptChannel.next_act.Goals as goal
 

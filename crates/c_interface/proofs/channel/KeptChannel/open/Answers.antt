@@ -1,4 +1,4 @@
-use Rattle.channel_session.specs.Sessions.{IsOpen}
+use Rattle.sessions.specs.Sessions.{IsOpen}
 use Rattle.c_interface.proofs.Keeping.{new-is-open, well-put}
 use Rattle.c_interface.proofs.channel.KeptChannel.open.Goals as goal
 

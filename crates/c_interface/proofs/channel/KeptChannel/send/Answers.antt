@@ -1,7 +1,7 @@
 use Rattle.std.proofs.Common.{◌≡◌, ◌∙◌, Err, sym, subst}
-use Rattle.channel_session.specs.Keeps.{waiting}
-use Rattle.channel_session.specs.Sessions.{IsSession, IsAnswer, refusal}
-use Rattle.channel_session.specs.declared.session.Session.{Session}
+use Rattle.sessions.specs.Keeps.{waiting}
+use Rattle.sessions.specs.Sessions.{IsSession, IsAnswer, refusal}
+use Rattle.sessions.specs.declared.channel_session.session.Session.{Session}
 use Rattle.c_interface.proofs.Keeping.{refused, same-value}
 use Rattle.c_interface.proofs.channel.KeptChannel.send.Goals as goal
 

@@ -25,7 +25,7 @@ use denote.Triple.Walked.{says, Stays, stay_dropped, walk_of, ends_at, Goes-drop
 use Rattle.std.specs.Prelude.{Option, Some}
 use Rattle.std.proofs.BoxSteps.Form.{D, B, word, box_typed}
 use Rattle.std.proofs.BoxSteps.Steps.{box_out, box_in}
-use Rattle.channel_session.specs.contracts.session.Session as session
+use Rattle.sessions.specs.contracts.channel_session.session.Session as session
 use Rattle.c_interface.specs.Owned.{Holds}
 use Rattle.c_interface.proofs.AsBox.{E, held, is_held, FromHandle as From}
 use Rattle.c_interface.specs.contracts.handle.Handle as handle

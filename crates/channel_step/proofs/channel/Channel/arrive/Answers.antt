@@ -3,12 +3,12 @@ use Rattle.std.specs.List.{All}
 use Rattle.sim_base.specs.History.{issued_commands}
 use Rattle.sim_base.specs.Rules.{open_row}
 use Rattle.bank_ready.specs.Stands.{rank_count}
-use Rattle.request_log.specs.declared.Arrived.{Arrived}
-use Rattle.request_log.specs.Log.{all_requests, LogView}
-use Rattle.request_log.specs.Columns.{bank_number}
+use Rattle.queue.specs.declared.request_log.Arrived.{Arrived}
+use Rattle.queue.specs.Log.{all_requests, LogView}
+use Rattle.queue.specs.Columns.{bank_number}
 use Rattle.queue.specs.View.{QueueView}
-use Rattle.bank_candidates.specs.Candidates.{bank_at}
-use Rattle.bank_candidates.specs.Stands.{bank_count, StandsFor as CandidatesStandFor}
+use Rattle.queue.specs.Candidates.{bank_at}
+use Rattle.queue.specs.Stands.{bank_count, StandsFor as CandidatesStandFor}
 use Rattle.fr_fcfs.specs.Requests.{IsInBanks}
 use Rattle.channel_step.specs.Past.{requests_of}
 use Rattle.channel_step.specs.Queued.{with_arrivals}

@@ -6,10 +6,10 @@ use Rattle.sim_base.specs.Scheduling.{source_of}
 use Rattle.sim_base.specs.declared.place.BankId.{BankId}
 use Rattle.sim_base.specs.declared.command.Command.{Command}
 use Rattle.sim_base.specs.declared.command.Command.TheVariants.{Pre}
-use Rattle.request_log.specs.declared.Arrived.{Arrived}
-use Rattle.request_log.specs.Log.{absent, LogView}
-use Rattle.bank_candidates.specs.Candidates.{bank_at, number_of}
-use Rattle.bank_candidates.specs.Stands.{bank_count, with_row, StandsFor as CandidatesStandFor}
+use Rattle.queue.specs.declared.request_log.Arrived.{Arrived}
+use Rattle.queue.specs.Log.{absent, LogView}
+use Rattle.queue.specs.Candidates.{bank_at, number_of}
+use Rattle.queue.specs.Stands.{bank_count, with_row, StandsFor as CandidatesStandFor}
 use Rattle.channel_step.specs.Queued.{request_at}
 use Rattle.channel_step.specs.Readied.{IsReadied}
 use Rattle.channel_step.proofs.Readying.{placed-among, closed-readied}

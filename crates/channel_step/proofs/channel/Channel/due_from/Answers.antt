@@ -1,7 +1,7 @@
 use Rattle.std.proofs.Common.{ap, sym, ◌∙◌, arith}
 use Rattle.std.specs.Prelude.{nat_le, is_some}
 use Rattle.std.proofs.lemmas.Bool.{lt-leb}
-use Rattle.refresh.proofs.Due.{none_owed_before}
+use Rattle.bank_ready.proofs.Due.{none_owed_before}
 use Rattle.channel_step.proofs.Dues.{due_from_next}
 use Rattle.channel_step.proofs.channel.Channel.due_from.Goals as goal
 

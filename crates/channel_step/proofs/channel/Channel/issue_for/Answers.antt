@@ -9,7 +9,7 @@ use Rattle.sim_base.specs.declared.command.Command.{Command}
 use Rattle.sim_base.specs.declared.command.Command.TheVariants.{Pre}
 use Rattle.sim_base.specs.declared.place.BankId.{BankId}
 use Rattle.sim_base.specs.declared.place.Place.{Place}
-use Rattle.request_log.specs.Log.{absent, LogView}
+use Rattle.queue.specs.Log.{absent, LogView}
 use Rattle.channel_step.specs.Queued.{request_at}
 use Rattle.channel_step.specs.Runs.{HasIssued}
 use Rattle.channel_step.proofs.Issuing.{seen-told, has-issued, silent-act, silent-pre}

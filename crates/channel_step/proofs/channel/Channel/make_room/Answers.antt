@@ -1,5 +1,5 @@
 use Rattle.std.proofs.Common.{length, ap, ◌∙◌, arith}
-use Rattle.request_log.specs.Log.{waiting_requests}
+use Rattle.queue.specs.Log.{waiting_requests}
 use Rattle.queue.specs.View.{QueueView}
 use Rattle.channel_step.proofs.Renewing.{waiting-same}
 use Rattle.channel_step.proofs.channel.Channel.make_room.Goals as goal

@@ -6,12 +6,12 @@ use Rattle.sim_base.specs.Scheduling.{source_of, needed_at}
 use Rattle.sim_base.specs.declared.place.BankId.{BankId}
 use Rattle.sim_base.specs.declared.command.Command.{Command}
 use Rattle.sim_base.specs.declared.command.Command.TheVariants.{Act}
-use Rattle.request_log.specs.declared.Arrived.{Arrived}
-use Rattle.request_log.specs.Log.{absent, activated_at, LogView}
+use Rattle.queue.specs.declared.request_log.Arrived.{Arrived}
+use Rattle.queue.specs.Log.{absent, activated_at, LogView}
 use Rattle.queue.specs.View.{QueueView}
-use Rattle.bank_candidates.specs.Candidates.{bank_at, number_of}
-use Rattle.bank_candidates.specs.Stands.{bank_count, with_row, StandsFor as CandidatesStandFor}
-use Rattle.bank_candidates.proofs.Stood.{activated_stand}
+use Rattle.queue.specs.Candidates.{bank_at, number_of}
+use Rattle.queue.specs.Stands.{bank_count, with_row, StandsFor as CandidatesStandFor}
+use Rattle.queue.proofs.Stood.{activated_stand}
 use Rattle.channel_step.specs.Queued.{request_at}
 use Rattle.channel_step.specs.Readied.{IsReadied}
 use Rattle.channel_step.proofs.Readying.{placed-among, opened-readied}

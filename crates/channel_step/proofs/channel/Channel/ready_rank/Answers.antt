@@ -1,7 +1,7 @@
 use Rattle.std.proofs.Common.{◌≡◌, ℕ, false, Option, Some, sym, ap, subst, ◌∙◌}
 use Rattle.sim_base.specs.History.{issued_commands}
 use Rattle.sim_base.specs.Rules.{open_row}
-use Rattle.bank_candidates.specs.Candidates.{bank_at}
+use Rattle.queue.specs.Candidates.{bank_at}
 use Rattle.channel_step.specs.Readied.{IsReadied}
 use Rattle.channel_step.proofs.Chosen.{refresh-cases}
 use Rattle.channel_step.proofs.Readying.{knows-rows, groups-are, rank-readied, refresh-readied}

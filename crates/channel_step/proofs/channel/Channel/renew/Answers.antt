@@ -1,10 +1,10 @@
 use Rattle.std.proofs.Common.{◌≡◌, ℕ, Option, sym, ap, subst, ◌∙◌}
 use Rattle.sim_base.specs.History.{issued_commands}
 use Rattle.sim_base.specs.Rules.{open_row}
-use Rattle.request_log.specs.Log.{waiting, LogView}
-use Rattle.bank_candidates.specs.declared.all_banks.BankCandidates.{BankCandidates}
-use Rattle.bank_candidates.specs.Candidates.{bank_at}
-use Rattle.bank_candidates.specs.Stands.{bank_count, StandsFor as CandidatesStandFor}
+use Rattle.queue.specs.Log.{waiting, LogView}
+use Rattle.queue.specs.declared.bank_candidates.all_banks.BankCandidates.{BankCandidates}
+use Rattle.queue.specs.Candidates.{bank_at}
+use Rattle.queue.specs.Stands.{bank_count, StandsFor as CandidatesStandFor}
 use Rattle.channel_step.specs.Channels.{StandsFor}
 use Rattle.channel_step.specs.declared.channel.Channel.{Channel}
 use Rattle.channel_step.specs.declared.ahead.Ahead.TheVariants.{Unknown}

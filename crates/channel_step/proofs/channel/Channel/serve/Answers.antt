@@ -5,13 +5,13 @@ use Rattle.std.proofs.lemmas.List.{get_or-set_same}
 use Rattle.sim_base.specs.History.{issued_commands}
 use Rattle.sim_base.specs.Rules.{open_row}
 use Rattle.sim_base.specs.Scheduling.{column_command}
-use Rattle.request_log.specs.declared.Arrived.{Arrived}
-use Rattle.request_log.specs.Log.{absent, served_at, eligible_column, LogView}
-use Rattle.request_log.specs.Columns.{bank_number}
-use Rattle.request_log.proofs.Places.{all_served}
+use Rattle.queue.specs.declared.request_log.Arrived.{Arrived}
+use Rattle.queue.specs.Log.{absent, served_at, eligible_column, LogView}
+use Rattle.queue.specs.Columns.{bank_number}
+use Rattle.queue.proofs.Places.{all_served}
 use Rattle.queue.specs.View.{QueueView}
-use Rattle.bank_candidates.specs.Candidates.{bank_at}
-use Rattle.bank_candidates.specs.Stands.{bank_count, StandsFor as CandidatesStandFor}
+use Rattle.queue.specs.Candidates.{bank_at}
+use Rattle.queue.specs.Stands.{bank_count, StandsFor as CandidatesStandFor}
 use Rattle.fr_fcfs.specs.Requests.{IsInBanks}
 use Rattle.channel_step.specs.Queued.{request_at, served_now}
 use Rattle.channel_step.specs.Runs.{with_more}

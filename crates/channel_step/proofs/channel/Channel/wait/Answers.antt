@@ -1,7 +1,7 @@
 use Rattle.std.proofs.Common.{◌≡◌, ◌<◌, ◌≤◌, ◌++◌, length, ◌-◌, None, sym, ap, subst, ◌∙◌, arith}
 use Rattle.std.proofs.lemmas.Bool.{lt-leb, le-leb}
 use Rattle.std.specs.Prelude.{replicate, is_some}
-use Rattle.refresh.specs.Refreshes.{lowest_owed}
+use Rattle.bank_ready.specs.Refreshes.{lowest_owed}
 use Rattle.statistics.specs.Channels.{ChannelFits}
 use Rattle.channel_step.specs.Channels.{IsInCycle, CountsDrains, passed}
 use Rattle.channel_step.specs.declared.channel.Channel.{Channel}

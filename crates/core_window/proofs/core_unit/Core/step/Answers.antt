@@ -1,6 +1,6 @@
 -- The parts change a core as what it does in the cycle says.
 use Rattle.std.proofs.Common.{◌≡◌, ◌∙◌, ◌+◌, List, length, sym, ap, refl, subst, arith}
-use Rattle.std.specs.Prelude.{slice_get}
+use Rattle.std.specs.Prelude.{slice_get, None}
 use Rattle.std.specs.Vec.{with_items}
 use Rattle.std.proofs.lemmas.List.{with_items_is}
 use Rattle.statistics.specs.Cores.{core_joined, CoreFits}
@@ -9,17 +9,29 @@ use Rattle.statistics.specs.declared.final_state.Credits.{Credits}
 use Rattle.core_window.specs.CoreViews.{view_of}
 use Rattle.core_window.specs.OneCycle.{cycle_counts}
 use Rattle.core_window.proofs.Foreseeing.{issued-placed}
+use Rattle.core_window.proofs.Memory.{memory-counted, memory-fits}
 use Rattle.core_window.proofs.Stepping.{step-fits, step-advances}
 use Rattle.core_window.proofs.Working.{like-self, two_least}
 use Rattle.core_window.proofs.core_unit.Core.step.Goals as goal
+
+pub count_memory-requires : goal.count_memory-requires
+count_memory-requires c =
+    let h = c.requires.stands in
+    let a = view_of c.args.self.now in
+    memory-fits a.stats c.args.cycle_work.core_step c.args.cycle_work.why c.args.cycle_work.memory a.stats.retired (length a.trace) a.now
+    (step-fits h.s h.core h.trace h.steps h.mail a c.args.cycle_work.core_step c.args.cycle_work.why c.args.cycle_work.memory h.stands
+    (c.requires.cycle_work a h.s h.core h.trace h.steps h.mail (like-self a) h.stands) (omega (arith, c.len-len.ensures.value, c.len-len.ensures.limit)) c.requires.early)
 
 pub count_cycle-requires : goal.count_cycle-requires
 count_cycle-requires c =
     let h = c.requires.stands in
     let a = view_of c.args.self.now in
-    subst (λ n. CoreFits (core_joined a.stats (cycle_counts c.args.cycle_work.core_step c.args.cycle_work.why c.args.cycle_work.memory a.stats.retired n a.now))) (sym c.len-len.ensures.value)
-    (step-fits h.s h.core h.trace h.steps h.mail a c.args.cycle_work.core_step c.args.cycle_work.why c.args.cycle_work.memory h.stands
-    (c.requires.cycle_work a h.s h.core h.trace h.steps h.mail (like-self a) h.stands) (omega (arith, c.len-len.ensures.value, c.len-len.ensures.limit)) c.requires.early)
+    let work = c.args.cycle_work in
+    subst (λ (st : CoreStats). CoreFits (core_joined st (cycle_counts work.core_step work.why None st.retired c.len-len.result a.now))) (sym c.count_memory.ensures)
+    (subst CoreFits (sym (memory-counted a.stats work.core_step work.why work.memory c.len-len.result a.now))
+    (subst (λ n. CoreFits (core_joined a.stats (cycle_counts work.core_step work.why work.memory a.stats.retired n a.now))) (sym c.len-len.ensures.value)
+    (step-fits h.s h.core h.trace h.steps h.mail a work.core_step work.why work.memory h.stands
+    (c.requires.cycle_work a h.s h.core h.trace h.steps h.mail (like-self a) h.stands) (omega (arith, c.len-len.ensures.value, c.len-len.ensures.limit)) c.requires.early)))
 
 pub returns-clause-advances : goal.returns-clause-advances
 returns-clause-advances c =
@@ -37,6 +49,8 @@ returns-clause-advances c =
       credits = λ channel x e. ap (λ (cs : List Credits). slice_get cs channel) kept
           ∙ c.spend.ensures c.args.self.now.config (issued-placed c.args.self.now.config c.args.self.now.trace c.args.self.now.found c.args.cycle_work.memory c.args.self.now.known c.requires.entry) channel x (ap (λ (cs : List Credits). slice_get cs channel) c.deref_mut.ensures.value ∙ e);
       stats = c.count_cycle.ensures
+          ∙ ap (λ (st : CoreStats). core_joined st (cycle_counts c.args.cycle_work.core_step c.args.cycle_work.why None st.retired c.len-len.result c.args.self.now.cycle)) c.count_memory.ensures
+          ∙ memory-counted c.args.self.now.stats c.args.cycle_work.core_step c.args.cycle_work.why c.args.cycle_work.memory c.len-len.result c.args.self.now.cycle
           ∙ ap (λ n. core_joined c.args.self.now.stats (cycle_counts c.args.cycle_work.core_step c.args.cycle_work.why c.args.cycle_work.memory c.args.self.now.stats.retired n c.args.self.now.cycle)) c.len-len.ensures.value;
     })
     (c.in_ok-send.ensures {u = tt})
@@ -46,12 +60,12 @@ send-requires-clause-placed c = issued-placed c.args.self.now.config c.args.self
 
 pub look_ahead-requires-clause-seen : goal.look_ahead-requires-clause-seen
 look_ahead-requires-clause-seen c =
-    let grown : c.count_cycle.new.stats.issued ≡ c.args.self.now.stats.issued + c.args.cycle_work.core_step.issued = ap (λ (x : CoreStats). x.issued) c.count_cycle.ensures in
+    let grown : c.count_cycle.new.stats.issued ≡ c.args.self.now.stats.issued + c.args.cycle_work.core_step.issued = ap (λ (x : CoreStats). x.issued) c.count_cycle.ensures ∙ ap (λ (x : CoreStats). x.issued + c.args.cycle_work.core_step.issued) c.count_memory.ensures in
     (c.args.self.now.stats.issued, omega (arith, grown), c.args.self.now.seen)
 
 pub look_ahead-requires-clause-within : goal.look_ahead-requires-clause-within
 look_ahead-requires-clause-within c =
-    let grown : c.count_cycle.new.stats.issued ≡ c.args.self.now.stats.issued + c.args.cycle_work.core_step.issued = ap (λ (x : CoreStats). x.issued) c.count_cycle.ensures in
+    let grown : c.count_cycle.new.stats.issued ≡ c.args.self.now.stats.issued + c.args.cycle_work.core_step.issued = ap (λ (x : CoreStats). x.issued) c.count_cycle.ensures ∙ ap (λ (x : CoreStats). x.issued + c.args.cycle_work.core_step.issued) c.count_memory.ensures in
     omega (arith, grown, c.requires.within)
 
 pub look_ahead-requires-clause-room : goal.look_ahead-requires-clause-room

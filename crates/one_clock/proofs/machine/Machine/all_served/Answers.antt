@@ -5,8 +5,8 @@ use Rattle.std.proofs.lemmas.List.{take_more, append-nil}
 use Rattle.std.proofs.lemmas.List.Elements.{filter_map-append}
 use Rattle.sim_base.specs.Machine.{run}
 use Rattle.sim_base.specs.declared.command.IssuedCommand.{IssuedCommand}
-use Rattle.served_requests.specs.declared.ServedRequest.{ServedRequest}
-use Rattle.request_laws.specs.Timed.{served_in_run}
+use Rattle.request_table.specs.declared.served_requests.ServedRequest.{ServedRequest}
+use Rattle.laws.specs.Timed.{served_in_run}
 use Rattle.one_clock.proofs.machine.Machine.all_served.Goals as goal
 use Rattle.one_clock.proofs.machine.Machine.all_served.Goals.{in-Some+in_ok-push-in-Some, in-None}
 

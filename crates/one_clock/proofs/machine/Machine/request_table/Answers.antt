@@ -7,8 +7,8 @@ use Rattle.sim_base.proofs.Spans.{length-run}
 use Rattle.request_table.specs.Requests.{requests_of}
 use Rattle.request_table.specs.Tables.{AreServed, times_of, times_by_cycle}
 use Rattle.request_table.proofs.Reading.{own-table}
-use Rattle.request_laws.specs.Timed.{served_in_run}
-use Rattle.request_laws.proofs.Serving.{are_timed, are_by_cycle}
+use Rattle.laws.specs.Timed.{served_in_run}
+use Rattle.laws.proofs.Serving.{are_timed, are_by_cycle}
 use Rattle.one_clock.proofs.machine.Machine.request_table.Goals as goal
 
 pub of-requires : goal.of-requires

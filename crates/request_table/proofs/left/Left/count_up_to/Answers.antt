@@ -1,6 +1,6 @@
 use Rattle.std.proofs.Common.{rules, of_calls, ◌≡◌, leb, List, take, drop, sym, subst, arith}
 use Rattle.std.proofs.lemmas.Fn.{always_returns_same}
-use Rattle.served_requests.specs.declared.ServedRequest.{ServedRequest}
+use Rattle.request_table.specs.declared.served_requests.ServedRequest.{ServedRequest}
 use Rattle.request_table.specs.Tables.{IsInOrder, rows_up_to, rows_after}
 use Rattle.request_table.proofs.Cutting.{partitioned, cut-at}
 use Rattle.request_table.proofs.left.Left.count_up_to.Goals as goal

@@ -1,6 +1,6 @@
 use Rattle.std.proofs.Common.{◌≡◌, [], ◌∷◌, List, set, sym, subst, ap₂, ◌∙◌}
 use Rattle.std.specs.Prelude.{All}
-use Rattle.served_requests.specs.declared.ServedRequest.{ServedRequest}
+use Rattle.request_table.specs.declared.served_requests.ServedRequest.{ServedRequest}
 use Rattle.request_table.specs.Tables.{AreServed, times_by_cycle}
 use Rattle.request_table.specs.Lefts.{IsNext}
 use Rattle.request_table.proofs.Reading.{times-next, no-row, all-served-rest}

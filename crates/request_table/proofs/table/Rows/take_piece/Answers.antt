@@ -1,6 +1,6 @@
 use Rattle.std.proofs.Common.{◌++◌, map, sym, ap, ap₂, subst, ◌∙◌, leb, ltb}
 use Rattle.std.specs.Prelude.{All}
-use Rattle.served_requests.specs.declared.ServedRequest.{ServedRequest}
+use Rattle.request_table.specs.declared.served_requests.ServedRequest.{ServedRequest}
 use Rattle.request_table.specs.Tables.{AreServed, rows_up_to, rows_after, times_by_cycle}
 use Rattle.request_table.proofs.Cutting.{times-parts, all-served-filter}
 use Rattle.request_table.proofs.table.Rows.take_piece.Goals as goal

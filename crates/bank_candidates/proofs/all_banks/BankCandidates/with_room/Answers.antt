@@ -1,7 +1,0 @@
--- Each bank is closed and has no candidates.
-use Rattle.std.proofs.Common.{rules}
-use Rattle.bank_candidates.proofs.Stood.{first_stand}
-use Rattle.bank_candidates.proofs.all_banks.BankCandidates.with_room.Goals as goal
-
-pub returns-clause-stands : goal.returns-clause-stands
-returns-clause-stands c = first_stand _ c.args.banks (search rules) (search rules) (c.in_ok-with_room.ensures {u = tt}).none

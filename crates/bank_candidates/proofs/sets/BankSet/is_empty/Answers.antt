@@ -1,6 +1,0 @@
-use Rattle.std.proofs.Common.{arith}
-use Rattle.bank_candidates.proofs.Bits.{some_bit}
-use Rattle.bank_candidates.proofs.sets.BankSet.is_empty.Goals as goal
-
-pub returns-clause-some : goal.returns-clause-some
-returns-clause-some c is = some_bit c.args.self.bits (omega arith) is

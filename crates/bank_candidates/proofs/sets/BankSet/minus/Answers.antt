@@ -1,6 +1,0 @@
-use Rattle.std.proofs.Common.{arith}
-use Rattle.bank_candidates.proofs.Bits.{minus_bit}
-use Rattle.bank_candidates.proofs.sets.BankSet.minus.Goals as goal
-
-pub returns : goal.returns
-returns c k = minus_bit c.args.self.bits c.args.others.bits k (omega arith) (omega arith)

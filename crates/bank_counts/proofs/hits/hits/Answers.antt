@@ -1,8 +1,0 @@
-use Rattle.std.proofs.Common.{◌∙◌}
-use Rattle.std.specs.HashSet.{contains}
-use Rattle.bank_counts.specs.Hits.{same_entry}
-use Rattle.bank_counts.proofs.Acts.{count_hits}
-use Rattle.bank_counts.proofs.hits.hits.Goals as goal
-
-pub returns : goal.returns
-returns c = c.count_hits.ensures ∙ count_hits c.args.commands.now (contains same_entry c.in_ok-entries.entries) c.in_ok-entries.ensures

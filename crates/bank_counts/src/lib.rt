@@ -1,9 +1,0 @@
-//! What each bank of a run did, counted over the run's commands.
-#![tactic(auto)]
-
-mod channels;
-pub mod counts;
-mod hits;
-mod rows;
-
-pub use channels::channel_counts;

@@ -1,3 +1,0 @@
-pub mod AsBox
-pub mod Giving
-pub mod Keeping

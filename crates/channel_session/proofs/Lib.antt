@@ -1,9 +1,0 @@
-pub mod Lists
-pub mod Asked
-pub mod Waiting
-pub mod Naming
-pub mod Sending
-pub mod Advancing
-pub mod Answering
-pub mod Ahead
-pub mod Placing

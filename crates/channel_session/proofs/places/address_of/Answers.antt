@@ -1,6 +1,0 @@
-use Rattle.std.proofs.Common.{◌∙◌, sym}
-use Rattle.channel_session.proofs.Placing.{in-range}
-use Rattle.channel_session.proofs.places.address_of.Goals as goal
-
-pub address_of-requires : goal.address_of-requires
-address_of-requires c = in-range c.args.config.now c.args.place.now (sym c.is_place.ensures ∙ c.if-is_place.true)

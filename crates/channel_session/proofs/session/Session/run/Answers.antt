@@ -1,6 +1,0 @@
-use Rattle.channel_session.proofs.session.Session.run.Goals as goal
-
-pub returns-clause-open : goal.returns-clause-open
-returns-clause-open c =
-    let open_before = c.requires.open in
-    record { past = open_before.past; is_session = (c.in_ok-advance.ensures {u = tt}).done open_before.past open_before.is_session }

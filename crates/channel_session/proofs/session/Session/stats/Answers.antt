@@ -1,9 +1,0 @@
-use Rattle.std.proofs.Common.{◌∙◌}
-use Rattle.channel_session.specs.Keeps.{steps_of}
-use Rattle.channel_session.proofs.Answering.{stats-all}
-use Rattle.channel_session.proofs.session.Session.stats.Goals as goal
-
-pub returns : goal.returns
-returns c p h =
-    let session = c.args.self.now in
-    c.stats.ensures p.s p.channel (steps_of p.s p.channel p.sent session.cycle) h.keeps.mail h.keeps.stands ∙ stats-all session p h

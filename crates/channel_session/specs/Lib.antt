@@ -1,6 +1,0 @@
-pub mod Sent
-pub mod Keeps
-pub mod Held
-pub mod Sessions
-pub mod Ahead
-pub mod Addresses

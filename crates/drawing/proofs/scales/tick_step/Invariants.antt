@@ -1,5 +1,0 @@
-use Rattle.std.proofs.Common.{◌<◌}
-use Rattle.drawing.proofs.scales.tick_step.Given as goal
-
-abbrev pub invariant-powers : goal.invariant-powers
-invariant-powers l = 0 < l.power

@@ -1,6 +1,0 @@
-//! What pictures are made of: text put together from pieces, numbers as a reader wants them, and the scales of axes.
-#![tactic(auto)]
-
-pub mod axes;
-pub mod markup;
-pub mod scales;

@@ -1,0 +1,336 @@
+//! What is said of a relation between the numbers of a configuration.
+
+use crate::explain_text::links::{id_of, integer_at, items_of};
+use crate::explain_text::pieces::Piece::{Foreign, Number, Words};
+use crate::explain_text::pieces::{joined, push};
+use crate::explain_text::section::entry_text;
+use sim_base::key::Key;
+use std::alloc::{AllocError, Global};
+use toml::Table;
+use toml::value::Array;
+
+/// A relation between two sides.
+#[derive(Clone, Copy)]
+struct Relation {
+    rule: &'static str,
+    /// How the sides compare where it does not hold, in words that are keys, or stand between them.
+    broken: &'static [&'static str],
+}
+
+static READ_TO_WRITE: Relation = Relation {
+    rule: " nRTW + nCWL >= nCL + 4",
+    broken: &["nRTW", " + ", "nCWL", " is less than ", "nCL", " + 4"],
+};
+
+static COLUMNS_APART: Relation = Relation {
+    rule: " nCCD_S >= 4",
+    broken: &["nCCD_S", " is less than 4"],
+};
+
+static COLUMNS: Relation = Relation {
+    rule: " nCCD_L >= nCCD_S",
+    broken: &["nCCD_L", " is less than ", "nCCD_S"],
+};
+
+static ACTIVATES: Relation = Relation {
+    rule: " nRRD_L >= nRRD_S",
+    broken: &["nRRD_L", " is less than ", "nRRD_S"],
+};
+
+static WRITE_TO_READ: Relation = Relation {
+    rule: " nWTR_L >= nWTR_S",
+    broken: &["nWTR_L", " is less than ", "nWTR_S"],
+};
+
+static REFRESH: Relation = Relation {
+    rule: " nREFI = 0 or nREFI >= max(nRAS, nRTP, nCWL + 4 + nWR) + nRP + (ranks - 1)(nRP + 1) + nRFC + 1",
+    broken: &[
+        "nREFI",
+        " is less than max(",
+        "nRAS",
+        ", ",
+        "nRTP",
+        ", ",
+        "nCWL",
+        " + 4 + ",
+        "nWR",
+        ") + ",
+        "nRP",
+        " + (",
+        "ranks",
+        " - 1)(",
+        "nRP",
+        " + 1) + ",
+        "nRFC",
+        " + 1",
+    ],
+};
+
+static CREDITS: Relation = Relation {
+    rule: " cores * (read_credits + write_credits) <= 8192",
+    broken: &[
+        "cores",
+        " * (",
+        "read_credits",
+        " + ",
+        "write_credits",
+        ") is greater than 8192",
+    ],
+};
+
+static DRAIN: Relation = Relation {
+    rule: " write_high = write_low = 0 or write_low < write_high",
+    broken: &["write_low", " is not less than ", "write_high"],
+};
+
+static WRITES: Relation = Relation {
+    rule: " write_high <= cores * write_credits",
+    broken: &[
+        "write_high",
+        " is greater than ",
+        "cores",
+        " * ",
+        "write_credits",
+    ],
+};
+
+// A relation between two sides, by its number.
+fn relation_of(number: u8) -> Option<Relation> {
+    Some(match number {
+        1 => READ_TO_WRITE,
+        2 => COLUMNS_APART,
+        3 => COLUMNS,
+        4 => ACTIVATES,
+        5 => WRITE_TO_READ,
+        6 => REFRESH,
+        7 => CREDITS,
+        11 => DRAIN,
+        12 => WRITES,
+        _ => return None,
+    })
+}
+
+// The number at a key; where it is absent, the number that it counts as, if there is one.
+fn number_at(table: &Table, name: &str) -> Option<u64> {
+    match (integer_at(table, name), name) {
+        (Some(number), _) => u64::try_from(number).ok(),
+        (None, "ranks") => Some(1),
+        (None, "write_high" | "write_low") => Some(0),
+        _ => None,
+    }
+}
+
+// The number at a key that is there or counts as a number.
+fn value_at(table: &Table, name: &str) -> u64 {
+    number_at(table, name).unwrap_or(0)
+}
+
+fn sum_at(table: &Table, one: &str, other: &str) -> u64 {
+    value_at(table, one).saturating_add(value_at(table, other))
+}
+
+fn times_cores(table: &Table, number: u64) -> u64 {
+    number.saturating_mul(value_at(table, "cores"))
+}
+
+// The least nREFI above 0.
+fn refresh_at(table: &Table) -> u64 {
+    let open = value_at(table, "nRAS").max(value_at(table, "nRTP"));
+    let written = sum_at(table, "nCWL", "nWR").saturating_add(4);
+    let one = value_at(table, "nRP").saturating_add(1);
+    let others = value_at(table, "ranks").saturating_sub(1);
+    open.max(written)
+        .saturating_add(one)
+        .saturating_add(one.saturating_mul(others))
+        .saturating_add(value_at(table, "nRFC"))
+}
+
+// What the left side of a relation comes to.
+fn left_at(table: &Table, number: u8) -> u64 {
+    match number {
+        1 => sum_at(table, "nRTW", "nCWL"),
+        2 => value_at(table, "nCCD_S"),
+        3 => value_at(table, "nCCD_L"),
+        4 => value_at(table, "nRRD_L"),
+        5 => value_at(table, "nWTR_L"),
+        6 => value_at(table, "nREFI"),
+        7 => times_cores(table, sum_at(table, "read_credits", "write_credits")),
+        11 => value_at(table, "write_low"),
+        _ => value_at(table, "write_high"),
+    }
+}
+
+// What the right side of a relation comes to.
+fn right_at(table: &Table, number: u8) -> u64 {
+    match number {
+        1 => value_at(table, "nCL").saturating_add(4),
+        2 => 4,
+        3 => value_at(table, "nCCD_S"),
+        4 => value_at(table, "nRRD_S"),
+        5 => value_at(table, "nWTR_S"),
+        6 => refresh_at(table),
+        7 => 8_192,
+        11 => value_at(table, "write_high"),
+        _ => times_cores(table, value_at(table, "write_credits")),
+    }
+}
+
+// Whether a relation does not hold between what its sides come to.
+fn is_broken(number: u8, left: u64, right: u64) -> bool {
+    match number {
+        7 | 12 => left > right,
+        11 => left >= right,
+        _ => left < right,
+    }
+}
+
+// Words with numbers in place of the keys among them.
+fn filled_text(alloc: Global, words: &[&str], table: &Table) -> Result<String, AllocError> {
+    let mut text = String::new(alloc);
+    for word in words {
+        let piece = match number_at(table, word) {
+            Some(number) => Number(number),
+            None => Words(word),
+        };
+        push(alloc, &mut text, piece)?;
+    }
+    Ok(text)
+}
+
+// A relation between two sides.
+fn sides_text(alloc: Global, number: u8, table: &Table) -> Result<String, AllocError> {
+    let Some(Relation { rule, broken }) = relation_of(number) else {
+        let pieces = [
+            Words(" relation "),
+            Number(u64::from(number)),
+            Words(" does not hold\n"),
+        ];
+        return joined(alloc, &pieces);
+    };
+    let right = right_at(table, number);
+    if !is_broken(number, left_at(table, number), right) {
+        return joined(alloc, &[Words(rule), Words(" must hold\n")]);
+    }
+    let numbers = filled_text(alloc, broken, table)?;
+    let least = (number == 6).then_some(right);
+    broken_sides(alloc, rule, numbers.as_str(), least)
+}
+
+// A relation that does not hold, with numbers in place of the keys, and what its right side comes to where the numbers
+// do not show that.
+fn broken_sides<'a>(
+    alloc: Global,
+    rule: &'a str,
+    numbers: &'a str,
+    least: Option<u64>,
+) -> Result<String, AllocError> {
+    let (which, least) = match least {
+        Some(least) => (", which is ", Number(least)),
+        None => ("", Words("")),
+    };
+    let pieces = [
+        Words(rule),
+        Words(" does not hold: "),
+        Words(numbers),
+        Words(which),
+        least,
+        Words("\n"),
+    ];
+    joined(alloc, &pieces)
+}
+
+// The first id of a link that is not there.
+fn absent_link(items: Option<&Array>, links: u64) -> Option<u64> {
+    for item in items? {
+        if let Some(id) = id_of(item) {
+            if id >= links {
+                return Some(id);
+            }
+        }
+    }
+    None
+}
+
+// Relation 8: each link that has a latency of its own exists.
+fn absent_link_text(alloc: Global, table: &Table) -> Result<String, AllocError> {
+    let links = times_cores(table, value_at(table, "channels")).saturating_mul(3);
+    match absent_link(items_of(table), links) {
+        Some(id) => joined(
+            alloc,
+            &[
+                Words(" link has the id "),
+                Number(id),
+                Words(", and there are the links 0 to "),
+                Number(links.saturating_sub(1)),
+                Words(": 3 for each pair of a core and a channel\n"),
+            ],
+        ),
+        None => String::from_str(
+            alloc,
+            " each id of link must be less than 3 * cores * channels\n",
+        ),
+    }
+}
+
+// The first id that also occurs earlier.
+fn repeated_id(alloc: Global, items: &Array) -> Result<Option<u64>, AllocError> {
+    let mut seen: Vec<u64> = Vec::new(alloc);
+    for item in items {
+        if let Some(id) = id_of(item) {
+            if seen.contains(&id) {
+                return Ok(Some(id));
+            }
+            seen.push(id)?;
+        }
+    }
+    Ok(None)
+}
+
+// Relation 9: no two latencies are for the same link.
+fn repeated_link_text(alloc: Global, table: &Table) -> Result<String, AllocError> {
+    let repeated = match items_of(table) {
+        Some(items) => repeated_id(alloc, items)?,
+        None => None,
+    };
+    match repeated {
+        Some(id) => joined(
+            alloc,
+            &[
+                Words(" two items of link have the id "),
+                Number(id),
+                Words("\n"),
+            ],
+        ),
+        None => String::from_str(alloc, " no two items of link may have the same id\n"),
+    }
+}
+
+// Relation 10: if there are several ranks, an address has a field for the rank.
+fn rank_text(alloc: Global, table: &Table) -> Result<String, AllocError> {
+    const RULE: &str = " where ranks is above 1 fields must have \"rank\"";
+    let Some(fields) = table.get("fields") else {
+        return joined(alloc, &[Words(RULE), Words("\n")]);
+    };
+    let entry = entry_text(alloc, Key::Fields, fields)?;
+    joined(
+        alloc,
+        &[
+            Words(RULE),
+            Words(": ranks = "),
+            Number(value_at(table, "ranks")),
+            Words(", "),
+            Foreign(entry.as_bytes()),
+            Words("\n"),
+        ],
+    )
+}
+
+/// Says which relation does not hold, and with which numbers, after the path.
+pub(crate) fn broken_text(alloc: Global, number: u8, table: &Table) -> Result<String, AllocError> {
+    match number {
+        8 => absent_link_text(alloc, table),
+        9 => repeated_link_text(alloc, table),
+        10 => rank_text(alloc, table),
+        _ => sides_text(alloc, number, table),
+    }
+}

@@ -1,3 +1,0 @@
-pub mod Vectors
-pub mod FirstBelow
-pub mod LeastWord

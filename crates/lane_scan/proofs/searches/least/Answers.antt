@@ -1,7 +1,0 @@
-use Rattle.lane_scan.proofs.LeastWord.{least_whole}
-use Rattle.lane_scan.proofs.searches.least.Goals as goal
-
-pub returns : goal.returns
-returns c =
-    let scan = c.least_from-least in
-    least_whole c.args.words.now scan.result.0 scan.result.1 scan.ensures.rest scan.ensures.least

@@ -1,7 +1,0 @@
-//! Scans over columns of u64 words, a vector of words at a time, each of which gives just what a plain loop gives.
-#![tactic(auto)]
-
-mod lanes;
-mod searches;
-
-pub use searches::{first_below, least};

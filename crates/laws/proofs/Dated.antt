@@ -1,0 +1,167 @@
+-- A request is sent in the cycle in which its entry issues.
+use Rattle.std.proofs.Common.{◌≡◌, ℕ, zero, suc, ◌+◌, ◌<◌, ◌≤◌, Bool, true, false, cond, leb, List, [], ◌∷◌, ◌++◌, length, map, take, refl, sym, ap, ap₂, subst, ◌∙◌, add-one, zero-add, arith}
+use Rattle.std.specs.Prelude.{filter}
+use Rattle.std.specs.Option.{IfSome}
+use Rattle.std.specs.List.{AllByRecursion as Each, prefix_len, range_with_len}
+use Rattle.std.proofs.Math.Seq.{take-length}
+use Rattle.std.proofs.lemmas.Bool.{eqb-true, le-leb, lt-leb}
+use Rattle.std.proofs.lemmas.List.{map-append}
+use Rattle.std.proofs.lemmas.List.Elements.{All-from_recursion}
+use Rattle.std.proofs.lemmas.List.Folds.{length-prefix_len}
+use Rattle.sim_base.specs.declared.config.Config.{Config}
+use Rattle.sim_base.specs.Config.{request_link, latency}
+use Rattle.sim_base.specs.Counts.{is_unissued_after, issue_cycle}
+use Rattle.sim_base.specs.Places.{place_of}
+use Rattle.sim_base.specs.MachineStep.{MachineStep, step_of_core, step_of_channel}
+use Rattle.sim_base.specs.History.{below, steps_of_core, issued_before, request, request_of, reply, credit, messages, receiver, is_unit, is_to, by_age, inbox}
+use Rattle.sim_base.specs.Sends.{sends, channel_sends}
+use Rattle.sim_base.specs.Scheduling.{request_in, source_of}
+use Rattle.sim_base.specs.Machine.{next_step, run}
+use Rattle.sim_base.specs.declared.history.CoreStep.{CoreStep}
+use Rattle.sim_base.specs.declared.message.Message.{Message}
+use Rattle.sim_base.specs.declared.message.Request.{Request}
+use Rattle.sim_base.specs.declared.message.Unit.TheVariants.{Channel}
+use Rattle.sim_base.specs.declared.place.Place.{Place}
+use Rattle.sim_base.specs.declared.trace.Entry.{Entry}
+use Rattle.sim_base.specs.declared.trace.Entry.TheVariants.{Plain, Read, Write}
+use Rattle.sim_base.proofs.Arrived.{Each-by_age}
+use Rattle.sim_base.proofs.Ordered.{Each-weaker}
+use Rattle.statistics.proofs.CoreSteps.{issued_before-push, issued_before-take-le, issue_cycle-push}
+use Rattle.statistics.proofs.Lists.{length-push_suc, take-push}
+use Rattle.laws.proofs.Chosen.{IfSome-weaker}
+use Rattle.laws.proofs.Receivers.{receiver_request, place_in, Each-filter_passes}
+use Rattle.laws.proofs.Sent.{Each-messages, messages-none, issues-each, commands-each, sends-each}
+use Rattle.request_table.specs.Requests.{arrival_of}
+use Rattle.laws.specs.Arrivals.{RequestsArriveAsIssued}
+
+-- a test that all numbers below n pass, and n does not
+prefix_below : (p : ℕ → Bool) (n : ℕ) → ((k : ℕ) → k < n → p k ≡ true) → p n ≡ false → (m a : ℕ) → a + m ≡ n → prefix_len p (range_with_len a (suc m)) ≡ m
+prefix_below p n pass stop zero a e =
+    let here : a ≡ n = omega (arith, e) in
+    ap (λ b. cond b (1 + 0) 0) (ap p here ∙ stop)
+prefix_below p n pass stop (suc m) a e =
+    let more : 1 + m ≡ suc m = omega arith in
+    ap₂ (λ b k. cond b (1 + k) 0) (pass a (omega (arith, e))) (prefix_below p n pass stop m (a + 1) (omega (arith, e))) ∙ more
+
+-- an entry that is issued in a cycle, and not before
+issue_cycle-new : (steps : List CoreStep) (core_step : CoreStep) (entry : ℕ) → issued_before steps ≤ entry → entry < issued_before (steps ++ core_step ∷ [])
+    → issue_cycle (steps ++ core_step ∷ []) entry ≡ length steps
+unfolding issue_cycle is_unissued_after
+issue_cycle-new steps core_step entry from until =
+    let all = steps ++ core_step ∷ [] in
+    let n = length steps in
+    let p = is_unissued_after all entry in
+    let long : length all ≡ suc n = length-push_suc steps core_step in
+    let pass : (k : ℕ) → k < n → p k ≡ true = λ k l.
+    ap (λ x. leb (issued_before x) entry) (take-push steps core_step (k + 1) (omega (arith, l))) ∙ le-leb _ _ (omega (arith, from, issued_before-take-le steps (k + 1))) in
+    let whole : take (n + 1) all ≡ all = ap (λ k. take k all) (add-one n ∙ sym long) ∙ take-length all in
+    let stop : p n ≡ false = ap (λ x. leb (issued_before x) entry) whole ∙ lt-leb _ _ until in
+    length-prefix_len p (below (length all))
+    ∙ ap (λ k. prefix_len p (below k)) long
+    ∙ prefix_below p n pass stop n 0 (zero-add n)
+
+-- a request says when its entry was issued, and travels on its link
+record DatedIn (s : Config) (history : List MachineStep) (m : Message) (r : Request) : Type 0 where
+  issued : r.entry < issued_before (steps_of_core r.core history)
+  arrival : r.arrival ≡ issue_cycle (steps_of_core r.core history) r.entry + latency s (request_link s r.core r.place.channel)
+  place : r.place ≡ place_of s r.address
+  link : m.link ≡ request_link s r.core r.place.channel
+
+abbrev IsDated : Config → List MachineStep → Message → Type 0
+IsDated s history m = IfSome (request_in m.load) (DatedIn s history m)
+
+-- the steps of a core, and one more
+steps-more : (history : List MachineStep) (machine_step : MachineStep) (c : ℕ) → steps_of_core c (history ++ machine_step ∷ []) ≡ steps_of_core c history ++ step_of_core c machine_step ∷ []
+unfolding steps_of_core
+steps-more history machine_step c = map-append (step_of_core c) history (machine_step ∷ [])
+
+dated-more : (s : Config) (history : List MachineStep) (machine_step : MachineStep) (m : Message) → IsDated s history m → IsDated s (history ++ machine_step ∷ []) m
+dated-more s history machine_step m h = IfSome-weaker _ _ (λ r k. more r k) (request_in m.load) h
+  where
+    more : (r : Request) → DatedIn s history m r → DatedIn s (history ++ machine_step ∷ []) m r
+    more r k =
+        let steps = steps_of_core r.core history in
+        let one = step_of_core r.core machine_step in
+        let e = steps-more history machine_step r.core in
+        let grown : issued_before (steps ++ one ∷ []) ≡ issued_before steps + one.issued = issued_before-push steps one in
+        let old : r.entry < issued_before steps = k.issued in
+        let later : r.entry < issued_before (steps ++ one ∷ []) = omega (arith, grown, old) in
+        record {
+          issued = subst (λ x. r.entry < issued_before x) (sym e) later;
+          arrival = k.arrival
+              ∙ ap (λ t. t + latency s (request_link s r.core r.place.channel)) (sym (issue_cycle-push steps one r.entry old) ∙ ap (λ x. issue_cycle x r.entry) (sym e));
+          place = k.place;
+          link = k.link;
+        }
+
+request-dated : (s : Config) (history : List MachineStep) (c cycle entry : ℕ) (write : Bool) (address : ℕ)
+    → entry < issued_before (steps_of_core c history) → issue_cycle (steps_of_core c history) entry ≡ cycle → IsDated s history (request s c cycle entry write address)
+unfolding request
+request-dated s history c cycle entry write address l e =
+    record { issued = l; arrival = ap (λ t. t + latency s (request_link s c (place_of s address).channel)) (sym e); place = refl; link = refl }
+
+request_of-dated : (s : Config) (history : List MachineStep) (c cycle entry : ℕ) (e : Entry)
+    → entry < issued_before (steps_of_core c history) → issue_cycle (steps_of_core c history) entry ≡ cycle → IfSome (request_of s c cycle entry e) (IsDated s history)
+request_of-dated s history c cycle entry Plain l i = tt
+request_of-dated s history c cycle entry (Read address) l i = request-dated s history c cycle entry false address l i
+request_of-dated s history c cycle entry (Write address) l i = request-dated s history c cycle entry true address l i
+
+length-steps : (history : List MachineStep) (c : ℕ) → length (steps_of_core c history) ≡ length history
+unfolding steps_of_core
+length-steps history c = mapped (step_of_core c) history
+  where
+    mapped : {X Y : Type 0} (f : X → Y) (xs : List X) → length (map f xs) ≡ length xs
+    mapped f [] = refl
+    mapped f (x ∷ xs) = ap suc (mapped f xs)
+
+sends-dated : (s : Config) (traces : List (List Entry)) (history : List MachineStep) → Each (IsDated s (history ++ next_step s traces history ∷ [])) (sends s traces history (next_step s traces history))
+unfolding channel_sends reply credit
+sends-dated s traces history =
+    let machine_step = next_step s traces history in
+    let P = IsDated s (history ++ machine_step ∷ []) in
+    sends-each P s traces history machine_step
+    (λ c l. issues-each P s traces history c l
+    (λ j e b f g.
+    let steps = steps_of_core c history in
+    let one = step_of_core c machine_step in
+    let entry = issued_before steps + j in
+    let more = steps-more history machine_step c in
+    let grown : issued_before (steps ++ one ∷ []) ≡ issued_before steps + one.issued = issued_before-push steps one in
+    let until : entry < issued_before (steps ++ one ∷ []) = omega (arith, grown, b) in
+    let from : issued_before steps ≤ entry = omega arith in
+    request_of-dated s (history ++ machine_step ∷ []) c (length history) entry e
+    (subst (λ x. entry < issued_before x) (sym more) until)
+    (ap (λ x. issue_cycle x entry) more ∙ issue_cycle-new steps one entry from until ∙ length-steps history c)))
+    (λ k l. commands-each P s k (length history) (λ source. tt) (λ write source. tt) (step_of_channel k machine_step))
+
+messages-dated : (s : Config) (traces : List (List Entry)) (n : ℕ) → Each (IsDated s (run s traces n)) (messages s traces (run s traces n))
+unfolding run
+messages-dated s traces zero = subst (Each (IsDated s [])) (sym (messages-none s traces)) tt
+messages-dated s traces (suc n) =
+    let history = run s traces n in
+    let machine_step = next_step s traces history in
+    Each-messages (IsDated s (history ++ machine_step ∷ [])) s traces history machine_step
+    (Each-weaker (IsDated s history) _ (dated-more s history machine_step) (messages s traces history) (messages-dated s traces n))
+    (sends-dated s traces history)
+
+-- a request that is sent to a channel
+abbrev ArrivesAsIssued : Config → List MachineStep → ℕ → Request → Type 0
+ArrivesAsIssued s history k r = r.arrival ≡ arrival_of s history k (source_of r)
+
+to_channel : (s : Config) (history : List MachineStep) (k : ℕ) (m : Message) (r : Request) → is_to s (Channel k) m ≡ true → DatedIn s history m r → ArrivesAsIssued s history k r
+to_channel s history k m r to made =
+    let inside : r.place.channel < s.channels = subst (λ (p : Place). p.channel < s.channels) (sym made.place) (place_in s r.address) in
+    let e : receiver s m.link ≡ Channel r.place.channel = ap (receiver s) made.link ∙ receiver_request s r.core r.place.channel inside in
+    let f : r.place.channel ≡ k = eqb-true _ _ (ap (λ u. is_unit u (Channel k)) (sym e) ∙ to) in
+    made.arrival ∙ ap (λ x. issue_cycle (steps_of_core r.core history) r.entry + latency s (request_link s r.core x)) f
+
+pub requests_arrive_as_issued : (s : Config) (traces : List (List Entry)) (n : ℕ) → RequestsArriveAsIssued s traces n
+unfolding inbox
+requests_arrive_as_issued s traces n k l =
+    let history = run s traces n in
+    let P = λ (m : Message). IfSome (request_in m.load) (ArrivesAsIssued s history k) in
+    let ms = filter (is_to s (Channel k)) (messages s traces history) in
+    All-from_recursion P (by_age ms)
+    (Each-by_age P ms
+    (Each-weaker _ P (λ m h. IfSome-weaker (DatedIn s history m) (ArrivesAsIssued s history k) (λ r i. to_channel s history k m r h.0 i) (request_in m.load) h.1)
+    _ (Each-filter_passes (IsDated s history) (is_to s (Channel k)) (messages s traces history) (messages-dated s traces n))))

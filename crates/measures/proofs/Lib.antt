@@ -1,0 +1,4 @@
+pub mod Ranks
+pub mod Ordered
+pub mod Kept
+pub mod Acts

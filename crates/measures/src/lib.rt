@@ -1,0 +1,8 @@
+//! What is measured of a run from its tables: what each bank did, how long requests took and waited, percentiles, and
+//! whether requests are those of the run.
+#![tactic(auto)]
+
+pub mod bank_counts;
+pub mod percentiles;
+pub mod request_check;
+pub mod request_measures;

@@ -1,8 +1,0 @@
--- The earliest of the channels so far.
-use Rattle.std.proofs.Common.{ℕ}
-use Rattle.memory_session.specs.Earliest.{IsEarliest}
-use Rattle.memory_session.specs.Memories.{Pasts, IsMemory, command_cycles}
-use Rattle.memory_session.proofs.memory.MemorySession.first_command.Given as goal
-
-abbrev pub invariant-loop-number : goal.invariant-loop-number
-invariant-loop-number l = (pasts : Pasts) → IsMemory l.self pasts → IsEarliest (command_cycles pasts l.self.cycle) l.number l.first

@@ -1,2 +1,0 @@
-pub mod Earliest
-pub mod Memories

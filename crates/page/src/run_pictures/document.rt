@@ -1,0 +1,269 @@
+//! A run as one HTML document.
+
+use crate::run_pictures::activity::{Activity, Channel, Span};
+use crate::run_pictures::cells::Measures;
+use crate::run_pictures::markup::Markup;
+use crate::run_pictures::overview::put_overview;
+use crate::run_pictures::settings::put_settings;
+use crate::run_pictures::stops::put_stops;
+use crate::run_pictures::strips::{LEGEND, put_timeline};
+use crate::run_pictures::style::STYLE;
+use crate::run_pictures::tables::{put_channels, put_core_summary, put_cores};
+use command_table::list::CommandList;
+use request_pictures::drawing::markup::Piece;
+use request_pictures::drawing::scales::share_of;
+use request_pictures::section::put_requests;
+use request_table::times::RequestTimes;
+use sim_base::config::Config;
+use statistics::cores::CoreStats;
+use statistics::stats::Stats;
+use std::alloc::{AllocError, Global};
+use std::io::{self, Write};
+
+/// More cores than this have a summary, with their table and their bars folded.
+const MOST_CORES: usize = 16;
+
+/// What a document shows: a run, its configuration, its clock in kHz and its requests if they are given, and the window of its timeline, which
+/// is from a cycle up to, but not including, another. The commands are taken in the order of the list.
+#[derive(Clone, Copy)]
+pub struct Run<'a> {
+    pub stats: &'a Stats,
+    pub commands: &'a CommandList,
+    pub config: Option<&'a Config>,
+    pub khz: Option<u64>,
+    pub requests: Option<&'a [RequestTimes]>,
+    pub from: u64,
+    pub end: u64,
+}
+
+/// What the head counts, and the markup before it.
+static COUNTED: [(&str, &str); 4] = [
+    ("<b>", "</b> cycle"),
+    (", <b>", "</b> core"),
+    (", <b>", "</b> channel"),
+    (", <b>", "</b> command"),
+];
+
+fn plural_of(count: u64) -> &'static str {
+    match count {
+        1 => "",
+        _ => "s",
+    }
+}
+
+// The head, with what was run: how many cycles, cores, channels and commands.
+fn put_head(counts: [u64; 4], out: &mut Markup) {
+    let pieces = [Piece::Text(HEAD), Piece::Text(STYLE), Piece::Text(BODY)];
+    out.put(&pieces);
+    for (count, (before, word)) in counts.iter().zip(&COUNTED) {
+        let pieces = [
+            Piece::Text(*before),
+            Piece::Grouped(*count),
+            Piece::Text(*word),
+            Piece::Text(plural_of(*count)),
+        ];
+        out.put(&pieces);
+    }
+}
+
+// How many ns the cycles take, where the clock is given.
+fn put_time(cycles: u64, khz: Option<u64>, out: &mut Markup) {
+    let Some(khz) = khz else {
+        return;
+    };
+    let pieces = [
+        Piece::Text(", <b>"),
+        Piece::Grouped(share_of(u128::from(cycles), khz, 1_000_000)),
+        Piece::Text("</b> ns with a clock of <b>"),
+        Piece::Grouped(khz),
+        Piece::Text("</b> kHz"),
+    ];
+    out.put(&pieces);
+}
+
+// The cores: where there are many, a summary with all else folded.
+fn put_all_cores(alloc: Global, measures: Measures, cores: &[CoreStats], out: &mut Markup) {
+    out.push_str("<h2 id=\"cores\">Cores</h2>\n");
+    if cores.len() <= MOST_CORES {
+        put_cores(measures, cores, out);
+        put_stops(measures.cycles, cores, out);
+        return;
+    }
+    put_core_summary(alloc, measures, cores, out);
+    out.push_str("<details><summary>each core</summary>\n");
+    put_cores(measures, cores, out);
+    put_stops(measures.cycles, cores, out);
+    out.push_str("</details>\n");
+}
+
+// The begin of the timeline of a window, or that the run has no cycle there.
+fn put_window_head(span: Span, out: &mut Markup) {
+    let first = Piece::Grouped(span.from);
+    if span.end <= span.from {
+        let pieces = [
+            Piece::Text("<h2 id=\"timeline\">Timeline</h2><p>The run has no cycle from "),
+            first,
+            Piece::Text(" on in the window.</p>\n"),
+        ];
+        out.put(&pieces);
+        return;
+    }
+    let pieces = [
+        Piece::Text("<h2 id=\"timeline\">Timeline from cycle "),
+        first,
+        Piece::Text(" to before "),
+        Piece::Grouped(span.end),
+        Piece::Text("</h2>\n"),
+        Piece::Text(TIMELINE),
+    ];
+    out.put(&pieces);
+    out.put_legend(&LEGEND);
+}
+
+// What the channels did in the window.
+fn put_window(span: Span, refresh: u64, channels: &mut [Channel], out: &mut Markup) {
+    put_window_head(span, out);
+    if span.from < span.end {
+        for (id, channel) in channels.iter_mut().enumerate() {
+            put_timeline(id as u64, span, refresh, channel, out);
+        }
+    }
+}
+
+// What the channels of a run did.
+fn activity_of(alloc: Global, run: &Run<'_>, span: Span) -> Result<Activity, AllocError> {
+    let mut activity = Activity::idle(alloc, run.stats)?;
+    activity.add_run(run.commands, span)?;
+    Ok(activity)
+}
+
+// The same over the whole run and in the window, with REFs of `refresh` cycles.
+fn put_activity(alloc: Global, run: &Run<'_>, span: Span, refresh: u64, out: &mut Markup) {
+    match activity_of(alloc, run, span) {
+        Ok(mut activity) => {
+            put_overview(&activity, out);
+            put_window(span, refresh, &mut activity.channels, out);
+        }
+        Err(AllocError) => out.refuse(),
+    }
+}
+
+// Where a page with commands leads to.
+fn contents_of(run: &Run<'_>) -> &'static str {
+    if run.commands.is_empty() {
+        ""
+    } else if run.requests.is_some() {
+        CONTENTS_WITH_LATENCY
+    } else {
+        CONTENTS
+    }
+}
+
+// What the requests tell, if they are given.
+fn put_latency(alloc: Global, run: &Run<'_>, out: &mut Markup) {
+    let Some(requests) = run.requests else {
+        return;
+    };
+    let n_cl = match run.config {
+        Some(config) => Some(config.timing.n_cl),
+        None => None,
+    };
+    let answer = put_requests(alloc, run.stats, n_cl, requests, &mut out.text);
+    out.note(answer);
+}
+
+// The tables, and what the channels did if there are commands. A REF is drawn for as long as it takes, or for a cycle if that is not known.
+fn put_run(alloc: Global, run: &Run<'_>, out: &mut Markup) {
+    let stats = run.stats;
+    let refresh = match run.config {
+        Some(config) => Some(u64::from(config.timing.n_rfc)),
+        None => None,
+    };
+    let span = Span {
+        from: run.from,
+        end: run.end,
+    };
+    out.push_str(contents_of(run));
+    let measures = Measures {
+        cycles: stats.cycles,
+        refresh,
+        khz: run.khz,
+    };
+    put_channels(measures, &stats.channels, out);
+    put_all_cores(alloc, measures, &stats.cores, out);
+    put_latency(alloc, run, out);
+    if run.commands.is_empty() {
+        out.push_str("<p>No command was issued.</p>\n");
+    } else {
+        put_activity(alloc, run, span, refresh.unwrap_or(1), out);
+    }
+}
+
+// The configuration, if it is given.
+fn put_config(config: Option<&Config>, out: &mut Markup) {
+    match config {
+        Some(config) => put_settings(config, out),
+        None => {}
+    }
+}
+
+// All of the document.
+fn put_document(alloc: Global, run: &Run<'_>, out: &mut Markup) {
+    let stats = run.stats;
+    let cores = stats.cores.len() as u64;
+    let channels = stats.channels.len() as u64;
+    let counts = [stats.cycles, cores, channels, run.commands.len() as u64];
+    put_head(counts, out);
+    put_time(stats.cycles, run.khz, out);
+    out.push_str("</p>\n");
+    put_config(run.config, out);
+    if stats.cycles == 0 {
+        out.push_str("<p>The run has no cycles.</p>\n");
+    } else {
+        put_run(alloc, run, out);
+    }
+    out.push_str(TAIL);
+}
+
+/// Writes a run as one HTML document: its statistics, how long its reads took if its requests are given, what its channels did over the whole
+/// run, and what they did in the window, one command after the other.
+///
+/// # Errors
+///
+/// An error of `OutOfMemory` where memory is refused, and the writer's error where it fails.
+pub fn write_document<W: Write>(alloc: Global, run: &Run<'_>, writer: &mut W) -> io::Result<()> {
+    let mut page = Markup::new(alloc);
+    put_document(alloc, run, &mut page);
+    let text = page.finish()?;
+    writer.write_all(text.as_bytes())
+}
+
+const HEAD: &str = r#"<!DOCTYPE html>
+<html lang="en">
+<head>
+<meta charset="utf-8">
+<meta name="viewport" content="width=device-width, initial-scale=1">
+<title>dramsim run</title>
+<style>
+"#;
+
+const BODY: &str = r#"</style>
+</head>
+<body>
+<main>
+<h1>dramsim run</h1>
+<p class="run">"#;
+
+const CONTENTS: &str =
+    r##"<nav><a href="#channels">Channels</a><a href="#cores">Cores</a><a href="#steps">Whole run</a><a href="#timeline">Timeline</a></nav>
+"##;
+
+const CONTENTS_WITH_LATENCY: &str =
+    r##"<nav><a href="#channels">Channels</a><a href="#cores">Cores</a><a href="#latency">Read latency</a><a href="#steps">Whole run</a><a href="#timeline">Timeline</a></nav>
+"##;
+
+const TIMELINE: &str =
+    r#"<p>A lane for each bank that the run uses (r rank, g group, b bank), with a box for each command in its cycle; PREA and REF are in each lane of their rank, and a REF has a box of one cycle unless the configuration is given, which says how many it takes (nRFC). The tooltip of a box has the command's fields. On the data bus each RD and WR takes four cycles, drawn from its command's cycle on: the tables do not have the latency (nCL, nCWL) after which data move.</p>
+"#;
+
+const TAIL: &str = "</main>\n</body>\n</html>\n";

@@ -1,0 +1,284 @@
+//! The whole run in steps: a plot of each measure for each channel. A picture's units are the run's cycles and the values of its axis.
+
+use crate::run_pictures::activity::{Activity, Channel, Step, Value};
+use crate::run_pictures::markup::Markup;
+use request_pictures::drawing::axes::Quantity;
+use request_pictures::drawing::markup::{LegendEntry, Piece};
+use request_pictures::drawing::scales::axis_end;
+
+/// How values are drawn.
+#[derive(Clone, Copy)]
+enum Form {
+    /// The area below them is filled. Each step has a value.
+    Area,
+    /// A line, with a gap at a step without a value.
+    Line,
+}
+
+/// Values by step, in the colour of a class of the style sheet.
+#[derive(Clone, Copy)]
+struct Series {
+    class: &'static str,
+    form: Form,
+    value: Value,
+}
+
+/// What is plotted for each channel: its series, later ones drawn over earlier ones.
+#[derive(Clone, Copy)]
+struct Measure {
+    heading: &'static str,
+    name: &'static str,
+    quantity: Quantity,
+    /// No value of a series is above this one.
+    greatest: Value,
+    series: &'static [Series],
+    legend: &'static [LegendEntry],
+}
+
+static MEASURES: [Measure; 4] = [
+    Measure {
+        heading: "<h3>Data bus</h3><p>Cycles in which data move, four for each RD or WR, booked in the step of their command.</p>",
+        name: "data bus (% of cycles)",
+        quantity: Quantity::Percent,
+        greatest: Value::BusUse,
+        series: &[
+            Series {
+                class: "bus pale",
+                form: Form::Area,
+                value: Value::BusUse,
+            },
+            Series {
+                class: "line bus",
+                form: Form::Line,
+                value: Value::BusUse,
+            },
+        ],
+        legend: &[],
+    },
+    Measure {
+        heading: "<h3>Row hits</h3><p>A RD or WR is a row hit here unless the last ACT of its bank was issued in the name of its own request. Where a step has neither RD nor WR the line has a gap.</p>",
+        name: "row hits (% of RD and WR)",
+        quantity: Quantity::Percent,
+        greatest: Value::Hits,
+        series: &[Series {
+            class: "line hits",
+            form: Form::Line,
+            value: Value::Hits,
+        }],
+        legend: &[],
+    },
+    Measure {
+        heading: "<h3>Commands</h3><p>Cycles in which the channel issues a command, stacked by kind.</p>",
+        name: "commands (% of cycles)",
+        quantity: Quantity::Percent,
+        greatest: Value::Stacked(4),
+        series: &[
+            Series {
+                class: "ref",
+                form: Form::Area,
+                value: Value::Stacked(4),
+            },
+            Series {
+                class: "pre",
+                form: Form::Area,
+                value: Value::Stacked(3),
+            },
+            Series {
+                class: "act",
+                form: Form::Area,
+                value: Value::Stacked(2),
+            },
+            Series {
+                class: "wr",
+                form: Form::Area,
+                value: Value::Stacked(1),
+            },
+            Series {
+                class: "rd",
+                form: Form::Area,
+                value: Value::Stacked(0),
+            },
+        ],
+        legend: &[
+            LegendEntry {
+                class: "ref",
+                text: "REF",
+            },
+            LegendEntry {
+                class: "pre",
+                text: "PRE, PREA",
+            },
+            LegendEntry {
+                class: "act",
+                text: "ACT",
+            },
+            LegendEntry {
+                class: "wr",
+                text: "WR",
+            },
+            LegendEntry {
+                class: "rd",
+                text: "RD",
+            },
+        ],
+    },
+    Measure {
+        heading: "<h3>Open banks</h3><p>Banks with an open row at the end of each step.</p>",
+        name: "open banks",
+        quantity: Quantity::Count,
+        greatest: Value::OpenBanks,
+        series: &[
+            Series {
+                class: "open pale",
+                form: Form::Area,
+                value: Value::OpenBanks,
+            },
+            Series {
+                class: "line open",
+                form: Form::Line,
+                value: Value::OpenBanks,
+            },
+        ],
+        legend: &[],
+    },
+];
+
+/// The axes of a plot.
+#[derive(Clone, Copy)]
+struct Axes {
+    cycles: u64,
+    step: u64,
+    /// The value at the upper end, above 0.
+    top: u64,
+}
+
+// Goes on with the path of a series by the value of a step, after the one before it or, where that has none, from a new beginning.
+fn put_step(axes: Axes, place: usize, value: u64, joined: bool, out: &mut Markup) {
+    let start = axes.step.saturating_mul(place as u64);
+    let end = start.saturating_add(axes.step).min(axes.cycles);
+    let y = axes.top.saturating_sub(value);
+    if !joined {
+        out.put(&[
+            Piece::Text("M"),
+            Piece::Number(start),
+            Piece::Text(" "),
+            Piece::Number(y),
+        ]);
+    }
+    out.put(&[
+        Piece::Text("V"),
+        Piece::Number(y),
+        Piece::Text("H"),
+        Piece::Number(end),
+    ]);
+}
+
+fn put_steps(axes: Axes, value: Value, steps: &[Step], mut joined: bool, out: &mut Markup) {
+    for (place, step) in steps.iter().enumerate() {
+        let found = step.value(value);
+        if let Some(value) = found {
+            put_step(axes, place, value, joined, out);
+        }
+        joined = found.is_some();
+    }
+}
+
+fn put_series(axes: Axes, series: &Series, steps: &[Step], out: &mut Markup) {
+    out.put(&[
+        Piece::Text("<path class=\""),
+        Piece::Text(series.class),
+        Piece::Text("\" d=\""),
+    ]);
+    match series.form {
+        Form::Area => {
+            out.put(&[Piece::Text("M0 "), Piece::Number(axes.top)]);
+            put_steps(axes, series.value, steps, true, out);
+            out.put(&[Piece::Text("V"), Piece::Number(axes.top), Piece::Text("Z")]);
+        }
+        Form::Line => put_steps(axes, series.value, steps, false, out),
+    }
+    out.push_str("\"/>");
+}
+
+// The plot of a measure for the channel `id`.
+fn put_plot(measure: &Measure, axes: Axes, id: u64, steps: &[Step], out: &mut Markup) {
+    out.put(&[
+        Piece::Text("<figure><figcaption><b>channel "),
+        Piece::Number(id),
+        Piece::Text("</b> "),
+        Piece::Text(measure.name),
+        Piece::Text(
+            "</figcaption><div class=\"plot\"><svg preserveAspectRatio=\"none\" role=\"img\" aria-label=\"channel ",
+        ),
+        Piece::Number(id),
+        Piece::Text(": "),
+        Piece::Text(measure.name),
+        Piece::Text("\" viewBox=\"0 0 "),
+        Piece::Number(axes.cycles),
+        Piece::Text(" "),
+        Piece::Number(axes.top),
+        Piece::Text("\">"),
+    ]);
+    for series in measure.series {
+        put_series(axes, series, steps, out);
+    }
+    out.push_str("</svg>");
+    out.put_value_ticks(measure.quantity, axes.top);
+    out.put_cycle_ticks(0, axes.cycles);
+    out.push_str("</div></figure>\n");
+}
+
+// The greatest value of a series in some steps, or `least` if that is greater.
+fn greatest_of(value: Value, steps: &[Step], least: u64) -> u64 {
+    let mut greatest = least;
+    for step in steps {
+        greatest = step.value(value).unwrap_or(0).max(greatest);
+    }
+    greatest
+}
+
+// The upper end of the axes of a measure, the same for all channels. An axis of percent ends at 1 or above, and at 100.
+fn top_of(measure: &Measure, activity: &Activity) -> u64 {
+    let (mut greatest, most) = match measure.quantity {
+        Quantity::Percent => (10, 1_000),
+        Quantity::Count => (1, u64::MAX),
+    };
+    for channel in &activity.channels {
+        greatest = greatest_of(measure.greatest, &channel.steps, greatest);
+    }
+    axis_end(greatest.min(most), 5)
+}
+
+// The plots of a measure, one for each channel.
+fn put_plots(measure: &Measure, axes: Axes, channels: &[Channel], out: &mut Markup) {
+    for (id, channel) in channels.iter().enumerate() {
+        put_plot(measure, axes, id as u64, &channel.steps, out);
+    }
+}
+
+fn put_measure(measure: &Measure, activity: &Activity, out: &mut Markup) {
+    let axes = Axes {
+        cycles: activity.cycles,
+        step: activity.step,
+        top: top_of(measure, activity),
+    };
+    out.push_str(measure.heading);
+    if !measure.legend.is_empty() {
+        out.put_legend(measure.legend);
+    }
+    out.push_str("<div class=\"grid\">\n");
+    put_plots(measure, axes, &activity.channels, out);
+    out.push_str("</div>\n");
+}
+
+/// Appends the plots of the whole run.
+pub(crate) fn put_overview(activity: &Activity, out: &mut Markup) {
+    out.put(&[
+        Piece::Text("<h2 id=\"steps\">The run in steps of "),
+        Piece::Grouped(activity.step),
+        Piece::Text(" cycles</h2>\n"),
+    ]);
+    for measure in &MEASURES {
+        put_measure(measure, activity, out);
+    }
+}

@@ -1,0 +1,127 @@
+-- Counters of the requests for some lines, or for some rows.
+use Rattle.std.proofs.Common.{◌≡◌, ℕ, ◌+◌, ◌<◌, ◌≤◌, Bool, true, false, cond, eqb, ◌||◌, List, [], ◌∷◌, ◌++◌, length, get_or, set, ◌-◌, refl, sym, ap, ◌∙◌, inl, inr, arith}
+use Rattle.std.proofs.lemmas.Bool.{cases_Bool, eq-eqb, eqb-true, eqb-false}
+use Rattle.std.proofs.lemmas.List.{length-set, get_or-set_same, get_or-set_other}
+use Rattle.std.proofs.lemmas.List.Sums.{sum_by-cons, sum_by_push, sum_by-remove, count_by-le-length, length-filter}
+use Rattle.std.proofs.lemmas.List.{length-map}
+use Rattle.std.proofs.lemmas.Slice.Zip.{length-zip}
+use mir.Val.{bool_byte}
+use Rattle.std.specs.List.{list_any, remove, zip}
+use Rattle.sim_base.specs.Places.{is_line}
+use Rattle.sim_base.specs.Scheduling.{asks_for_line}
+use Rattle.sim_base.specs.declared.message.Request.{Request}
+use Rattle.sim_base.specs.declared.place.Place.{Place}
+use Rattle.queue.specs.declared.request_log.Arrived.{Arrived}
+use Rattle.queue.specs.Log.{arrived_now, waiting, waiting_requests, eligible_column}
+use Rattle.queue.specs.Columns.{line_slot, slot_of_line, slot_count, AreCounted, is_blocked, blocked_count}
+use Rattle.queue.proofs.SameLine.{line_same}
+use Rattle.queue.proofs.Waiting.{waiting_append, waiting_one}
+use Rattle.queue.proofs.Eligible.{length-eligible}
+
+-- whether a counter counts a request
+abbrev counts_it : (Request → ℕ) → ℕ → Request → ℕ
+counts_it slot_of slot r = cond (eqb (slot_of r) slot) 1 0
+
+one_if : (b : Bool) → b ≡ true → cond {A = ℕ} b 1 0 ≡ 1
+one_if b holds = ap (λ t. cond {A = ℕ} t 1 0) holds
+
+none_if : (b : Bool) → b ≡ false → cond {A = ℕ} b 1 0 ≡ 0
+none_if b fails = ap (λ t. cond {A = ℕ} t 1 0) fails
+
+none_counted : (mask : ℕ) (place : Place) (rs : List Request) → slot_count (slot_of_line mask) rs (line_slot mask place) ≡ 0 → list_any (λ q. is_line q.place place) rs ≡ false
+none_counted mask place [] none = refl
+none_counted mask place (r ∷ rs) none =
+    let slot = line_slot mask place in
+    let slot_of = slot_of_line mask in
+    let counted : slot_count slot_of (r ∷ rs) slot ≡ counts_it slot_of slot r + slot_count slot_of rs slot = sum_by-cons (counts_it slot_of slot) r rs in
+    elim (cases_Bool (is_line r.place place)) [
+      | inl same ↦
+          let one : counts_it slot_of slot r ≡ 1 = one_if (eqb (slot_of r) slot) (eq-eqb (slot_of r) slot (ap (line_slot mask) (line_same r.place place same))) in
+          absurd (omega (arith, counted, one, none))
+      | inr apart ↦ ap (λ b. b || list_any (λ (q : Request). is_line q.place place) rs) apart ∙ none_counted mask place rs (omega (arith, counted, none))
+    ]
+
+-- where the counter for a line counts none, no request asks for it
+pub none_asks : (mask : ℕ) (counts : List ℕ) (rs : List Request) (place : Place) → AreCounted (slot_of_line mask) counts rs → line_slot mask place < length counts
+    → get_or counts (line_slot mask place) 0 ≡ 0 → asks_for_line place rs ≡ false
+unfolding asks_for_line
+none_asks mask counts rs place counted below none = none_counted mask place rs (sym (counted (line_slot mask place) below) ∙ none)
+
+changed : (slot_of : Request → ℕ) (counts : List ℕ) (rs others : List Request) (r : Request) (slot value : ℕ) → AreCounted slot_of counts rs → slot ≡ slot_of r → slot < length counts
+    → ((k : ℕ) → eqb (slot_of r) k ≡ false → slot_count slot_of others k ≡ slot_count slot_of rs k) → value ≡ slot_count slot_of others slot
+    → AreCounted slot_of (set counts slot value) others
+changed slot_of counts rs others r slot value counted slot_is below same value_is k within = elim (cases_Bool (eqb (slot_of r) k)) [
+  | inl here ↦
+      let k_is : k ≡ slot = sym (eqb-true (slot_of r) k here) ∙ sym slot_is in
+      ap (λ j. get_or (set counts slot value) j 0) k_is ∙ get_or-set_same counts slot value 0 below ∙ value_is ∙ ap (slot_count slot_of others) (sym k_is)
+  | inr apart ↦
+      get_or-set_other counts slot k value 0 (λ e. eqb-false (slot_of r) k apart (sym slot_is ∙ sym e))
+      ∙ counted k (omega (arith, within, length-set counts slot value))
+      ∙ sym (same k apart)
+]
+
+-- one request more
+pub counted_push : (slot_of : Request → ℕ) (counts : List ℕ) (rs more : List Request) (r : Request) (slot value : ℕ) → AreCounted slot_of counts rs → slot ≡ slot_of r → slot < length counts
+    → more ≡ rs ++ r ∷ [] → value ≡ get_or counts slot 0 + 1 → AreCounted slot_of (set counts slot value) more
+counted_push slot_of counts rs more r slot value counted slot_is below more_is value_is =
+    let step : (k : ℕ) → slot_count slot_of more k ≡ slot_count slot_of rs k + counts_it slot_of k r = λ k. ap (λ xs. slot_count slot_of xs k) more_is ∙ sum_by_push (counts_it slot_of k) rs r in
+    let one : counts_it slot_of slot r ≡ 1 = one_if (eqb (slot_of r) slot) (eq-eqb (slot_of r) slot (sym slot_is)) in
+    changed slot_of counts rs more r slot value counted slot_is below
+    (λ k apart.
+    let none : counts_it slot_of k r ≡ 0 = none_if (eqb (slot_of r) k) apart in
+    omega (arith, step k, none))
+    (omega (arith, step slot, one, value_is, counted slot below))
+
+removed_step : (slot_of : Request → ℕ) (k n : ℕ) (rs fewer : List Request) (r : Request) → n < length rs → r ≡ get_or rs n r → fewer ≡ remove rs n
+    → slot_count slot_of fewer k + counts_it slot_of k r ≡ slot_count slot_of rs k
+removed_step slot_of k n rs fewer r exists here fewer_is =
+    (λ i. slot_count slot_of (fewer_is i) k + counts_it slot_of k (here i)) ∙ sum_by-remove (counts_it slot_of k) rs n r exists
+
+-- one request less
+pub counted_removed : (slot_of : Request → ℕ) (n : ℕ) (counts : List ℕ) (rs fewer : List Request) (r : Request) (slot value : ℕ) → AreCounted slot_of counts rs → slot ≡ slot_of r
+    → slot < length counts → n < length rs → r ≡ get_or rs n r → fewer ≡ remove rs n → value ≡ get_or counts slot 0 - 1 → AreCounted slot_of (set counts slot value) fewer
+counted_removed slot_of n counts rs fewer r slot value counted slot_is below exists here fewer_is value_is =
+    let step : (k : ℕ) → slot_count slot_of fewer k + counts_it slot_of k r ≡ slot_count slot_of rs k = λ k. removed_step slot_of k n rs fewer r exists here fewer_is in
+    let one : counts_it slot_of slot r ≡ 1 = one_if (eqb (slot_of r) slot) (eq-eqb (slot_of r) slot (sym slot_is)) in
+    changed slot_of counts rs fewer r slot value counted slot_is below
+    (λ k apart.
+    let none : counts_it slot_of k r ≡ 0 = none_if (eqb (slot_of r) k) apart in
+    omega (arith, step k, none))
+    (omega (arith, step slot, one, value_is, counted slot below))
+
+-- the counter of a request counts it
+pub some_counted : (slot_of : Request → ℕ) (n : ℕ) (counts : List ℕ) (rs : List Request) (r : Request) (slot : ℕ) → AreCounted slot_of counts rs → slot ≡ slot_of r → slot < length counts
+    → n < length rs → r ≡ get_or rs n r → 1 ≤ get_or counts slot 0
+some_counted slot_of n counts rs r slot counted slot_is below exists here =
+    let step : slot_count slot_of (remove rs n) slot + counts_it slot_of slot r ≡ slot_count slot_of rs slot = removed_step slot_of slot n rs (remove rs n) r exists here refl in
+    let one : counts_it slot_of slot r ≡ 1 = one_if (eqb (slot_of r) slot) (eq-eqb (slot_of r) slot (sym slot_is)) in
+    omega (arith, step, one, counted slot below)
+
+-- no counter counts more requests than there are
+pub few_counted : (slot_of : Request → ℕ) (counts : List ℕ) (rs : List Request) (slot : ℕ) → AreCounted slot_of counts rs → slot < length counts → get_or counts slot 0 ≤ length rs
+few_counted slot_of counts rs slot counted below =
+    omega (arith, counted slot below, count_by-le-length (λ (r : Request). eqb (slot_of r) slot) rs)
+
+-- one that arrives waits behind all others
+pub requests_push : (log : List Arrived) (r : Request) → waiting_requests (log ++ arrived_now r ∷ []) ≡ waiting_requests log ++ r ∷ []
+requests_push log r = waiting_append log (arrived_now r ∷ []) ∙ ap (λ rs. waiting_requests log ++ rs) (waiting_one (arrived_now r))
+
+waiting_few : (log : List Arrived) → length (waiting log) ≤ length log
+unfolding waiting
+waiting_few log = omega (arith, length-filter (λ (a : Arrived). a.waits) log, count_by-le-length (λ (a : Arrived). a.waits) log)
+
+-- no more wait than have arrived
+pub requests_few : (log : List Arrived) → length (waiting_requests log) ≤ length log
+requests_few log = omega (arith, length-map (waiting log) (λ (a : Arrived). a.request), waiting_few log)
+
+-- no more are blocked than have arrived
+pub blocked_few : (log : List Arrived) → blocked_count log ≤ length log
+blocked_few log = omega (arith, count_by-le-length is_blocked (zip log (eligible_column log)), length-zip log (eligible_column log), length-eligible log)
+
+pub byte_is : (b : Bool) → bool_byte b ≡ cond b 1 0
+byte_is true = refl
+byte_is false = refl
+
+pub byte_small : (b : Bool) → cond b 1 0 ≤ 1
+byte_small true = omega arith
+byte_small false = omega arith

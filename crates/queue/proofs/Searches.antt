@@ -1,0 +1,88 @@
+-- Searches for the first request that may be served and passes a test.
+use Rattle.std.proofs.Common.{◌≡◌, ℕ, ◌+◌, ◌<◌, ◌≤◌, Bool, true, false, ◌&&◌, List, length, get_or, Some, None, refl, sym, ap, subst, ◌∙◌, inl, inr, arith}
+use Rattle.std.proofs.lemmas.Bool.{cases_lt}
+use Rattle.std.proofs.lemmas.List.{get_or_default, get_or-map, length-map}
+use Rattle.std.proofs.lemmas.Slice.Zip.{get_or-zip}
+use Rattle.std.specs.List.{All}
+use Rattle.sim_base.specs.declared.message.Request.{Request}
+use Rattle.queue.specs.declared.request_log.Arrived.{Arrived}
+use Rattle.queue.specs.Marks.{is_marked}
+use Rattle.queue.specs.Log.{absent, all_requests, waiting_requests, eligible_column}
+use Rattle.queue.proofs.Eligible.{length-eligible, marked_waits}
+use Rattle.queue.specs.Candidates.{passes, entries, first_place}
+use Rattle.queue.specs.Moves.{before, NoneBefore}
+use Rattle.queue.proofs.Positions.{position_here, position_none, before_past}
+use Rattle.queue.proofs.Entries.{length-entries, none_before}
+use Rattle.queue.proofs.Waits.{waiting_request_at}
+
+-- what is tested at a place
+pub here_is : (test : Request → Bool) (log : List Arrived) (slot : ℕ) (a : Arrived) (d : Request × ℕ) → slot < length log
+    → passes test (get_or (entries log) slot d) ≡ (is_marked (get_or (eligible_column log) slot 0) && test (get_or log slot a).request)
+here_is test log slot a d within =
+    let long : slot < length (eligible_column log) = omega (arith, length-eligible log) in
+    let all : slot < length (all_requests log) = omega (arith, length-map log (λ (x : Arrived). x.request)) in
+    let request : get_or (all_requests log) slot d.0 ≡ (get_or log slot a).request = get_or-map (λ (x : Arrived). x.request) log slot a d.0 within in
+    let marked : get_or (eligible_column log) slot d.1 ≡ get_or (eligible_column log) slot 0 = get_or_default (eligible_column log) slot d.1 0 long in
+    ap (passes test) (get_or-zip (all_requests log) (eligible_column log) slot d all long) ∙ (λ i. is_marked (marked i) && test (request i))
+
+-- one place more at which none passes
+pub none_more : (test : Request → Bool) (log : List Arrived) (slot : ℕ) → NoneBefore test log slot
+    → ((d : Request × ℕ) → slot < length log → passes test (get_or (entries log) slot d) ≡ false) → NoneBefore test log (slot + 1)
+none_more test log slot fails here k d below exists = elim (cases_lt k slot) [
+  | inl sooner ↦ fails k d sooner exists
+  | inr late ↦ let same : slot ≡ k = omega arith in subst (λ n. passes test (get_or (entries log) n d) ≡ false) same (here d (omega arith))
+]
+
+pub found_here : (test : Request → Bool) (log : List Arrived) (slot : ℕ) → slot < length log → NoneBefore test log slot
+    → ((d : Request × ℕ) → passes test (get_or (entries log) slot d) ≡ true) → Some slot ≡ first_place test log
+found_here test log slot within fails here =
+    sym (position_here (passes test) (entries log) slot (omega (arith, length-entries log)) (λ k d sooner exists. fails k d sooner (omega (arith, length-entries log))) here)
+
+pub found_none : (test : Request → Bool) (log : List Arrived) (slot : ℕ) → length log ≤ slot → NoneBefore test log slot → None ≡ first_place test log
+found_none test log slot all fails =
+    sym (position_none (passes test) (entries log) (λ k d exists. fails k d (omega (arith, length-entries log)) (omega (arith, length-entries log))))
+
+pub and_weaker : (m a b : Bool) → (b ≡ false → a ≡ false) → (m && b) ≡ false → (m && a) ≡ false
+and_weaker true a b weaker none = weaker none
+and_weaker false a b weaker none = refl
+
+-- none passes a test that asks for more
+pub none_narrower : (p q : Request → Bool) (log : List Arrived) (n : ℕ) → ((x : Request) → q x ≡ false → p x ≡ false) → NoneBefore q log n → NoneBefore p log n
+none_narrower p q log n weaker fails k d sooner exists =
+    let e = get_or (entries log) k d in and_weaker (is_marked e.1) (p e.0) (q e.0) (weaker e.0) (fails k d sooner exists)
+
+pub none_before_first : (test : Request → Bool) (log : List Arrived) (n : ℕ) → Some n ≡ first_place test log → NoneBefore test log n
+none_before_first test log n is = none_before test log n (subst (λ o. before n o ≡ None) is (before_past n n (omega arith)))
+
+-- where none passes a test, none passes one that asks for more
+pub none_narrower_all : (p q : Request → Bool) (log : List Arrived) → ((x : Request) → q x ≡ false → p x ≡ false) → None ≡ first_place q log → None ≡ first_place p log
+none_narrower_all p q log weaker is =
+    found_none p log (length log) (omega arith)
+    (none_narrower p q log (length log) weaker (none_before q log (length log) (subst (λ o. before (length log) o ≡ None) is refl)))
+
+-- the same, where the test was made of the request that was read there
+pub tested : (test : Request → Bool) (log xs : List Arrived) (slot : ℕ) (e : Arrived) (wanted : Bool) (d : Request × ℕ) → slot < length log → xs ≡ log
+    → wanted ≡ test (get_or xs slot e).request → passes test (get_or (entries log) slot d) ≡ (is_marked (get_or (eligible_column log) slot 0) && wanted)
+tested test log xs slot e wanted d within same is =
+    here_is test log slot e d within
+    ∙ ap (λ b. is_marked (get_or (eligible_column log) slot 0) && b) (ap (λ ys. test (get_or ys slot e).request) (sym same) ∙ sym is)
+
+-- where no request that waits passes a test, none that may be served does
+pub none_waits : (test : Request → Bool) (log : List Arrived) → All (λ r. test r ≡ false) (waiting_requests log) → None ≡ first_place test log
+none_waits test log fails =
+    found_none test log (length log) (omega arith)
+    (λ k d sooner exists.
+    let a = get_or log k absent in
+    let m = is_marked (get_or (eligible_column log) k 0) in
+    here_is test log k absent d exists ∙ unserved m (test a.request) (λ marked. waiting_request_at (λ r. test r ≡ false) log k fails exists (marked_waits log k absent exists marked)))
+  where
+    unserved : (m t : Bool) → (m ≡ true → t ≡ false) → (m && t) ≡ false
+    unserved true t fails = fails refl
+    unserved false t fails = refl
+
+pub none_everywhere : (test : Request → Bool) (log : List Arrived) → ((x : Request) → test x ≡ false) → None ≡ first_place test log
+none_everywhere test log fails = found_none test log (length log) (omega arith) (λ k d sooner exists. let e = get_or (entries log) k d in ap (λ b. is_marked e.1 && b) (fails e.0) ∙ never (is_marked e.1))
+  where
+    never : (t : Bool) → (t && false) ≡ false
+    never true = refl
+    never false = refl

@@ -1,0 +1,56 @@
+-- Requests of an access, bank by bank.
+use Rattle.std.proofs.Common.{◌≡◌, ◌<◌, ℕ, Bool, true, false, cond, ◌&&◌, eqb, List, length, get_or, Option, Some, None, refl, sym, ap, ◌∙◌, arith}
+use Rattle.std.proofs.lemmas.Bool.{eq-eqb, false≢true, true≢false}
+use Rattle.std.specs.List.{All}
+use Rattle.std.specs.Option.{is_some}
+use Rattle.sim_base.specs.Scheduling.{is_favoured}
+use Rattle.sim_base.specs.declared.message.Request.{Request}
+use Rattle.queue.specs.declared.request_log.Arrived.{Arrived}
+use Rattle.queue.specs.Marks.{is_marked}
+use Rattle.queue.specs.Log.{absent, all_requests, eligible_column}
+use Rattle.queue.specs.Columns.{bank_number}
+use Rattle.queue.specs.declared.bank_candidates.entry.CandidatesOfBank.{CandidatesOfBank}
+use Rattle.queue.specs.Candidates.{asks, first_place, AreCandidates}
+use Rattle.queue.specs.Moves.{before}
+use Rattle.queue.proofs.Entries.{none_before}
+use Rattle.queue.proofs.Searches.{here_is, none_narrower_all, found_none}
+use Rattle.queue.proofs.Waits.{request_at}
+
+-- the oldest of an access
+pub oldest_is : (write : Bool) (log : List Arrived) (bank : ℕ) (h : CandidatesOfBank) → AreCandidates log bank h
+    → (cond write h.writes h.reads).oldest ≡ first_place (asks bank write) log
+oldest_is true log bank h first = first.writes_are.oldest_is
+oldest_is false log bank h first = first.reads_are.oldest_is
+
+pub none_is : (o : Option ℕ) → is_some o ≡ false → o ≡ None
+none_is None is = refl
+none_is (Some k) is = absurd (true≢false is)
+
+no_some : (o : Option ℕ) → None ≡ o → is_some o ≡ true → ⊥
+no_some o none is = false≢true (ap is_some none ∙ is)
+
+-- where a test passes, so does one that asks for less
+pub some_wider : (p q : Request → Bool) (log : List Arrived) → ((x : Request) → q x ≡ false → p x ≡ false) → is_some (first_place p log) ≡ true → is_some (first_place q log) ≡ true
+some_wider p q log weaker is = known (first_place q log) refl
+  where
+    known : (o : Option ℕ) → o ≡ first_place q log → is_some (first_place q log) ≡ true
+    known None none = absurd (no_some (first_place p log) (none_narrower_all p q log weaker none) is)
+    known (Some k) some = ap is_some (sym some)
+
+fails_too : (m e w : Bool) → e ≡ true → (m && (e && w)) ≡ false → (m && w) ≡ false
+fails_too m e w is none = ap (λ t. m && (t && w)) (sym is) ∙ none
+
+-- where no bank has one, there is none
+pub none_at_all : (write : Bool) (log : List Arrived) (banks : ℕ) → All (λ r. bank_number r.place < banks) (all_requests log)
+    → ((bank : ℕ) → bank < banks → first_place (asks bank write) log ≡ None) → None ≡ first_place (is_favoured write) log
+none_at_all write log banks within none =
+    found_none (is_favoured write) log (length log) (omega arith)
+    (λ k d sooner exists.
+    let x = (get_or log k absent).request in
+    let bank = bank_number x.place in
+    let test = asks bank write in
+    let there = request_at (λ r. bank_number r.place < banks) log k within exists in
+    let here = none_before test log (length log) (ap (before (length log)) (none bank there)) k d sooner exists in
+    let m = is_marked (get_or (eligible_column log) k 0) in
+    here_is (is_favoured write) log k absent d exists
+    ∙ fails_too m (eqb bank bank) (is_favoured write x) (eq-eqb bank bank refl) (sym (here_is test log k absent d exists) ∙ here))

@@ -1,0 +1,12 @@
+use Rattle.std.proofs.Common.{◌≡◌, ℕ, ◌<◌, Bool, None, get_or}
+use Rattle.queue.specs.Candidates.{AreFirst, access_number}
+use Rattle.queue.specs.Places.{access_in}
+use Rattle.queue.proofs.bank_candidates.all_banks.BankCandidates.renew.Given as goal
+
+-- the candidates of the banks so far are found
+abbrev pub invariant-loop-bank : goal.invariant-loop-bank
+invariant-loop-bank l = record {
+  rows : l.self.rows.items ≡ l.initial.self.rows.items;
+  counts : l.self.counts.items ≡ l.initial.self.counts.items;
+  found : (bank : ℕ) (write : Bool) → bank < l.bank → AreFirst l.log.log bank write (get_or l.self.rows.items bank None) (access_in l.self.places.words.items (access_number bank write));
+}

@@ -1,0 +1,78 @@
+-- What the candidates of a channel stand for.
+--     bank_count candidates      how many banks they were made for
+--     candidates_of_bank candidates bank      the candidates of a bank
+--     candidates_to candidates bank write      those of one access
+--     oldest_of_bank candidates bank      the first request of a bank that may be served
+--     row_of_bank candidates bank      its open row
+--     StandsFor candidates log open_rows      they are those of a log, where these rows are open
+--     StandsUpTo candidates log unblocked open_rows      the same, but for a request that may be served since another one was, if there is one
+--     with_row number row open_rows, closed_in rank open_rows      the rows that are open once one bank has this row, and once a rank is closed
+use Rattle.std.specs.Prelude.{◌≡◌, ℕ, ◌/◌, ◌<◌, ◌==◌, Bool, false, true, List, length, slice_index_or, All, Option, None, if◌then◌else◌}
+use Rattle.sim_base.specs.declared.place.BankId.{BankId}
+use Rattle.queue.specs.declared.request_log.Arrived.{Arrived}
+use Rattle.queue.specs.Log.{all_requests, waiting_requests}
+use Rattle.queue.specs.Columns.{bank_number}
+use Rattle.queue.specs.declared.bank_candidates.entry.AccessCandidates.{AccessCandidates}
+use Rattle.queue.specs.declared.bank_candidates.entry.CandidatesOfBank.{CandidatesOfBank}
+use Rattle.queue.specs.declared.bank_candidates.all_banks.BankCandidates.{BankCandidates}
+use Rattle.queue.specs.Candidates.{number_of, access_number, RowsFit, access_count, AreCandidates}
+use Rattle.queue.specs.Moves.{earlier}
+use Rattle.queue.specs.Served.{AreFirstWith}
+use Rattle.queue.specs.Places.{access_in}
+
+-- how many banks they were made for
+abbrev pub bank_count : BankCandidates → ℕ
+bank_count candidates = length candidates.rows.items
+
+-- the candidates of a bank by its number, and its open row; none where there is no such bank
+abbrev pub candidates_of_bank : BankCandidates → ℕ → CandidatesOfBank
+candidates_of_bank candidates bank =
+    record {
+      row = slice_index_or candidates.rows.items bank None;
+      reads = access_in candidates.places.words.items (access_number bank false);
+      writes = access_in candidates.places.words.items (access_number bank true);
+    }
+
+-- the candidates of a bank to write, or to read
+abbrev pub candidates_to : BankCandidates → ℕ → Bool → AccessCandidates
+candidates_to candidates bank write = if write then (candidates_of_bank candidates bank).writes else (candidates_of_bank candidates bank).reads
+
+-- the first request of a bank that may be served, to read or to write
+abbrev pub oldest_of_bank : BankCandidates → ℕ → Option ℕ
+oldest_of_bank candidates bank = earlier (candidates_to candidates bank false).oldest (candidates_to candidates bank true).oldest
+
+-- the row that is open in a bank
+abbrev pub row_of_bank : BankCandidates → ℕ → Option ℕ
+row_of_bank candidates bank = (candidates_of_bank candidates bank).row
+
+-- Every request asks for one of the banks, and for a row of 32 bits; the row of each bank is the one that is open, each candidate is
+-- the place of the first such request, and each counter says how many requests that wait ask for its bank and access.
+pub record StandsFor (candidates : BankCandidates) (log : List Arrived) (open_rows : ℕ → Option ℕ) : Type 0 where
+  pub within : All (λ r. bank_number r.place < bank_count candidates) (all_requests log)
+  pub rows_fit : RowsFit (all_requests log)
+  pub rows_are : (bank : ℕ) → bank < bank_count candidates → row_of_bank candidates bank ≡ open_rows bank
+  pub candidates_are : (bank : ℕ) → bank < bank_count candidates → AreCandidates log bank (candidates_of_bank candidates bank)
+  pub counts_are : (access : ℕ) → access < length candidates.counts.items → slice_index_or candidates.counts.items access 0 ≡ access_count access (waiting_requests log)
+
+-- They will stand for a log once a request is taken in that may be served since another one was, if there is one.
+pub record StandsUpTo (candidates : BankCandidates) (log : List Arrived) (unblocked : Option ℕ) (open_rows : ℕ → Option ℕ) : Type 0 where
+  pub within : All (λ r. bank_number r.place < bank_count candidates) (all_requests log)
+  pub rows_fit : RowsFit (all_requests log)
+  pub rows_are : (bank : ℕ) → bank < bank_count candidates → row_of_bank candidates bank ≡ open_rows bank
+  pub candidates_are : (bank : ℕ) (write : Bool) → bank < bank_count candidates
+      → AreFirstWith log bank write (open_rows bank) unblocked (access_in candidates.places.words.items (access_number bank write))
+  pub counts_are : (access : ℕ) → access < length candidates.counts.items → slice_index_or candidates.counts.items access 0 ≡ access_count access (waiting_requests log)
+
+-- the rows that are open once the bank with a number has this row
+abbrev pub with_row : ℕ → Option ℕ → (ℕ → Option ℕ) → ℕ → Option ℕ
+with_row number row open_rows bank = if bank == number then row else open_rows bank
+
+-- the rows that are open once each bank of a rank is closed
+abbrev pub closed_in : ℕ → (ℕ → Option ℕ) → ℕ → Option ℕ
+closed_in rank open_rows bank = if bank / 16 == rank then None else open_rows bank
+
+-- a bank that has candidates
+pub record IsAmong (candidates : BankCandidates) (b : BankId) : Type 0 where
+  pub number : number_of b < bank_count candidates
+  pub group : b.group < 4
+  pub bank : b.bank < 4

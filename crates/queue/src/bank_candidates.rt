@@ -1,0 +1,12 @@
+//! The candidates of a channel's log of requests: of each bank, to read and to write, the first request that may be served, and the
+//! first of these that asks for the bank's open row.
+
+pub mod all_banks;
+mod entry;
+mod places;
+mod search;
+mod sets;
+
+pub use all_banks::BankCandidates;
+pub use entry::{AccessCandidates, CandidatesOfBank};
+pub use sets::BankSet;

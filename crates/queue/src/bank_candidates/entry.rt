@@ -1,0 +1,51 @@
+//! The candidates of one bank.
+
+ghost use Rattle.std.specs.Prelude.{◌≡◌, ◌<◌};
+ghost use Rattle.sim_base.specs.Rules.{is_row};
+ghost use Rattle.queue.specs.Candidates.{number_of, access_number};
+
+use sim_base::place::BankId;
+
+/// The first requests of a bank that may be served, to read or to write: their places in the log.
+#[derive(Clone, Copy, PartialEq, Eq, Debug)]
+pub struct AccessCandidates {
+    /// The first one.
+    pub oldest: Option<usize>,
+    /// The first one that asks for the row that is open in the bank.
+    pub hit: Option<usize>,
+}
+
+/// The candidates of a bank, and the row that is open in it.
+#[derive(Clone, Copy, PartialEq, Eq, Debug)]
+pub struct CandidatesOfBank {
+    pub row: Option<u32>,
+    pub reads: AccessCandidates,
+    pub writes: AccessCandidates,
+}
+
+/// The number of a bank and an access: twice that of the bank, plus one for a write.
+#[inline(always)]
+pub(crate) fn access_number(bank: usize, write: bool) -> usize
+    requires { bank < 64 }
+    ensures { result ≡ access_number bank write }
+{
+    bank * 2 + usize::from(write)
+}
+
+/// The number of a bank.
+pub(crate) fn number_of(bank: BankId) -> usize
+    ensures { result ≡ number_of bank }
+{
+    (bank.rank as usize * 4 + bank.group as usize) * 4 + bank.bank as usize
+}
+
+/// Whether a row is the open one.
+#[inline(always)]
+pub(crate) fn is_open(open_row: Option<u32>, row: u32) -> bool
+    ensures { result ≡ is_row row open_row }
+{
+    match open_row {
+        Some(open_row) => row == open_row,
+        None => false,
+    }
+}

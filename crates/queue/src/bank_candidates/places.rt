@@ -1,0 +1,331 @@
+//! The places of the candidates of all banks.
+
+ghost use Rattle.std.specs.Prelude.{◌≡◌, ◌≢◌, ◌^◌, ◌-◌, ◌<◌, ◌≤◌, true, false, length, Some, is_some};
+ghost use Rattle.queue.specs.Moves.{earlier};
+ghost use Rattle.queue.specs.Places.{candidate_of, word_of, IsShort, column, Agree};
+
+use crate::bank_candidates::entry::AccessCandidates;
+use crate::bank_candidates::search::{first_from, first_hit, first_open_hit};
+use crate::bank_candidates::sets::BankSet;
+use crate::request_log::RequestLog;
+use std::alloc::{AllocError, Global};
+
+/// The places of the candidates of all banks: of each bank and access the first request that may be served, and the first of these that
+/// asks for the open row.
+#[derive(Drop)]
+pub(crate) struct Places {
+    /// Four words per bank: the oldest and the first hit of its reads, and of its writes. Each is one more than a place, and 0 where
+    /// there is none.
+    words: Vec<u16>,
+    /// For each of the four, the banks whose word is not 0.
+    sets: [BankSet; 4],
+    ghost few: { length words.items ≤ 256 },
+    ghost four: { length sets ≡ 4 },
+    ghost agree: { Agree words.items sets },
+}
+
+/// The place that a word tells.
+#[inline(always)]
+fn candidate_of(word: u16) -> Option<usize>
+    ensures candidate { result ≡ candidate_of word }
+    ensures short { IsShort result }
+{
+    if word == 0 {
+        None
+    } else {
+        Some(word as usize - 1)
+    }
+}
+
+/// The first of the places that two words tell, at least one of which tells a place.
+#[inline(always)]
+fn first_of(read: u16, write: u16) -> usize
+    requires { is_some (earlier (candidate_of read) (candidate_of write)) ≡ true }
+    ensures { Some result ≡ earlier (candidate_of read) (candidate_of write) }
+{
+    read.wrapping_sub(1).min(write.wrapping_sub(1)) as usize
+}
+
+/// The word of a place.
+#[inline(always)]
+fn word_of(candidate: Option<usize>) -> u16
+    requires { IsShort candidate }
+    ensures { result ≡ word_of candidate }
+{
+    match candidate {
+        Some(place) => place as u16 + 1,
+        None => 0,
+    }
+}
+
+/// Whether a word tells a place.
+#[inline(always)]
+fn tells(word: u16, slot: usize) -> bool
+    requires { slot < 2 ^ 16 - 1 }
+    ensures there { result ≡ true → candidate_of word ≡ Some slot }
+    ensures elsewhere { result ≡ false → candidate_of word ≢ Some slot }
+{
+    word as usize == slot + 1
+}
+
+/// The first of two places, of which one may not be there.
+#[inline(always)]
+fn earlier_of(candidate: Option<usize>, slot: usize) -> Option<usize>
+    requires candidate { IsShort candidate }
+    requires slot { slot < 2 ^ 16 - 1 }
+    ensures first { result ≡ earlier candidate (Some slot) }
+    ensures short { IsShort result }
+{
+    match candidate {
+        Some(place) => Some(place.min(slot)),
+        None => Some(slot),
+    }
+}
+
+/// Which word of a bank, and which set.
+#[inline(always)]
+fn column(write: bool, hit: bool) -> usize
+    ensures value { result ≡ column write hit }
+    ensures few { result < 4 }
+{
+    2 * usize::from(write) + usize::from(hit)
+}
+
+/// A request of a bank and an access that has been served.
+#[derive(Clone, Copy)]
+pub(crate) struct Departure {
+    pub(crate) slot: usize,
+    pub(crate) bank: usize,
+    pub(crate) write: bool,
+    /// Whether it is known that no other one waits.
+    pub(crate) empty: bool,
+}
+
+impl Places {
+    ghost use Rattle.std.specs.Prelude.{ℕ, ◌≡◌, ◌≢◌, ◌+◌, ◌*◌, ◌<◌, ◌≤◌, ◌^◌, ◌-◌, true, false, not, length, Option, Some, is_some, IfOk, List};
+    ghost use Rattle.queue.specs.declared.request_log.Arrived.{Arrived};
+    ghost use Rattle.queue.specs.Sets.{is_in};
+    ghost use Rattle.queue.specs.Candidates.{AreFirst, NoneWaits};
+    ghost use Rattle.queue.specs.Moves.{IsFirstFrom};
+    ghost use Rattle.queue.specs.Changes.{HasBank, candidate_at, candidates_at, first_at, HasNoCandidate};
+    ghost use Rattle.queue.specs.Changes.{SameRoom, SameCandidate, SameOthers, SameOtherBanks};
+    ghost use Rattle.queue.specs.Changes.{HasJoined, HasTakenIn, IsClosed};
+    ghost use Rattle.queue.specs.Served.{IsServed, AreFirstWithout, candidate_for, candidates_for, wants_like};
+
+    /// The places of the candidates of an empty log.
+    pub(crate) fn with_room(alloc: Global, banks: usize) -> Result<Self, AllocError>
+        requires { banks ≤ 64 }
+        ensures room { IfOk result (λ places. length places.words.items ≡ 4 * banks) }
+        ensures none { IfOk result HasNoCandidate }
+    {
+        Ok(Places {
+            words: vec![in alloc; 0; 4 * banks]?,
+            sets: [BankSet::none(); 4],
+        })
+    }
+
+    /// A candidate of a bank to write, or to read: the first hit, or the oldest.
+    #[inline(always)]
+    pub(crate) fn candidate(&self, bank: usize, write: bool, hit: bool) -> Option<usize>
+        requires { HasBank self.now bank }
+        ensures candidate { result ≡ candidate_at self.now bank write hit }
+        ensures short { IsShort result }
+    {
+        candidate_of(self.words[4 * bank + column(write, hit)])
+    }
+
+    /// The candidates of a bank to write, or to read.
+    #[inline(always)]
+    pub(crate) fn of_access(&self, bank: usize, write: bool) -> AccessCandidates
+        requires { HasBank self.now bank }
+        ensures candidates { result ≡ candidates_at self.now bank write }
+        ensures oldest { IsShort result.oldest }
+        ensures hit { IsShort result.hit }
+    {
+        AccessCandidates {
+            oldest: self.candidate(bank, write, false),
+            hit: self.candidate(bank, write, true),
+        }
+    }
+
+    /// The first request of a bank that may be served, to read or to write, where there is one.
+    #[inline(always)]
+    pub(crate) fn first(&self, bank: usize) -> usize
+        requires bank { HasBank self.now bank }
+        requires some { is_some (first_at self.now bank) ≡ true }
+        ensures { Some result ≡ first_at self.now bank }
+    {
+        first_of(
+            self.words[4 * bank + column(false, false)],
+            self.words[4 * bank + column(true, false)],
+        )
+    }
+
+    /// The banks with a candidate: the first hit or the oldest, to write or to read.
+    #[inline(always)]
+    pub(crate) fn banks(&self, write: bool, hit: bool) -> BankSet
+        ensures { (bank : ℕ) → is_in result bank ≡ is_some (candidate_at self.now bank write hit) }
+    {
+        self.sets[column(write, hit)]
+    }
+
+    /// Writes a candidate of a bank.
+    #[inline(always)]
+    pub(crate) fn set(&mut self, bank: usize, write: bool, hit: bool, candidate: Option<usize>)
+        requires bank { HasBank self.old bank }
+        requires short { IsShort candidate }
+        ensures room { SameRoom self.old self.new }
+        ensures same { candidate_at self.new bank write hit ≡ candidate }
+        ensures beside { SameCandidate self.old self.new bank write (not hit) }
+        ensures others { SameOthers self.old self.new bank write }
+    {
+        let column = column(write, hit);
+        self.words[4 * bank + column] = word_of(candidate);
+        let set = self.sets[column];
+        self.sets[column] = if candidate.is_some() {
+            set.with(bank)
+        } else {
+            set.without(bank)
+        };
+    }
+
+    /// Takes note of a request after all others, which may be served and asks for the open row or not.
+    #[inline(always)]
+    pub(crate) fn join(&mut self, bank: usize, write: bool, slot: usize, hit: bool)
+        requires bank { HasBank self.old bank }
+        requires short { slot < 2 ^ 16 - 1 }
+        ensures room { SameRoom self.old self.new }
+        ensures joined { HasJoined self.old self.new bank write slot hit }
+        ensures others { SameOthers self.old self.new bank write }
+    {
+        if self.candidate(bank, write, false).is_none() {
+            self.set(bank, write, false, Some(slot));
+        }
+        if hit && self.candidate(bank, write, true).is_none() {
+            self.set(bank, write, true, Some(slot));
+        }
+    }
+
+    /// Takes note that no row is open in a bank.
+    #[inline(always)]
+    pub(crate) fn close(&mut self, bank: usize)
+        requires { HasBank self.old bank }
+        ensures room { SameRoom self.old self.new }
+        ensures own { IsClosed self.old self.new bank }
+        ensures others { SameOtherBanks self.old self.new bank }
+    {
+        self.set(bank, false, true, None);
+        self.set(bank, true, true, None);
+    }
+
+    /// Whether a candidate of a bank is the request at a place.
+    #[inline(always)]
+    pub(crate) fn is_at(&self, bank: usize, write: bool, hit: bool, slot: usize) -> bool
+        requires bank { HasBank self.now bank }
+        requires short { slot < 2 ^ 16 - 1 }
+        ensures there { result ≡ true → candidate_at self.now bank write hit ≡ Some slot }
+        ensures elsewhere { result ≡ false → candidate_at self.now bank write hit ≢ Some slot }
+    {
+        tells(self.words[4 * bank + column(write, hit)], slot)
+    }
+
+    /// Takes note of a row that is open in a bank, for its requests to write, or to read.
+    #[inline(always)]
+    pub(crate) fn open(&mut self, bank: usize, write: bool, row: u32, log: &RequestLog)
+        requires bank { HasBank self.old bank }
+        requires log { length log.now.log < 2 ^ 16 - 1 }
+        ensures room { SameRoom self.old self.new }
+        ensures own { (old : Option ℕ)
+            → AreFirst log.now.log bank write old (candidates_at self.old bank write)
+            → AreFirst log.now.log bank write (Some row) (candidates_at self.new bank write) }
+        ensures others { SameOthers self.old self.new bank write }
+    {
+        if let Some(oldest) = self.candidate(bank, write, false) {
+            let hit = first_hit(log, oldest, bank, write, row);
+            self.set(bank, write, true, hit);
+        }
+    }
+
+    /// Looks for the next candidate, behind the request that was served, if that was the candidate: the next one of its bank and
+    /// access, and for a row if one is given.
+    #[inline(always)]
+    fn replace(&mut self, log: &RequestLog, departure: Departure, hit: bool, row: Option<u32>)
+        requires bank { HasBank self.old departure.bank }
+        requires slot { departure.slot < length log.now.log }
+        requires log { length log.now.log < 2 ^ 16 - 1 }
+        ensures room { SameRoom self.old self.new }
+        ensures kept { candidate_for self.old departure hit ≢ Some departure.slot
+            → SameCandidate self.old self.new departure.bank departure.write hit }
+        ensures found { candidate_for self.old departure hit ≡ Some departure.slot
+            → IsFirstFrom (wants_like departure row) log.now.log (departure.slot + 1)
+            (candidate_for self.new departure hit) }
+        ensures beside { SameCandidate self.old self.new departure.bank departure.write (not hit) }
+        ensures others { SameOthers self.old self.new departure.bank departure.write }
+    {
+        let Departure {
+            slot,
+            bank,
+            write,
+            ..
+        } = departure;
+        if self.is_at(bank, write, hit, slot) {
+            let next = first_from(log, slot + 1, bank, write, row);
+            self.set(bank, write, hit, next);
+        }
+    }
+
+    /// Takes note of a request that has been served.
+    #[inline(always)]
+    pub(crate) fn leave(&mut self, log: &RequestLog, departure: Departure, row: Option<u32>)
+        requires bank { HasBank self.old departure.bank }
+        requires slot { departure.slot < length log.now.log }
+        requires log { length log.now.log < 2 ^ 16 - 1 }
+        ensures room { SameRoom self.old self.new }
+        ensures own { (earlier : List Arrived) (unblocked : Option ℕ)
+            → IsServed earlier departure.slot unblocked log.now.log
+            → (departure.empty ≡ true → NoneWaits log.now.log departure.bank departure.write)
+            → AreFirst earlier departure.bank departure.write row
+            (candidates_for self.old departure)
+            → AreFirstWithout departure log.now.log row unblocked
+            (candidates_for self.new departure) }
+        ensures others { SameOthers self.old self.new departure.bank departure.write }
+    {
+        if departure.empty {
+            self.set(departure.bank, departure.write, false, None);
+            self.set(departure.bank, departure.write, true, None);
+            return;
+        }
+        self.replace(log, departure, false, None);
+        self.replace(log, departure, true, row);
+    }
+
+    /// Takes note of a request that may be served now, and asks for the open row or not.
+    pub(crate) fn unblock(&mut self, bank: usize, write: bool, slot: usize, hit: bool)
+        requires bank { HasBank self.old bank }
+        requires short { slot < 2 ^ 16 - 1 }
+        ensures room { SameRoom self.old self.new }
+        ensures taken { HasTakenIn self.old self.new bank write slot hit }
+        ensures others { SameOthers self.old self.new bank write }
+    {
+        let oldest = earlier_of(self.candidate(bank, write, false), slot);
+        self.set(bank, write, false, oldest);
+        if hit {
+            let first = earlier_of(self.candidate(bank, write, true), slot);
+            self.set(bank, write, true, first);
+        }
+    }
+
+    /// Looks for the candidates of a bank to write, or to read, in the whole log.
+    pub(crate) fn renew(&mut self, log: &RequestLog, bank: usize, write: bool, row: Option<u32>)
+        requires bank { HasBank self.old bank }
+        requires log { length log.now.log < 2 ^ 16 - 1 }
+        ensures room { SameRoom self.old self.new }
+        ensures own { AreFirst log.now.log bank write row (candidates_at self.new bank write) }
+        ensures others { SameOthers self.old self.new bank write }
+    {
+        let oldest = first_from(log, 0, bank, write, None);
+        let hit = first_open_hit(log, oldest, bank, write, row);
+        self.set(bank, write, false, oldest);
+        self.set(bank, write, true, hit);
+    }
+}

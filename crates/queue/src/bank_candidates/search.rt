@@ -1,0 +1,111 @@
+//! Searches for the first request of a bank and an access.
+
+ghost use Rattle.std.specs.Prelude.{◌≡◌, ◌-◌, ◌<◌, ◌^◌, ◌==◌, false, length, Some, IfSome};
+ghost use Rattle.queue.specs.Candidates.{wants, NonePasses};
+ghost use Rattle.queue.specs.Moves.{IsFirstFrom, IsFirstHit};
+ghost use Rattle.queue.specs.Places.{IsShort};
+
+use crate::request_log::RequestLog;
+use crate::request_log::words::{bank_number, tag_word};
+use memchr::memchr;
+use sim_base::message::Request;
+
+/// Whether a request is of a bank and an access, and asks for a row if one is given.
+#[inline(always)]
+fn is_wanted(request: &Request, bank: usize, write: bool, row: Option<u32>) -> bool
+    ensures { result ≡ wants bank write row request.now }
+{
+    let same_bank = bank_number(request.place) == bank && request.write == write;
+    match row {
+        Some(row) => same_bank && request.place.row == row,
+        None => same_bank,
+    }
+}
+
+/// Whether a request asks for a row.
+#[inline(always)]
+fn asks_for_row(request: &Request, row: u32) -> bool
+    ensures { result ≡ (request.now.place.row == row) }
+{
+    request.place.row == row
+}
+
+/// Whether some request that waits may be of a bank and an access, and ask for a row if one is given: false only where none is and does.
+#[inline(always)]
+fn may_be_wanted(log: &RequestLog, bank: usize, write: bool, row: Option<u32>) -> bool
+    ensures { result ≡ false → NonePasses (wants bank write row) log.now.log }
+{
+    match row {
+        Some(row) => log.may_ask(bank, write, row),
+        None => true,
+    }
+}
+
+/// The first request from a place on that may be served, is of a bank and an access, and asks for a row if one is given. Each
+/// such request has the tag that is searched for, and most others do not.
+pub(crate) fn first_from(
+    log: &RequestLog,
+    from: usize,
+    bank: usize,
+    write: bool,
+    row: Option<u32>,
+) -> Option<usize>
+    ensures first { IsFirstFrom (wants bank write row) log.now.log from result }
+    ensures within { IfSome result (λ k. k < length log.now.log) }
+{
+    if !may_be_wanted(log, bank, write, row) {
+        return None;
+    }
+    let arrived = log.log();
+    let tags = log.tags();
+    let tag = tag_word(true, write, bank as u64);
+    let mut at = from;
+    while at < tags.len() {
+        let Some(next) = memchr(tag, &tags[at..]) else {
+            return None;
+        };
+        at += next;
+        if is_wanted(&arrived[at].request, bank, write, row) {
+            return Some(at);
+        }
+        at += 1;
+    }
+    None
+}
+
+/// The first such request that asks for a row, where the first of them all is known: that one, or a later one.
+pub(crate) fn first_hit(
+    log: &RequestLog,
+    oldest: usize,
+    bank: usize,
+    write: bool,
+    row: u32,
+) -> Option<usize>
+    requires short { oldest < 2 ^ 16 - 1 }
+    ensures first { IsFirstHit log.now.log bank write (Some row) (Some oldest) result }
+    ensures within { IfSome result (λ k. k < length log.now.log) }
+{
+    let arrived = log.log();
+    if oldest < arrived.len() && asks_for_row(&arrived[oldest].request, row) {
+        return Some(oldest);
+    }
+    first_from(log, oldest + 1, bank, write, Some(row))
+}
+
+/// The first such request that asks for the open row, if one is open, where the first of them all is known, if there is one.
+pub(crate) fn first_open_hit(
+    log: &RequestLog,
+    oldest: Option<usize>,
+    bank: usize,
+    write: bool,
+    row: Option<u32>,
+) -> Option<usize>
+    requires short { IsShort oldest }
+    ensures first { IsFirstHit log.now.log bank write row oldest result }
+    ensures within { IfSome result (λ k. k < length log.now.log) }
+{
+    match (row, oldest) {
+        (Some(row), Some(oldest)) => first_hit(log, oldest, bank, write, row),
+        _ => None,
+    }
+}

@@ -1,0 +1,258 @@
+//! The requests that have arrived at a channel, by age, each at a place that it keeps until those that wait are moved to the front.
+
+mod lines;
+pub mod words;
+
+ghost use Rattle.std.specs.Prelude.{◌≡◌, ◌^◌, ◌+◌, ◌-◌, ◌<◌, ◌≤◌, length, vec_capacity};
+ghost use Rattle.queue.specs.Columns.{bank_number, tag_word, slot_of_row, waiting_items};
+
+use crate::request_log::lines::{counters, is_line_asked, next_for_line};
+use crate::request_log::words::{LEFT, bank_number, line_slot, row_slot, tag_word};
+use sim_base::message::Request;
+use std::alloc::{AllocError, Global};
+use std::marker::Model;
+
+/// A request that has arrived at a channel.
+#[derive(Clone, Copy, PartialEq, Eq, Debug)]
+pub struct Arrived {
+    pub request: Request,
+    /// Whether it waits: its data has not been moved.
+    pub waits: bool,
+    /// Whether an ACT was issued in its name.
+    pub activated: bool,
+}
+
+/// There are counters of rows for no more requests than these, so that those of a large queue take little memory.
+const ROOM_OF_ROWS: usize = 2048;
+
+/// The counter of a request among those of rows, which go up to `mask`.
+#[inline(always)]
+fn row_slot_of(request: Request, mask: usize) -> usize
+    ensures value { result ≡ slot_of_row mask request }
+    ensures within { result ≤ mask }
+{
+    let bank = bank_number(request.place);
+    row_slot(bank, request.write, request.place.row, mask)
+}
+
+/// The tag of a request that waits, which may be served or not.
+#[inline(always)]
+fn tag_of(eligible: bool, request: Request) -> u8
+    ensures { result ≡ tag_word eligible request.write (bank_number request.place) }
+{
+    tag_word(eligible, request.write, bank_number(request.place) as u64)
+}
+
+/// Moves the tags of the requests that wait to the front, in their order.
+fn keep_waiting(log: &[Arrived], tags: &mut Vec<u8>)
+    requires { length tags.old.items ≡ length log.now }
+    ensures items { tags.new.items ≡ waiting_items log.now tags.old.items }
+    ensures room { vec_capacity tags.new ≡ vec_capacity tags.old }
+{
+    let mut to = 0;
+    for from in 0..log.len() {
+        if log[from].waits {
+            tags[to] = tags[from];
+            to += 1;
+        }
+    }
+    tags.truncate(to);
+}
+
+/// The requests that have arrived at a channel, by age. A request that is served keeps its place, so that no other one moves, until there
+/// is no place left for one that arrives.
+#[derive(Drop)]
+pub struct RequestLog {
+    /// How many requests there are places for.
+    places: usize,
+    log: Vec<Arrived>,
+    /// For each request a byte that a search for a bank's requests looks for.
+    tags: Vec<u8>,
+    /// How many requests wait that are blocked by an older one of their line.
+    blocked: usize,
+    /// How many requests that wait are for the lines of each counter. There are so many counters that few count two lines.
+    lines: Vec<u16>,
+    /// The highest of these counters.
+    mask: usize,
+    /// How many requests that wait are for the rows of each counter, to write or to read.
+    rows: Vec<u16>,
+    /// The highest of these.
+    row_mask: usize,
+}
+
+impl Model for RequestLog {
+    ghost use Rattle.queue.specs.Log.{LogView};
+    ghost use Rattle.queue.specs.RequestLogKept.{AreKept};
+
+    ghost Value = { LogView };
+
+    ghost view = { λ l. record { places = l.places; log = l.log.items } };
+
+    ghost invariant = { AreKept };
+}
+
+impl RequestLog {
+    ghost use Rattle.std.specs.Prelude.{true, false, [], IfOk, IfSome};
+    ghost use Rattle.queue.specs.Log.{waiting, waiting_requests, with_arrival, served_at, activated_at, waits_at, eligible_column};
+    ghost use Rattle.queue.specs.Log.{is_eligible_at, marks_once_served};
+    ghost use Rattle.queue.specs.Columns.{tag_column, NoneAsksForRow};
+
+    /// No requests, with places for so many of them, of which at most `room` wait at a time. Only this call allocates memory.
+    #[tactic(auto, unfolding(crate::specs::Log::waiting, crate::specs::Log::eligible_column, crate::specs::Columns::tag_column))]
+    pub fn with_places(alloc: Global, places: usize, room: usize) -> Result<Self, AllocError>
+        requires { places < 2 ^ 16 - 1 }
+        ensures { IfOk result (λ log. log ≡ record { places = places; log = [] }) }
+    {
+        let (lines, mask) = counters(alloc, room)?;
+        let (rows, row_mask) = counters(alloc, room.min(ROOM_OF_ROWS))?;
+        Ok(RequestLog {
+            places,
+            log: Vec::with_capacity(alloc, places)?,
+            tags: Vec::with_capacity(alloc, places)?,
+            blocked: 0,
+            lines,
+            mask,
+            rows,
+            row_mask,
+        })
+    }
+
+    /// The requests that have arrived, by age.
+    #[inline(always)]
+    pub fn log(&self) -> &[Arrived]
+        ensures log { result.now ≡ self.now.log }
+        ensures short { length result.now < 2 ^ 16 - 1 }
+    {
+        &self.log
+    }
+
+    /// How many requests have arrived.
+    #[inline(always)]
+    pub fn len(&self) -> usize
+        ensures value { result ≡ length self.now.log }
+        ensures short { result < 2 ^ 16 - 1 }
+    {
+        self.log.len()
+    }
+
+    /// The tag of each request, by age, which says in one byte what a search for a bank asks for: of one that waits, bit 7 is 1 where it
+    /// may be served, bit 6 where it is a write, and bits 0 to 5 have the number of its bank modulo 64; one that was served has 127.
+    #[inline(always)]
+    pub fn tags(&self) -> &[u8]
+        ensures { result.now ≡ tag_column self.now.log }
+    {
+        &self.tags
+    }
+
+    /// Whether the request at a place waits, with no older one waiting for the same line.
+    #[inline(always)]
+    pub fn is_eligible(&self, slot: usize) -> bool
+        requires { slot < length self.now.log }
+        ensures { result ≡ is_eligible_at self.now.log slot }
+    {
+        128 <= self.tags[slot]
+    }
+
+    /// Whether some request that waits may ask for a row of a bank, to write or to read: false only where none does.
+    #[inline(always)]
+    pub fn may_ask(&self, bank: usize, write: bool, row: u32) -> bool
+        ensures { result ≡ false → NoneAsksForRow bank write row self.now.log }
+    {
+        self.rows[row_slot(bank, write, row, self.row_mask)] != 0
+    }
+
+    /// How many places are left.
+    #[inline(always)]
+    pub fn free(&self) -> usize
+        ensures { length self.now.log + result ≡ self.now.places }
+    {
+        self.places - self.log.len()
+    }
+
+    /// Takes in a request that is younger than all that have arrived.
+    #[inline(always)]
+    pub fn arrive(&mut self, request: Request)
+        requires { length self.old.log < self.old.places }
+        ensures { self.new ≡ record self.old { log = with_arrival self.old.log request } }
+    {
+        let line = line_slot(request.place, self.mask);
+        let alike = self.lines[line];
+        let asked = is_line_asked(request.place, alike, &self.log, &self.tags);
+        self.tags.push_reserved(tag_of(!asked, request));
+        self.log.push_reserved(Arrived {
+            request,
+            waits: true,
+            activated: false,
+        });
+        self.lines[line] = alike + 1;
+        let row = row_slot_of(request, self.row_mask);
+        let others = self.rows[row];
+        self.rows[row] = others + 1;
+        self.blocked += usize::from(asked);
+    }
+
+    /// Serves the request at a place, which no longer waits then. Returns the place of the next one for its line, if that was blocked by it
+    /// and may be served now.
+    #[inline(always)]
+    pub fn serve(&mut self, slot: usize) -> Option<usize>
+        requires within { slot < length self.old.log }
+        requires waits { waits_at self.old.log slot ≡ true }
+        ensures log { self.new ≡ record self.old { log = served_at self.old.log slot } }
+        ensures marks { eligible_column self.new.log ≡ marks_once_served self.old.log slot result }
+        ensures place { IfSome result (λ next. next < length self.new.log) }
+        ensures newly { IfSome result (λ next. is_eligible_at self.old.log next ≡ false) }
+    {
+        let was_first = self.is_eligible(slot);
+        let request = self.log[slot].request;
+        self.log[slot].waits = false;
+        self.tags[slot] = LEFT;
+        let line = line_slot(request.place, self.mask);
+        let alike = self.lines[line] - 1;
+        self.lines[line] = alike;
+        let row = row_slot_of(request, self.row_mask);
+        let others = self.rows[row] - 1;
+        self.rows[row] = others;
+        if !was_first {
+            self.blocked -= 1;
+            return None;
+        }
+        if self.blocked == 0 || alike == 0 {
+            return None;
+        }
+        let next = next_for_line(false, request.place, slot + 1, &self.log, &self.tags)?;
+        self.tags[next] = tag_of(true, self.log[next].request);
+        self.blocked -= 1;
+        Some(next)
+    }
+
+    /// Notes that an ACT was issued in the name of the request at a place.
+    #[inline(always)]
+    pub fn activate(&mut self, slot: usize)
+        requires { slot < length self.old.log }
+        ensures { self.new ≡ record self.old { log = activated_at self.old.log slot } }
+    {
+        self.log[slot].activated = true;
+    }
+
+    /// Moves those that wait to the front, in their order; those that were served lose their places.
+    #[inline(never)]
+    pub fn renumber(&mut self)
+        ensures { self.new ≡ record self.old { log = waiting self.old.log } }
+    {
+        keep_waiting(&self.log, &mut self.tags);
+        self.log.retain(|arrived| arrived.waits);
+    }
+
+    /// The requests that wait, by age.
+    pub fn waiting(&self, alloc: Global) -> Result<Vec<Request>, AllocError>
+        ensures { IfOk result (λ requests. requests.items ≡ waiting_requests self.now.log) }
+    {
+        let mut requests = Vec::new(alloc);
+        for arrived in &self.log {
+            if arrived.waits {
+                requests.push(arrived.request)?;
+            }
+        }
+        Ok(requests)
+    }
+}

@@ -1,0 +1,89 @@
+//! Which requests wait for a line, and counters of the requests for a line, or for a row.
+
+ghost use Rattle.std.specs.Prelude.{◌≡◌, ◌<◌, ◌^◌, [], false, IfOk, length};
+ghost use Rattle.sim_base.specs.Scheduling.{asks_for_line};
+ghost use Rattle.queue.specs.Log.{is_for, waiting_requests};
+ghost use Rattle.queue.specs.Columns.{tag_column, slot_of_line, slot_of_row, AreCounted};
+ghost use Rattle.queue.specs.Lines.{IsFirstTold};
+
+use crate::request_log::Arrived;
+use crate::request_log::words::{bank_number, tag_word};
+use memchr::memchr2;
+use sim_base::place::Place;
+use std::alloc::{AllocError, Global};
+
+/// Whether a request waits for the line of a place.
+#[inline(always)]
+fn is_for(place: Place, arrived: Arrived) -> bool
+    ensures { result ≡ is_for place arrived }
+{
+    arrived.waits && arrived.request.place.is_line(place)
+}
+
+/// The place of the first request from a place on that waits for a line, of those that may be served, or else of those that may not.
+/// Their tags are searched for, which most other requests do not have.
+#[inline(never)]
+pub(crate) fn next_for_line(
+    eligible: bool,
+    place: Place,
+    from: usize,
+    log: &[Arrived],
+    tags: &[u8],
+) -> Option<usize>
+    requires { length tags.now ≡ length log.now }
+    ensures { IsFirstTold eligible place log.now tags.now from result }
+{
+    let bank = bank_number(place) as u64;
+    let read = tag_word(eligible, false, bank);
+    let write = tag_word(eligible, true, bank);
+    let mut at = from;
+    while at < tags.len() {
+        let Some(next) = memchr2(read, write, &tags[at..]) else {
+            return None;
+        };
+        at += next;
+        if is_for(place, log[at]) {
+            return Some(at);
+        }
+        at += 1;
+    }
+    None
+}
+
+/// Whether a request that waits asks for the line of a place. `alike` is 0 only where none does. The oldest that does may be served.
+#[inline(always)]
+pub(crate) fn is_line_asked(place: Place, alike: u16, log: &[Arrived], tags: &[u8]) -> bool
+    requires alike { alike ≡ 0 → asks_for_line place (waiting_requests log.now) ≡ false }
+    requires tags { tags.now ≡ tag_column log.now }
+    ensures { result ≡ asks_for_line place (waiting_requests log.now) }
+{
+    alike != 0 && next_for_line(true, place, 0, log, tags).is_some()
+}
+
+/// From so many requests on there are fewer counters for each.
+const MANY: usize = 4_096;
+
+/// How many counters there are at least for so many requests: 16 for each, or 4 where they are many, since few queues are ever nearly full.
+fn wanted_for(room: usize) -> usize
+    ensures { result < 2 ^ 30 }
+{
+    if room <= MANY {
+        room * 16
+    } else {
+        room.min(1 << 20) * 4
+    }
+}
+
+/// Counters that count nothing, for `room` requests, and the highest of them: a power of two of them, so that few requests share one.
+pub(crate) fn counters(alloc: Global, room: usize) -> Result<(Vec<u16>, usize), AllocError>
+    ensures masked { IfOk result (λ made. made.1 < length made.0.items) }
+    ensures lines { IfOk result (λ made. AreCounted (slot_of_line made.1) made.0.items []) }
+    ensures rows { IfOk result (λ made. AreCounted (slot_of_row made.1) made.0.items []) }
+{
+    let wanted = wanted_for(room);
+    let mut mask = 255;
+    while mask < wanted {
+        mask = mask * 2 + 1;
+    }
+    Ok((vec![in alloc; 0; mask + 1]?, mask))
+}

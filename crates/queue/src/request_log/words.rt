@@ -1,0 +1,63 @@
+//! The words of a request beside the log.
+
+ghost use Rattle.std.specs.Prelude.{◌≡◌, ◌<◌, ◌≤◌, ◌^◌};
+ghost use Rattle.queue.specs.Marks.{mark};
+ghost use Rattle.queue.specs.Columns.{bank_number, tag_word, line_slot, row_slot};
+
+use sim_base::place::Place;
+
+/// The tag of a request that was served: no request that may be served has it.
+pub(crate) const LEFT: u8 = 127;
+
+/// The number of the bank of a place, whose row has 32 bits.
+#[inline(always)]
+pub fn bank_number(place: Place) -> usize
+    ensures number { result ≡ bank_number place }
+    ensures row { place.row < 2 ^ 32 }
+    ensures small { result < 2 ^ 40 }
+{
+    (place.rank as usize * 4 + place.group as usize) * 4 + place.bank as usize
+}
+
+/// The word that says whether a test holds.
+#[inline(always)]
+fn mark(test: bool) -> u64
+    ensures { result ≡ mark test }
+{
+    if test { 1 } else { 0 }
+}
+
+/// A tag of these parts: bit 7 says whether a request may be served, bit 6 whether it writes, and bits 0 to 5 have the number of
+/// its bank modulo 64.
+#[inline(always)]
+pub fn tag_word(eligible: bool, write: bool, bank: u64) -> u8
+    ensures { result ≡ tag_word eligible write bank }
+{
+    let flags = mark(eligible) * 2 + mark(write);
+    (flags * 64 + bank % 64) as u8
+}
+
+/// One of the counters up to `mask`, the same for all places of a line.
+#[tactic(auto, unfolding(crate::specs::Columns::line_slot))]
+#[inline(always)]
+pub(crate) fn line_slot(place: Place, mask: usize) -> usize
+    ensures value { result ≡ line_slot mask place }
+    ensures within { result ≤ mask }
+{
+    let bank = bank_number(place) as u64;
+    let line = (u64::from(place.row) * 128 + bank) * 1024 + u64::from(place.column);
+    (line.wrapping_mul(11_400_714_819_323_198_485) >> 32) as usize & mask
+}
+
+/// One of the counters up to `mask`, the same for all requests for a row of a bank, to write or to read: those to write have the
+/// counter behind that of those to read.
+#[tactic(auto, unfolding(crate::specs::Columns::row_slot))]
+#[inline(always)]
+pub(crate) fn row_slot(bank: usize, write: bool, row: u32, mask: usize) -> usize
+    ensures value { result ≡ row_slot mask bank write row }
+    ensures within { result ≤ mask }
+{
+    let row = (u64::from(row) * 128).wrapping_add(bank as u64);
+    let slot = (row.wrapping_mul(11_400_714_819_323_198_485) >> 32) + mark(write);
+    slot as usize & mask
+}

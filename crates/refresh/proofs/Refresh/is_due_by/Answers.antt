@@ -1,9 +1,0 @@
-use Rattle.std.proofs.Common.{sym, subst, arith}
-use Rattle.refresh.specs.Refreshes.{IsQuietTo}
-use Rattle.refresh.proofs.Due.{due_by_is}
-use Rattle.refresh.proofs.Refresh.is_due_by.Goals as goal
-
-pub returns : goal.returns
-returns c =
-    let quiet = c.self.inside.quiet_to in
-    sym (due_by_is c.args.self.now quiet c.args.cycle (omega arith) (subst (λ v. IsQuietTo v quiet) c.self.view_is c.self.invariant.is_quiet_to))

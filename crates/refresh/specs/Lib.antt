@@ -1,2 +1,0 @@
-pub mod Refreshes
-pub mod Kept

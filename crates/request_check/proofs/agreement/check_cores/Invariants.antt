@@ -1,7 +1,0 @@
--- Each core so far is told.
-use Rattle.std.proofs.Common.{ℕ, ◌<◌}
-use Rattle.request_check.specs.Agreement.{IsCoreOfRun}
-use Rattle.request_check.proofs.agreement.check_cores.Given as goal
-
-abbrev pub invariant-loop-core : goal.invariant-loop-core
-invariant-loop-core l = (core : ℕ) → core < l.core → IsCoreOfRun l.stats l.requests core

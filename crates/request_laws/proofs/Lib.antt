@@ -1,3 +1,0 @@
-pub mod Dated
-pub mod Adding
-pub mod Serving

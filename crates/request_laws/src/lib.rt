@@ -1,7 +1,0 @@
-//! Laws of the one-clock machine about the requests of a run, which the table of requests needs.
-//! Each is a public function with an empty body, whose contract is the law.
-#![tactic(auto)]
-
-pub mod arrivals;
-pub mod served;
-pub mod timed;

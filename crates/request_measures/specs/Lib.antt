@@ -1,2 +1,0 @@
-pub mod Latency
-pub mod Waiting

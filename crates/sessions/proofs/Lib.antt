@@ -1,0 +1,14 @@
+pub mod Lists
+pub mod Asked
+pub mod Waiting
+pub mod Naming
+pub mod Sending
+pub mod Advancing
+pub mod Answering
+pub mod Ahead
+pub mod Placing
+pub mod Earliest
+pub mod Acts
+pub mod Changed
+pub mod Kept
+pub mod Next

@@ -1,0 +1,55 @@
+use Rattle.std.proofs.Common.{◌≡◌, ◌++◌, ◌∙◌, take, drop, refl, sym, subst, ap}
+use Rattle.channel_step.specs.Fit.{IsFit}
+use Rattle.channel_step.specs.Runs.{CanRun, IsDone}
+use Rattle.sessions.specs.Keeps.{steps_of}
+use Rattle.sessions.proofs.Advancing.{keeps-at, keeps-fit, can-run, has-gone}
+use Rattle.sessions.proofs.Answering.{cut-at, ran-session, given-back, left-behind, still-within}
+use Rattle.sessions.proofs.channel_session.session.Session.advance.Goals as goal
+
+pub run-requires-clause-can_run : goal.run-requires-clause-can_run
+run-requires-clause-can_run c =
+    let session = c.args.self.now in
+    let p = c.requires.open.past in
+    let k = c.requires.open.is_session.keeps in
+    let count = c.due_count-due.result in
+    let until = c.args.until in
+    let inbox = take count session.coming.items in
+    let rest = drop count session.coming.items in
+    let cut = cut-at until session.coming.items count k.by_age c.due_count-due.ensures in
+    subst (λ x. CanRun session.channel (take count x) session.cycle until) (sym c.deref.ensures.value)
+    (can-run session.channel p.s p.channel session.cycle session.firsts.items p.sent session.coming.items inbox rest until k cut c.requires.span)
+
+pub returns-clause-done : goal.returns-clause-done
+returns-clause-done c p h =
+    let session = c.args.self.now in
+    let k = h.keeps in
+    let count = c.due_count-due.result in
+    let until = c.args.until in
+    let inbox = take count session.coming.items in
+    let rest = drop count session.coming.items in
+    let steps = steps_of p.s p.channel p.sent session.cycle in
+    let cut = cut-at until session.coming.items count k.by_age c.due_count-due.ensures in
+    let fit = keeps-fit session.channel p.s p.channel session.cycle session.firsts.items p.sent session.coming.items inbox rest until k cut c.requires.span in
+    let lent : take count c.deref.result.now ≡ inbox = ap (take count) c.deref.ensures.value in
+    let done = (c.in_ok-run.ensures {u = tt}) p.s p.channel steps k.mail k.stands (keeps-at p.s p.channel session.cycle p.sent)
+    (subst (λ x. IsFit p.s p.channel steps k.mail x session.cycle until) (sym lent) fit) in
+    let finished : IsDone c.run.new.self p.s p.channel steps k.mail inbox session.cycle until c.hand_out-commands.result c.run.new.commands c.forget_taken-2.new.self.all.items c.run.new.messages.items =
+    subst (λ x. IsDone c.run.new.self p.s p.channel steps k.mail x session.cycle until c.hand_out-commands.result c.run.new.commands c.forget_taken-2.new.self.all.items c.run.new.messages.items) lent done in
+    let gone = has-gone session.channel c.run.new.self p.s p.channel session.cycle session.firsts.items p.sent session.coming.items inbox rest until _ _ _ _ k cut c.requires.span c.requires.until finished in
+    let forgot = c.in_ok-forget_taken.ensures {u = tt} in
+    let kept = c.forget_taken-2.new.self in
+    let behind = given-back c.forget_taken.new.self c.take_back.new.self c.hand_out-commands.result c.run.new.commands _ finished.issued c.hand_out-commands.ensures.list finished.commands_behind
+    c.take_back.ensures.list (c.take_back.ensures.taken ∙ c.hand_out-commands.ensures.taken) (forgot.within h.has_commands) forgot.left in
+    ran-session session _ p until rest finished.issued finished.sent h
+    (record {
+      config_is = refl;
+      number_is = refl;
+      cycle_is = refl;
+      firsts_are = refl;
+      coming_are = c.remove_front.ensures;
+      commands_are = behind.0;
+      replies_are = left-behind kept.taken kept.all.items c.run.new.messages.items _ finished.sent c.forget_taken-2.ensures.within finished.messages_behind c.forget_taken-2.ensures.left;
+      has_commands = behind.1;
+      has_replies = still-within kept.taken kept.all.items c.run.new.messages.items finished.sent c.forget_taken-2.ensures.within finished.messages_behind;
+    })
+    gone

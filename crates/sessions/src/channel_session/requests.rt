@@ -1,0 +1,59 @@
+//! A request as it is sent to a session, and the message that carries it.
+
+ghost use Rattle.std.specs.Prelude.{◌≡◌};
+ghost use Rattle.sim_base.specs.Places.{place_of};
+ghost use Rattle.sessions.specs.Sent.{request_of, message_of};
+
+use sim_base::config::Config;
+use sim_base::message::{ChannelId, CoreId, Cycle, Load, Message, Request};
+use sim_base::place::Place;
+
+/// A request as it is sent: a Read or Write of the line of 64 bytes at an address, for an entry of a core's trace, and
+/// the cycle in which it arrives at the channel.
+#[derive(Clone, Copy)]
+pub struct SentRequest {
+    pub core: CoreId,
+    /// The entry's number in the trace, below 2^64 - 1.
+    pub entry: u64,
+    /// Whether it is a Write.
+    pub write: bool,
+    /// The address of a byte of the line.
+    pub address: u64,
+    /// The cycle in which the channel may first serve it.
+    pub arrival: Cycle,
+}
+
+/// The request with its place and link.
+fn request_of(config: &Config, number: ChannelId, sent: &SentRequest, place: Place) -> Request
+    requires { place ≡ place_of config.now sent.now.address }
+    ensures { result ≡ request_of config.now number sent.now }
+{
+    Request {
+        core: sent.core,
+        write: sent.write,
+        entry: sent.entry,
+        address: sent.address,
+        place,
+        arrival: sent.arrival,
+        link: config.request_link(sent.core, number),
+    }
+}
+
+/// The message that carries a request to the channel with a number, on the link of its core. The place is that of its
+/// address.
+pub(crate) fn message_of(
+    config: &Config,
+    number: ChannelId,
+    sent: &SentRequest,
+    place: Place,
+) -> Message
+    requires { place ≡ place_of config.now sent.now.address }
+    ensures { result ≡ message_of config.now number sent.now }
+{
+    let request = request_of(config, number, sent, place);
+    Message {
+        link: request.link,
+        arrival: request.arrival,
+        load: Load::Request(request),
+    }
+}
