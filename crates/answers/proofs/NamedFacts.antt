@@ -1,6 +1,7 @@
 -- What a configuration that may be named adds to what is read, and to why it is refused.
 use Rattle.std.proofs.Common.{◌≡◌, ◌≢◌, ◌⊎◌, inl, inr, ℕ, List, [], ◌∷◌, Option, Some, None, Result, Ok, Err, sym, ap, ap₂, ◌∙◌, arith}
 use Rattle.std.specs.Result.{IfOk}
+use Rattle.std.specs.Prelude.{IfErr, OnOk, IsOkAnd, IsErrAnd}
 use Rattle.sim_base.specs.declared.command.IssuedCommand.{IssuedCommand}
 use Rattle.sim_base.specs.declared.config.Config.{Config}
 use Rattle.sim_base.specs.declared.fault.Fault.{Fault}
@@ -152,6 +153,19 @@ row_of_right (a ∷ b ∷ c ∷ d ∷ rest) row right = absurd right
 pub both_ok : {T E : Type 0} (r : Result T E) (P Q R : T → Type 0) → ((x : T) → P x → Q x → R x) → IfOk r P → IfOk r Q → IfOk r R
 both_ok (Ok x) P Q R f p q = f x p q
 both_ok (Err e) P Q R f p q = tt
+
+-- a result that is given on
+pub ok_with : {T E : Type 0} (r : Result T E) (P Q : T → Type 0) → IfOk r P → IsOkAnd r Q → (x : T) × P x × Q x
+ok_with (Ok x) P Q p q = (x, p, q)
+ok_with (Err e) P Q p q = absurd q
+
+pub ok_so : {T E : Type 0} {A : Type 0} (r : Result T E) (Q : T → Type 0) → OnOk r A → IsOkAnd r Q → A
+ok_so (Ok x) Q a q = a
+ok_so (Err e) Q a q = absurd q
+
+pub err_with : {T E : Type 0} (r : Result T E) (P : E → Type 0) (e : E) → IfErr r P → IsErrAnd r (λ f. e ≡ f) → P e
+err_with (Ok x) P e p q = absurd q
+err_with (Err f) P e p q = rw q p
 
 show_texts : (tells : Type 0) (old mid : Held) (config document : Option (List ℕ)) (path table : List ℕ) → IsNamedText tells old config document → (tells → SameFiles old mid)
     → (tells → mid path ≡ Some table) → AreTexts tells old (with_config config (path ∷ [])) (with_config document (table ∷ []))

@@ -26,18 +26,19 @@ use Rattle.sim_base.specs.declared.fault.Fault.TheVariants.{Memory}
 use Rattle.sim_base.specs.declared.place.Place.{Place}
 use Rattle.statistics.specs.Values.{RunStats}
 use Rattle.whole_files.specs.Tables.{path_in, commands_name}
-use Rattle.whole_files.specs.WholeFile.{IsUnwritten}
+use Rattle.whole_files.specs.WholeFile.{IsUnwritten, IsWhole}
 use Rattle.whole_files.specs.declared.files.FileSet.{Ghosts as Files}
 use Rattle.answers.specs.Answers.{IsVerdict, IsChecked, IsPlace, IsMapped, IsStatsOf, IsShown, stats_path, stats_table, AreStatsOf, IsCompared}
 use Rattle.answers.specs.Banks.{IsShownWithBanks}
 use Rattle.answers.specs.Named.{with_config, IsNamedText, IsConfiguredBy, IsConfigured}
-use Rattle.answers.specs.Pages.{AreTablesIn, AreTablesAt, IsPageDone}
-use Rattle.answers.specs.Refused.{IsTableFault, IsRightTable, IsMapFault, IsRightMap, IsShowFault, IsRightShow, IsPageFault, IsRightPage, IsCompareFault, IsRightCompare, IsFilesFault, IsInputFault, IsReady, IsAnswerFault}
-use Rattle.answers.specs.Requests.{requests_path, AreRequestsAt, IsRequestsFault, AddsRequests, IsRunScreen, IsRunBanksScreen, IsTailIn, AreTails}
+use Rattle.answers.specs.Pages.{AreTablesIn, AreTablesAt, IsNoPage, IsPageDone}
+use Rattle.answers.specs.Refused.{IsTableFault, IsRightTable, IsMapFault, IsRightMap, IsShowFault, IsRightShow, IsPageFault, IsRightPage, IsCompareFault, IsRightCompare, IsFilesFault, IsInputFault, IsReady, IsAnswerFault, IsRowRefusal}
+use Rattle.answers.specs.Requests.{requests_path, AreRequestsAt, IsRequestsFault, AddsRequests, IsRunScreen, IsRunBanksScreen, IsScreenAt, IsBanksScreenAt, HoldsSomeRequests, IsTailIn, AreTails}
 use Rattle.answers.specs.declared.comparisons.StatsTable.{StatsTable}
 use Rattle.answers.specs.declared.described.FileText.{FileText}
 use Rattle.answers.specs.declared.described.RunRecord.{RunRecord}
 use Rattle.answers.specs.declared.folder.RunFolder.{RunFolder}
+use Rattle.answers.specs.declared.pages.Page.{Page}
 use Rattle.answers.specs.declared.tables.RunTables.{RunTables}
 
 -- ---- what stands behind references and in vectors
@@ -78,7 +79,7 @@ Prints stream old new text = Appends (stream.contents old) (stream.contents new)
 abbrev pub IsUnread : {S O : Type 0} → Files S O → S → List (List ℕ) → Fault → Type 0
 IsUnread set files paths fault = IsFilesFault set.tells (set.held files) paths fault
 
--- the same of the file of a configuration, where one is named
+-- memory was refused, or the file of a configuration cannot be read, where one is named
 abbrev pub IsUnreadConfig : {S O : Type 0} → Files S O → S → Option (Bor (List ℕ)) → Fault → Type 0
 IsUnreadConfig set files config fault = IsUnread set files (with_config (path_of config) []) fault
 
@@ -175,7 +176,7 @@ RefusesMap set files config fault = IsAnswerFault set.tells (set.held files) (co
 abbrev pub ReadsRequests : {S O : Type 0} → Files S O → S → List ℕ → RunStats → Option (Vec RequestTimes Global) → Type 0
 ReadsRequests set files path stats found = set.tells → AreRequestsAt (set.held files path) stats (rows_in found)
 
--- the same from a folder
+-- these are the requests of a run, from its folder; none where that has no table of them
 abbrev pub FindsRequests : {S O : Type 0} → Files S O → S → List ℕ → RunStats → Option (Vec RequestTimes Global) → Type 0
 FindsRequests set files dir stats found = ReadsRequests set files (requests_path dir) stats found
 
@@ -183,7 +184,7 @@ FindsRequests set files dir stats found = ReadsRequests set files (requests_path
 abbrev pub BarsRequests : {S O : Type 0} → Files S O → S → List ℕ → RunStats → Fault → Type 0
 BarsRequests set files path stats fault = set.tells → IsRequestsFault (set.held files path) stats fault
 
--- the same of a folder
+-- why the table of requests in a folder gives none of a run
 abbrev pub BarsRequestsIn : {S O : Type 0} → Files S O → S → List ℕ → RunStats → Fault → Type 0
 BarsRequestsIn set files dir stats fault = BarsRequests set files (requests_path dir) stats fault
 
@@ -220,6 +221,10 @@ BarsShowIn set files folder fault = BarsShow set files folder.config (stats_path
 abbrev pub IsScreenOf : RunRecord → Option (Vec RequestTimes Global) → String Global → Type 0
 IsScreenOf run requests text = IsRunScreen run.stats (rows_in requests) (string_bytes text)
 
+-- the screen of the run in a folder, with what there is to say of its requests
+abbrev pub IsScreenIn : {S O : Type 0} → Files S O → S → List ℕ → RunRecord → String Global → Type 0
+IsScreenIn set files dir run text = set.tells → IsScreenAt (set.held files (requests_path dir)) run.stats (string_bytes text)
+
 -- the screen of the run in a folder was printed
 abbrev pub Shows : {S O : Type 0} → Files S O → S → RunFolder → (List ℕ → Type 0) → Type 0
 Shows set files folder printed = set.tells → IsShown folder.dir.now (path_of folder.config) (set.held files) printed
@@ -235,7 +240,7 @@ RefusesShow set files folder fault =
 abbrev pub AreTablesOf : {S O : Type 0} → Files S O → S → List ℕ → List ℕ → RunTables → Type 0
 AreTablesOf set files stats commands found = set.tells → AreTablesAt stats commands (set.held files) found.run.stats found.commands
 
--- the same from a folder
+-- the tables of a run, from its folder
 abbrev pub AreTablesInFolder : {S O : Type 0} → Files S O → S → RunFolder → RunTables → Type 0
 AreTablesInFolder set files folder found = AreTablesOf set files (stats_path folder.dir.now) (commands_path folder.dir.now) found
 
@@ -263,6 +268,23 @@ HasOwnCommands found = (place : ℕ) → IsOfRunAt found.run.stats found.command
 -- the screen of a run and its banks, with what there is to say of its requests
 abbrev pub IsBanksScreenOf : RunTables → Option (Vec RequestTimes Global) → String Global → Type 0
 IsBanksScreenOf found requests text = IsRunBanksScreen found.run.stats found.commands (rows_in requests) (string_bytes text)
+
+-- the screen of the run in a folder and its banks, with what there is to say of its requests
+abbrev pub IsBanksScreenIn : {S O : Type 0} → Files S O → S → List ℕ → RunTables → String Global → Type 0
+IsBanksScreenIn set files dir found text =
+    set.tells → IsBanksScreenAt (set.held files (requests_path dir)) found.run.stats found.commands (string_bytes text)
+
+-- a folder has the requests of a run, or none
+abbrev pub FindsSomeRequests : {S O : Type 0} → Files S O → S → List ℕ → RunStats → Type 0
+FindsSomeRequests set files dir stats = set.tells → HoldsSomeRequests (set.held files (requests_path dir)) stats
+
+-- why neither a screen of banks nor a page is made of the tables of a run: its requests are refused, or its commands
+abbrev pub IsNoScreen : RunTables → Fault → Type 0
+IsNoScreen found fault = ((fault ≡ Memory) ⊎ IsRowRefusal fault) ⊎ IsNoPage found.run.stats found.commands fault
+
+-- a page is in its place, with this warning
+abbrev pub PutsPage : {S O : Type 0} → Files S O → S → S → List ℕ → Option LargePage → Page → Type 0
+PutsPage set old new file warning page = (warning ≡ page.warning) × (set.tells → IsWhole file page.text.items (set.held old) (set.held new))
 
 -- the screen of the run in a folder and its banks was printed
 abbrev pub ShowsBanks : {S O : Type 0} → Files S O → S → RunFolder → (List ℕ → Type 0) → Type 0
@@ -310,7 +332,7 @@ BarsCompare set files dirs fault = IsInputFault set.tells (set.held files) (stat
 abbrev pub IsTailInFolder : {S O : Type 0} → Files S O → S → List ℕ → RunStats → Option (Option ℕ) → Type 0
 IsTailInFolder set files dir stats found = set.tells → IsTailIn (set.held files (requests_path dir)) stats found
 
--- the same of each of the runs in folders, or none
+-- the 99th percentile of each of the runs in folders, if each has a table of requests; else none
 abbrev pub AreTailsIn : {S O : Type 0} → Files S O → S → List (Bor (List ℕ)) → List RunStats → Vec (Option ℕ) Global → Type 0
 AreTailsIn set files dirs runs tails = set.tells → AreTails (paths_of dirs) (set.held files) runs tails.items
 

@@ -40,7 +40,7 @@ pub record IsConfigOf (path : List ℕ) (held : Held) (stats : RunStats) : Type 
   pub configured : document_of document ≡ Ok (values_of machine)
   pub fits : Fits machine stats
 
--- the same, where one is named
+-- the file of a configuration holds one that the run fits, where one is named
 abbrev pub IsConfigured : Option (List ℕ) → Held → RunStats → Type 0
 IsConfigured None held stats = ⊤
 IsConfigured (Some path) held stats = IsConfigOf path held stats

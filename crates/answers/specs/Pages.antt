@@ -28,7 +28,7 @@ pub record AreTablesIn (stats_table commands_table : List ℕ) (stats : RunStats
   pub count_is : length (records_of commands_table) ≡ length commands + 1
   pub rising : IsRising commands
 
--- the same for the tables that two files hold
+-- the tables that two files hold are those of these statistics and commands
 pub record AreTablesAt (stats_path commands_path : List ℕ) (held : Held) (stats : RunStats) (commands : List IssuedCommand) : Type 0 where
   pub stats_table : List ℕ
   pub commands_table : List ℕ

@@ -107,7 +107,7 @@ pub record IsStatsTable (table : List ℕ) : Type 0 where
   pub stats : RunStats
   pub rows_are : records_of table ≡ stats_header ∷ stats_rows stats
 
--- the same under a configuration that is right and has the run's numbers of cores and channels
+-- the records of a table are just those of statistics, under a configuration that is right and has the run's numbers of cores and channels
 pub record IsStatsUnder (document table : List ℕ) : Type 0 where
   pub machine : Config
   pub stats : RunStats
@@ -167,7 +167,7 @@ pub record IsReady (tells : Type 0) (held : Held) (paths : List (List ℕ)) (is_
 abbrev pub IsInputFault : Type 0 → Held → List (List ℕ) → (List (List ℕ) → Fault → Type 0) → Fault → Type 0
 IsInputFault tells held paths is_fault fault = IsFilesFault tells held paths fault ⊎ IsFoundFault tells held paths is_fault fault
 
--- the same; or nothing is wrong with it, and the answer cannot be written
+-- the input is refused; or nothing is wrong with it, and the answer cannot be written
 abbrev pub IsAnswerFault : Type 0 → Held → List (List ℕ) → (List (List ℕ) → Fault → Type 0) → (List (List ℕ) → Type 0) → Fault → Type 0
 IsAnswerFault tells held paths is_fault is_right fault =
     IsInputFault tells held paths is_fault fault ⊎ ((fault ≡ Write) × IsReady tells held paths is_right)

@@ -35,7 +35,7 @@ pub record AreRequestsOf (table : List ℕ) (stats : RunStats) (requests : List 
   pub is_table : IsRequestTable (records_of table) requests
   pub of_run : AreOfRun stats requests
 
--- the same of what a path holds; none where it holds no file
+-- a path holds these requests of the run; none where it holds no file
 abbrev pub AreRequestsAt : Option (List ℕ) → RunStats → Option (List RequestTimes) → Type 0
 AreRequestsAt None stats None = ⊤
 AreRequestsAt (Some table) stats (Some requests) = AreRequestsOf table stats requests
@@ -56,7 +56,7 @@ IsNoRequests table stats (CheckRow row) = IsFirstWrong HoldsRequests (records_of
 IsNoRequests table stats Memory = ⊤
 IsNoRequests table stats _ = ⊥
 
--- the same of what a path holds
+-- why what a path holds gives no requests of the run
 abbrev pub IsRequestsFault : Option (List ℕ) → RunStats → Fault → Type 0
 IsRequestsFault (Some table) stats fault = IsNoRequests table stats fault
 IsRequestsFault None stats fault = fault ≡ Memory
@@ -78,7 +78,13 @@ pub record IsRunScreen (stats : RunStats) (requests : Option (List RequestTimes)
   pub requests_shown : AreShown requests below
   pub text_is : text ≡ above ++ below
 
--- the same with the banks of the run
+-- the screen of a run, and behind it what there is to say of the requests that a path holds
+pub record IsScreenAt (found : Option (List ℕ)) (stats : RunStats) (text : List ℕ) : Type 0 where
+  pub requests : Option (List RequestTimes)
+  pub requests_are : AreRequestsAt found stats requests
+  pub screen : IsRunScreen stats requests text
+
+-- the screen of a run and its banks, and behind it what there is to say of its requests
 pub record IsRunBanksScreen (stats : RunStats) (commands : List IssuedCommand) (requests : Option (List RequestTimes)) (text : List ℕ) : Type 0 where
   pub above : List ℕ
   pub below : List ℕ
@@ -86,22 +92,33 @@ pub record IsRunBanksScreen (stats : RunStats) (commands : List IssuedCommand) (
   pub requests_shown : AreShown requests below
   pub text_is : text ≡ above ++ below
 
+-- the screen of a run and its banks, and behind it what there is to say of the requests that a path holds
+pub record IsBanksScreenAt (found : Option (List ℕ)) (stats : RunStats) (commands : List IssuedCommand) (text : List ℕ) : Type 0 where
+  pub requests : Option (List RequestTimes)
+  pub requests_are : AreRequestsAt found stats requests
+  pub screen : IsRunBanksScreen stats commands requests text
+
+-- a path holds the requests of a run, or none
+pub record HoldsSomeRequests (found : Option (List ℕ)) (stats : RunStats) : Type 0 where
+  pub requests : Option (List RequestTimes)
+  pub requests_are : AreRequestsAt found stats requests
+
 -- the 99th percentile of the latencies of these requests, if a read was answered
 abbrev pub IsTailOf : List RequestTimes → Option ℕ → Type 0
 IsTailOf requests tail = MatchOption tail (read_latencies requests ≡ []) (IsPercentile (read_latencies requests) 99)
 
--- the same of the requests that a path holds
+-- the 99th percentile of the latencies of the requests that a path holds, if a read was answered
 pub record IsTailAt (found : Option (List ℕ)) (stats : RunStats) (tail : Option ℕ) : Type 0 where
   pub requests : List RequestTimes
   pub requests_are : AreRequestsAt found stats (Some requests)
   pub tail_is : IsTailOf requests tail
 
--- the same, if it holds a file
+-- the percentile of the requests that a path holds; none where it holds no file
 abbrev pub IsTailIn : Option (List ℕ) → RunStats → Option (Option ℕ) → Type 0
 IsTailIn found stats (Some tail) = IsTailAt found stats tail
 IsTailIn found stats None = found ≡ None
 
--- the same of each folder, in which its run's tables are
+-- the folder of each run has requests, and these are their 99th percentiles
 pub record HaveTails (dirs : List (List ℕ)) (held : Held) (runs : List RunStats) (tails : List (Option ℕ)) : Type 0 where
   pub count : length tails ≡ length dirs
   pub tails_are : (k : ℕ) (dir : List ℕ) (run : RunStats) (tail : Option ℕ) → slice_get dirs k ≡ Some dir → slice_get runs k ≡ Some run → slice_get tails k ≡ Some tail

@@ -2,11 +2,11 @@
 
 ghost use Rattle.std.specs.Prelude.{◌≡◌, IfOk, IfErr, OnOk};
 ghost use Rattle.whole_files.specs.Files.{SameFiles};
-ghost use Rattle.answers.specs.Inputs.{Prints, HasOwnCommands, IsBanksScreenOf, ShowsBanks, RefusesPage};
+ghost use Rattle.answers.specs.Inputs.{Prints, HasOwnCommands, IsBanksScreenOf, IsBanksScreenIn, IsNoScreen, ShowsBanks, RefusesPage};
 ghost use Rattle.answers.specs.Pages.{IsNoPage};
 
 use crate::folder::RunFolder;
-use crate::print::print_text;
+use crate::print::print_screen;
 use crate::requests::{add_requests, requests_in};
 use crate::tables::{RunTables, stranger, tables_in};
 use page::fault::PageFault;
@@ -33,7 +33,7 @@ fn check_of_run(alloc: Global, dir: &str, found: &RunTables) -> Result<(), Reaso
     }
 }
 
-// The screen of a run, and its banks.
+// The screen of a run and its banks, with what there is to say of its requests.
 fn screen_of(
     alloc: Global,
     dir: &str,
@@ -50,6 +50,24 @@ fn screen_of(
     let mut text = show_banks(alloc, &found.run.stats, &found.commands, options, config)?;
     add_requests(alloc, &found.run.stats, requests, options, &mut text)?;
     Ok(text)
+}
+
+// The screen of the run in a folder and its banks, with what there is to say of its requests.
+fn screen_in<F: FileSet>(
+    alloc: Global,
+    files: &mut F,
+    dir: &str,
+    found: &RunTables,
+    options: Options,
+) -> Result<String, Reason>
+    ensures of_run { OnOk result (HasOwnCommands found.now) }
+    ensures screen { IfOk result (IsBanksScreenIn F.FileSet files.old dir.now found.now) }
+    ensures fault { IfErr result (IsNoScreen found.now) }
+    ensures same { F.tells → SameFiles (F.held files.old) (F.held files.new) }
+    ensures unopened { F.tells → F.opened files.new ≡ F.opened files.old }
+{
+    let requests = requests_in(alloc, files, dir, &found.run.stats)?;
+    screen_of(alloc, dir, found, &requests, options)
 }
 
 /// `show DIR --banks [--all] [--config FILE] [--mhz N]`: prints what the run did whose tables are in a folder, and what
@@ -75,7 +93,6 @@ pub fn perform_show_banks<F: FileSet, P: Write>(
     ensures unopened { F.tells → F.opened files.new ≡ F.opened files.old }
 {
     let found = tables_in(alloc, files, folder)?;
-    let requests = requests_in(alloc, files, folder.dir, &found.run.stats)?;
-    let screen = screen_of(alloc, folder.dir, &found, &requests, options)?;
-    print_text(alloc, output, screen.as_str())
+    let screen = screen_in(alloc, files, folder.dir, &found, options);
+    print_screen(alloc, output, screen)
 }

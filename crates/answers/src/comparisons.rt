@@ -99,7 +99,7 @@ fn tail_of(alloc: Global, requests: &[RequestTimes]) -> Result<Option<Cycle>, Al
     }
 }
 
-// The same of the run in a folder, where that has a table of requests.
+// The 99th percentile of the read latencies of the run in a folder, where that has a table of requests.
 fn tail_in<F: FileSet>(
     alloc: Global,
     files: &mut F,
@@ -117,7 +117,7 @@ fn tail_in<F: FileSet>(
     }
 }
 
-// The same of the runs in folders, if each has one; else none.
+// The 99th percentile of each of the runs in folders, if each has a table of requests; else none.
 fn tails_in<F: FileSet>(
     alloc: Global,
     files: &mut F,

@@ -1,9 +1,10 @@
 //! The page of a run, from the tables in its folder. What stands in it is covered by tests, not by a contract.
 
-ghost use Rattle.std.specs.Prelude.{IfOk, IfErr, OnOk, OnErr};
+ghost use Rattle.std.specs.Prelude.{◌≡◌, ◌⊎◌, IfOk, IfErr, OnOk, OnErr, IsOkAnd, IsErrAnd};
 ghost use Rattle.refusal.specs.Warnings.{IsWarningOf};
+ghost use Rattle.whole_files.specs.Files.{SameFiles, IsWriteFault};
 ghost use Rattle.whole_files.specs.WholeFile.{part_of};
-ghost use Rattle.answers.specs.Inputs.{HasOwnCommands, MakesPage, OpensOne, LeavesUnwritten, RefusesPage};
+ghost use Rattle.answers.specs.Inputs.{HasOwnCommands, FindsSomeRequests, IsNoScreen, PutsPage, MakesPage, OpensOne, LeavesUnwritten, RefusesPage};
 ghost use Rattle.answers.specs.Pages.{IsNoPage};
 
 use crate::folder::RunFolder;
@@ -11,7 +12,7 @@ use crate::requests::requests_in;
 use crate::tables::{RunTables, stranger, tables_in};
 use page::fault::PageFault;
 use page::page::write_page;
-use page::window::{Beside, View, Window};
+use page::window::{Beside, RunCommands, View, Window};
 use refusal::reason::Reason;
 use refusal::warning::{LARGE_PAGE, LargePage};
 use request_table::times::RequestTimes;
@@ -25,6 +26,13 @@ use whole_files::whole_file::write_whole;
 struct Shown<'a> {
     view: View,
     requests: Option<&'a [RequestTimes]>,
+}
+
+/// The text of a page, and what is warned of.
+#[derive(Drop)]
+struct Page {
+    text: Vec<u8>,
+    warning: Option<LargePage>,
 }
 
 /// How many windows are tried for a page that is not too long.
@@ -49,18 +57,15 @@ fn page_text(
     ensures fault { IfErr result (IsNoPage found.now.run.stats found.now.commands) }
 {
     let mut text = Vec::new(alloc);
+    let run = RunCommands {
+        stats: &found.run.stats,
+        commands: &found.commands,
+    };
     let beside = Beside {
         config: found.run.config.as_ref(),
         requests: shown.requests,
     };
-    match write_page(
-        alloc,
-        &found.run.stats,
-        &found.commands,
-        beside,
-        shown.view,
-        &mut text,
-    ) {
+    match write_page(alloc, &run, beside, shown.view, &mut text) {
         Ok(()) => Ok(text),
         Err(PageFault::Command(place)) => Err(stranger(alloc, dir, found, place)),
         Err(PageFault::Memory) => Err(Reason::from(Fault::Memory)),
@@ -126,6 +131,53 @@ fn warning_of(
     })
 }
 
+// The page of the run in a folder.
+fn page_in<F: FileSet>(
+    alloc: Global,
+    files: &mut F,
+    dir: &str,
+    found: &RunTables,
+    view: View,
+) -> Result<Page, Reason>
+    ensures of_run { OnOk result (HasOwnCommands found.now) }
+    ensures requests { OnOk result (FindsSomeRequests F.FileSet files.old dir.now found.now.run.stats) }
+    ensures warned { IfOk result (λ page. IsWarningOf page.text.items page.warning) }
+    ensures fault { IfErr result (IsNoScreen found.now) }
+    ensures same { F.tells → SameFiles (F.held files.old) (F.held files.new) }
+    ensures unopened { F.tells → F.opened files.new ≡ F.opened files.old }
+{
+    let requests = requests_in(alloc, files, dir, &found.run.stats)?;
+    let shown = Shown {
+        view,
+        requests: rows_of(&requests),
+    };
+    let text = page_text(alloc, dir, found, shown)?;
+    let warning = warning_of(alloc, dir, found, shown, &text);
+    Ok(Page { text, warning })
+}
+
+// Writes a page as a file, unless it is refused. What is given back is its warning.
+fn put_page<F: FileSet>(
+    alloc: Global,
+    files: &mut F,
+    file: &str,
+    page: Result<Page, Reason>,
+) -> Result<Option<LargePage>, Reason>
+    ensures put { IfOk result (λ warning.
+        IsOkAnd page (PutsPage F.FileSet files.old files.new file.now warning)) }
+    ensures noted { OnOk result (OpensOne F.FileSet files.old files.new (part_of file.now)) }
+    ensures refused { OnErr result (LeavesUnwritten F.FileSet files.old files.new file.now) }
+    ensures fault { IfErr result (λ e. IsWriteFault e ⊎ IsErrAnd page (λ f. e ≡ f)) }
+{
+    match page {
+        Ok(page) => {
+            write_whole(alloc, files, file, &page.text)?;
+            Ok(page.warning)
+        }
+        Err(reason) => Err(reason),
+    }
+}
+
 /// `page DIR FILE [--config FILE] [--mhz N] [--from N] [--cycles N]`: draws the run whose tables are in a folder, and
 /// its commands in a window of cycles, with what its configuration, its clock and its table of requests add, as a file
 /// that is written whole or not at all. What is given back is a warning of a page of more than 50 MB (50,000,000
@@ -149,13 +201,6 @@ pub fn perform_page<F: FileSet>(
     ensures fault { IfErr result (RefusesPage F.FileSet files.old folder.now) }
 {
     let found = tables_in(alloc, files, folder)?;
-    let requests = requests_in(alloc, files, folder.dir, &found.run.stats)?;
-    let shown = Shown {
-        view,
-        requests: rows_of(&requests),
-    };
-    let text = page_text(alloc, folder.dir, &found, shown)?;
-    let warning = warning_of(alloc, folder.dir, &found, shown, &text);
-    write_whole(alloc, files, file, &text)?;
-    Ok(warning)
+    let page = page_in(alloc, files, folder.dir, &found, view);
+    put_page(alloc, files, file, page)
 }

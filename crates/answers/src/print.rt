@@ -1,6 +1,6 @@
 //! Answers on a stream.
 
-ghost use Rattle.std.specs.Prelude.{◌≡◌, IfErr, OnOk};
+ghost use Rattle.std.specs.Prelude.{◌≡◌, ◌⊎◌, IfErr, OnOk, IsOkAnd, IsErrAnd, string_bytes};
 ghost use Rattle.answers.specs.Inputs.{Prints};
 
 use refusal::reason::Reason;
@@ -24,5 +24,21 @@ pub fn print_text<P: Write>(alloc: Global, output: &mut P, text: &str) -> Result
     match send(output, text) {
         Ok(()) => Ok(()),
         Err(error) => Err(Reason::of_host(alloc, Fault::Write, "standard output", &error)),
+    }
+}
+
+/// Puts a screen on the stream of answers, unless it is refused.
+pub(crate) fn print_screen<P: Write>(
+    alloc: Global,
+    output: &mut P,
+    screen: Result<String, Reason>,
+) -> Result<(), Reason>
+    ensures printed { OnOk result (IsOkAnd screen (λ text.
+        Prints P.Write output.old output.new (string_bytes text))) }
+    ensures fault { IfErr result (λ e. (e ≡ Fault.Write) ⊎ IsErrAnd screen (λ f. e ≡ f)) }
+{
+    match screen {
+        Ok(text) => print_text(alloc, output, text.as_str()),
+        Err(reason) => Err(reason),
     }
 }

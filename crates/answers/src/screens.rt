@@ -1,18 +1,20 @@
 //! What a run did, on one screen.
 
-ghost use Rattle.std.specs.Prelude.{◌≡◌, IfOk, IfErr, OnOk};
+ghost use Rattle.std.specs.Prelude.{◌≡◌, ◌⊎◌, IfOk, IfErr, OnOk};
 ghost use Rattle.answers.specs.Answers.{stats_path};
-ghost use Rattle.answers.specs.Inputs.{Prints, IsRunAt, RunFits, CanShow, BarsShow, CanShowIn, BarsShowIn, IsScreenOf, Shows, RefusesShow};
+ghost use Rattle.answers.specs.Inputs.{Prints, IsRunAt, RunFits, CanShow, BarsShow, CanShowIn, BarsShowIn, IsScreenOf, IsScreenIn, Shows, RefusesShow};
+ghost use Rattle.answers.specs.Refused.{IsRowRefusal};
 ghost use Rattle.whole_files.specs.Files.{SameFiles};
 
 use crate::described::{RunRecord, described, document_at};
 use crate::folder::RunFolder;
-use crate::print::print_text;
+use crate::print::print_screen;
 use crate::requests::{add_requests, requests_in};
 use refusal::reason::Reason;
 use request_table::times::RequestTimes;
 use show::options::Options;
 use show::show_text;
+use sim_base::fault::Fault;
 use std::alloc::{AllocError, Global};
 use std::io::Write;
 use whole_files::files::FileSet;
@@ -68,6 +70,23 @@ fn screen_of(
     Ok(screen)
 }
 
+// The screen of the run in a folder, with what there is to say of its requests.
+fn screen_in<F: FileSet>(
+    alloc: Global,
+    files: &mut F,
+    dir: &str,
+    run: &RunRecord,
+    options: Options,
+) -> Result<String, Reason>
+    ensures screen { IfOk result (IsScreenIn F.FileSet files.old dir.now run.now) }
+    ensures kind { IfErr result (λ e. (e ≡ Fault.Memory) ⊎ IsRowRefusal e) }
+    ensures same { F.tells → SameFiles (F.held files.old) (F.held files.new) }
+    ensures unopened { F.tells → F.opened files.new ≡ F.opened files.old }
+{
+    let requests = requests_in(alloc, files, dir, &run.stats)?;
+    Ok(screen_of(alloc, run, &requests, options)?)
+}
+
 /// `show DIR [--all] [--config FILE] [--mhz N]`: prints what the run did whose tables are in a folder, with what its
 /// configuration, its clock and its table of requests add. It opens and changes no file.
 ///
@@ -90,7 +109,6 @@ pub fn perform_show<F: FileSet, P: Write>(
     ensures unopened { F.tells → F.opened files.new ≡ F.opened files.old }
 {
     let run = run_in(alloc, files, folder)?;
-    let requests = requests_in(alloc, files, folder.dir, &run.stats)?;
-    let screen = screen_of(alloc, &run, &requests, options)?;
-    print_text(alloc, output, screen.as_str())
+    let screen = screen_in(alloc, files, folder.dir, &run, options);
+    print_screen(alloc, output, screen)
 }

@@ -7,7 +7,7 @@ use crate::expect::expect;
 use crate::slow::Slow;
 use command_table::list::CommandList;
 use command_table::table::CommandTable;
-use reports::write_commands_by;
+use reports::{TableThreads, write_commands_by};
 use sim_base::command::{Command, IssuedCommand};
 use sim_base::fault::Fault;
 use std::alloc::{AllocError, Global};
@@ -54,16 +54,17 @@ fn assert_written<R: Threads + Sync + Abort>(
     rt: &R,
     alloc: Global,
     (table, want): (&CommandTable, &str),
-    threads: usize,
+    count: usize,
 ) {
+    let threads = TableThreads { rt, alloc, count };
     let mut text = Vec::new(alloc);
-    let ended = write_commands_by(rt, alloc, threads, 1, table, &mut text);
+    let ended = write_commands_by(&threads, 1, table, &mut text);
     let mut slow = Slow::new(want, 1, true);
-    let failed = write_commands_by(rt, alloc, threads, 1, table, &mut slow);
+    let failed = write_commands_by(&threads, 1, table, &mut slow);
     expect(
         rt,
-        &(threads, str::from_utf8(text.as_slice()), ended, failed),
-        &(threads, Ok(want), Ok(()), Err(Fault::Write)),
+        &(count, str::from_utf8(text.as_slice()), ended, failed),
+        &(count, Ok(want), Ok(()), Err(Fault::Write)),
     );
 }
 

@@ -130,7 +130,7 @@ open,,0,0,0,,,0
 ",
 };
 
-// The same, before its reply has arrived.
+// One core and one channel, before the reply to a read has arrived.
 const A_REPLY: Case<'static> = Case {
     cores: &[(1, 0, &[ALL])],
     in_flight: &[Message {
@@ -150,7 +150,7 @@ flight_reply,0,0,,,0,15,1
     ..ONE_READ
 };
 
-// The same, before it is served.
+// One core and one channel, before a read is served.
 const A_QUEUE: Case<'static> = Case {
     cores: &[(1, 0, &[FEWER])],
     channels: &[(&[0], &[OPENED], &[READ])],

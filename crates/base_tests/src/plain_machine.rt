@@ -8,27 +8,23 @@ use one_clock::machine::run_plain;
 use run_outcome::outcome::Outcome;
 use run_outcome::tables::Tables;
 use sim_base::trace::Entry;
-use std::alloc::{AllocError, Global};
+use std::alloc::Global;
 use std::process::Abort;
-use std::test::Fail;
 
 /// The plain machine's run of one Read, up to cycle 16.
-fn run_one_read(alloc: Global) -> Result<Outcome, Fail> {
-    let config = small(alloc, &[], "")?;
-    if config.cores != 1 {
-        return Err(Fail::from("other cores"));
-    }
-    let traces = [Trace::from_entries(alloc, &[Entry::Read(0)])?];
-    Ok(run_plain(alloc, &config, &traces, Tables::usual(), 16)?)
+fn run_one_read(rt: &impl Abort, alloc: Global) -> Outcome {
+    let config = small(alloc, &[], "").expect(rt, "a machine");
+    assert!(rt; config.cores == 1, "one core");
+    let trace = Trace::from_entries(alloc, &[Entry::Read(0)]).expect(rt, "memory");
+    run_plain(alloc, &config, &[trace], Tables::usual(), 16).expect(rt, "memory")
 }
 
-fn assert_counts(rt: &impl Abort, alloc: Global, whole: &Outcome) -> Result<(), AllocError> {
-    let stats = &whole.stats;
-    let commands = match &whole.commands {
-        Some(table) => table.to_vec(alloc)?,
-        None => Vec::new(alloc),
-    };
+/// What a run of one Read counts.
+fn assert_counts(rt: &impl Abort, alloc: Global, whole: &Outcome) {
+    let table = whole.commands.as_ref().expect(rt, "commands");
+    let commands = table.to_vec(alloc).expect(rt, "memory");
     let lengths = (commands.len(), whole.last.in_flight.len());
+    let stats = &whole.stats;
     expect(
         rt,
         &(
@@ -39,12 +35,10 @@ fn assert_counts(rt: &impl Abort, alloc: Global, whole: &Outcome) -> Result<(), 
         ),
         &((2, 0), 16, CORES.as_slice(), CHANNELS.as_slice()),
     );
-    Ok(())
 }
 
 #[test]
-fn counts_one_read(rt: HostRuntime) -> Result<(), Fail> {
-    let outcome = run_one_read(rt.alloc())?;
-    assert_counts(&rt, rt.alloc(), &outcome)?;
-    Ok(())
+fn counts_one_read(rt: HostRuntime) {
+    let whole = run_one_read(&rt, rt.alloc());
+    assert_counts(&rt, rt.alloc(), &whole);
 }

@@ -90,7 +90,7 @@ const SIZES: &[Option<usize>] = &[None, Some(0), Some(1), Some(2), Some(3), Some
 // A trace of three lines, of which the second is blank and the last has no end.
 const THREE_LINES: &[u8] = b"0\t0x40\r\n\n 1  128";
 
-// Its entries.
+// The entries of the three lines.
 const OF_THREE_LINES: &str = "Read(64);Plain;Read(128); 3 entries: 0 Read(64) 2 Read(128)";
 
 const TWO_LINES: &str = "Read(1);Plain;Read(2);Write(3); 4 entries: 0 Read(1) 2 Read(2) 3 Write(3)";

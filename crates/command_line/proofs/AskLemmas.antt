@@ -38,24 +38,24 @@ passes app words e same memory taken = memory (ap (λ (a : App). takes a words) 
 -- the command that `clap` gives is the one that the words name
 pub asked_from : (words : List Text) (o : Option (Text × List Row)) (ask : Ask) → o ≡ command_of words → IsCommandOf o ask → IsAskedBy words ask
 asked_from words None ask e h = absurd h
-asked_from words (Some p) (Run config cycles workers share tables out traces) e h = rw (← e) h
+asked_from words (Some p) (Run run) e h = rw (← e) h
 asked_from words (Some p) (Check config commands) e h = rw (← e) h
 asked_from words (Some p) (Map config address) e h = rw (← e) h
-asked_from words (Some p) (Show dir all config khz) e h = rw (← e) h
-asked_from words (Some p) (ShowBanks dir all config khz) e h = rw (← e) h
-asked_from words (Some p) (Page dir file config khz from cycles) e h = rw (← e) h
+asked_from words (Some p) (Show show) e h = rw (← e) h
+asked_from words (Some p) (ShowBanks show) e h = rw (← e) h
+asked_from words (Some p) (Page page) e h = rw (← e) h
 asked_from words (Some p) (Compare dirs csv) e h = rw (← e) h
 asked_from words (Some p) (Help t) e h = absurd h
 asked_from words (Some p) (Version t) e h = absurd h
 
 pub answered_from : (words : List Text) (o : Option (Text × List Row)) (r : Result Ask Fault) → o ≡ command_of words → IfOk r (IsCommandOf o) → IfErr r (IsCommandFault o) → IsAnswerTo words r
 answered_from words None (Ok ask) e ok err = absurd ok
-answered_from words (Some p) (Ok (Run config cycles workers share tables out traces)) e ok err = tt
+answered_from words (Some p) (Ok (Run run)) e ok err = tt
 answered_from words (Some p) (Ok (Check config commands)) e ok err = tt
 answered_from words (Some p) (Ok (Map config address)) e ok err = tt
-answered_from words (Some p) (Ok (Show dir all config khz)) e ok err = tt
-answered_from words (Some p) (Ok (ShowBanks dir all config khz)) e ok err = tt
-answered_from words (Some p) (Ok (Page dir file config khz from cycles)) e ok err = tt
+answered_from words (Some p) (Ok (Show show)) e ok err = tt
+answered_from words (Some p) (Ok (ShowBanks show)) e ok err = tt
+answered_from words (Some p) (Ok (Page page)) e ok err = tt
 answered_from words (Some p) (Ok (Compare dirs csv)) e ok err = tt
 answered_from words (Some p) (Ok (Help t)) e ok err = absurd ok
 answered_from words (Some p) (Ok (Version t)) e ok err = absurd ok
@@ -67,45 +67,45 @@ among_shown words e k (inl memory) is other = absurd (other (sym is ∙ memory))
 among_shown words e k (inr among) is other = subst (λ k. IsAmong k (kinds_of_fault words)) is among
 
 pub help_from : (words : List Text) (e : Error) (ask : Ask) → HasKind (kinds_of_fault words) e → IsShown ask (kind_of e) → IsAskedBy words ask
-help_from words e (Run config cycles workers share tables out traces) has h = absurd h
+help_from words e (Run run) has h = absurd h
 help_from words e (Check config commands) has h = absurd h
 help_from words e (Map config address) has h = absurd h
-help_from words e (Show dir all config khz) has h = absurd h
-help_from words e (ShowBanks dir all config khz) has h = absurd h
-help_from words e (Page dir file config khz from cycles) has h = absurd h
+help_from words e (Show show) has h = absurd h
+help_from words e (ShowBanks show) has h = absurd h
+help_from words e (Page page) has h = absurd h
 help_from words e (Compare dirs csv) has h = absurd h
 help_from words e (Help t) has h = among_shown words e DisplayHelp has h (λ other. cc)
 help_from words e (Version t) has h = among_shown words e DisplayVersion has h (λ other. cc)
 
 not_for_memory : (ask : Ask) (k : ErrorKind) → k ≡ OutOfMemory → IsShown ask k → ⊥
-not_for_memory (Run config cycles workers share tables out traces) k memory h = h
+not_for_memory (Run run) k memory h = h
 not_for_memory (Check config commands) k memory h = h
 not_for_memory (Map config address) k memory h = h
-not_for_memory (Show dir all config khz) k memory h = h
-not_for_memory (ShowBanks dir all config khz) k memory h = h
-not_for_memory (Page dir file config khz from cycles) k memory h = h
+not_for_memory (Show show) k memory h = h
+not_for_memory (ShowBanks show) k memory h = h
+not_for_memory (Page page) k memory h = h
 not_for_memory (Compare dirs csv) k memory h = h
 not_for_memory (Help t) k memory h = let both : OutOfMemory ≡ DisplayHelp = sym memory ∙ h in cc
 not_for_memory (Version t) k memory h = let both : OutOfMemory ≡ DisplayVersion = sym memory ∙ h in cc
 
 shown_help : (ask : Ask) (k : ErrorKind) → k ≡ DisplayHelp → IsShown ask k → IsHelp ask
-shown_help (Run config cycles workers share tables out traces) k is h = h
+shown_help (Run run) k is h = h
 shown_help (Check config commands) k is h = h
 shown_help (Map config address) k is h = h
-shown_help (Show dir all config khz) k is h = h
-shown_help (ShowBanks dir all config khz) k is h = h
-shown_help (Page dir file config khz from cycles) k is h = h
+shown_help (Show show) k is h = h
+shown_help (ShowBanks show) k is h = h
+shown_help (Page page) k is h = h
 shown_help (Compare dirs csv) k is h = h
 shown_help (Help t) k is h = tt
 shown_help (Version t) k is h = let both : DisplayHelp ≡ DisplayVersion = sym is ∙ h in cc
 
 shown_version : (ask : Ask) (k : ErrorKind) → k ≡ DisplayVersion → IsShown ask k → IsVersion ask
-shown_version (Run config cycles workers share tables out traces) k is h = h
+shown_version (Run run) k is h = h
 shown_version (Check config commands) k is h = h
 shown_version (Map config address) k is h = h
-shown_version (Show dir all config khz) k is h = h
-shown_version (ShowBanks dir all config khz) k is h = h
-shown_version (Page dir file config khz from cycles) k is h = h
+shown_version (Show show) k is h = h
+shown_version (ShowBanks show) k is h = h
+shown_version (Page page) k is h = h
 shown_version (Compare dirs csv) k is h = h
 shown_version (Help t) k is h = let both : DisplayVersion ≡ DisplayHelp = sym is ∙ h in cc
 shown_version (Version t) k is h = tt

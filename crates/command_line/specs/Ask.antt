@@ -131,14 +131,14 @@ pub record IsCompare (rows : List Row) (dirs : List Text) (csv : Bool) : Type 0 
 
 -- the command of this name, with these rows, is what is asked for
 abbrev pub IsCommand : Text → List Row → Ask → Type 0
-IsCommand name rows (Run config cycles workers share tables out traces) =
-    (name ≡ codes "run") × IsRun rows config.now cycles workers share tables out.now (map (λ t. t.now) traces.items)
+IsCommand name rows (Run run) =
+    (name ≡ codes "run") × IsRun rows run.config.now run.cycles run.workers run.share run.tables run.out.now (map (λ t. t.now) run.traces.items)
 IsCommand name rows (Check config commands) = (name ≡ codes "check") × IsCheck rows config.now commands.now
 IsCommand name rows (Map config address) = (name ≡ codes "map") × IsMap rows config.now address
-IsCommand name rows (Show dir all config khz) = (name ≡ codes "show") × IsShow rows false dir.now all (option_map (λ c. c.now) config) khz
-IsCommand name rows (ShowBanks dir all config khz) = (name ≡ codes "show") × IsShow rows true dir.now all (option_map (λ c. c.now) config) khz
-IsCommand name rows (Page dir file config khz from cycles) =
-    (name ≡ codes "page") × IsPage rows dir.now file.now (option_map (λ c. c.now) config) khz from cycles
+IsCommand name rows (Show show) = (name ≡ codes "show") × IsShow rows false show.dir.now show.all (option_map (λ c. c.now) show.config) show.khz
+IsCommand name rows (ShowBanks show) = (name ≡ codes "show") × IsShow rows true show.dir.now show.all (option_map (λ c. c.now) show.config) show.khz
+IsCommand name rows (Page page) =
+    (name ≡ codes "page") × IsPage rows page.dir.now page.file.now (option_map (λ c. c.now) page.config) page.khz page.from page.cycles
 IsCommand name rows (Compare dirs csv) = (name ≡ codes "compare") × IsCompare rows (map (λ t. t.now) dirs.items) csv
 IsCommand name rows (Help text) = ⊥
 IsCommand name rows (Version text) = ⊥

@@ -30,61 +30,59 @@ pub enum Share {
     Always,
 }
 
+/// The arguments of a run.
+#[derive(Debug, Drop)]
+pub struct RunArguments<'a> {
+    pub config: &'a str,
+    pub cycles: u64,
+    pub workers: u64,
+    pub share: Share,
+    pub tables: Tables,
+    pub out: &'a str,
+    pub traces: Vec<&'a str>,
+}
+
+/// The arguments of a screen. The clock is in kHz.
+#[derive(Clone, Copy, Debug)]
+pub struct ShowArguments<'a> {
+    pub dir: &'a str,
+    pub all: bool,
+    pub config: Option<&'a str>,
+    pub khz: Option<u64>,
+}
+
+/// The arguments of a page: its window has so many cycles, from a cycle on. The clock is in kHz.
+#[derive(Clone, Copy, Debug)]
+pub struct PageArguments<'a> {
+    pub dir: &'a str,
+    pub file: &'a str,
+    pub config: Option<&'a str>,
+    pub khz: Option<u64>,
+    pub from: u64,
+    pub cycles: u64,
+}
+
 /// What a command line asks for.
 #[derive(Debug, Drop)]
 pub enum Ask<'a> {
     /// `run CONFIG --cycles N --workers N [--share auto|always] [--tables LIST] --out DIR TRACE...`: simulates the
     /// traces.
-    Run {
-        config: &'a str,
-        cycles: u64,
-        workers: u64,
-        share: Share,
-        tables: Tables,
-        out: &'a str,
-        traces: Vec<&'a str>,
-    },
+    Run(RunArguments<'a>),
     /// `check CONFIG COMMANDS`: tests a table of commands.
-    Check {
-        config: &'a str,
-        commands: &'a str,
-    },
+    Check { config: &'a str, commands: &'a str },
     /// `map CONFIG ADDRESS`: tells where an address lies.
-    Map {
-        config: &'a str,
-        address: u64,
-    },
+    Map { config: &'a str, address: u64 },
     /// `show DIR [--all] [--config FILE] [--mhz N]`: tells what the run did whose tables are in a folder, with what its
     /// configuration adds, and its clock, here in kHz.
-    Show {
-        dir: &'a str,
-        all: bool,
-        config: Option<&'a str>,
-        khz: Option<u64>,
-    },
+    Show(ShowArguments<'a>),
     /// `show DIR --banks [--all] [--config FILE] [--mhz N]`: tells the same, and what each bank did.
-    ShowBanks {
-        dir: &'a str,
-        all: bool,
-        config: Option<&'a str>,
-        khz: Option<u64>,
-    },
+    ShowBanks(ShowArguments<'a>),
     /// `page DIR FILE [--config FILE] [--mhz N] [--from N] [--cycles N]`: draws the run whose tables are in a folder,
     /// and its commands in a window of cycles, with what its configuration adds, and its clock, here in kHz.
-    Page {
-        dir: &'a str,
-        file: &'a str,
-        config: Option<&'a str>,
-        khz: Option<u64>,
-        from: u64,
-        cycles: u64,
-    },
+    Page(PageArguments<'a>),
     /// `compare DIR DIR... [--csv]`: compares the runs whose tables are in folders with the first of them, as a screen
     /// or as a table.
-    Compare {
-        dirs: Vec<&'a str>,
-        csv: bool,
-    },
+    Compare { dirs: Vec<&'a str>, csv: bool },
     /// A call for help, with the text that answers it.
     Help(String),
     /// A call for the version, with the text that answers it.
@@ -199,7 +197,7 @@ fn run_ask<'a>(alloc: Global, found: &ArgMatches<'a>) -> Result<Ask<'a>, Fault>
     ensures refused { GivesRun (rows_in found.now) → IfErr result (BarsRun found.now) }
     ensures fault { IfErr result (λ e. IsWordsFault e) }
 {
-    Ok(Ask::Run {
+    Ok(Ask::Run(RunArguments {
         config: text_of(found, "config")?,
         cycles: count_of(found, "cycles")?,
         workers: count_of(found, "workers")?,
@@ -207,7 +205,7 @@ fn run_ask<'a>(alloc: Global, found: &ArgMatches<'a>) -> Result<Ask<'a>, Fault>
         tables: tables_of(alloc, found)?,
         out: text_of(found, "out")?,
         traces: texts_of(alloc, found, "trace")?,
-    })
+    }))
 }
 
 fn check_ask<'a>(found: &ArgMatches<'a>) -> Result<Ask<'a>, Fault>
@@ -270,23 +268,15 @@ fn show_ask<'a>(found: &ArgMatches<'a>) -> Result<Ask<'a>, Fault>
     ensures refused { GivesShow (rows_in found.now) → IfErr result (λ e. HasNoClock found.now) }
     ensures fault { IfErr result (λ e. e ≡ Fault.CommandLine) }
 {
-    let dir = text_of(found, "dir")?;
-    let all = is_set(found, "all");
-    let config = text_if_given(found, "config");
-    let khz = clock_of(found)?;
+    let arguments = ShowArguments {
+        dir: text_of(found, "dir")?,
+        all: is_set(found, "all"),
+        config: text_if_given(found, "config"),
+        khz: clock_of(found)?,
+    };
     match is_set(found, "banks") {
-        false => Ok(Ask::Show {
-            dir,
-            all,
-            config,
-            khz,
-        }),
-        true => Ok(Ask::ShowBanks {
-            dir,
-            all,
-            config,
-            khz,
-        }),
+        false => Ok(Ask::Show(arguments)),
+        true => Ok(Ask::ShowBanks(arguments)),
     }
 }
 
@@ -295,14 +285,14 @@ fn page_ask<'a>(found: &ArgMatches<'a>) -> Result<Ask<'a>, Fault>
     ensures refused { GivesPage (rows_in found.now) → IfErr result (λ e. HasNoClock found.now) }
     ensures fault { IfErr result (λ e. e ≡ Fault.CommandLine) }
 {
-    Ok(Ask::Page {
+    Ok(Ask::Page(PageArguments {
         dir: text_of(found, "dir")?,
         file: text_of(found, "file")?,
         config: text_if_given(found, "config"),
         khz: clock_of(found)?,
         from: count_or(found, "from", 0)?,
         cycles: count_or(found, "cycles", 2_000)?,
-    })
+    }))
 }
 
 // The folders of two runs or more.

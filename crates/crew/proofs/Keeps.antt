@@ -5,7 +5,7 @@ use lib.ListN.{get_elem?}
 use Rattle.crossbeam_queue.specs.Fifo.{Pushes, Pops, Forks, Merges, Learns}
 use Rattle.crossbeam_queue.proofs.Lists.{at_set, at_snoc, set_again}
 use Rattle.crew.specs.declared.rule.View.{View}
-use Rattle.crew.specs.Rule.{weigh, view_of, spent, Kept, Moment}
+use Rattle.crew.specs.Rule.{weigh, view_of, spent, Kept, IsSettled, WasInFront}
 
 module _ {X : Type 0} (f : X → ℕ) where
   pub weigh_snoc : (xs : List X) (x : X) → weigh f (xs ++ x ∷ []) ≡ weigh f xs + f x
@@ -83,7 +83,7 @@ module _ {X : Type 0} where
         refl,
       )
 
-  pub takes : (pass : ℕ) (v : View X) → Pops Kept pass v (λ x w. (w ≡ view_of v.parts v.put (v.taken ++ x ∷ [])) × (rest : List X) × Moment (x ∷ rest) v)
+  pub takes : (pass : ℕ) (v : View X) → Pops Kept pass v (λ x w. (w ≡ view_of v.parts v.put (v.taken ++ x ∷ [])) × WasInFront x v)
   takes pass v x items views k at =
       let w : View X = view_of v.parts v.put (v.taken ++ x ∷ []) in (
         w,
@@ -96,7 +96,7 @@ module _ {X : Type 0} where
               omega (arith, weigh_snoc h v.taken x)),
           each_set Quiet views pass w (k.2 pass v at) k.2,
         ),
-        (refl, items, (views, pass, at, k)),
+        (refl, (items, (views, pass, at, k))),
       )
 
   pub deals : (pass : ℕ) (v : View X) → Forks Kept pass v v spent
@@ -121,8 +121,8 @@ module _ {X : Type 0} where
         each_snoc Quiet (set views pass w) r (λ none. refl) (each_set Quiet views pass w (k.2 pass v at) k.2),
       )
 
-  pub homes : (pass : ℕ) (v : View X) (other : ℕ) (u : View X) → u.parts ≡ 0 → u.put ≡ [] → Merges Kept pass v other u (view_of v.parts v.put (v.taken ++ u.taken)) spent
-  homes pass v other u none idle items views k at apart at' =
+  pub absorbs : (pass : ℕ) (v : View X) (other : ℕ) (u : View X) → u.parts ≡ 0 → u.put ≡ [] → Merges Kept pass v other u (view_of v.parts v.put (v.taken ++ u.taken)) spent
+  absorbs pass v other u none idle items views k at apart at' =
       let both : View X = view_of v.parts v.put (v.taken ++ u.taken) in
       let vs : List (View X) = set views pass both in (
         (let s = weigh_set (λ (y : View X). y.parts) views pass v both at in let t = weigh_set (λ (y : View X). y.parts) vs other u spent at' in let p = k.0 in omega arith),
@@ -155,18 +155,18 @@ module _ {X : Type 0} where
       let all = mine_all items views pass v mine k at one in
       omega (arith, weigh_ones v.put, weigh_ones items)
 
-  -- where as many came home as were put, these are what was put
-  -- what came home is no more than was put
-  home_below : (pass : ℕ) (v : View X) → v.parts ≡ 1 → Learns Kept pass v (λ items. length v.taken ≤ length v.put)
-  home_below pass v mine items views k at =
+  -- no more was returned than was put
+  returned_below : (pass : ℕ) (v : View X) → v.parts ≡ 1 → Learns Kept pass v (λ items. length v.taken ≤ length v.put)
+  returned_below pass v mine items views k at =
       let one : X → ℕ = λ _. 1 in
       let p = k.1 one in
       let all = mine_all items views pass v mine k at one in
       let some_taken = one_of (λ (u : View X). weigh one u.taken) views pass v at in
       omega (arith, weigh_ones v.put, weigh_ones v.taken)
 
-  all_home : (pass : ℕ) (v : View X) → v.parts ≡ 1 → Learns Kept pass v (λ items. length v.put ≤ length v.taken → (h : X → ℕ) → weigh h v.taken ≡ weigh h v.put)
-  all_home pass v mine items views k at many h =
+  -- where as many were returned as were put, these are what was put
+  all_returned : (pass : ℕ) (v : View X) → v.parts ≡ 1 → Learns Kept pass v (λ items. length v.put ≤ length v.taken → (h : X → ℕ) → weigh h v.taken ≡ weigh h v.put)
+  all_returned pass v mine items views k at many h =
       let one : X → ℕ = λ _. 1 in
       let p = k.1 one in
       let all = mine_all items views pass v mine k at one in
@@ -180,9 +180,8 @@ module _ {X : Type 0} where
       let q = k.1 h in
       omega arith
 
-  pub settles : (pass : ℕ) (v : View X) → v.parts ≡ 1
-      → Learns Kept pass v (λ items. (length v.taken ≤ length v.put) × (length v.put ≤ length v.taken → (h : X → ℕ) → weigh h v.taken ≡ weigh h v.put))
-  settles pass v mine items views k at = (home_below pass v mine items views k at, all_home pass v mine items views k at)
+  pub settles : (pass : ℕ) (v : View X) → v.parts ≡ 1 → Learns Kept pass v (λ items. IsSettled v)
+  settles pass v mine items views k at = (returned_below pass v mine items views k at, all_returned pass v mine items views k at)
 
   pub clears : (pass : ℕ) (v : View X) → v.parts ≡ 1 → ((h : X → ℕ) → weigh h v.taken ≡ weigh h v.put) → Forks Kept pass v (view_of v.parts [] []) spent
   clears pass v mine same items views k at =

@@ -3,8 +3,8 @@
 ghost use Rattle.std.specs.Prelude.{◌≡◌, ◌≤◌, [], length, map, IfOk, OnOk, IsPermutation, vec_len, true};
 ghost use Rattle.crew.specs.Rule.{put_view};
 
-use crate::load::Load;
-use crate::rule::Room;
+use crate::returned::Returned;
+use crate::rule::BoardName;
 use crate::seats::{Board, PutSeat, TakeSeat};
 use crate::shared::Shared;
 use crate::work::{DoneOf, Work};
@@ -17,29 +17,30 @@ pub trait Phases<T, D: DoneOf<T>> {
 
     /// Runs the tasks of a phase: exactly one result comes of each, in any order. The only error is out of memory.
     fn run_tasks(&mut self, tasks: Vec<T>) -> Result<Vec<D>, AllocError>
-        ensures { IfOk result (λ dones. IsPermutation tasks.items (map D.task dones.items)) };
+        ensures { IfOk result (λ results. IsPermutation tasks.items (map D.task results.items)) };
 }
 
 /// The caller's seats at a board where threads wait. The crew is ready until memory is refused for the first time.
 #[derive(Drop)]
-pub struct Crew<'a, T: Drop, D: DoneOf<T> + Drop, W: Work<T, D>, B: Room, R: Wait> {
-    rt: &'a R,
-    alloc: Global,
-    work: &'a W,
-    shared: &'a Shared<T, D, B>,
+pub struct Crew<'a, T: Drop, D: DoneOf<T> + Drop, W: Work<T, D>, B: BoardName, R: Wait> {
+    shared: &'a Shared<'a, T, D, W, B, R>,
     put: PutSeat<T, B>,
     take: TakeSeat<T, B>,
     ready: bool,
     ghost idle: { ready ≡ true → (put ≡ put_view [] []) × (take ≡ []) },
 }
 
-impl<'a, T: Drop, D: DoneOf<T> + Drop, W: Work<T, D>, B: Room, R: Wait> Crew<'a, T, D, W, B, R> {
+impl<'a, T: Drop, D: DoneOf<T> + Drop, W: Work<T, D>, B: BoardName, R: Wait> Crew<
+    'a,
+    T,
+    D,
+    W,
+    B,
+    R,
+> {
     /// A crew that shares this, by the seat that puts there.
     pub(crate) fn new(
-        rt: &'a R,
-        alloc: Global,
-        work: &'a W,
-        shared: &'a Shared<T, D, B>,
+        shared: &'a Shared<'a, T, D, W, B, R>,
         seat: PutSeat<T, B>,
     ) -> Crew<'a, T, D, W, B, R>
         requires { seat ≡ put_view [] [] }
@@ -47,9 +48,6 @@ impl<'a, T: Drop, D: DoneOf<T> + Drop, W: Work<T, D>, B: Room, R: Wait> Crew<'a,
         let mut put = seat;
         let take = shared.board.deal(&mut put);
         Crew {
-            rt,
-            alloc,
-            work,
             shared,
             put,
             take,
@@ -58,29 +56,22 @@ impl<'a, T: Drop, D: DoneOf<T> + Drop, W: Work<T, D>, B: Room, R: Wait> Crew<'a,
     }
 }
 
-impl<'a, T: Drop, D: DoneOf<T> + Drop, W: Work<T, D>, B: Room, R: Wait> Phases<T, D>
+impl<'a, T: Drop, D: DoneOf<T> + Drop, W: Work<T, D>, B: BoardName, R: Wait> Phases<T, D>
     for Crew<'a, T, D, W, B, R> {
     fn run_tasks(&mut self, tasks: Vec<T>) -> Result<Vec<D>, AllocError>
-        ensures { IfOk result (λ dones. IsPermutation tasks.items (map D.task dones.items)) }
+        ensures { IfOk result (λ results. IsPermutation tasks.items (map D.task results.items)) }
     {
         if !self.ready {
             return Err(AllocError);
         }
-        if tasks.len() <= 1 || tasks.len() > self.shared.board.room() {
-            return run_all(self.alloc, self.work, tasks);
+        let shared = self.shared;
+        if tasks.len() <= 1 || tasks.len() > shared.board.room() {
+            return run_all(shared.context.alloc, shared.context.work, tasks);
         }
         self.ready = false;
-        let dones = phase(
-            self.rt,
-            self.alloc,
-            self.work,
-            self.shared,
-            &mut self.put,
-            &mut self.take,
-            tasks,
-        )?;
+        let results = run_phase(shared, &mut self.put, &mut self.take, tasks)?;
         self.ready = true;
-        Ok(dones)
+        Ok(results)
     }
 }
 
@@ -90,17 +81,17 @@ fn run_all<T: Drop, D: DoneOf<T> + Drop, W: Work<T, D>>(
     work: &W,
     tasks: Vec<T>,
 ) -> Result<Vec<D>, AllocError>
-    ensures { IfOk result (λ dones. map D.task dones.items ≡ tasks.items) }
+    ensures { IfOk result (λ results. map D.task results.items ≡ tasks.items) }
 {
-    let mut dones = Vec::new(alloc);
+    let mut results = Vec::new(alloc);
     for task in tasks {
-        dones.push(work.run(alloc, 0, task)?)?;
+        results.push(work.run(alloc, 0, task)?)?;
     }
-    Ok(dones)
+    Ok(results)
 }
 
 // Puts all tasks on the board.
-fn put_all<T: Drop, B: Room, R: Wait>(
+fn put_all<T: Drop, B: BoardName, R: Wait>(
     rt: &R,
     board: &Board<T, B>,
     seat: &mut PutSeat<T, B>,
@@ -117,56 +108,53 @@ fn put_all<T: Drop, B: Room, R: Wait>(
     }
 }
 
-// A load comes home.
-fn unload<T: Drop, D: DoneOf<T> + Drop, B: Room>(
+// Adds what was returned to the results.
+fn add_returned<T: Drop, D: DoneOf<T> + Drop, B: BoardName>(
     board: &Board<T, B>,
     seat: &mut PutSeat<T, B>,
-    dones: &mut Vec<D>,
-    load: Load<T, D, B>,
+    results: &mut Vec<D>,
+    returned: Returned<T, D, B>,
 ) -> Result<(), AllocError>
-    requires { seat.old.home ≡ map D.task dones.old.items }
-    ensures { OnOk result (seat.new ≡ put_view seat.old.put (map D.task dones.new.items)) }
+    requires { seat.old.returned ≡ map D.task results.old.items }
+    ensures { OnOk result (seat.new ≡ put_view seat.old.put (map D.task results.new.items)) }
 {
-    let Load {
+    let Returned {
         seat: theirs,
-        dones: mut more,
-    } = load;
-    board.bring_home(seat, theirs);
-    dones.append(&mut more)
+        results: mut more,
+    } = returned;
+    board.absorb(seat, theirs);
+    results.append(&mut more)
 }
 
-// Loads come home, until all that was put has come home.
-fn gather<T: Drop, D: DoneOf<T> + Drop, B: Room, R: Wait>(
-    rt: &R,
-    shared: &Shared<T, D, B>,
+// Adds what threads return to the results, until all that was put was returned.
+fn gather<T: Drop, D: DoneOf<T> + Drop, W: Work<T, D>, B: BoardName, R: Wait>(
+    shared: &Shared<'_, T, D, W, B, R>,
     seat: &mut PutSeat<T, B>,
-    dones: &mut Vec<D>,
+    results: &mut Vec<D>,
     put: usize,
 ) -> Result<(), AllocError>
     requires put { put ≡ length seat.old.put }
-    requires home { seat.old.home ≡ map D.task dones.old.items }
-    ensures home { OnOk result (seat.new ≡ put_view seat.old.put (map D.task dones.new.items)) }
-    ensures whole { OnOk result (IsPermutation seat.old.put (map D.task dones.new.items)) }
+    requires returned { seat.old.returned ≡ map D.task results.old.items }
+    ensures seat { OnOk result (seat.new ≡ put_view seat.old.put (map D.task results.new.items)) }
+    ensures whole { OnOk result (IsPermutation seat.old.put (map D.task results.new.items)) }
 {
+    let rt = shared.context.rt;
     for _ in rt.forever() {
-        if shared.board.missing(seat, put, dones.len()) == 0 {
+        if shared.board.missing(seat, put, results.len()) == 0 {
             return Ok(());
         }
-        let seen = shared.home.rings();
-        match shared.homes.pop(rt) {
-            Some(parcel) => unload(&shared.board, seat, dones, parcel?)?,
-            None => shared.home.wait_past(rt, shared.patience, seen),
+        let seen = shared.results_ready.count();
+        match shared.returned.pop(rt) {
+            Some(returned) => add_returned(&shared.board, seat, results, returned?)?,
+            None => shared.results_ready.wait_past(rt, shared.limits, seen),
         }
     }
     unreachable!()
 }
 
 // What comes of tasks that the threads and the caller claim from the board.
-fn phase<T: Drop, D: DoneOf<T> + Drop, W: Work<T, D>, B: Room, R: Wait>(
-    rt: &R,
-    alloc: Global,
-    work: &W,
-    shared: &Shared<T, D, B>,
+fn run_phase<T: Drop, D: DoneOf<T> + Drop, W: Work<T, D>, B: BoardName, R: Wait>(
+    shared: &Shared<'_, T, D, W, B, R>,
     put: &mut PutSeat<T, B>,
     take: &mut TakeSeat<T, B>,
     tasks: Vec<T>,
@@ -175,16 +163,16 @@ fn phase<T: Drop, D: DoneOf<T> + Drop, W: Work<T, D>, B: Room, R: Wait>(
     requires put { put.old ≡ put_view [] [] }
     requires take { take.old ≡ [] }
     ensures next { OnOk result ((put.new ≡ put_view [] []) × (take.new ≡ [])) }
-    ensures each { IfOk result (λ dones. IsPermutation tasks.items (map D.task dones.items)) }
+    ensures each { IfOk result (λ results. IsPermutation tasks.items (map D.task results.items)) }
 {
     let count = tasks.len();
     shared.begin();
-    put_all(rt, &shared.board, put, tasks);
-    shared.work.ring();
-    let mut dones = Vec::new(alloc);
-    let mine = shared.claim(rt, alloc, work, 0, take)?;
-    unload(&shared.board, put, &mut dones, mine)?;
-    gather(rt, shared, put, &mut dones, count)?;
+    put_all(shared.context.rt, &shared.board, put, tasks);
+    shared.tasks_ready.raise();
+    let mut results = Vec::new(shared.context.alloc);
+    let mine = shared.claim(0, take)?;
+    add_returned(&shared.board, put, &mut results, mine)?;
+    gather(shared, put, &mut results, count)?;
     shared.board.clear(put);
-    Ok(dones)
+    Ok(results)
 }

@@ -3,7 +3,7 @@
 ghost use Rattle.std.specs.Prelude.{◌≡◌, ◌<◌, [], IfOk};
 ghost use Rattle.crew.specs.Rule.{put_view};
 
-use crate::rule::{Queue, Room, Seat};
+use crate::rule::{BoardName, Queue, Seat};
 use crate::seats::{Board, PutSeat};
 use std::alloc::{AllocError, Global};
 use std::marker::{Model, PhantomData};
@@ -18,11 +18,11 @@ pub struct Blank<T: Drop> {
 impl<T: Drop> Model for Blank<T> {
     ghost use Rattle.std.specs.Prelude.{◌≡◌, []};
     ghost use Rattle.crossbeam_queue.specs.Passes.{IsPassOf, ruled_capacity};
-    ghost use Rattle.crew.specs.Rule.{view_of, BlankView};
+    ghost use Rattle.crew.specs.Rule.{view_of, blank_view, BlankView};
 
     ghost Value = { BlankView };
 
-    ghost view = { λ b. record { name = b.queue.table.shared.table_id; room = ruled_capacity b.queue } };
+    ghost view = { λ b. blank_view b.queue.table.shared.table_id (ruled_capacity b.queue) };
 
     ghost invariant = { λ b. IsPassOf b.queue b.pass × (b.pass.me.0.client ≡ view_of 1 [] []) };
 }
@@ -38,18 +38,18 @@ impl<T: Drop> Blank<T> {
     }
 
     /// The board under its name, and the seat that puts. Nothing was put.
-    pub fn named<B: Room>(self) -> (Board<T, B>, PutSeat<T, B>)
+    pub fn named<B: BoardName>(self) -> (Board<T, B>, PutSeat<T, B>)
         requires { self.name ≡ B.table }
         ensures { (result.0 ≡ self.room) × (result.1 ≡ put_view [] []) }
     {
         let Blank { queue, pass } = self;
         let board = Board {
             queue,
-            room: PhantomData,
+            name: PhantomData,
         };
         let seat = PutSeat {
             pass,
-            room: PhantomData,
+            name: PhantomData,
         };
         (board, seat)
     }

@@ -1,16 +1,16 @@
 //! The rule of a board: what the queue holds, and what each pass of it knows.
 
-ghost use Rattle.std.specs.Prelude.{◌≡◌, ℕ, ◌≤◌, List, [], ◌∷◌, ◌++◌, length};
+ghost use Rattle.std.specs.Prelude.{◌≡◌, ◌≤◌, [], ◌∷◌, ◌++◌, length};
 ghost use Rattle.atomic_table.specs.Seated.{TableId};
-ghost use Rattle.crew.specs.Rule.{view_of, spent, weigh, no_table, Moment};
+ghost use Rattle.crew.specs.Rule.{view_of, spent, no_table, Moment, IsSettled, WasInFront};
 
 use crossbeam_queue::protocol::{Join, Lesson, Outcome, Protocol, Split};
 use crossbeam_queue::{Pass, RuledArrayQueue};
 use std::collections::LinkedList;
 use std::marker::Brand;
 
-/// What a pass knows: whether it may put (1 or 0), what it has put since the board was cleared last, and what it has taken and
-/// not sent home. No value of this type is ever made.
+/// What a pass knows: whether it may put (1 or 0), what it has put since the board was cleared last, and what it has
+/// taken and not returned. No value of this type is ever made.
 pub struct View<T> {
     pub parts: u64,
     pub put: LinkedList<T>,
@@ -49,18 +49,18 @@ impl<T> Lesson<T, View<T>> for Puts {
 pub struct Takes;
 
 impl<T> Outcome<T, View<T>> for Takes {
-    ghost then = { λ v x w. (w ≡ view_of v.parts v.put (v.taken ++ x ∷ [])) × (rest : List T) × Moment (x ∷ rest) v };
+    ghost then = { λ v x w. (w ≡ view_of v.parts v.put (v.taken ++ x ∷ [])) × WasInFront x v };
 }
 
 impl<T> Lesson<T, View<T>> for Takes {
     ghost fact = { λ v items. Moment items v };
 }
 
-/// No more came home than was put; where it is equally many, it is exactly what was put.
+/// No more was returned than was put; where it is equally many, it is exactly what was put.
 pub struct Settles;
 
 impl<T> Lesson<T, View<T>> for Settles {
-    ghost fact = { λ v items. (length v.taken ≤ length v.put) × (length v.put ≤ length v.taken → (h : T → ℕ) → weigh h v.taken ≡ weigh h v.put) };
+    ghost fact = { λ v items. IsSettled v };
 }
 
 /// A pass that has nothing is made.
@@ -72,7 +72,7 @@ impl<T> Split<View<T>> for Deal {
     ghost right = { λ v. spent };
 }
 
-/// What a pass took is cut off it, to be sent home.
+/// What a pass took is cut off it, to be returned.
 pub struct Cut;
 
 impl<T> Split<View<T>> for Cut {
@@ -81,16 +81,16 @@ impl<T> Split<View<T>> for Cut {
     ghost right = { λ v. view_of 0 [] v.taken };
 }
 
-/// What another pass took comes home.
-pub struct Home;
+/// What another pass took is returned.
+pub struct Absorb;
 
-impl<T> Join<View<T>> for Home {
+impl<T> Join<View<T>> for Absorb {
     ghost both = { λ v w. view_of v.parts v.put (v.taken ++ w.taken) };
 
     ghost spent = { spent };
 }
 
-/// All came home, and the board is cleared.
+/// All was returned, and the board is cleared.
 pub struct Clear;
 
 impl<T> Split<View<T>> for Clear {
@@ -99,14 +99,14 @@ impl<T> Split<View<T>> for Clear {
     ghost right = { λ v. spent };
 }
 
-/// Names one board. The call that opens it picks the name.
-pub trait Room {
+/// The name of one board, as a type. The call that opens the board picks it.
+pub trait BoardName {
     ghost use Rattle.atomic_table.specs.Seated.{TableId};
 
     ghost table: { TableId };
 }
 
-impl Room for Brand {
+impl BoardName for Brand {
     ghost use Rattle.crew.specs.Rule.{no_table};
 
     ghost table = { no_table };

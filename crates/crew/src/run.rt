@@ -3,12 +3,12 @@
 ghost use Rattle.std.specs.Prelude.{◌≡◌, ◌<◌, ◌≤◌, [], IfOk, IfErr};
 ghost use Rattle.crew.specs.Rule.{put_view};
 
-use crate::bell::Patience;
 use crate::caller::{Crew, Phases};
 use crate::open::Blank;
-use crate::rule::Room;
+use crate::rule::BoardName;
 use crate::seats::PutSeat;
-use crate::shared::Shared;
+use crate::shared::{Shared, TaskContext};
+use crate::signal::WaitLimits;
 use crate::work::{DoneOf, Work};
 use std::alloc::{AllocError, Global};
 use std::marker::Brand;
@@ -25,6 +25,17 @@ pub enum Refused {
     Start,
 }
 
+/// How a crew is set up.
+#[derive(Clone, Copy)]
+pub struct CrewOptions {
+    /// How many tasks of a phase the board has room for, at least 1. The caller alone runs a phase of more.
+    pub room: usize,
+    /// How many workers there are, the caller among them.
+    pub workers: usize,
+    /// How long they look before they sleep.
+    pub limits: WaitLimits,
+}
+
 /// Phases, one after another, by whoever runs their tasks.
 pub trait PhasedRun<T, D: DoneOf<T>, E> {
     /// What it gives.
@@ -35,21 +46,18 @@ pub trait PhasedRun<T, D: DoneOf<T>, E> {
         ensures { IfOk result (gives self) };
 }
 
-// Starts this number of threads, which are numbered from 1 on.
+// Starts the threads of this number of workers, which are numbered from 1 on.
 fn start<
     's,
     'e: 's,
     T: Drop + Send,
     D: DoneOf<T> + Drop + Send,
     W: Work<T, D> + Sync,
-    B: Room + Send + Sync,
+    B: BoardName + Send + Sync,
     R: Threads + Wait + Sync,
 >(
     scope: &'s Scope<'s, &'e ()>,
-    rt: &'e R,
-    alloc: Global,
-    work: &'e W,
-    shared: &'e Shared<T, D, B>,
+    shared: &'e Shared<'e, T, D, W, B, R>,
     seat: &mut PutSeat<T, B>,
     workers: usize,
 ) -> Result<(), Refused>
@@ -61,7 +69,7 @@ fn start<
         let thread = scope.spawn(
             move ||
                 requires { theirs ≡ [] }
-            { shared.serve(rt, alloc, work, worker, theirs) },
+            { shared.serve(worker, theirs) },
         );
         if thread.is_err() {
             return Err(Refused::Start);
@@ -77,16 +85,13 @@ fn run_started<
     T: Drop + Send,
     D: DoneOf<T> + Drop + Send,
     W: Work<T, D> + Sync,
-    B: Room + Send + Sync,
+    B: BoardName + Send + Sync,
     R: Threads + Wait + Sync,
     E,
     C: PhasedRun<T, D, E> + Drop,
 >(
     scope: &'s Scope<'s, &'e ()>,
-    rt: &'e R,
-    alloc: Global,
-    work: &'e W,
-    shared: &'e Shared<T, D, B>,
+    shared: &'e Shared<'e, T, D, W, B, R>,
     seat: PutSeat<T, B>,
     workers: usize,
     phased: C,
@@ -96,28 +101,27 @@ fn run_started<
     ensures refused { IfErr result (λ e. e ≡ Refused.Start → 2 ≤ workers) }
 {
     let mut seat = seat;
-    start(scope, rt, alloc, work, shared, &mut seat, workers)?;
-    let mut crew = Crew::new(rt, alloc, work, shared, seat);
-    match phased.run(alloc, &mut crew) {
+    start(scope, shared, &mut seat, workers)?;
+    let mut crew = Crew::new(shared, seat);
+    match phased.run(shared.context.alloc, &mut crew) {
         Ok(end) => Ok(end),
         Err(AllocError) => Err(Refused::Memory),
     }
 }
 
-// The same, and then tells the threads that it is over, however it ended.
-fn crewed<
+// Starts the threads in a scope of their own, runs the phases, and tells the threads that the run is over, however it
+// ended.
+fn run_in_scope<
+    'a,
     T: Drop + Send,
     D: DoneOf<T> + Drop + Send,
     W: Work<T, D> + Sync,
-    B: Room + Send + Sync,
+    B: BoardName + Send + Sync,
     R: Threads + Wait + Sync,
     E,
     C: PhasedRun<T, D, E> + Drop,
 >(
-    rt: &R,
-    alloc: Global,
-    work: &W,
-    shared: &Shared<T, D, B>,
+    shared: &'a Shared<'a, T, D, W, B, R>,
     seat: PutSeat<T, B>,
     workers: usize,
     phased: C,
@@ -128,50 +132,52 @@ fn crewed<
 {
     thread::scope(
         thread::scope_env(),
-        rt,
+        shared.context.rt,
         |scope| -> Result<E, Refused>
             requires { seat ≡ put_view [] [] }
             ensures end { IfOk result (C.gives phased) }
             ensures refused { IfErr result (λ e. e ≡ Refused.Start → 2 ≤ workers) }
         {
-            let end = run_started(scope, rt, alloc, work, shared, seat, workers, phased);
+            let end = run_started(scope, shared, seat, workers, phased);
             shared.close();
             end
         },
     )
 }
 
-// The same on this board.
-fn named<
+// Runs phases by workers who share a board, which gets its name here.
+fn run_named<
     T: Drop + Send,
     D: DoneOf<T> + Drop + Send,
     W: Work<T, D> + Sync,
-    B: Room + Send + Sync,
+    B: BoardName + Send + Sync,
     R: Threads + Wait + Sync,
     E,
     C: PhasedRun<T, D, E> + Drop,
 >(
-    rt: &R,
-    alloc: Global,
-    work: &W,
+    context: TaskContext<'_, W, R>,
     blank: Blank<T>,
-    workers: usize,
-    patience: Patience,
+    options: CrewOptions,
     phased: C,
 ) -> Result<E, Refused>
     requires { blank.name ≡ B.table }
     ensures end { IfOk result (C.gives phased) }
-    ensures refused { IfErr result (λ e. e ≡ Refused.Start → 2 ≤ workers) }
+    ensures refused { IfErr result (λ e. e ≡ Refused.Start → 2 ≤ options.workers) }
 {
+    let CrewOptions {
+        workers,
+        limits,
+        ..
+    } = options;
     let (board, seat) = blank.named::<B>();
-    let Ok(shared) = Shared::<T, D, B>::new(alloc, board, workers, patience) else {
+    let Ok(shared) = Shared::<T, D, W, B, R>::new(context, board, workers, limits) else {
         return Err(Refused::Memory);
     };
-    crewed(rt, alloc, work, &shared, seat, workers, phased)
+    run_in_scope(&shared, seat, workers, phased)
 }
 
-/// Runs what goes phase by phase with a number of workers: the caller, and threads that are started once. All have ended when this returns, even
-/// where it is refused. Phases of more than `room` tasks are run by the caller alone.
+/// Runs what goes phase by phase with a crew: the caller, and threads that are started once. All have ended when this
+/// returns, even where it is refused.
 pub fn with_crew<
     T: Drop + Send,
     D: DoneOf<T> + Drop + Send,
@@ -179,21 +185,14 @@ pub fn with_crew<
     R: Threads + Wait + Sync,
     E,
     C: PhasedRun<T, D, E> + Drop,
->(
-    rt: &R,
-    alloc: Global,
-    work: &W,
-    room: usize,
-    workers: usize,
-    patience: Patience,
-    phased: C,
-) -> Result<E, Refused>
-    requires { 0 < room }
+>(rt: &R, alloc: Global, work: &W, options: CrewOptions, phased: C) -> Result<E, Refused>
+    requires { 0 < options.room }
     ensures end { IfOk result (C.gives phased) }
-    ensures refused { IfErr result (λ e. e ≡ Refused.Start → 2 ≤ workers) }
+    ensures refused { IfErr result (λ e. e ≡ Refused.Start → 2 ≤ options.workers) }
 {
-    let Ok(blank) = Blank::open(alloc, room) else {
+    let Ok(blank) = Blank::open(alloc, options.room) else {
         return Err(Refused::Memory);
     };
-    named::<T, D, W, Brand, R, E, C>(rt, alloc, work, blank, workers, patience, phased)
+    let context = TaskContext { rt, alloc, work };
+    run_named::<T, D, W, Brand, R, E, C>(context, blank, options, phased)
 }

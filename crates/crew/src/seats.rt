@@ -1,56 +1,56 @@
 //! A board of tasks, and the seats at it.
 
-ghost use Rattle.std.specs.Prelude.{◌≡◌, ℕ, ◌+◌, ◌≤◌, List, [], ◌∷◌, ◌++◌, length, MatchOption, MatchResult, IsPermutation};
-ghost use Rattle.crew.specs.Rule.{put_view};
+ghost use Rattle.std.specs.Prelude.{◌≡◌, ◌+◌, ◌≤◌, [], ◌∷◌, ◌++◌, length, IfSome, IfNone, OnOk, OnErr, IfErr, IsPermutation};
+ghost use Rattle.crew.specs.Rule.{put_view, with_put};
 
-use crate::rule::{Clear, Cut, Deal, Home, Puts, Queue, Room, Seat, Settles, Takes};
+use crate::rule::{Absorb, BoardName, Clear, Cut, Deal, Puts, Queue, Seat, Settles, Takes};
 use std::marker::{Model, PhantomData};
 use std::sync::Wait;
 
-/// The seat that puts. To a contract it is what it has put since the board was cleared last, and what came home.
+/// The seat that puts. To a contract it is what it has put since the board was cleared last, and what was returned.
 #[derive(Drop)]
-pub struct PutSeat<T, B: Room> {
+pub struct PutSeat<T, B: BoardName> {
     pub(crate) pass: Seat<T>,
-    pub(crate) room: PhantomData<B>,
+    pub(crate) name: PhantomData<B>,
 }
 
-impl<T, B: Room> Model for PutSeat<T, B> {
-    ghost use Rattle.std.specs.Prelude.{◌≡◌, []};
-    ghost use Rattle.crew.specs.Rule.{PutView};
+impl<T, B: BoardName> Model for PutSeat<T, B> {
+    ghost use Rattle.std.specs.Prelude.{◌≡◌};
+    ghost use Rattle.crew.specs.Rule.{PutView, put_view, IsPassAt};
 
     ghost Value = { PutView T };
 
-    ghost view = { λ s. record { put = s.pass.me.0.client.put; home = s.pass.me.0.client.taken } };
+    ghost view = { λ s. put_view s.pass.me.0.client.put s.pass.me.0.client.taken };
 
-    ghost invariant = { λ s. (s.pass.table_id ≡ B.table) × (s.pass.me.1 ≡ []) × (s.pass.me.0.client.parts ≡ 1) };
+    ghost invariant = { λ s. IsPassAt B.table s.pass × (s.pass.me.0.client.parts ≡ 1) };
 }
 
 /// A seat that takes. To a contract it is what it has taken.
 #[derive(Drop)]
-pub struct TakeSeat<T, B: Room> {
+pub struct TakeSeat<T, B: BoardName> {
     pub(crate) pass: Seat<T>,
-    pub(crate) room: PhantomData<B>,
+    pub(crate) name: PhantomData<B>,
 }
 
-impl<T, B: Room> Model for TakeSeat<T, B> {
-    ghost use Rattle.std.specs.Prelude.{◌≡◌, List, []};
-    ghost use Rattle.crew.specs.Rule.{view_of};
+impl<T, B: BoardName> Model for TakeSeat<T, B> {
+    ghost use Rattle.std.specs.Prelude.{List};
+    ghost use Rattle.crew.specs.Rule.{OnlyTakes, IsPassAt};
 
     ghost Value = { List T };
 
     ghost view = { λ s. s.pass.me.0.client.taken };
 
-    ghost invariant = { λ s. (s.pass.table_id ≡ B.table) × (s.pass.me.1 ≡ []) × (s.pass.me.0.client ≡ view_of 0 [] s.pass.me.0.client.taken) };
+    ghost invariant = { λ s. IsPassAt B.table s.pass × OnlyTakes s.pass.me.0.client };
 }
 
 /// The tasks that were put and that no seat has taken yet. To a contract it is how many it has room for.
 #[derive(Drop)]
-pub struct Board<T: Drop, B: Room> {
+pub struct Board<T: Drop, B: BoardName> {
     pub(crate) queue: Queue<T>,
-    pub(crate) room: PhantomData<B>,
+    pub(crate) name: PhantomData<B>,
 }
 
-impl<T: Drop, B: Room> Model for Board<T, B> {
+impl<T: Drop, B: BoardName> Model for Board<T, B> {
     ghost use Rattle.std.specs.Prelude.{◌≡◌, ℕ};
     ghost use Rattle.crossbeam_queue.specs.Passes.{ruled_capacity};
 
@@ -61,7 +61,7 @@ impl<T: Drop, B: Room> Model for Board<T, B> {
     ghost invariant = { λ b. b.queue.table.shared.table_id ≡ B.table };
 }
 
-impl<T: Drop, B: Room> Board<T, B> {
+impl<T: Drop, B: BoardName> Board<T, B> {
     /// How many tasks it has room for.
     pub fn room(&self) -> usize
         ensures { result ≡ self.now }
@@ -71,14 +71,18 @@ impl<T: Drop, B: Room> Board<T, B> {
 
     /// Puts a task. It comes back only if the board is full; the seat then knows what it knew before.
     pub fn put<R: Wait>(&self, rt: &R, seat: &mut PutSeat<T, B>, task: T) -> Result<(), T>
-        ensures { MatchResult result (λ _. seat.new ≡ put_view (seat.old.put ++ task ∷ []) seat.old.home) (λ t. (t ≡ task) × (seat.new ≡ seat.old) × (self.now ≤ length seat.old.put)) }
+        ensures put { OnOk result (seat.new ≡ with_put seat.old task) }
+        ensures back { IfErr result (λ t. t ≡ task) }
+        ensures same { OnErr result (seat.new ≡ seat.old) }
+        ensures full { OnErr result (self.now ≤ length seat.old.put) }
     {
         self.queue.push_as::<Puts, R>(rt, &mut seat.pass, task)
     }
 
     /// Takes a task, where it finds one; the seat then knows that it took it.
     pub fn take<R: Wait>(&self, rt: &R, seat: &mut TakeSeat<T, B>) -> Option<T>
-        ensures seat { MatchOption result (seat.new ≡ seat.old) (λ t. seat.new ≡ seat.old ++ t ∷ []) }
+        ensures taken { IfSome result (λ t. seat.new ≡ seat.old ++ t ∷ []) }
+        ensures same { IfNone result (seat.new ≡ seat.old) }
     {
         self.queue.pop_as::<Takes, R>(rt, &mut seat.pass)
     }
@@ -90,44 +94,44 @@ impl<T: Drop, B: Room> Board<T, B> {
         let pass = self.queue.another::<Deal>(&mut seat.pass);
         TakeSeat {
             pass,
-            room: PhantomData,
+            name: PhantomData,
         }
     }
 
-    /// A seat of its own of what a seat took, to be brought home.
+    /// A seat of its own of what a seat took, to be returned.
     pub fn cut(&self, seat: &mut TakeSeat<T, B>) -> TakeSeat<T, B>
         ensures { (result ≡ seat.old) × (seat.new ≡ []) }
     {
         let pass = self.queue.another::<Cut>(&mut seat.pass);
         TakeSeat {
             pass,
-            room: PhantomData,
+            name: PhantomData,
         }
     }
 
-    /// What a seat took comes home.
-    pub fn bring_home(&self, seat: &mut PutSeat<T, B>, theirs: TakeSeat<T, B>)
-        ensures { seat.new ≡ put_view seat.old.put (seat.old.home ++ theirs) }
+    /// What a seat took is returned.
+    pub fn absorb(&self, seat: &mut PutSeat<T, B>, theirs: TakeSeat<T, B>)
+        ensures { seat.new ≡ put_view seat.old.put (seat.old.returned ++ theirs) }
     {
-        self.queue.absorb::<Home>(&mut seat.pass, theirs.pass);
+        self.queue.absorb::<Absorb>(&mut seat.pass, theirs.pass);
     }
 
-    /// How many of the tasks that were put have not come home, where `put` tasks were put and `home` came home. It is 0 if and only if
-    /// what came home is what was put, each task once.
-    pub fn missing(&self, seat: &mut PutSeat<T, B>, put: usize, home: usize) -> usize
-        requires { (put ≡ length seat.old.put) × (home ≡ length seat.old.home) }
+    /// How many of the tasks that were put have not been returned, where `put` tasks were put and `returned` were
+    /// returned. It is 0 if and only if what was returned is what was put, each task once.
+    pub fn missing(&self, seat: &mut PutSeat<T, B>, put: usize, returned: usize) -> usize
+        requires { (put ≡ length seat.old.put) × (returned ≡ length seat.old.returned) }
         ensures same { seat.new ≡ seat.old }
-        ensures count { result + home ≡ put }
-        ensures whole { result ≡ 0 → IsPermutation seat.old.put seat.old.home }
-        ensures not_whole { IsPermutation seat.old.put seat.old.home → result ≡ 0 }
+        ensures count { result + returned ≡ put }
+        ensures whole { result ≡ 0 → IsPermutation seat.old.put seat.old.returned }
+        ensures not_whole { IsPermutation seat.old.put seat.old.returned → result ≡ 0 }
     {
         self.queue.learn_as::<Settles>(&mut seat.pass);
-        put - home
+        put - returned
     }
 
-    /// Forgets what was put, where all of it came home.
+    /// Forgets what was put, where all of it was returned.
     pub fn clear(&self, seat: &mut PutSeat<T, B>)
-        requires { IsPermutation seat.old.put seat.old.home }
+        requires { IsPermutation seat.old.put seat.old.returned }
         ensures { seat.new ≡ put_view [] [] }
     {
         let _ = self.queue.another::<Clear>(&mut seat.pass);

@@ -1,11 +1,11 @@
 //! Where tasks wait for threads, and what came of them for the caller; and what a thread does there.
 
-ghost use Rattle.std.specs.Prelude.{◌≡◌, ◌<◌, [], ◌∷◌, ◌++◌, MatchOption, OnOk, IfOk};
+ghost use Rattle.std.specs.Prelude.{◌≡◌, ◌<◌, [], ◌∷◌, ◌++◌, IfSome, IfNone, OnOk, IfOk};
 
-use crate::bell::{Bell, Patience};
-use crate::load::Load;
-use crate::rule::Room;
+use crate::returned::Returned;
+use crate::rule::BoardName;
 use crate::seats::{Board, TakeSeat};
+use crate::signal::{Signal, WaitLimits};
 use crate::work::{DoneOf, Work};
 use crossbeam_queue::ArrayQueue;
 use std::alloc::{AllocError, Global};
@@ -13,151 +13,159 @@ use std::sync::Wait;
 use std::sync::atomic::{AtomicBool, AtomicUsize, Ordering};
 use std::{hint, thread};
 
-/// What comes home from a thread: what it did, or that it met refused memory.
-pub(crate) type Parcel<T, D, B> = Result<Load<T, D, B>, AllocError>;
-
-/// What the threads of a crew share: a board, the parcels that are on their way home, and the bells for both.
+/// What a worker runs tasks with.
 #[derive(Drop)]
-pub(crate) struct Shared<T: Drop, D: DoneOf<T> + Drop, B: Room> {
-    pub(crate) board: Board<T, B>,
-    pub(crate) homes: ArrayQueue<Parcel<T, D, B>>,
-    pub(crate) work: Bell,
-    pub(crate) home: Bell,
-    pub(crate) over: AtomicBool,
-    /// How many workers have had their turn to take in this phase.
-    turns: AtomicUsize,
-    pub(crate) patience: Patience,
+pub(crate) struct TaskContext<'a, W, R> {
+    pub(crate) rt: &'a R,
+    pub(crate) alloc: Global,
+    pub(crate) work: &'a W,
 }
 
-impl<T: Drop, D: DoneOf<T> + Drop, B: Room> Shared<T, D, B> {
+/// What a thread returns to the caller: what it did, or that it met refused memory.
+pub(crate) type ThreadResult<T, D, B> = Result<Returned<T, D, B>, AllocError>;
+
+/// What the threads of a crew share: what they run tasks with, the board, the queue of what they return, and a signal
+/// for both.
+#[derive(Drop)]
+pub(crate) struct Shared<'a, T: Drop, D: DoneOf<T> + Drop, W: Work<T, D>, B: BoardName, R: Wait> {
+    pub(crate) context: TaskContext<'a, W, R>,
+    pub(crate) board: Board<T, B>,
+    pub(crate) returned: ArrayQueue<ThreadResult<T, D, B>>,
+    /// Raised when tasks were put, and when the run is over.
+    pub(crate) tasks_ready: Signal,
+    /// Raised when something was returned.
+    pub(crate) results_ready: Signal,
+    pub(crate) over: AtomicBool,
+    /// The number of the worker that is next to take its first task of this phase.
+    next_worker: AtomicUsize,
+    pub(crate) limits: WaitLimits,
+}
+
+impl<'a, T: Drop, D: DoneOf<T> + Drop, W: Work<T, D>, B: BoardName, R: Wait> Shared<
+    'a,
+    T,
+    D,
+    W,
+    B,
+    R,
+> {
     /// What this number of threads shares, with this board. The only error is out of memory.
     pub(crate) fn new(
-        alloc: Global,
+        context: TaskContext<'a, W, R>,
         board: Board<T, B>,
         threads: usize,
-        patience: Patience,
-    ) -> Result<Shared<T, D, B>, AllocError>
+        limits: WaitLimits,
+    ) -> Result<Shared<'a, T, D, W, B, R>, AllocError>
         ensures { IfOk result (λ h. h.board ≡ board) }
     {
         let room = board.room().saturating_add(threads).saturating_add(1);
-        let homes = ArrayQueue::new(alloc, room)?;
+        let returned = ArrayQueue::new(context.alloc, room)?;
         Ok(Shared {
+            context,
             board,
-            homes,
-            work: Bell::new(),
-            home: Bell::new(),
+            returned,
+            tasks_ready: Signal::new(),
+            results_ready: Signal::new(),
             over: AtomicBool::new(false),
-            turns: AtomicUsize::new(0),
-            patience,
+            next_worker: AtomicUsize::new(0),
+            limits,
         })
     }
 
-    /// Begins a phase: the caller has the first turn.
+    /// Begins a phase, in which the caller takes first.
     pub(crate) fn begin(&self) {
-        self.turns.store(0, Ordering::SeqCst);
+        self.next_worker.store(0, Ordering::SeqCst);
     }
 
-    // Waits until the workers before this one have had their turn, but not for long.
-    fn wait_for_turn(&self, worker: usize) {
-        for _ in 0..self.patience.turns {
-            if self.turns.load(Ordering::SeqCst) >= worker {
+    // Waits until the workers with lower numbers have taken, but not for long.
+    fn wait_in_order(&self, worker: usize) {
+        for _ in 0..self.limits.order_spins {
+            if self.next_worker.load(Ordering::SeqCst) >= worker {
                 return;
             }
             hint::spin_loop();
         }
     }
 
-    // Takes the task in front; the first one of a phase only in its turn.
-    fn next_task<R: Wait>(
-        &self,
-        rt: &R,
-        worker: usize,
-        seat: &mut TakeSeat<T, B>,
-        is_first: bool,
-    ) -> Option<T>
-        ensures { MatchOption result (seat.new ≡ seat.old) (λ t. seat.new ≡ seat.old ++ t ∷ []) }
+    // Takes the task in front; the first one of a phase only after the workers with lower numbers.
+    fn next_task(&self, worker: usize, seat: &mut TakeSeat<T, B>, is_first: bool) -> Option<T>
+        ensures taken { IfSome result (λ t. seat.new ≡ seat.old ++ t ∷ []) }
+        ensures same { IfNone result (seat.new ≡ seat.old) }
     {
         if !is_first {
-            return self.board.take(rt, seat);
+            return self.board.take(self.context.rt, seat);
         }
-        self.wait_for_turn(worker);
-        let task = self.board.take(rt, seat);
-        self.turns
+        self.wait_in_order(worker);
+        let task = self.board.take(self.context.rt, seat);
+        self.next_worker
             .fetch_max(worker.saturating_add(1), Ordering::SeqCst);
         task
     }
 
     /// Takes tasks and runs them until the board is empty at one moment. The only error is out of memory.
-    pub(crate) fn claim<W: Work<T, D>, R: Wait>(
+    pub(crate) fn claim(
         &self,
-        rt: &R,
-        alloc: Global,
-        work: &W,
         worker: usize,
         seat: &mut TakeSeat<T, B>,
-    ) -> Result<Load<T, D, B>, AllocError>
+    ) -> Result<Returned<T, D, B>, AllocError>
         requires { seat.old ≡ [] }
         ensures { OnOk result (seat.new ≡ []) }
     {
-        let mut dones = Vec::new(alloc);
-        for _ in rt.forever() {
-            let is_first = dones.is_empty();
-            let Some(task) = self.next_task(rt, worker, seat, is_first) else {
+        let context = &self.context;
+        let mut results = Vec::new(context.alloc);
+        for _ in context.rt.forever() {
+            let is_first = results.is_empty();
+            let Some(task) = self.next_task(worker, seat, is_first) else {
                 let theirs = self.board.cut(seat);
-                return Ok(Load {
+                return Ok(Returned {
                     seat: theirs,
-                    dones,
+                    results,
                 });
             };
-            dones.push(work.run(alloc, worker, task)?)?;
+            results.push(context.work.run(context.alloc, worker, task)?)?;
         }
         unreachable!()
     }
 
-    // Sends a parcel home. There is room for each, so it goes at once.
-    fn send<R: Wait>(&self, rt: &R, parcel: Parcel<T, D, B>) {
-        let mut parcel = parcel;
+    // Returns to the caller what came of tasks. There is room for each, so it goes at once.
+    fn send(&self, returned: ThreadResult<T, D, B>) {
+        let rt = self.context.rt;
+        let mut returned = returned;
         for _ in rt.forever() {
-            match self.homes.push(rt, parcel) {
+            match self.returned.push(rt, returned) {
                 Ok(()) => break,
-                Err(back) => parcel = back,
+                Err(back) => returned = back,
             }
             thread::yield_now();
         }
-        self.home.ring();
+        self.results_ready.raise();
     }
 
     fn is_over(&self) -> bool {
         self.over.load(Ordering::SeqCst)
     }
 
-    /// What a thread does until it is told that the run is over: it runs tasks, sends home what came of them, and waits for more. Where
-    /// memory is refused, it says so and goes.
-    pub(crate) fn serve<W: Work<T, D>, R: Wait>(
-        &self,
-        rt: &R,
-        alloc: Global,
-        work: &W,
-        worker: usize,
-        seat: TakeSeat<T, B>,
-    )
+    /// What a thread does until it is told that the run is over: it runs tasks, returns what came of them, and waits
+    /// for more. Where memory is refused, it says so and ends.
+    pub(crate) fn serve(&self, worker: usize, seat: TakeSeat<T, B>)
         requires { seat ≡ [] }
     {
         let mut seat = seat;
-        for _ in rt.forever() {
-            let seen = self.work.rings();
-            match self.claim(rt, alloc, work, worker, &mut seat) {
-                Ok(load) => {
-                    if !load.dones.is_empty() {
-                        self.send(rt, Ok(load));
+        for _ in self.context.rt.forever() {
+            let seen = self.tasks_ready.count();
+            match self.claim(worker, &mut seat) {
+                Ok(returned) => {
+                    if !returned.results.is_empty() {
+                        self.send(Ok(returned));
                     }
                     if self.is_over() {
                         return;
                     }
-                    self.work.wait_past(rt, self.patience, seen);
+                    self.tasks_ready
+                        .wait_past(self.context.rt, self.limits, seen);
                 }
                 Err(AllocError) => {
-                    self.send(rt, Err(AllocError));
+                    self.send(Err(AllocError));
                     return;
                 }
             }
@@ -167,6 +175,6 @@ impl<T: Drop, D: DoneOf<T> + Drop, B: Room> Shared<T, D, B> {
     /// Tells the threads that there will be no more tasks.
     pub(crate) fn close(&self) {
         self.over.store(true, Ordering::SeqCst);
-        self.work.ring();
+        self.tasks_ready.raise();
     }
 }

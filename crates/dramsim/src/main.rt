@@ -3,6 +3,7 @@
 
 use program::host::Host;
 use program::perform::perform;
+use program::streams::Streams;
 use progress::watcher::ProgressLine;
 use refusal::error_stream::ErrorStream;
 use refusal::status::REFUSED;
@@ -22,22 +23,17 @@ fn perform_words<T: Threads + Wait + Sync>(rt: &HostRuntime, threads: &T) -> io:
         .map(|word| word.as_str())
         .collect(rt.alloc())?;
     let mut files = HostFiles { rt };
-    let mut output = rt.stdout();
-    let mut errors = ErrorStream::new(rt.stderr());
-    let is_terminal = errors.stream().is_terminal();
+    let mut streams = Streams {
+        output: rt.stdout(),
+        errors: ErrorStream::new(rt.stderr()),
+    };
+    let is_terminal = streams.errors.stream().is_terminal();
     let mut watch = ProgressLine::new(rt.alloc(), rt, rt.stderr(), is_terminal);
     let mut host = Host {
         threads,
         watch: &mut watch,
     };
-    Ok(perform(
-        &mut host,
-        rt.alloc(),
-        &words,
-        &mut files,
-        &mut output,
-        &mut errors,
-    ))
+    Ok(perform(&mut host, rt.alloc(), &words, &mut files, &mut streams))
 }
 
 // Why the words of the command line could not be obtained.

@@ -24,8 +24,8 @@ pub fn of_config(
         | Fault::ConfigKey(_)
         | Fault::ConfigRange(_)
         | Fault::ConfigRelation(_) => {
-            let rest = config_text(alloc, fault, path, document)?;
-            behind(format!(in alloc; "{path}:")?, rest.as_str())
+            let head = format!(in alloc; "{path}:")?;
+            behind(head, config_text(alloc, fault, path, document))
         }
         _ => Ok(String::new(alloc)),
     }

@@ -1,14 +1,18 @@
 //! What stands before a text.
 
-ghost use Rattle.std.specs.Prelude.{◌≡◌, ◌++◌, IfOk, string_bytes};
+ghost use Rattle.std.specs.Prelude.{◌≡◌, ◌++◌, IfOk, IsOkAnd, string_bytes};
+ghost use Rattle.explain.specs.Heads.{StartsBy};
 
 use std::alloc::AllocError;
 
 /// A text after the beginning of its first line.
-pub(crate) fn behind(head: String, rest: &str) -> Result<String, AllocError>
-    ensures { IfOk result (λ s. string_bytes s ≡ string_bytes head ++ rest.now) }
+pub(crate) fn behind(head: String, rest: Result<String, AllocError>) -> Result<String, AllocError>
+    ensures begins { IfOk result (StartsBy (string_bytes head)) }
+    ensures whole { IfOk result (λ s.
+        IsOkAnd rest (λ r. string_bytes s ≡ string_bytes head ++ string_bytes r)) }
 {
+    let rest = rest?;
     let mut text = head;
-    text.push_str(rest)?;
+    text.push_str(rest.as_str())?;
     Ok(text)
 }

@@ -17,6 +17,6 @@ mod traces;
 pub use crate::explain_text::table::TableKind;
 pub use config::of_config;
 pub use host::of_host;
-pub use numbers::of_numbers;
+pub use numbers::{RunNumbers, of_numbers};
 pub use table::of_table;
 pub use traces::of_traces;

@@ -21,9 +21,7 @@ fn of_row(
     ensures { IfOk result (StartsBy (row_head path.now row)) }
 {
     let head = format!(in alloc; "{path}: row {row}")?;
-    let rest = row_text(alloc, kind, row, table)?;
-    let text = behind(head, rest.as_str())?;
-    Ok(text)
+    behind(head, row_text(alloc, kind, row, table))
 }
 
 /// Explains a malformed row of a table, fault 15. `kind` is which table was to be read.

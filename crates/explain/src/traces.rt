@@ -40,9 +40,7 @@ fn of_line(
 {
     let path = path_of(paths, core);
     let head = format!(in alloc; "{path}:{line}: ")?;
-    let rest = line_text(alloc, path, line, text_of(texts, core))?;
-    let text = behind(head, rest.as_str())?;
-    Ok(text)
+    behind(head, line_text(alloc, path, line, text_of(texts, core)))
 }
 
 /// Explains a fault of a core's trace, 5 or 6, by the paths and the texts of all traces.

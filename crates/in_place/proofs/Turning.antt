@@ -16,7 +16,7 @@ use Rattle.sim_base.proofs.Each.{Each-all}
 use Rattle.sim_base.proofs.Spans.{has_channels}
 use Rattle.links.specs.InFlight.{InFlight, receiver_of}
 use Rattle.span_laws.specs.Mail.{mail_in}
-use Rattle.span_laws.specs.Units.{Exists, sent_of}
+use Rattle.span_laws.specs.Units.{Exists}
 use Rattle.horizon_laws.specs.Flight.{flight_of}
 use Rattle.horizon_laws.specs.Sent.{RequestsTravelFor, AnswersTakeFor}
 use Rattle.horizon_laws.specs.Turns.{IsInTurns, IsLowered}
@@ -32,11 +32,12 @@ use Rattle.units.proofs.Due.{exists-at}
 use Rattle.units.proofs.Joining.{fresh-is}
 use Rattle.units.proofs.Standing.{core-at_place, channel-at_place, same-default}
 use Rattle.units.proofs.Travelling.{Added, core-added, channel-added}
-use Rattle.in_place.specs.Turns.{AreInTurns}
+use Rattle.in_place.specs.Turns.{AreByKind, AreInTurns, all_units, all_words}
+use Rattle.in_place.specs.declared.taking_turns.UnitsByKind.{UnitsByKind}
 use Rattle.wake_words.specs.Wakes.{Sleeper, Waits, WaitAll, IsBrought, AllBrought, AreLowered, IsAsleep, units_from, links_after, sleeper, sleeper_at}
-use Rattle.wake_words.specs.declared.slot.Slot.{Slot}
+use Rattle.wake_words.specs.declared.timed_unit.TimedUnit.{TimedUnit}
 use Rattle.wake_words.proofs.Going.{units-places}
-use Rattle.wake_words.proofs.Jumping.{some-slot}
+use Rattle.wake_words.proofs.Jumping.{some-unit}
 use Rattle.units.specs.declared.machine.Machine.{Machine}
 use Rattle.units.specs.Runs.{run_of, sent_at}
 use Rattle.wake_words.proofs.Sharing.{among-all}
@@ -87,10 +88,20 @@ cores-grow machine from until l core k =
     subst (λ u. sent_at machine until u ≡ sent_at machine from u ++ sent_by_core machine from until core) (core-at machine.config core k)
     (fresh-grows machine from until (0 + core) (omega (arith, k)) l)
 
+-- how many units the channels are, and how many words they have
+pub channels-many : (machine : Machine) (a b : ℕ) (kinds : UnitsByKind) (links : InFlight) → AreByKind machine kinds → AreInTurns machine a b (all_units kinds) (all_words kinds) links
+    → length kinds.channels.units.items ≡ machine.config.channels
+channels-many machine a b kinds links k h = omega (arith, h.count, k.cores_count, length-append kinds.cores.units.items kinds.channels.units.items)
+
+pub channel-words_many : (machine : Machine) (a b : ℕ) (kinds : UnitsByKind) (links : InFlight) → AreByKind machine kinds → AreInTurns machine a b (all_units kinds) (all_words kinds) links
+    → length kinds.channels.words.items ≡ machine.config.channels
+channel-words_many machine a b kinds links k h =
+    omega (arith, h.count, h.words_count, k.core_words, length-append kinds.cores.words.items kinds.channels.words.items)
+
 -- what is in flight is brought to the channels
-pub channels-brought : (machine : Machine) (a b until : ℕ) (slots : List Slot) (words : List ℕ) (links : InFlight) → AreInTurns machine a b slots words links
+pub channels-brought : (machine : Machine) (a b until : ℕ) (units : List TimedUnit) (words : List ℕ) (links : InFlight) → AreInTurns machine a b units words links
     → RequestsTravelFor machine.config (until - a) → AllBrought machine machine.config.cores machine.config.channels b a until links
-channels-brought machine a b until slots words links h t k less =
+channels-brought machine a b until units words links h t k less =
     subst (λ u. IsBrought machine b a until u links) (sym (channel-at machine.config k))
     (subst (IsBrought machine b a until (Channel k)) (sym h.flight)
     (record {
@@ -101,9 +112,9 @@ channels-brought machine a b until slots words links h t k less =
     }))
 
 -- and to the cores
-pub cores-brought : (machine : Machine) (a b until : ℕ) (slots : List Slot) (words : List ℕ) (links : InFlight) → AreInTurns machine a b slots words links
+pub cores-brought : (machine : Machine) (a b until : ℕ) (units : List TimedUnit) (words : List ℕ) (links : InFlight) → AreInTurns machine a b units words links
     → AnswersTakeFor machine.config (until - b) → AllBrought machine 0 machine.config.cores a b until links
-cores-brought machine a b until slots words links h t k less =
+cores-brought machine a b until units words links h t k less =
     subst (λ u. IsBrought machine a b until u links) (sym (core-at machine.config k less))
     (subst (IsBrought machine a b until (Core k)) (sym h.flight)
     (record {
@@ -113,35 +124,57 @@ cores-brought machine a b until slots words links h t k less =
       known = core-known machine.config machine.traces.items b until k t;
     }))
 
--- the words and slots of the cores, and those of the channels
-pub core-part : (slots : List Slot) (words : List ℕ) (cores k : ℕ) (d : Slot) → k < cores → sleeper_at (take cores slots) (take cores words) k d ≡ sleeper_at slots words k d
-core-part slots words cores k d l = ap₂ sleeper (get_or-take cores slots k d l) (get_or-take cores words k 0 l)
+-- the words and units of the cores, and those of the channels
+pub core-part : (units : List TimedUnit) (words : List ℕ) (cores k : ℕ) (d : TimedUnit) → k < cores → sleeper_at (take cores units) (take cores words) k d ≡ sleeper_at units words k d
+core-part units words cores k d l = ap₂ sleeper (get_or-take cores units k d l) (get_or-take cores words k 0 l)
 
-pub channel-part : (slots : List Slot) (words : List ℕ) (cores k : ℕ) (d : Slot) → sleeper_at (drop cores slots) (drop cores words) k d ≡ sleeper_at slots words (cores + k) d
-channel-part slots words cores k d = ap₂ sleeper (get_or-drop cores slots k d) (get_or-drop cores words k 0)
+pub channel-part : (units : List TimedUnit) (words : List ℕ) (cores k : ℕ) (d : TimedUnit) → sleeper_at (drop cores units) (drop cores words) k d ≡ sleeper_at units words (cores + k) d
+channel-part units words cores k d = ap₂ sleeper (get_or-drop cores units k d) (get_or-drop cores words k 0)
 
-pub channels-wait_all : (machine : Machine) (a b : ℕ) (slots : List Slot) (words : List ℕ) (links : InFlight) → AreInTurns machine a b slots words links
-    → WaitAll machine machine.config.cores b a (drop machine.config.cores slots) (drop machine.config.cores words)
-channels-wait_all machine a b slots words links h k d less =
-    subst (λ u. Waits machine u b a (sleeper_at (drop machine.config.cores slots) (drop machine.config.cores words) k d)) (sym (channel-at machine.config k))
-    (subst (Waits machine (Channel k) b a) (sym (channel-part slots words machine.config.cores k d))
-    (h.channels_wait k d (omega (arith, less, length-drop machine.config.cores slots, h.count))))
+pub channels-wait_all : (machine : Machine) (a b : ℕ) (units : List TimedUnit) (words : List ℕ) (links : InFlight) → AreInTurns machine a b units words links
+    → WaitAll machine machine.config.cores b a (drop machine.config.cores units) (drop machine.config.cores words)
+channels-wait_all machine a b units words links h k d less =
+    subst (λ u. Waits machine u b a (sleeper_at (drop machine.config.cores units) (drop machine.config.cores words) k d)) (sym (channel-at machine.config k))
+    (subst (Waits machine (Channel k) b a) (sym (channel-part units words machine.config.cores k d))
+    (h.channels_wait k d (omega (arith, less, length-drop machine.config.cores units, h.count))))
 
-pub cores-wait_all : (machine : Machine) (a b : ℕ) (slots : List Slot) (words : List ℕ) (links : InFlight) → AreInTurns machine a b slots words links
-    → WaitAll machine 0 a b (take machine.config.cores slots) (take machine.config.cores words)
-cores-wait_all machine a b slots words links h k d less =
-    let l : k < machine.config.cores = omega (arith, less, length-take machine.config.cores slots) in
-    subst (λ u. Waits machine u a b (sleeper_at (take machine.config.cores slots) (take machine.config.cores words) k d)) (sym (core-at machine.config k l))
-    (subst (Waits machine (Core k) a b) (sym (core-part slots words machine.config.cores k d l)) (h.cores_wait k d l))
+pub cores-wait_all : (machine : Machine) (a b : ℕ) (units : List TimedUnit) (words : List ℕ) (links : InFlight) → AreInTurns machine a b units words links
+    → WaitAll machine 0 a b (take machine.config.cores units) (take machine.config.cores words)
+cores-wait_all machine a b units words links h k d less =
+    let l : k < machine.config.cores = omega (arith, less, length-take machine.config.cores units) in
+    subst (λ u. Waits machine u a b (sleeper_at (take machine.config.cores units) (take machine.config.cores words) k d)) (sym (core-at machine.config k l))
+    (subst (Waits machine (Core k) a b) (sym (core-part units words machine.config.cores k d l)) (h.cores_wait k d l))
 
-left-here : (xs ys : List Slot) (ws vs : List ℕ) (k : ℕ) (d : Slot) → k < length xs → k < length ws → sleeper_at (xs ++ ys) (ws ++ vs) k d ≡ sleeper_at xs ws k d
+left-here : (xs ys : List TimedUnit) (ws vs : List ℕ) (k : ℕ) (d : TimedUnit) → k < length xs → k < length ws → sleeper_at (xs ++ ys) (ws ++ vs) k d ≡ sleeper_at xs ws k d
 left-here xs ys ws vs k d l m = ap₂ sleeper (get_or_append_left xs ys d k l) (get_or_append_left ws vs 0 k m)
 
-right-here : (xs ys : List Slot) (ws vs : List ℕ) (n k : ℕ) (d : Slot) → length xs ≡ n → length ws ≡ n → sleeper_at (xs ++ ys) (ws ++ vs) (n + k) d ≡ sleeper_at ys vs k d
+right-here : (xs ys : List TimedUnit) (ws vs : List ℕ) (n k : ℕ) (d : TimedUnit) → length xs ≡ n → length ws ≡ n → sleeper_at (xs ++ ys) (ws ++ vs) (n + k) d ≡ sleeper_at ys vs k d
 right-here xs ys ws vs n k d e f =
     ap₂ sleeper
     (ap (λ i. get_or (xs ++ ys) (i + k) d) (sym e) ∙ get_or-append-add xs ys k d)
     (ap (λ i. get_or (ws ++ vs) (i + k) 0) (sym f) ∙ get_or-append-add ws vs k 0)
+
+-- where all units wait, the cores do, and so do the channels
+pub cores-wait : (machine : Machine) (now : ℕ) (kinds : UnitsByKind) → AreByKind machine kinds → WaitAll machine 0 now now (all_units kinds) (all_words kinds)
+    → WaitAll machine 0 now now kinds.cores.units.items kinds.cores.words.items
+cores-wait machine now kinds k h i d l =
+    let cores = kinds.cores in
+    let channels = kinds.channels in
+    subst (Waits machine (unit_at machine.config (0 + i)) now now)
+    (left-here cores.units.items channels.units.items cores.words.items channels.words.items i d l (omega (arith, l, k.core_words, k.cores_count)))
+    (h i d (omega (arith, l, length-append cores.units.items channels.units.items)))
+
+pub channels-wait : (machine : Machine) (now : ℕ) (kinds : UnitsByKind) → AreByKind machine kinds → WaitAll machine 0 now now (all_units kinds) (all_words kinds)
+    → WaitAll machine machine.config.cores now now kinds.channels.units.items kinds.channels.words.items
+channels-wait machine now kinds k h i d l =
+    let cores = kinds.cores in
+    let channels = kinds.channels in
+    let n = machine.config.cores in
+    let place : 0 + (n + i) ≡ n + i = omega arith in
+    subst (Waits machine (unit_at machine.config (n + i)) now now)
+    (right-here cores.units.items channels.units.items cores.words.items channels.words.items n i d k.cores_count k.core_words)
+    (subst (λ p. Waits machine (unit_at machine.config p) now now (sleeper_at (all_units kinds) (all_words kinds) (n + i) d)) place
+    (h (n + i) d (omega (arith, l, k.cores_count, length-append cores.units.items channels.units.items))))
 
 -- a unit that is not touched waits on, with its word lowered
 core-lowered : (machine : Machine) (a b until core : ℕ) (before after : Sleeper) (sent : List Message) → core < machine.config.cores → b ≤ until → AnswersTakeFor machine.config (a - b)
@@ -231,31 +264,31 @@ cores-flight machine a b until links after sent l near e f g =
     units = units_from machine.config 0 machine.config.cores
 
 -- after a turn of the channels the machine is in turns again
-pub channels-turned : (machine : Machine) (a b until : ℕ) (slots moved : List Slot) (words lowered new : List ℕ) (links after : InFlight) (sent : List Message)
-    → AreInTurns machine a b slots words links → b ≤ until → RequestsTravelFor machine.config (until - a)
-    → length moved ≡ length (drop machine.config.cores slots) → length new ≡ length (drop machine.config.cores words) → WaitAll machine machine.config.cores until a moved new
+pub channels-turned : (machine : Machine) (a b until : ℕ) (units moved : List TimedUnit) (words lowered new : List ℕ) (links after : InFlight) (sent : List Message)
+    → AreInTurns machine a b units words links → b ≤ until → RequestsTravelFor machine.config (until - a)
+    → length moved ≡ length (drop machine.config.cores units) → length new ≡ length (drop machine.config.cores words) → WaitAll machine machine.config.cores until a moved new
     → sent ≡ sent_by machine b until machine.config.cores machine.config.channels → AreLowered machine.config 0 sent (take machine.config.cores words) lowered
     → after ≡ record links { messages = fold insert_by_age (links_after machine.config b until machine.config.cores machine.config.channels links).messages sent }
-    → AreInTurns machine a until (take machine.config.cores slots ++ moved) (lowered ++ new) after
-channels-turned machine a b until slots moved words lowered new links after sent h l t long wide wait are low left =
+    → AreInTurns machine a until (take machine.config.cores units ++ moved) (lowered ++ new) after
+channels-turned machine a b until units moved words lowered new links after sent h l t long wide wait are low left =
     record {
-      count = length-append (take machine.config.cores slots) moved ∙ omega (arith, front, long, length-drop machine.config.cores slots, h.count);
-      words_count = length-append lowered new ∙ omega (arith, wide, low_count, length-drop machine.config.cores words, h.words_count, h.count, front, long, length-drop machine.config.cores slots, length-append (take machine.config.cores slots) moved);
+      count = length-append (take machine.config.cores units) moved ∙ omega (arith, front, long, length-drop machine.config.cores units, h.count);
+      words_count = length-append lowered new ∙ omega (arith, wide, low_count, length-drop machine.config.cores words, h.words_count, h.count, front, long, length-drop machine.config.cores units, length-append (take machine.config.cores units) moved);
       channels_near = t;
       cores_near = answers-shorter machine.config (a - b) (a - until) (omega arith) h.cores_near;
       cores_wait = λ core d k.
-          subst (Waits machine (Core core) a until) (sym (left-here (take machine.config.cores slots) moved lowered new core d (omega (arith, front, k)) (omega (arith, low_count, k))))
-          (core-lowered machine a b until core (sleeper_at (take machine.config.cores slots) (take machine.config.cores words) core d) (sleeper_at (take machine.config.cores slots) lowered core d) sent k l h.cores_near are refl
-          (word-lowered machine.config 0 core (get_or (take machine.config.cores slots) core d).at (Core core) sent (take machine.config.cores words) lowered low (omega (arith, words_front, k)) (core-at machine.config core k))
-          (subst (Waits machine (Core core) a b) (sym (core-part slots words machine.config.cores core d k)) (h.cores_wait core d k)));
+          subst (Waits machine (Core core) a until) (sym (left-here (take machine.config.cores units) moved lowered new core d (omega (arith, front, k)) (omega (arith, low_count, k))))
+          (core-lowered machine a b until core (sleeper_at (take machine.config.cores units) (take machine.config.cores words) core d) (sleeper_at (take machine.config.cores units) lowered core d) sent k l h.cores_near are refl
+          (word-lowered machine.config 0 core (get_or (take machine.config.cores units) core d).at (Core core) sent (take machine.config.cores words) lowered low (omega (arith, words_front, k)) (core-at machine.config core k))
+          (subst (Waits machine (Core core) a b) (sym (core-part units words machine.config.cores core d k)) (h.cores_wait core d k)));
       channels_wait = λ channel d k.
-          subst (Waits machine (Channel channel) until a) (sym (right-here (take machine.config.cores slots) moved lowered new machine.config.cores channel d front low_count))
-          (subst (λ u. Waits machine u until a (sleeper_at moved new channel d)) (channel-at machine.config channel) (wait channel d (omega (arith, k, long, length-drop machine.config.cores slots, h.count))));
+          subst (Waits machine (Channel channel) until a) (sym (right-here (take machine.config.cores units) moved lowered new machine.config.cores channel d front low_count))
+          (subst (λ u. Waits machine u until a (sleeper_at moved new channel d)) (channel-at machine.config channel) (wait channel d (omega (arith, k, long, length-drop machine.config.cores units, h.count))));
       flight = channels-flight machine a b until links after sent l h.cores_near h.flight are left;
     }
   where
-    front : length (take machine.config.cores slots) ≡ machine.config.cores
-    front = omega (arith, length-take machine.config.cores slots, h.count)
+    front : length (take machine.config.cores units) ≡ machine.config.cores
+    front = omega (arith, length-take machine.config.cores units, h.count)
 
     words_front : length (take machine.config.cores words) ≡ machine.config.cores
     words_front = omega (arith, length-take machine.config.cores words, h.words_count, h.count)
@@ -264,48 +297,48 @@ channels-turned machine a b until slots moved words lowered new links after sent
     low_count = low.count ∙ words_front
 
 -- so it is after one of the cores
-pub cores-turned : (machine : Machine) (a b until : ℕ) (slots moved : List Slot) (words lowered new : List ℕ) (links after : InFlight) (sent : List Message)
-    → AreInTurns machine a b slots words links → a ≤ until → AnswersTakeFor machine.config (until - b)
-    → length moved ≡ length (take machine.config.cores slots) → length new ≡ length (take machine.config.cores words) → WaitAll machine 0 until b moved new
+pub cores-turned : (machine : Machine) (a b until : ℕ) (units moved : List TimedUnit) (words lowered new : List ℕ) (links after : InFlight) (sent : List Message)
+    → AreInTurns machine a b units words links → a ≤ until → AnswersTakeFor machine.config (until - b)
+    → length moved ≡ length (take machine.config.cores units) → length new ≡ length (take machine.config.cores words) → WaitAll machine 0 until b moved new
     → sent ≡ sent_by machine a until 0 machine.config.cores → AreLowered machine.config machine.config.cores sent (drop machine.config.cores words) lowered
     → after ≡ record links { messages = fold insert_by_age (links_after machine.config a until 0 machine.config.cores links).messages sent }
-    → AreInTurns machine until b (moved ++ drop machine.config.cores slots) (new ++ lowered) after
-cores-turned machine a b until slots moved words lowered new links after sent h l t long wide wait are low left =
+    → AreInTurns machine until b (moved ++ drop machine.config.cores units) (new ++ lowered) after
+cores-turned machine a b until units moved words lowered new links after sent h l t long wide wait are low left =
     record {
-      count = length-append moved (drop machine.config.cores slots) ∙ omega (arith, front, length-drop machine.config.cores slots, h.count);
-      words_count = length-append new lowered ∙ omega (arith, words_front, low.count, length-drop machine.config.cores words, h.words_count, h.count, front, length-drop machine.config.cores slots, length-append moved (drop machine.config.cores slots));
+      count = length-append moved (drop machine.config.cores units) ∙ omega (arith, front, length-drop machine.config.cores units, h.count);
+      words_count = length-append new lowered ∙ omega (arith, words_front, low.count, length-drop machine.config.cores words, h.words_count, h.count, front, length-drop machine.config.cores units, length-append moved (drop machine.config.cores units));
       channels_near = requests-shorter machine.config (b - a) (b - until) (omega arith) h.channels_near;
       cores_near = t;
       cores_wait = λ core d k.
-          subst (Waits machine (Core core) until b) (sym (left-here moved (drop machine.config.cores slots) new lowered core d (omega (arith, front, k)) (omega (arith, words_front, k))))
+          subst (Waits machine (Core core) until b) (sym (left-here moved (drop machine.config.cores units) new lowered core d (omega (arith, front, k)) (omega (arith, words_front, k))))
           (subst (λ u. Waits machine u until b (sleeper_at moved new core d)) (core-at machine.config core k) (wait core d (omega (arith, k, front))));
       channels_wait = λ channel d k.
-          subst (Waits machine (Channel channel) b until) (sym (right-here moved (drop machine.config.cores slots) new lowered machine.config.cores channel d front words_front))
-          (channel-lowered machine a b until channel (sleeper_at (drop machine.config.cores slots) (drop machine.config.cores words) channel d) (sleeper_at (drop machine.config.cores slots) lowered channel d) sent k l h.channels_near are refl
-          (word-lowered machine.config machine.config.cores channel (get_or (drop machine.config.cores slots) channel d).at (Channel channel) sent (drop machine.config.cores words) lowered low (omega (arith, k, length-drop machine.config.cores words, h.words_count, h.count)) (channel-at machine.config channel))
-          (subst (Waits machine (Channel channel) b a) (sym (channel-part slots words machine.config.cores channel d)) (h.channels_wait channel d k)));
+          subst (Waits machine (Channel channel) b until) (sym (right-here moved (drop machine.config.cores units) new lowered machine.config.cores channel d front words_front))
+          (channel-lowered machine a b until channel (sleeper_at (drop machine.config.cores units) (drop machine.config.cores words) channel d) (sleeper_at (drop machine.config.cores units) lowered channel d) sent k l h.channels_near are refl
+          (word-lowered machine.config machine.config.cores channel (get_or (drop machine.config.cores units) channel d).at (Channel channel) sent (drop machine.config.cores words) lowered low (omega (arith, k, length-drop machine.config.cores words, h.words_count, h.count)) (channel-at machine.config channel))
+          (subst (Waits machine (Channel channel) b a) (sym (channel-part units words machine.config.cores channel d)) (h.channels_wait channel d k)));
       flight = cores-flight machine a b until links after sent l h.channels_near h.flight are left;
     }
   where
     front : length moved ≡ machine.config.cores
-    front = omega (arith, long, length-take machine.config.cores slots, h.count)
+    front = omega (arith, long, length-take machine.config.cores units, h.count)
 
     words_front : length new ≡ machine.config.cores
     words_front = omega (arith, wide, length-take machine.config.cores words, h.words_count, h.count)
 
 -- where each unit stands, and its word
-abbrev cycle_of : Config → List Slot → Slot → MachineUnit → ℕ
-cycle_of s slots d (Core core) = (get_or slots core d).at
-cycle_of s slots d (Channel channel) = (get_or slots (s.cores + channel) d).at
+abbrev cycle_of : Config → List TimedUnit → TimedUnit → MachineUnit → ℕ
+cycle_of s units d (Core core) = (get_or units core d).at
+cycle_of s units d (Channel channel) = (get_or units (s.cores + channel) d).at
 
 abbrev word_of : Config → List ℕ → MachineUnit → ℕ
 word_of s words (Core core) = get_or words core 0
 word_of s words (Channel channel) = get_or words (s.cores + channel) 0
 
 -- where neither kind is past the least word, all go on to it
-pub turns-later : (machine : Machine) (a b until : ℕ) (slots : List Slot) (words : List ℕ) (links : InFlight) → AreInTurns machine a b slots words links
-    → a ≤ until → b ≤ until → All (λ w. until ≤ w) words → AreInTurns machine until until slots words links
-turns-later machine a b until slots words links h l m sleep =
+pub turns-later : (machine : Machine) (a b until : ℕ) (units : List TimedUnit) (words : List ℕ) (links : InFlight) → AreInTurns machine a b units words links
+    → a ≤ until → b ≤ until → All (λ w. until ≤ w) words → AreInTurns machine until until units words links
+turns-later machine a b until units words links h l m sleep =
     record {
       count = h.count;
       words_count = h.words_count;
@@ -320,29 +353,29 @@ turns-later machine a b until slots words links h l m sleep =
       flight = h.flight ∙ ap {B = InFlight} (λ ms. record { channels = machine.config.channels; messages = ms }) then.holds;
     }
   where
-    some : Slot
-    some = some-slot slots (let c = has_channels machine.config in omega (arith, h.count, c))
+    some : TimedUnit
+    some = some-unit units (let c = has_channels machine.config in omega (arith, h.count, c))
 
     sleeps : (u : MachineUnit) → Exists machine.config u → until ≤ word_of machine.config words u
     sleeps (Core core) k = sleep core 0 (omega (arith, k, h.words_count, h.count))
     sleeps (Channel channel) k = sleep (machine.config.cores + channel) 0 (omega (arith, k, h.words_count, h.count))
 
-    waits : (u : MachineUnit) → Exists machine.config u → Left machine.config machine.traces.items a b u (cycle_of machine.config slots some u) (word_of machine.config words u)
+    waits : (u : MachineUnit) → Exists machine.config u → Left machine.config machine.traces.items a b u (cycle_of machine.config units some u) (word_of machine.config words u)
     waits (Core core) k = let w = h.cores_wait core some k in record { behind = w.behind; ahead = w.ahead; silent = w.may.silent; none = w.may.none }
     waits (Channel channel) k = let w = h.channels_wait channel some k in record { behind = w.behind; ahead = w.ahead; silent = w.may.silent; none = w.may.none }
 
-    then : IsInTurns machine.config machine.traces.items until until (cycle_of machine.config slots some) (word_of machine.config words) (flight_of machine.config machine.traces.items a b)
+    then : IsInTurns machine.config machine.traces.items until until (cycle_of machine.config units some) (word_of machine.config words) (flight_of machine.config machine.traces.items a b)
     then =
-        turns-jump machine.config machine.traces.items a b until (cycle_of machine.config slots some) (word_of machine.config words) (flight_of machine.config machine.traces.items a b) l m sleeps
+        turns-jump machine.config machine.traces.items a b until (cycle_of machine.config units some) (word_of machine.config words) (flight_of machine.config machine.traces.items a b) l m sleeps
         (record { channels_near = h.channels_near; cores_near = h.cores_near; wait = waits; holds = refl })
 
-    core-none : (core : ℕ) (d : Slot) → core < machine.config.cores → mail_in machine.config machine.traces.items until (Core core) (get_or slots core d).at (get_or words core 0) ≡ []
+    core-none : (core : ℕ) (d : TimedUnit) → core < machine.config.cores → mail_in machine.config machine.traces.items until (Core core) (get_or units core d).at (get_or words core 0) ≡ []
     core-none core d k =
-        subst (λ (x : Slot). mail_in machine.config machine.traces.items until (Core core) x.at (get_or words core 0) ≡ []) (same-default slots core some d (omega (arith, k, h.count))) (then.wait (Core core) k).none
+        subst (λ (x : TimedUnit). mail_in machine.config machine.traces.items until (Core core) x.at (get_or words core 0) ≡ []) (same-default units core some d (omega (arith, k, h.count))) (then.wait (Core core) k).none
 
-    channel-none : (channel : ℕ) (d : Slot) → channel < machine.config.channels → mail_in machine.config machine.traces.items until (Channel channel) (get_or slots (machine.config.cores + channel) d).at (get_or words (machine.config.cores + channel) 0) ≡ []
+    channel-none : (channel : ℕ) (d : TimedUnit) → channel < machine.config.channels → mail_in machine.config machine.traces.items until (Channel channel) (get_or units (machine.config.cores + channel) d).at (get_or words (machine.config.cores + channel) 0) ≡ []
     channel-none channel d k =
-        subst (λ (x : Slot). mail_in machine.config machine.traces.items until (Channel channel) x.at (get_or words (machine.config.cores + channel) 0) ≡ []) (same-default slots (machine.config.cores + channel) some d (omega (arith, k, h.count)))
+        subst (λ (x : TimedUnit). mail_in machine.config machine.traces.items until (Channel channel) x.at (get_or words (machine.config.cores + channel) 0) ≡ []) (same-default units (machine.config.cores + channel) some d (omega (arith, k, h.count)))
         (then.wait (Channel channel) k).none
 
 requests-none : (s : Config) (n : ℕ) → n ≡ 0 → RequestsTravelFor s n
@@ -357,37 +390,37 @@ all-flight s traces now count e =
     ap (λ n. among s 0 n (in_flight s traces (run s traces now))) f ∙ among-all s traces now ∙ sym (flights-meet s traces now)
 
 -- a machine whose units all wait at one cycle is in turns
-pub asleep-turns : (machine : Machine) (now : ℕ) (slots : List Slot) (words : List ℕ) (links : InFlight) → IsAsleep machine 0 now slots words links → length slots ≡ unit_count machine.config
-    → AreInTurns machine now now slots words links
-asleep-turns machine now slots words links h whole =
+pub asleep-turns : (machine : Machine) (now : ℕ) (units : List TimedUnit) (words : List ℕ) (links : InFlight) → IsAsleep machine 0 now units words links → length units ≡ unit_count machine.config
+    → AreInTurns machine now now units words links
+asleep-turns machine now units words links h whole =
     record {
       count = whole;
       words_count = h.words_count;
       channels_near = requests-none machine.config (now - now) (omega arith);
       cores_near = answers-none machine.config (now - now) (omega arith);
-      cores_wait = λ core d k. subst (λ u. Waits machine u now now (sleeper_at slots words core d)) (core-at machine.config core k) (h.wait core d (omega (arith, k, whole)));
+      cores_wait = λ core d k. subst (λ u. Waits machine u now now (sleeper_at units words core d)) (core-at machine.config core k) (h.wait core d (omega (arith, k, whole)));
       channels_wait = λ channel d k.
           let e : 0 + (machine.config.cores + channel) ≡ machine.config.cores + channel = omega arith in
-          subst (λ u. Waits machine u now now (sleeper_at slots words (machine.config.cores + channel) d)) (ap (unit_at machine.config) e ∙ channel-at machine.config channel) (h.wait (machine.config.cores + channel) d (omega (arith, k, whole)));
-      flight = h.flight ∙ ap {B = InFlight} (λ ms. record { channels = machine.config.channels; messages = ms }) (all-flight machine.config machine.traces.items now (length slots) whole);
+          subst (λ u. Waits machine u now now (sleeper_at units words (machine.config.cores + channel) d)) (ap (unit_at machine.config) e ∙ channel-at machine.config channel) (h.wait (machine.config.cores + channel) d (omega (arith, k, whole)));
+      flight = h.flight ∙ ap {B = InFlight} (λ ms. record { channels = machine.config.channels; messages = ms }) (all-flight machine.config machine.traces.items now (length units) whole);
     }
 
 -- and the other way round
-pub turns-asleep : (machine : Machine) (now : ℕ) (slots : List Slot) (words : List ℕ) (links : InFlight) → AreInTurns machine now now slots words links → now ≤ 10 ^ 12
-    → IsAsleep machine 0 now slots words links
-turns-asleep machine now slots words links h early =
+pub turns-asleep : (machine : Machine) (now : ℕ) (units : List TimedUnit) (words : List ℕ) (links : InFlight) → AreInTurns machine now now units words links → now ≤ 10 ^ 12
+    → IsAsleep machine 0 now units words links
+turns-asleep machine now units words links h early =
     record {
       early = early;
       within = omega (arith, h.count);
       words_count = h.words_count;
       wait = λ k d less. waits k d (omega (arith, less, h.count)) (cases_lt k machine.config.cores);
-      flight = h.flight ∙ ap {B = InFlight} (λ ms. record { channels = machine.config.channels; messages = ms }) (sym (all-flight machine.config machine.traces.items now (length slots) h.count));
+      flight = h.flight ∙ ap {B = InFlight} (λ ms. record { channels = machine.config.channels; messages = ms }) (sym (all-flight machine.config machine.traces.items now (length units) h.count));
     }
   where
-    waits : (k : ℕ) (d : Slot) → k < unit_count machine.config → (k < machine.config.cores) ⊎ (machine.config.cores ≤ k) → Waits machine (unit_at machine.config (0 + k)) now now (sleeper_at slots words k d)
-    waits k d less (inl l) = subst (λ u. Waits machine u now now (sleeper_at slots words k d)) (sym (core-at machine.config k l)) (h.cores_wait k d l)
+    waits : (k : ℕ) (d : TimedUnit) → k < unit_count machine.config → (k < machine.config.cores) ⊎ (machine.config.cores ≤ k) → Waits machine (unit_at machine.config (0 + k)) now now (sleeper_at units words k d)
+    waits k d less (inl l) = subst (λ u. Waits machine u now now (sleeper_at units words k d)) (sym (core-at machine.config k l)) (h.cores_wait k d l)
     waits k d less (inr l) =
         let e : machine.config.cores + (k - machine.config.cores) ≡ k = omega (arith, l) in
         let f : 0 + k ≡ machine.config.cores + (k - machine.config.cores) = omega (arith, l) in
-        subst (λ u. Waits machine u now now (sleeper_at slots words k d)) (sym (ap (unit_at machine.config) f ∙ channel-at machine.config (k - machine.config.cores)))
-        (subst (λ n. Waits machine (Channel (k - machine.config.cores)) now now (sleeper_at slots words n d)) e (h.channels_wait (k - machine.config.cores) d (omega (arith, less, l))))
+        subst (λ u. Waits machine u now now (sleeper_at units words k d)) (sym (ap (unit_at machine.config) f ∙ channel-at machine.config (k - machine.config.cores)))
+        (subst (λ n. Waits machine (Channel (k - machine.config.cores)) now now (sleeper_at units words n d)) e (h.channels_wait (k - machine.config.cores) d (omega (arith, less, l))))

@@ -1,2 +1,2 @@
 pub mod Turns
-pub mod Rests
+pub mod Timed

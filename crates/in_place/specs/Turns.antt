@@ -1,18 +1,22 @@
 -- A machine whose cores stand at one cycle and whose channels at another, as they go on in turns.
---     AreInTurns machine cores_at channels_at slots words links      what holds of it between two turns
---     InTurnsAt machine at slots words links      the same of a machine that stands so
+--     AreInTurns machine cores_at channels_at units words links      what holds of it between two turns
+--     AreByKind machine kinds      the cores of a machine at the first places, and the channels at those behind
+--     all_units kinds, all_words kinds      all units, and all words
+--     AllAsleep machine now kinds links      all units wait at a cycle
+--     InTurnsAt machine at kinds links      what holds between two turns of a machine that stands so
 --     channels_to, cores_to until at      where it stands when one kind has gone on to a cycle
 --     links_between machine cores_at channels_at      the links then
-use Rattle.std.specs.Prelude.{◌≡◌, ℕ, ◌+◌, ◌-◌, ◌<◌, List, length}
+use Rattle.std.specs.Prelude.{◌≡◌, ℕ, ◌+◌, ◌-◌, ◌<◌, List, ◌++◌, length}
 use Rattle.sim_base.specs.declared.message.Unit.TheVariants.{Core, Channel}
 use Rattle.links.specs.InFlight.{InFlight}
 use Rattle.horizon_laws.specs.Flight.{flight_of}
 use Rattle.horizon_laws.specs.Sent.{RequestsTravelFor, AnswersTakeFor}
 use Rattle.units.specs.Units.{unit_count}
 use Rattle.units.specs.declared.machine.Machine.{Machine}
-use Rattle.wake_words.specs.Wakes.{Waits, sleeper_at}
-use Rattle.wake_words.specs.declared.slot.Slot.{Slot}
+use Rattle.wake_words.specs.Wakes.{IsAsleep, Waits, sleeper_at}
+use Rattle.wake_words.specs.declared.timed_unit.TimedUnit.{TimedUnit}
 use Rattle.in_place.specs.declared.taking_turns.Standing.{Standing}
+use Rattle.in_place.specs.declared.taking_turns.UnitsByKind.{UnitsByKind}
 
 -- the links with what is in flight where the cores stand at one cycle and the channels at another
 abbrev pub links_between : Machine → ℕ → ℕ → InFlight
@@ -25,20 +29,40 @@ links_between machine cores_at channels_at =
 -- The cores stand at one cycle and the channels at another, neither further ahead than what they send takes to the
 -- others. Each unit waits, as far as is known from where the others stand, and the links hold exactly what is in
 -- flight.
-pub record AreInTurns (machine : Machine) (cores_at channels_at : ℕ) (slots : List Slot) (words : List ℕ) (links : InFlight) : Type 0 where
-  pub count : length slots ≡ unit_count machine.config
-  pub words_count : length words ≡ length slots
+pub record AreInTurns (machine : Machine) (cores_at channels_at : ℕ) (units : List TimedUnit) (words : List ℕ) (links : InFlight) : Type 0 where
+  pub count : length units ≡ unit_count machine.config
+  pub words_count : length words ≡ length units
   pub channels_near : RequestsTravelFor machine.config (channels_at - cores_at)
   pub cores_near : AnswersTakeFor machine.config (cores_at - channels_at)
-  pub cores_wait : (core : ℕ) (d : Slot) → core < machine.config.cores
-      → Waits machine (Core core) cores_at channels_at (sleeper_at slots words core d)
-  pub channels_wait : (channel : ℕ) (d : Slot) → channel < machine.config.channels
-      → Waits machine (Channel channel) channels_at cores_at (sleeper_at slots words (machine.config.cores + channel) d)
+  pub cores_wait : (core : ℕ) (d : TimedUnit) → core < machine.config.cores
+      → Waits machine (Core core) cores_at channels_at (sleeper_at units words core d)
+  pub channels_wait : (channel : ℕ) (d : TimedUnit) → channel < machine.config.channels
+      → Waits machine (Channel channel) channels_at cores_at (sleeper_at units words (machine.config.cores + channel) d)
   pub flight : links ≡ links_between machine cores_at channels_at
 
--- the same of a machine that stands so
-abbrev pub InTurnsAt : Machine → Standing → List Slot → List ℕ → InFlight → Type 0
-InTurnsAt machine at slots words links = AreInTurns machine at.cores_at at.channels_at slots words links
+-- The cores of a machine are at its first places, and its channels at those behind.
+pub record AreByKind (machine : Machine) (kinds : UnitsByKind) : Type 0 where
+  pub cores_first : kinds.cores.first ≡ 0
+  pub channels_first : kinds.channels.first ≡ machine.config.cores
+  pub cores_count : length kinds.cores.units.items ≡ machine.config.cores
+  pub core_words : length kinds.cores.words.items ≡ machine.config.cores
+
+-- all units by place
+abbrev pub all_units : UnitsByKind → List TimedUnit
+all_units kinds = kinds.cores.units.items ++ kinds.channels.units.items
+
+-- all words by place
+abbrev pub all_words : UnitsByKind → List ℕ
+all_words kinds = kinds.cores.words.items ++ kinds.channels.words.items
+
+-- all units wait at a cycle, and the links hold what is in flight
+abbrev pub AllAsleep : Machine → ℕ → UnitsByKind → InFlight → Type 0
+AllAsleep machine now kinds links = IsAsleep machine 0 now (all_units kinds) (all_words kinds) links
+
+-- a machine is between two turns, where it stands so
+abbrev pub InTurnsAt : Machine → Standing → UnitsByKind → InFlight → Type 0
+InTurnsAt machine at kinds links =
+    AreByKind machine kinds × AreInTurns machine at.cores_at at.channels_at (all_units kinds) (all_words kinds) links
 
 -- where a machine stands when its channels have gone on to a cycle
 abbrev pub channels_to : ℕ → Standing → Standing

@@ -2,5 +2,5 @@
 //! touched. It does what the one-clock machine does.
 #![tactic(auto)]
 
-pub mod rested;
 mod taking_turns;
+pub mod timed_sim;

@@ -12,8 +12,7 @@
 --     IsWhyStopped may_give shards sim limit fault      why a run does not reach a limit
 --     BringsNoneIn results arranged      what has the name of a result is one of the results
 --     OnlyPermutes may_give      an order leaves no result out, repeats none, and brings none in
-use Rattle.std.specs.Prelude.{◌≡◌, ◌⊎◌, ℕ, ◌≤◌, nat_lt, List, [], ◌∷◌, Some, None, All, Any, IsPermutation, if◌then◌else◌}
-use Rattle.sim_base.specs.Machine.{cycles_run}
+use Rattle.std.specs.Prelude.{◌≡◌, ◌⊎◌, ℕ, ◌≤◌, List, [], ◌∷◌, Some, None, All, Any, IsPermutation}
 use Rattle.sim_base.specs.declared.fault.Fault.{Fault}
 use Rattle.sim_base.specs.declared.fault.Fault.TheVariants.{Memory, Merge}
 use Rattle.sim_base.specs.declared.fault.MergeFault.{MergeFault}

@@ -6,9 +6,7 @@ ghost use Rattle.page.specs.Rows.{IsOfRunAt, IsReason};
 use crate::fault::PageFault;
 use crate::rows::check_rows;
 use crate::run_pictures::document::{Run, write_document};
-use crate::window::{Beside, View};
-use command_table::list::CommandList;
-use statistics::stats::Stats;
+use crate::window::{Beside, RunCommands, View};
 use std::alloc::Global;
 use std::io::{ErrorKind, Write};
 
@@ -27,28 +25,29 @@ use std::io::{ErrorKind, Write};
 ///
 /// `PageFault::Command` where a command is not of the run; nothing is then written. `PageFault::Memory` where memory is
 /// refused, and `PageFault::Write` where the writer fails or takes no byte; how much went out before that is not known.
-pub fn write_page<W: Write>(
+pub fn write_page<'a, W: Write>(
     alloc: Global,
-    stats: &Stats,
-    commands: &CommandList,
-    beside: Beside<'_>,
+    run: &RunCommands<'a>,
+    beside: Beside<'a>,
     view: View,
     writer: &mut W,
 ) -> Result<(), PageFault>
-    ensures all_of_run { OnOk result ((place : ℕ) → IsOfRunAt stats.now commands.now place) }
-    ensures refused { IfErr result (IsReason stats.now commands.now) }
+    ensures all_of_run { OnOk result ((place : ℕ)
+        → IsOfRunAt run.now.stats.now run.now.commands.now place) }
+    ensures refused { IfErr result (IsReason run.now.stats.now run.now.commands.now) }
 {
-    check_rows(stats, commands)?;
-    let run = Run {
+    check_rows(run.stats, run.commands)?;
+    let stats = run.stats;
+    let shown = Run {
         stats,
-        commands,
+        commands: run.commands,
         config: beside.config,
         khz: view.khz,
         requests: beside.requests,
         from: view.window.from,
         end: view.window.end_in(stats.cycles),
     };
-    match write_document(alloc, &run, writer) {
+    match write_document(alloc, &shown, writer) {
         Ok(()) => Ok(()),
         Err(error) if error.kind() == ErrorKind::OutOfMemory => Err(PageFault::Memory),
         Err(_) => Err(PageFault::Write),

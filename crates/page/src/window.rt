@@ -2,8 +2,10 @@
 
 ghost use Rattle.std.specs.Prelude.{◌≡◌, ◌+◌, min};
 
+use command_table::list::CommandList;
 use request_table::times::RequestTimes;
 use sim_base::config::Config;
+use statistics::stats::Stats;
 
 /// A number of cycles, from a cycle on.
 #[derive(Clone, Copy)]
@@ -17,6 +19,13 @@ pub struct Window {
 pub struct View {
     pub window: Window,
     pub khz: Option<u64>,
+}
+
+/// The statistics of a run, and its commands.
+#[derive(Clone, Copy)]
+pub struct RunCommands<'a> {
+    pub stats: &'a Stats,
+    pub commands: &'a CommandList,
 }
 
 /// What is known of a run beside its statistics and its commands: its configuration and its requests.

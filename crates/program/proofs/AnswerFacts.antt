@@ -8,13 +8,13 @@ use Rattle.program.specs.Answered.{IsQuiet, AskForPage}
 
 -- nothing is warned of, unless the words ask for a page
 pub quiet_unless_page : (words : List (List ℕ)) (ask : Ask) (warning : Option LargePage) → IsAskedBy words ask → IsQuiet ask warning → (warning ≡ None) ⊎ AskForPage words
-quiet_unless_page words (Page dir file config khz from cycles) warning asked quiet =
-    inr (record { ask = Page dir file config khz from cycles; asked = asked; for_page = tt })
-quiet_unless_page words (Run config cycles workers share tables out traces) warning asked quiet = inl quiet
+quiet_unless_page words (Page page) warning asked quiet =
+    inr (record { ask = Page page; asked = asked; for_page = tt })
+quiet_unless_page words (Run run) warning asked quiet = inl quiet
 quiet_unless_page words (Check config commands) warning asked quiet = inl quiet
 quiet_unless_page words (Map config address) warning asked quiet = inl quiet
-quiet_unless_page words (Show dir all config khz) warning asked quiet = inl quiet
-quiet_unless_page words (ShowBanks dir all config khz) warning asked quiet = inl quiet
+quiet_unless_page words (Show show) warning asked quiet = inl quiet
+quiet_unless_page words (ShowBanks show) warning asked quiet = inl quiet
 quiet_unless_page words (Compare dirs csv) warning asked quiet = inl quiet
 quiet_unless_page words (Help text) warning asked quiet = inl quiet
 quiet_unless_page words (Version text) warning asked quiet = inl quiet

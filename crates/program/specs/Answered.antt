@@ -146,33 +146,34 @@ pub record IsHelpAnswer (text : List ℕ) (status : ℕ) (old new : Seen) : Type
 
 -- what is asked has been done
 abbrev pub IsAnswer : Ask → Done → Seen → Seen → Type 0
-IsAnswer (Run config cycles workers share tables out traces) done old new =
-    IsRunAnswer config.now cycles workers tables out.now (map (λ t. t.now) traces.items) done.status old new
+IsAnswer (Run run) done old new =
+    IsRunAnswer run.config.now run.cycles run.workers run.tables run.out.now (map (λ t. t.now) run.traces.items) done.status old new
 IsAnswer (Check config commands) done old new = IsCheckAnswer config.now commands.now done.status old new
 IsAnswer (Map config address) done old new = IsMapAnswer config.now address done.status old new
-IsAnswer (Show dir all config khz) done old new = IsShowAnswer dir.now (option_map (λ c. c.now) config) done.status old new
-IsAnswer (ShowBanks dir all config khz) done old new = IsBanksAnswer dir.now (option_map (λ c. c.now) config) done.status old new
-IsAnswer (Page dir file config khz from cycles) done old new = IsPageAnswer dir.now file.now (option_map (λ c. c.now) config) done old new
+IsAnswer (Show show) done old new = IsShowAnswer show.dir.now (option_map (λ c. c.now) show.config) done.status old new
+IsAnswer (ShowBanks show) done old new = IsBanksAnswer show.dir.now (option_map (λ c. c.now) show.config) done.status old new
+IsAnswer (Page page) done old new = IsPageAnswer page.dir.now page.file.now (option_map (λ c. c.now) page.config) done old new
 IsAnswer (Compare dirs csv) done old new = IsCompareAnswer (map (λ d. d.now) dirs.items) csv done.status old new
 IsAnswer (Help text) done old new = IsHelpAnswer (string_bytes text) done.status old new
 IsAnswer (Version text) done old new = IsHelpAnswer (string_bytes text) done.status old new
 
 -- it is a page
 abbrev pub IsForPage : Ask → Type 0
-IsForPage (Page dir file config khz from cycles) = ⊤
+IsForPage (Page page) = ⊤
 IsForPage _ = ⊥
 
 -- nothing is warned of but pages
 abbrev pub IsQuiet : Ask → Option LargePage → Type 0
-IsQuiet (Page dir file config khz from cycles) warning = ⊤
+IsQuiet (Page page) warning = ⊤
 IsQuiet _ warning = warning ≡ None
 
 -- what is left where it has not been done: nothing was touched, or a run is left undone after its outcome was there, or
 -- a page
 abbrev pub IsLeft : Refusal → Ask → Seen → Seen → Type 0
-IsLeft refusal (Run config cycles workers share tables out traces) old new =
-    IsUnfinished refusal config.now cycles workers tables out.now (map (λ t. t.now) traces.items) (old.has_folder out.now) old.held new.held old.opened new.opened
-IsLeft refusal (Page dir file config khz from cycles) old new = IsPageLeft refusal file.now old new
+IsLeft refusal (Run run) old new =
+    IsUnfinished refusal run.config.now run.cycles run.workers run.tables run.out.now (map (λ t. t.now) run.traces.items)
+    (old.has_folder run.out.now) old.held new.held old.opened new.opened
+IsLeft refusal (Page page) old new = IsPageLeft refusal page.file.now old new
 IsLeft refusal _ old new = LeavesAll refusal old.held new.held old.opened new.opened
 
 -- what the words ask for has been done, with this status and this warning

@@ -29,14 +29,14 @@ pub record HasNoAsk (words : List Text) : Type 0 where
 
 -- the files that are read, in their order; a configuration is the first
 abbrev pub named : Ask → List (List ℕ)
-named (Run config cycles workers share tables out traces) = config.now ∷ map (λ t. t.now) traces.items
+named (Run run) = run.config.now ∷ map (λ t. t.now) run.traces.items
 named (Check config commands) = config.now ∷ commands.now ∷ []
 named (Map config address) = config.now ∷ []
-named (Show dir all config khz) = with_config (option_map (λ c. c.now) config) (path_in dir.now stats_name ∷ [])
-named (ShowBanks dir all config khz) =
-    with_config (option_map (λ c. c.now) config) (path_in dir.now stats_name ∷ path_in dir.now commands_name ∷ [])
-named (Page dir file config khz from cycles) =
-    with_config (option_map (λ c. c.now) config) (path_in dir.now stats_name ∷ path_in dir.now commands_name ∷ [])
+named (Show show) = with_config (option_map (λ c. c.now) show.config) (path_in show.dir.now stats_name ∷ [])
+named (ShowBanks show) =
+    with_config (option_map (λ c. c.now) show.config) (path_in show.dir.now stats_name ∷ path_in show.dir.now commands_name ∷ [])
+named (Page page) =
+    with_config (option_map (λ c. c.now) page.config) (path_in page.dir.now stats_name ∷ path_in page.dir.now commands_name ∷ [])
 named (Compare dirs csv) = map (λ d. stats_path d.now) dirs.items
 named (Help text) = []
 named (Version text) = []
@@ -59,24 +59,24 @@ IsRightRun cycles workers _ = ⊥
 
 -- what is wrong with the texts of the files that are read
 abbrev pub IsFaultIn : Ask → List (List ℕ) → Fault → Type 0
-IsFaultIn (Run config cycles workers share tables out traces) = IsRunFault cycles workers
+IsFaultIn (Run run) = IsRunFault run.cycles run.workers
 IsFaultIn (Check config commands) = IsTableFault
 IsFaultIn (Map config address) = IsMapFault
-IsFaultIn (Show dir all config khz) = IsShowFault
-IsFaultIn (ShowBanks dir all config khz) = IsPageFault
-IsFaultIn (Page dir file config khz from cycles) = IsPageFault
+IsFaultIn (Show show) = IsShowFault
+IsFaultIn (ShowBanks show) = IsPageFault
+IsFaultIn (Page page) = IsPageFault
 IsFaultIn (Compare dirs csv) = IsCompareFault
 IsFaultIn (Help text) = λ _ _. ⊥
 IsFaultIn (Version text) = λ _ _. ⊥
 
 -- nothing is
 abbrev pub IsRight : Ask → List (List ℕ) → Type 0
-IsRight (Run config cycles workers share tables out traces) = IsRightRun cycles workers
+IsRight (Run run) = IsRightRun run.cycles run.workers
 IsRight (Check config commands) = IsRightTable
 IsRight (Map config address) = IsRightMap
-IsRight (Show dir all config khz) = IsRightShow
-IsRight (ShowBanks dir all config khz) = IsRightPage
-IsRight (Page dir file config khz from cycles) = IsRightPage
+IsRight (Show show) = IsRightShow
+IsRight (ShowBanks show) = IsRightPage
+IsRight (Page page) = IsRightPage
 IsRight (Compare dirs csv) = IsRightCompare
 IsRight (Help text) = λ _. ⊤
 IsRight (Version text) = λ _. ⊤

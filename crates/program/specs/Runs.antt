@@ -7,6 +7,7 @@
 --     ReadsInput, ReadsOutcome set files asked ..      the input of a run, and its outcome
 --     CanRun set files asked, RefusesRun set files asked fault      its files can be read and are right, and why it is refused
 --     EndsRun set old new asked, LeavesRun set old new asked refusal      what a run has done, and what is left of one that is refused
+--     LeavesFiles set old new refusal      a refusal leaves all files as they were
 --     Answers, Tells stream before after ..      what was asked has been done, or is refused, and that was told on a stream of errors
 use Rattle.std.specs.Prelude.{◌≡◌, ◌⊎◌, ℕ, ◌≤◌, List, ◌∷◌, map, slice_index_or, Option, Some, None, Vec}
 use Rattle.std.specs.Borrow.{Bor}
@@ -22,6 +23,7 @@ use Rattle.refusal.specs.Streams.{has_refused, stream_of}
 use Rattle.refusal.specs.declared.error_stream.ErrorStream.{ErrorStream}
 use Rattle.refusal.specs.declared.refusal.Refusal.{Refusal}
 use Rattle.refusal.specs.declared.warning.LargePage.{LargePage}
+use Rattle.whole_files.specs.Tables.{LeavesAll}
 use Rattle.whole_files.specs.declared.files.FileSet.{Ghosts as Files}
 use Rattle.answers.specs.Refused.{IsFilesFault, IsReady, IsAnswerFault}
 use Rattle.program.specs.Answered.{Seen, seen, IsInputOf, IsOutcome, IsRunDone, IsUnfinished, IsAnswered, AskForPage}
@@ -128,6 +130,10 @@ LeavesRun set old new asked refusal =
     (set.has_folder old asked.out.now) (set.held old) (set.held new) (set.opened old) (set.opened new)
 
 -- ---- what is asked
+
+-- a refusal leaves all files as they were, and none was opened to be written
+abbrev pub LeavesFiles : {S O : Type 0} → Files S O → S → S → Refusal → Type 0
+LeavesFiles set old new refusal = set.tells → LeavesAll refusal (set.held old) (set.held new) (set.opened old) (set.opened new)
 
 -- why what is asked is refused
 abbrev pub RefusesAsk : {S O : Type 0} → Files S O → S → Ask → Refusal → Type 0

@@ -8,7 +8,7 @@ use crate::asked::RunAsk;
 use crate::host::Host;
 use config_reader::read_config;
 use cpu_trace::trace::Trace;
-use explain::{of_config, of_host, of_numbers, of_traces};
+use explain::{RunNumbers, of_config, of_host, of_numbers, of_traces};
 use refusal::reason::Reason;
 use run_outcome::outcome::Outcome;
 use sim_base::config::Config;
@@ -47,15 +47,12 @@ fn explain_run(alloc: Global, fault: Fault, input: &Input<'_>) -> Result<String,
         }
         Fault::TraceCount | Fault::Workers | Fault::Cycles => {
             let cores = cores_in(alloc, input.document);
-            let count = asked.traces.len();
-            of_numbers(
-                alloc,
-                fault,
-                cores,
-                count,
-                asked.cycles,
-                asked.workers.count,
-            )
+            let numbers = RunNumbers {
+                traces: asked.traces.len(),
+                cycles: asked.cycles,
+                workers: asked.workers.count,
+            };
+            of_numbers(alloc, fault, cores, numbers)
         }
         Fault::Memory | Fault::WorkerStart => of_host(alloc, fault),
         _ => of_config(alloc, fault, asked.config, input.document),
@@ -120,8 +117,9 @@ pub(crate) fn outcome_of<R: Threads + Wait + Sync, W: Watch>(
         config: machine,
         traces,
     };
+    let cycles = asked.cycles;
     let options = RunOptions {
-        cycles: asked.cycles,
+        cycles,
         workers: asked.workers,
         tables: asked.tables,
     };

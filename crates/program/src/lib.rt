@@ -6,5 +6,7 @@ mod done;
 mod explained;
 pub mod host;
 pub mod perform;
+mod printed;
 mod runs;
 mod shared;
+pub mod streams;

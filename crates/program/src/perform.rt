@@ -1,66 +1,29 @@
 //! What the program does, over files and streams that are handed in.
 
 ghost use Rattle.std.specs.Prelude.{◌≡◌, ◌≢◌, ◌≤◌, IfOk, IfErr};
-ghost use Rattle.program.specs.Answered.{layout_of, IsAnswer, IsDone, IsQuiet, IsLeft, IsRefusedBy, IsRefused};
+ghost use Rattle.program.specs.Answered.{IsAnswer, IsDone, IsQuiet, IsLeft, IsRefusedBy, IsRefused};
 ghost use Rattle.program.specs.Runs.{sight, words_of, RefusesAsk, RefusesWords, WarnsOfPages, IsSilentBut, Answers, Tells};
 
-use crate::asked::RunAsk;
+use crate::asked::{run_ask, view_of};
 use crate::done::Done;
 use crate::host::Host;
+use crate::printed::{answer_check, answer_compare, answer_map, answer_show, answer_show_banks};
 use crate::runs::perform_run;
-use answers::banks::perform_show_banks;
-use answers::comparisons::perform_compare;
+use crate::streams::Streams;
 use answers::folder::RunFolder;
 use answers::pages::perform_page;
-use answers::places::perform_map;
 use answers::print::print_text;
-use answers::screens::perform_show;
-use answers::verdicts::perform_check;
-use command_line::words::{Ask, Share, read_words};
-use compare::layout::Layout;
-use page::window::{View, Window};
-use refusal::error_stream::ErrorStream;
+use command_line::words::{Ask, read_words};
 use refusal::lines::write_lines;
 use refusal::refusal::Refusal;
 use refusal::status::REFUSED;
 use refusal::warning::write_warning;
-use show::options::Options;
-use sim_base::message::Cycle;
 use std::alloc::Global;
 use std::io::Write;
 use std::sync::Wait;
 use std::thread::Threads;
 use whole_files::files::FileSet;
-use workers::sharing::{Sharing, Workers};
 use workers::watch::Watch;
-
-// So many workers, which share a machine out when the words say.
-fn workers_of(count: u64, share: Share) -> Workers
-    ensures { result.count ≡ count }
-{
-    let sharing = match share {
-        Share::Auto => Sharing::default(),
-        Share::Always => Sharing::always(),
-    };
-    Workers { count, sharing }
-}
-
-fn layout_of(csv: bool) -> Layout
-    ensures { result ≡ layout_of csv }
-{
-    if csv { Layout::Csv } else { Layout::Screen }
-}
-
-// What a screen shows, and by which clock.
-fn options_of(all: bool, khz: Option<u64>) -> Options {
-    Options { all, khz }
-}
-
-// What a page shows: its window of cycles, and its clock.
-fn view_of(khz: Option<u64>, from: Cycle, cycles: Cycle) -> View {
-    let window = Window { from, cycles };
-    View { window, khz }
-}
 
 // Does what is asked.
 fn answer<R: Threads + Wait + Sync, W: Watch, F: FileSet, P: Write>(
@@ -81,81 +44,23 @@ fn answer<R: Threads + Wait + Sync, W: Watch, F: FileSet, P: Write>(
     ensures fault { IfErr result (RefusesAsk F.FileSet files.old ask.now) }
 {
     match ask {
-        Ask::Run {
-            config,
-            cycles,
-            workers,
-            share,
-            tables,
-            out,
-            traces,
-        } => {
-            let workers = workers_of(*workers, *share);
-            let asked = RunAsk {
-                config,
-                cycles: *cycles,
-                workers,
-                tables: *tables,
-                out,
-                traces,
-            };
-            perform_run(host, alloc, files, &asked)?;
+        Ask::Run(run) => {
+            perform_run(host, alloc, files, &run_ask(run))?;
             Ok(Done::quiet())
         }
-        Ask::Check { config, commands } => {
-            let status = perform_check(alloc, files, output, config, commands)?;
-            Ok(Done::with_status(status))
-        }
-        Ask::Map { config, address } => {
-            perform_map(alloc, files, output, config, *address)?;
-            Ok(Done::quiet())
-        }
-        Ask::Show {
-            dir,
-            all,
-            config,
-            khz,
-        } => {
+        Ask::Check { config, commands } => answer_check(alloc, files, output, config, commands),
+        Ask::Map { config, address } => answer_map(alloc, files, output, config, *address),
+        Ask::Show(show) => answer_show(alloc, files, output, show),
+        Ask::ShowBanks(show) => answer_show_banks(alloc, files, output, show),
+        Ask::Page(page) => {
             let folder = RunFolder {
-                dir,
-                config: *config,
+                dir: page.dir,
+                config: page.config,
             };
-            perform_show(alloc, files, output, &folder, options_of(*all, *khz))?;
-            Ok(Done::quiet())
-        }
-        Ask::ShowBanks {
-            dir,
-            all,
-            config,
-            khz,
-        } => {
-            let folder = RunFolder {
-                dir,
-                config: *config,
-            };
-            perform_show_banks(alloc, files, output, &folder, options_of(*all, *khz))?;
-            Ok(Done::quiet())
-        }
-        Ask::Page {
-            dir,
-            file,
-            config,
-            khz,
-            from,
-            cycles,
-        } => {
-            let folder = RunFolder {
-                dir,
-                config: *config,
-            };
-            let view = view_of(*khz, *from, *cycles);
-            let warning = perform_page(alloc, files, &folder, file, view)?;
+            let warning = perform_page(alloc, files, &folder, page.file, view_of(page))?;
             Ok(Done::with_warning(warning))
         }
-        Ask::Compare { dirs, csv } => {
-            perform_compare(alloc, files, output, dirs, layout_of(*csv))?;
-            Ok(Done::quiet())
-        }
+        Ask::Compare { dirs, csv } => answer_compare(alloc, files, output, dirs, *csv),
         Ask::Help(text) | Ask::Version(text) => {
             print_text(alloc, output, text.as_str())?;
             Ok(Done::quiet())
@@ -189,12 +94,12 @@ fn answer_words<R: Threads + Wait + Sync, W: Watch, F: FileSet, P: Write>(
 /// that breaks a rule, 2 refused. A run's workers are threads of the host, and the host's watcher is told how far the
 /// run is.
 ///
-/// A refusal is one line on `errors`, `fault N: ...`, and a second one where the tables in the folder are of two runs,
-/// with lines that explain it after them. It is told whole, unless the stream refuses (`ErrorStream::has_refused`):
-/// then the stream has a beginning of it. The fault is the first in this order: the words, the files that they name,
-/// what stands in these (the configuration, and then as `simulate` and `check` say), whether a run's folder is there,
-/// and what cannot be written. Memory may be refused at any time. With another status, nothing is told, but of a page
-/// of more than 50 MB one line that warns of it, with its length in bytes.
+/// A refusal is one line on the stream of errors, `fault N: ...`, and a second one where the tables in the folder are of
+/// two runs, with lines that explain it after them. It is told whole, unless the stream refuses
+/// (`ErrorStream::has_refused`): then the stream has a beginning of it. The fault is the first in this order: the words,
+/// the files that they name, what stands in these (the configuration, and then as `simulate` and `check` say), whether
+/// a run's folder is there, and what cannot be written. Memory may be refused at any time. With another status, nothing
+/// is told, but of a page of more than 50 MB one line that warns of it, with its length in bytes.
 ///
 /// Promises about files are made only where the set of files tells what it holds. A run whose status is 0 has put the
 /// tables of its outcome that were asked for into the folder, and none of another run is left there. Where it is 2,
@@ -206,28 +111,29 @@ pub fn perform<R: Threads + Wait + Sync, W: Watch, F: FileSet, P: Write, E: Writ
     alloc: Global,
     words: &[&str],
     files: &mut F,
-    output: &mut P,
-    errors: &mut ErrorStream<E>,
+    streams: &mut Streams<P, E>,
 ) -> u8
     ensures status { result ≤ 2 }
-    ensures answered { let old = sight F.FileSet P.Write files.old output.old in
-        let new = sight F.FileSet P.Write files.new output.new in
-        result ≢ 2 → F.tells → Answers E.Write errors.old errors.new words.now result old new }
-    ensures refused { let old = sight F.FileSet P.Write files.old output.old in
-        let new = sight F.FileSet P.Write files.new output.new in
+    ensures answered { let old = sight F.FileSet P.Write files.old streams.old.output in
+        let new = sight F.FileSet P.Write files.new streams.new.output in
+        result ≢ 2 → F.tells
+        → Answers E.Write streams.old.errors streams.new.errors words.now result old new }
+    ensures refused { let old = sight F.FileSet P.Write files.old streams.old.output in
+        let new = sight F.FileSet P.Write files.new streams.new.output in
         result ≡ 2 → F.tells → IsRefused (words_of words.now) old new }
-    ensures told { let old = sight F.FileSet P.Write files.old output.old in
-        let new = sight F.FileSet P.Write files.new output.new in
-        result ≡ 2 → Tells E.Write errors.old errors.new F.tells words.now old new }
-    ensures silent { result ≢ 2 → IsSilentBut errors.old errors.new words.now }
+    ensures told { let old = sight F.FileSet P.Write files.old streams.old.output in
+        let new = sight F.FileSet P.Write files.new streams.new.output in
+        result ≡ 2
+        → Tells E.Write streams.old.errors streams.new.errors F.tells words.now old new }
+    ensures silent { result ≢ 2 → IsSilentBut streams.old.errors streams.new.errors words.now }
 {
-    match answer_words(host, alloc, words, files, output) {
+    match answer_words(host, alloc, words, files, &mut streams.output) {
         Ok(done) => {
-            write_warning(errors, done.warning);
+            write_warning(&mut streams.errors, done.warning);
             done.status
         }
         Err(refusal) => {
-            let _ = write_lines(errors, &refusal);
+            let _ = write_lines(&mut streams.errors, &refusal);
             REFUSED
         }
     }

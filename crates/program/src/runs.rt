@@ -12,6 +12,7 @@ use crate::shared::SharedText;
 use cpu_trace::trace::Trace;
 use refusal::reason::Reason;
 use refusal::refusal::Refusal;
+use reports::TableThreads;
 use run_outcome::outcome::Outcome;
 use sim_base::config::Config;
 use sim_base::fault::Fault;
@@ -154,6 +155,10 @@ pub(crate) fn perform_run<R: Threads + Wait + Sync, W: Watch, F: FileSet>(
 {
     let folder = files.test_folder(asked.out);
     let run = run_files(host, alloc, files, folder, asked)?;
-    let workers = asked.workers.count as usize;
-    write_tables(host.threads, alloc, workers, files, asked.out, &run)
+    let threads = TableThreads {
+        rt: host.threads,
+        alloc,
+        count: asked.workers.count as usize,
+    };
+    write_tables(&threads, files, asked.out, &run)
 }

@@ -14,15 +14,15 @@ const REFUSED: &str = "fault 14: command line";
 static LINES: [Case; 30] = [
     (
         "dramsim run c.toml --cycles 16 --workers 2 --out tables t0 t1",
-        "Run { config: \"c.toml\", cycles: 16, workers: 2, share: Auto, tables: Tables { commands: true, stats: true, last: true, requests: false }, out: \"tables\", traces: [\"t0\", \"t1\"] }",
+        "Run(RunArguments { config: \"c.toml\", cycles: 16, workers: 2, share: Auto, tables: Tables { commands: true, stats: true, last: true, requests: false }, out: \"tables\", traces: [\"t0\", \"t1\"] })",
     ),
     (
         "dramsim run c.toml --cycles 16 --workers 2 --share always --out tables t0 t1",
-        "Run { config: \"c.toml\", cycles: 16, workers: 2, share: Always, tables: Tables { commands: true, stats: true, last: true, requests: false }, out: \"tables\", traces: [\"t0\", \"t1\"] }",
+        "Run(RunArguments { config: \"c.toml\", cycles: 16, workers: 2, share: Always, tables: Tables { commands: true, stats: true, last: true, requests: false }, out: \"tables\", traces: [\"t0\", \"t1\"] })",
     ),
     (
         "dramsim run c.toml --cycles 16 --workers 2 --tables requests,stats --out tables t0 t1",
-        "Run { config: \"c.toml\", cycles: 16, workers: 2, share: Auto, tables: Tables { commands: false, stats: true, last: false, requests: true }, out: \"tables\", traces: [\"t0\", \"t1\"] }",
+        "Run(RunArguments { config: \"c.toml\", cycles: 16, workers: 2, share: Auto, tables: Tables { commands: false, stats: true, last: false, requests: true }, out: \"tables\", traces: [\"t0\", \"t1\"] })",
     ),
     (
         "dramsim check c.toml commands.csv",
@@ -34,35 +34,35 @@ static LINES: [Case; 30] = [
     ),
     (
         "dramsim show tables",
-        "Show { dir: \"tables\", all: false, config: None, khz: None }",
+        "Show(ShowArguments { dir: \"tables\", all: false, config: None, khz: None })",
     ),
     (
         "dramsim show --all tables",
-        "Show { dir: \"tables\", all: true, config: None, khz: None }",
+        "Show(ShowArguments { dir: \"tables\", all: true, config: None, khz: None })",
     ),
     (
         "dramsim show tables --config c.toml",
-        "Show { dir: \"tables\", all: false, config: Some(\"c.toml\"), khz: None }",
+        "Show(ShowArguments { dir: \"tables\", all: false, config: Some(\"c.toml\"), khz: None })",
     ),
     (
         "dramsim show tables --mhz 1333.33",
-        "Show { dir: \"tables\", all: false, config: None, khz: Some(1333330) }",
+        "Show(ShowArguments { dir: \"tables\", all: false, config: None, khz: Some(1333330) })",
     ),
     (
         "dramsim show --banks tables --mhz 1200",
-        "ShowBanks { dir: \"tables\", all: false, config: None, khz: Some(1200000) }",
+        "ShowBanks(ShowArguments { dir: \"tables\", all: false, config: None, khz: Some(1200000) })",
     ),
     (
         "dramsim page tables run.html",
-        "Page { dir: \"tables\", file: \"run.html\", config: None, khz: None, from: 0, cycles: 2000 }",
+        "Page(PageArguments { dir: \"tables\", file: \"run.html\", config: None, khz: None, from: 0, cycles: 2000 })",
     ),
     (
         "dramsim page tables run.html --cycles 40 --from 7",
-        "Page { dir: \"tables\", file: \"run.html\", config: None, khz: None, from: 7, cycles: 40 }",
+        "Page(PageArguments { dir: \"tables\", file: \"run.html\", config: None, khz: None, from: 7, cycles: 40 })",
     ),
     (
         "dramsim page tables run.html --mhz 1200",
-        "Page { dir: \"tables\", file: \"run.html\", config: None, khz: Some(1200000), from: 0, cycles: 2000 }",
+        "Page(PageArguments { dir: \"tables\", file: \"run.html\", config: None, khz: Some(1200000), from: 0, cycles: 2000 })",
     ),
     (
         "dramsim compare tables --csv others",

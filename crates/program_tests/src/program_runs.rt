@@ -5,6 +5,7 @@ use crate::files_in_memory::MemoryFiles;
 use fixtures::small::SMALL;
 use program::host::Host;
 use program::perform::perform;
+use program::streams::Streams;
 use refusal::error_stream::ErrorStream;
 use std::alloc::Global;
 use std::process::Abort;
@@ -16,16 +17,15 @@ use workers::watch::Unwatched;
 #[derive(Drop)]
 pub(crate) struct Said {
     status: u8,
-    output: Vec<u8>,
-    errors: ErrorStream<Vec<u8>>,
+    streams: Streams<Vec<u8>, Vec<u8>>,
 }
 
 impl Said {
     fn all(&self) -> (u8, &str, &str) {
         (
             self.status,
-            text_of(&self.output),
-            text_of(self.errors.stream()),
+            text_of(&self.streams.output),
+            text_of(self.streams.errors.stream()),
         )
     }
 
@@ -52,18 +52,16 @@ pub(crate) fn said_to<R: Abort + Threads + Wait + Sync + AllocGlobal>(
 ) -> Said {
     let alloc = rt.alloc();
     let words: Vec<&str> = line.split(' ').collect(alloc).expect(rt, "memory");
-    let mut output = Vec::new(alloc);
-    let mut errors = ErrorStream::new(Vec::new(alloc));
+    let mut streams = Streams {
+        output: Vec::new(alloc),
+        errors: ErrorStream::new(Vec::new(alloc)),
+    };
     let mut host = Host {
         threads: rt,
         watch: &mut Unwatched,
     };
-    let status = perform(&mut host, alloc, &words, files, &mut output, &mut errors);
-    Said {
-        status,
-        output,
-        errors,
-    }
+    let status = perform(&mut host, alloc, &words, files, &mut streams);
+    Said { status, streams }
 }
 
 /// What the program says to a run of the small machine whose core reads one line. Words tell its limit, its number of

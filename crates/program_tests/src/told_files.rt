@@ -1,15 +1,14 @@
 //! Files in memory that tell what they hold, so that what the program promises of files holds for them.
 
-ghost use Rattle.std.specs.Prelude.{◌≡◌, ◌≢◌, map, option_map, string_bytes, Some};
+ghost use Rattle.std.specs.Prelude.{◌≡◌, ◌≢◌, map, option_map, string_bytes};
 ghost use Rattle.std.specs.BTreeMap.{get_by_text};
-ghost use Rattle.program.specs.Answered.{seen, IsAnswered};
-ghost use Rattle.program.specs.Told.{IsTold};
-ghost use Rattle.refusal.specs.Streams.{has_refused, stream_of};
+ghost use Rattle.program_tests.specs.Lists.{sight, Answers, Tells};
 
 use crate::expect::expect_at;
 use fixtures::small::SMALL;
 use program::host::Host;
 use program::perform::perform;
+use program::streams::Streams;
 use refusal::error_stream::ErrorStream;
 use refusal::reason::Reason;
 use sim_base::fault::Fault;
@@ -94,23 +93,26 @@ impl FileSet for ToldFiles {
     }
 }
 
-// What the program promises of files that tell, and of a list that is printed to, without a premise.
+// What the program promises of files that tell, and of lists that are written to, without a premise.
 fn perform_told<R: Threads + Wait + Sync>(
     rt: &R,
     alloc: Global,
     words: &[&str],
     files: &mut ToldFiles,
-    output: &mut Vec<u8>,
-    errors: &mut ErrorStream<Vec<u8>>,
+    streams: &mut Streams<Vec<u8>, Vec<u8>>,
 ) -> u8
-    ensures answered { result ≢ 2 → IsAnswered (map (λ w. w.now) words.now) result (seen (⟦<ToldFiles as FileSet>⟧.held files.old) (⟦<ToldFiles as FileSet>⟧.has_folder files.old) (⟦<ToldFiles as FileSet>⟧.opened files.old) (Some output.old.items)) (seen (⟦<ToldFiles as FileSet>⟧.held files.new) (⟦<ToldFiles as FileSet>⟧.has_folder files.new) (⟦<ToldFiles as FileSet>⟧.opened files.new) (Some output.new.items)) (has_refused errors.new) (Some (stream_of errors.old).items) (Some (stream_of errors.new).items) }
-    ensures told { result ≡ 2 → IsTold (Unit {0}) (map (λ w. w.now) words.now) (seen (⟦<ToldFiles as FileSet>⟧.held files.old) (⟦<ToldFiles as FileSet>⟧.has_folder files.old) (⟦<ToldFiles as FileSet>⟧.opened files.old) (Some output.old.items)) (seen (⟦<ToldFiles as FileSet>⟧.held files.new) (⟦<ToldFiles as FileSet>⟧.has_folder files.new) (⟦<ToldFiles as FileSet>⟧.opened files.new) (Some output.new.items)) (has_refused errors.new) (Some (stream_of errors.old).items) (Some (stream_of errors.new).items) }
+    ensures answered { let old = sight ⟦<ToldFiles as FileSet>⟧ files.old streams.old in
+        let new = sight ⟦<ToldFiles as FileSet>⟧ files.new streams.new in
+        result ≢ 2 → Answers streams.old streams.new words.now result old new }
+    ensures told { let old = sight ⟦<ToldFiles as FileSet>⟧ files.old streams.old in
+        let new = sight ⟦<ToldFiles as FileSet>⟧ files.new streams.new in
+        result ≡ 2 → Tells streams.old streams.new words.now old new }
 {
     let mut host = Host {
         threads: rt,
         watch: &mut Unwatched,
     };
-    perform(&mut host, alloc, words, files, output, errors)
+    perform(&mut host, alloc, words, files, streams)
 }
 
 fn files_of(alloc: Global, texts: &[(&str, &str)]) -> Result<ToldFiles, AllocError> {
@@ -144,9 +146,11 @@ fn tells_of_a_run(rt: HostRuntime) {
     let alloc = rt.alloc();
     let texts = [("c.toml", SMALL), ("t0", "0 0\n")];
     let mut files = files_of(alloc, &texts).expect(&rt, "memory");
-    let mut output = Vec::new(alloc);
-    let mut errors = ErrorStream::new(Vec::new(alloc));
-    let status = perform_told(&rt, alloc, &RUN, &mut files, &mut output, &mut errors);
-    let counts = [files.files.len(), files.opened.len(), output.len()];
+    let mut streams = Streams {
+        output: Vec::new(alloc),
+        errors: ErrorStream::new(Vec::new(alloc)),
+    };
+    let status = perform_told(&rt, alloc, &RUN, &mut files, &mut streams);
+    let counts = [files.files.len(), files.opened.len(), streams.output.len()];
     expect_at(&rt, &"a run", &(status, counts), &(0, [5, 3, 0]));
 }

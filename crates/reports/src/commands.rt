@@ -8,7 +8,7 @@ ghost use Rattle.reports.specs.Commands.{header, kind_word, request_operands, op
 
 use crate::hundreds::Hundred;
 use crate::line::{Line, put, put_byte, put_last_long, put_last_word, put_rank, put_word};
-use crate::pieces::{Crew, MOST, TableLines, write_pieces, write_whole};
+use crate::pieces::{MOST, TableLines, TableThreads, write_pieces, write_whole};
 use crate::table::{Loss, Table};
 use command_table::table::{CommandTable, Rows};
 use sim_base::command::{Command, IssuedCommand, Source};
@@ -228,8 +228,8 @@ pub fn write_commands<W: Write>(
     write_whole(alloc, &CommandLines { ranks }, &rows, writer)
 }
 
-/// Writes the table of commands as `write_commands` does, put together by at most `threads` threads. If there are few
-/// commands, or only one thread, the caller alone puts it together.
+/// Writes the table of commands as `write_commands` does, put together by several threads. If there are few commands, or
+/// only one thread, the caller alone puts it together.
 ///
 /// In addition to the memory of `write_commands`, the call takes that of the texts of as many pieces as there are
 /// threads, each of at most 4,096 commands per channel.
@@ -238,9 +238,7 @@ pub fn write_commands<W: Write>(
 ///
 /// As of `write_commands`.
 pub fn write_commands_by<R: Threads + Sync, W: Write>(
-    rt: &R,
-    alloc: Global,
-    threads: usize,
+    threads: &TableThreads<'_, R>,
     ranks: u32,
     commands: &CommandTable,
     writer: &mut W,
@@ -249,13 +247,12 @@ pub fn write_commands_by<R: Threads + Sync, W: Write>(
         (commands_text ranks commands.now) }
     ensures refused { IfErr result (λ e. IsReportFault e) }
 {
-    if threads < 2 {
-        return write_commands(alloc, ranks, commands, writer);
+    if threads.count < 2 {
+        return write_commands(threads.alloc, ranks, commands, writer);
     }
-    let pieces = commands.pieces(alloc, MOST)?;
+    let pieces = commands.pieces(threads.alloc, MOST)?;
     if pieces.len() < 2 {
-        return write_commands(alloc, ranks, commands, writer);
+        return write_commands(threads.alloc, ranks, commands, writer);
     }
-    let crew = Crew { rt, alloc, threads };
-    write_pieces(&crew, &CommandLines { ranks }, &pieces, writer)
+    write_pieces(threads, &CommandLines { ranks }, &pieces, writer)
 }

@@ -13,5 +13,6 @@ mod table;
 
 pub use commands::{write_commands, write_commands_by};
 pub use final_state::write_final;
+pub use pieces::TableThreads;
 pub use requests::{write_requests, write_requests_by};
 pub use stats::write_stats;

@@ -141,47 +141,47 @@ fn write_round<R: Threads + Sync, P: Sync, T: TableLines<P> + Sync, W: Write>(
     write_texts(&texts, writer)
 }
 
-/// Who puts the texts of pieces together: at most so many threads of the host, with this memory.
+/// The threads that put the text of a table together: at most `count` threads of the host `rt`, with memory from `alloc`.
 #[derive(Drop)]
-pub(crate) struct Crew<'a, R> {
-    pub(crate) rt: &'a R,
-    pub(crate) alloc: Global,
-    pub(crate) threads: usize,
+pub struct TableThreads<'a, R> {
+    pub rt: &'a R,
+    pub alloc: Global,
+    pub count: usize,
 }
 
 // Writes the rows of all pieces, as many pieces at a time as there are threads.
 fn write_rounds<R: Threads + Sync, P: Sync, T: TableLines<P> + Sync, W: Write>(
-    crew: &Crew<'_, R>,
+    threads: &TableThreads<'_, R>,
     of: &T,
     pieces: &[P],
     writer: &mut W,
 ) -> Result<(), Fault>
-    requires some { 0 < crew.now.threads }
+    requires some { 0 < threads.now.count }
     ensures written { WritesOnOk result W.contents writer.old writer.new
         (flat_map (T.lines of.now) pieces.now) }
     ensures refused { IfErr result (λ e. IsReportFault e) }
 {
     let mut done = 0;
     while done < pieces.len() {
-        let end = done + crew.threads.min(pieces.len() - done);
-        write_round(crew.rt, crew.alloc, of, &pieces[done..end], writer)?;
+        let end = done + threads.count.min(pieces.len() - done);
+        write_round(threads.rt, threads.alloc, of, &pieces[done..end], writer)?;
         done = end;
     }
     Ok(())
 }
 
-/// Writes a table: the header, and then the rows of the pieces, whose texts a crew puts together.
+/// Writes a table: the header, and then the rows of the pieces, whose texts these threads put together.
 pub(crate) fn write_pieces<R: Threads + Sync, P: Sync, T: TableLines<P> + Sync, W: Write>(
-    crew: &Crew<'_, R>,
+    threads: &TableThreads<'_, R>,
     of: &T,
     pieces: &[P],
     writer: &mut W,
 ) -> Result<(), Fault>
-    requires some { 0 < crew.now.threads }
+    requires some { 0 < threads.now.count }
     ensures written { WritesOnOk result W.contents writer.old writer.new
         (T.header_line of.now ++ flat_map (T.lines of.now) pieces.now) }
     ensures refused { IfErr result (λ e. IsReportFault e) }
 {
-    write_header(crew.alloc, of, writer)?;
-    write_rounds(crew, of, pieces, writer)
+    write_header(threads.alloc, of, writer)?;
+    write_rounds(threads, of, pieces, writer)
 }

@@ -6,7 +6,7 @@ ghost use Rattle.reports.specs.Tables.{AddsRows};
 ghost use Rattle.reports.specs.Requests.{request_header, access_word, time_fields, request_fields, request_lines, requests_text};
 
 use crate::line::{Line, put, put_last, put_word};
-use crate::pieces::{Crew, MOST, TableLines, write_pieces, write_whole};
+use crate::pieces::{MOST, TableLines, TableThreads, write_pieces, write_whole};
 use crate::table::{Loss, Table};
 use request_table::table::{RequestTable, Rows};
 use request_table::times::{Access, RequestTimes};
@@ -127,16 +127,14 @@ pub fn write_requests<W: Write>(
     write_whole(alloc, &RequestLines, &rows, writer)
 }
 
-/// Writes the table of requests as `write_requests` does, put together by at most `threads` threads, as
-/// `write_commands_by` puts the table of commands together.
+/// Writes the table of requests as `write_requests` does, put together by several threads, as `write_commands_by` puts
+/// the table of commands together.
 ///
 /// # Errors
 ///
 /// As of `write_commands`.
 pub fn write_requests_by<R: Threads + Sync, W: Write>(
-    rt: &R,
-    alloc: Global,
-    threads: usize,
+    threads: &TableThreads<'_, R>,
     requests: &RequestTable,
     writer: &mut W,
 ) -> Result<(), Fault>
@@ -144,13 +142,12 @@ pub fn write_requests_by<R: Threads + Sync, W: Write>(
         (requests_text requests.now) }
     ensures refused { IfErr result (λ e. IsReportFault e) }
 {
-    if threads < 2 {
-        return write_requests(alloc, requests, writer);
+    if threads.count < 2 {
+        return write_requests(threads.alloc, requests, writer);
     }
-    let pieces = requests.pieces(alloc, MOST)?;
+    let pieces = requests.pieces(threads.alloc, MOST)?;
     if pieces.len() < 2 {
-        return write_requests(alloc, requests, writer);
+        return write_requests(threads.alloc, requests, writer);
     }
-    let crew = Crew { rt, alloc, threads };
-    write_pieces(&crew, &RequestLines, &pieces, writer)
+    write_pieces(threads, &RequestLines, &pieces, writer)
 }

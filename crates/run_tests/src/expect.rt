@@ -1,19 +1,11 @@
-//! Assertions as calls, which cost the proof of a test far less than what the macros write in its place.
+//! An assertion as a call, which costs the proof of a test far less than what the macro writes in its place.
 
 ghost use Rattle.std.specs.Prelude.{◌≡◌, true};
 
 use std::fmt::Debug;
 use std::process::Abort;
 
-/// Ends the test where a value is not the one that is wanted, and prints both; in a table of cases, each of them with
-/// its case.
-pub fn expect<T: PartialEq + Debug>(rt: &impl Abort, found: &T, want: &T)
-    ensures { T.eq found.now want.now ≡ true }
-{
-    assert_eq!(rt; found, want);
-}
-
-/// The same, and prints at which case it is.
+/// Ends the test where a value is not the one that is wanted, and prints both, and at which case it is.
 pub fn expect_at<T: PartialEq + Debug, N: Debug>(rt: &impl Abort, case: &N, found: &T, want: &T)
     ensures { T.eq found.now want.now ≡ true }
 {

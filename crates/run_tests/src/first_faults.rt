@@ -1,16 +1,17 @@
 //! Runs that are refused where two things are wrong at once: the first of them in the order of the tests is told, by
 //! the machine with workers and by the plain one.
 
-use crate::expect::expect;
+use crate::expect::expect_at;
 use crate::outcomes::{Texts, always, outcome_of, plain_outcome};
 use sim_base::fault::{Fault, LineCause};
 use sim_base::key::Key;
 use sim_base::message::Cycle;
-use std::alloc::{AllocError, Global};
+use std::alloc::Global;
+use std::process::Abort;
 use std::sync::Wait;
-use std::test::Fail;
 use std::thread::Threads;
 use workers::gate::Open;
+use workers::input::Hooks;
 use workers::watch::Unwatched;
 
 /// One cycle more than a run may have.
@@ -28,18 +29,21 @@ struct Case<'x> {
 }
 
 /// The faults of a run by workers and by the plain machine.
-fn refused<R: Threads + Wait + Sync>(
+fn refused<R: Abort + Threads + Wait + Sync>(
     rt: &R,
     alloc: Global,
     case: &Case<'_>,
-) -> Result<[Option<Fault>; 2], AllocError> {
+) -> [Option<Fault>; 2] {
     let traces = case.traces.get(..case.count).unwrap_or(&[]);
-    let texts = Texts::of(alloc, &[case.change], "", traces)?;
-    let run = texts.run(case.cycles);
-    let watch = &mut Unwatched;
-    let by_workers = outcome_of(rt, alloc, &Open, watch, &run, always(case.workers)).err();
-    let plain = plain_outcome(rt, alloc, &run, case.workers).err();
-    Ok([by_workers, plain])
+    let texts = Texts::of(rt, alloc, &[case.change], "", traces);
+    let run = texts.run(case.cycles).by(always(case.workers));
+    let hooks = Hooks {
+        gate: &Open,
+        watch: &mut Unwatched,
+    };
+    let by_workers = outcome_of(rt, alloc, hooks, &run).err();
+    let plain = plain_outcome(rt, alloc, &run).err();
+    [by_workers, plain]
 }
 
 static CASES: [Case<'static>; 13] = [
@@ -163,15 +167,10 @@ static CASES: [Case<'static>; 13] = [
 ];
 
 #[test]
-fn the_first_fault_is_told(rt: HostRuntime) -> Result<(), Fail> {
+fn the_first_fault_is_told(rt: HostRuntime) {
     for case in &CASES {
-        let found = refused(&rt, rt.alloc(), case)?;
+        let found = refused(&rt, rt.alloc(), case);
         let want = [Some(case.want), Some(case.want)];
-        expect(
-            &rt,
-            &(case.change, case.traces, found),
-            &(case.change, case.traces, want),
-        );
+        expect_at(&rt, &(case.change, case.traces), &found, &want);
     }
-    Ok(())
 }

@@ -4,19 +4,18 @@
 //! has two jobs for each worker, or as many as there are units, and no worker takes a job while it holds another; so a
 //! job that is held is held by one worker, and the others take all other jobs.
 
-use crate::expect::expect;
-use crate::outcomes::{Run, Texts, always, auto, has_tables, outcome_of, plain_tables};
+use crate::expect::expect_at;
+use crate::outcomes::{Texts, always, assert_tables, auto, outcome_of, plain_tables};
 use shards::job::JobName;
-use sim_base::fault::Fault;
 use sim_base::message::Cycle;
-use std::alloc::{AllocError, Global};
+use std::alloc::Global;
 use std::process::Abort;
 use std::sync::Wait;
 use std::sync::atomic::{AtomicU64, Ordering};
-use std::test::Fail;
 use std::thread;
 use std::thread::Threads;
 use workers::gate::Gate;
+use workers::input::Hooks;
 use workers::sharing::Workers;
 use workers::watch::Unwatched;
 
@@ -53,12 +52,12 @@ struct Meeting {
     faults: AtomicU64,
 }
 
-fn zeros(alloc: Global, count: usize) -> Result<Vec<AtomicU64>, AllocError> {
+fn zeros(rt: &impl Abort, alloc: Global, count: usize) -> Vec<AtomicU64> {
     let mut zeros = Vec::new(alloc);
     for _ in 0..count {
-        zeros.push(AtomicU64::new(0))?;
+        zeros.push(AtomicU64::new(0)).expect(rt, "memory");
     }
-    Ok(zeros)
+    zeros
 }
 
 /// Whether each thing was counted once.
@@ -73,18 +72,16 @@ fn are_one(counts: &[AtomicU64]) -> bool {
 
 impl Meeting {
     /// A gate for phases of `jobs` jobs each, which are run by `workers` workers at the same time.
-    fn new(alloc: Global, workers: u64, jobs: usize) -> Result<Self, AllocError> {
+    fn new(rt: &impl Abort, alloc: Global, workers: u64, jobs: usize) -> Self {
         let count = jobs.saturating_mul(SPANS.len());
-        let come = zeros(alloc, SPANS.len())?;
-        let entered = zeros(alloc, count)?;
-        Ok(Meeting {
+        Meeting {
             jobs,
             workers: workers.min(jobs as u64),
-            come,
-            entered,
-            left: zeros(alloc, count)?,
+            come: zeros(rt, alloc, SPANS.len()),
+            entered: zeros(rt, alloc, count),
+            left: zeros(rt, alloc, count),
             faults: AtomicU64::new(0),
-        })
+        }
     }
 
     /// The phase of a job and its place among all jobs, if it is one of the expected ones.
@@ -142,48 +139,25 @@ impl Gate for Meeting {
     }
 }
 
-/// What a gate saw of a run with these numbers of workers, and of jobs in each phase: whether the tables are the plain
-/// machine's, the faults, and whether each job was run once.
-fn met_by<R: Threads + Wait + Sync>(
-    rt: &R,
-    alloc: Global,
-    run: &Run<'_>,
-    (workers, jobs): (u64, usize),
-    plain: &[u8],
-) -> Result<(bool, u64, bool), Fault> {
-    let gate = Meeting::new(alloc, workers, jobs)?;
-    let same = has_tables(
-        rt,
-        alloc,
-        &gate,
-        &mut Unwatched,
-        run,
-        always(workers),
-        plain,
-    )?;
-    let whole = are_one(&gate.entered) && are_one(&gate.left);
-    Ok((same, gate.faults.load(Ordering::SeqCst), whole))
-}
-
-fn assert_meetings<R: Abort + Threads + Wait + Sync>(
-    rt: &R,
-    alloc: Global,
-    run: &Run<'_>,
-) -> Result<(), Fail> {
-    let plain = plain_tables(rt, alloc, run)?;
-    for case in [(2, 3), (3, 3), (7, 3)] {
-        let saw = met_by(rt, alloc, run, case, &plain)?;
-        expect(rt, &(case, saw), &(case, (true, 0, true)));
-    }
-    Ok(())
-}
-
 /// In each phase all workers are at work at once, or as many as there are units: two cores and a channel. Each job is
-/// run once.
+/// run once, and the tables are the plain machine's.
 #[test]
-fn workers_meet_in_every_phase(rt: HostRuntime) -> Result<(), Fail> {
-    let texts = Texts::of(rt.alloc(), &["cores = 2"], "", &["0 0\n", "0 64\n"])?;
-    assert_meetings(&rt, rt.alloc(), &texts.run(32))
+fn workers_meet_in_every_phase(rt: HostRuntime) {
+    let alloc = rt.alloc();
+    let texts = Texts::of(&rt, alloc, &["cores = 2"], "", &["0 0\n", "0 64\n"]);
+    let run = texts.run(32);
+    let plain = plain_tables(&rt, alloc, &run);
+    for workers in [2, 3, 7] {
+        let gate = Meeting::new(&rt, alloc, workers, 3);
+        let hooks = Hooks {
+            gate: &gate,
+            watch: &mut Unwatched,
+        };
+        assert_tables(&rt, alloc, hooks, &run.by(always(workers)), &plain);
+        let whole = are_one(&gate.entered) && are_one(&gate.left);
+        let faults = gate.faults.load(Ordering::SeqCst);
+        expect_at(&rt, &workers, &(faults, whole), &(0, true));
+    }
 }
 
 /// Holds the first job of phase 0 until `others` other jobs of that phase have left.
@@ -238,52 +212,24 @@ impl Gate for Holding {
     }
 }
 
-/// What a gate saw that held the first job of a run, whose tables are the plain machine's.
-fn held<R: Abort + Threads + Wait + Sync>(
-    rt: &R,
-    alloc: Global,
-    run: &Run<'_>,
-    (workers, jobs): (u64, u64),
-    plain: &[u8],
-) -> Result<Held, Fault> {
-    let gate = Holding::new(jobs.saturating_sub(1));
-    let same = has_tables(
-        rt,
-        alloc,
-        &gate,
-        &mut Unwatched,
-        run,
-        always(workers),
-        plain,
-    )?;
-    expect(rt, &(workers, same), &(workers, true));
-    Ok(gate.seen())
-}
-
-/// There are no more workers than units.
-fn assert_held<R: Abort + Threads + Wait + Sync>(
-    rt: &R,
-    alloc: Global,
-    run: &Run<'_>,
-) -> Result<(), Fail> {
-    let plain = plain_tables(rt, alloc, run)?;
-    for (workers, jobs) in [(2, 4), (3, 6), (6, 6)] {
-        let saw = held(rt, alloc, run, (workers, jobs), &plain)?;
-        expect(rt, &(workers, saw), &(workers, (jobs, jobs, 1)));
-    }
-    Ok(())
-}
-
-/// While one of several workers holds its job, the others run theirs. There are four cores and two channels.
+/// While one of several workers holds its job, the others run theirs, and the tables are the plain machine's. There are
+/// four cores and two channels, and no more workers than units.
 #[test]
-fn no_worker_waits_for_another_part(rt: HostRuntime) -> Result<(), Fail> {
-    let texts = Texts::of(
-        rt.alloc(),
-        &["cores = 4", "channels = 2"],
-        "",
-        &["0 0\n"; 4],
-    )?;
-    assert_held(&rt, rt.alloc(), &texts.run(32))
+fn no_worker_waits_for_another_part(rt: HostRuntime) {
+    let alloc = rt.alloc();
+    let changes = ["cores = 4", "channels = 2"];
+    let texts = Texts::of(&rt, alloc, &changes, "", &["0 0\n"; 4]);
+    let run = texts.run(32);
+    let plain = plain_tables(&rt, alloc, &run);
+    for (workers, others, jobs) in [(2, 3, 4), (3, 5, 6), (6, 5, 6)] {
+        let gate = Holding::new(others);
+        let hooks = Hooks {
+            gate: &gate,
+            watch: &mut Unwatched,
+        };
+        assert_tables(&rt, alloc, hooks, &run.by(always(workers)), &plain);
+        expect_at(&rt, &workers, &gate.seen(), &(jobs, jobs, 1));
+    }
 }
 
 /// Counts the jobs.
@@ -316,36 +262,36 @@ impl Gate for Counting {
 const FOUR_LINES: &str = "0 0\n0 64\n0 128\n0 192\n";
 
 /// Whether these workers share the units of a machine out. The requests are on their way for 5,000 cycles.
-fn is_shared_out<R: Threads + Wait + Sync>(
+fn is_shared_out<R: Abort + Threads + Wait + Sync>(
     rt: &R,
     alloc: Global,
     cores: &str,
     traces: &[&str],
     workers: Workers,
-) -> Result<bool, Fault> {
+) -> bool {
     let changes = [cores, "channels = 2", "request_latency = 5000"];
-    let texts = Texts::of(alloc, &changes, "", traces)?;
+    let texts = Texts::of(rt, alloc, &changes, "", traces);
     let gate = Counting::new();
-    outcome_of(rt, alloc, &gate, &mut Unwatched, &texts.run(6_000), workers)?;
-    Ok(gate.jobs() > 0)
+    let hooks = Hooks {
+        gate: &gate,
+        watch: &mut Unwatched,
+    };
+    let outcome = outcome_of(rt, alloc, hooks, &texts.run(6_000).by(workers));
+    outcome.expect(rt, "a run");
+    gate.jobs() > 0
 }
 
 /// All requests of 24 cores are in flight for a long time, so the units are shared out. Where there are few units, or
 /// one worker, the caller runs them, unless several workers always share.
 #[test]
-fn a_large_machine_is_shared_out(rt: HostRuntime) -> Result<(), Fail> {
+fn a_large_machine_is_shared_out(rt: HostRuntime) {
     for (workers, want) in [
         (auto(2), (true, false)),
         (always(2), (true, true)),
         (always(1), (false, false)),
     ] {
-        let large = is_shared_out(&rt, rt.alloc(), "cores = 24", &[FOUR_LINES; 24], workers)?;
-        let small = is_shared_out(&rt, rt.alloc(), "cores = 14", &[FOUR_LINES; 14], workers)?;
-        expect(
-            &rt,
-            &(workers.count, large, small),
-            &(workers.count, want.0, want.1),
-        );
+        let large = is_shared_out(&rt, rt.alloc(), "cores = 24", &[FOUR_LINES; 24], workers);
+        let small = is_shared_out(&rt, rt.alloc(), "cores = 14", &[FOUR_LINES; 14], workers);
+        expect_at(&rt, &workers.count, &(large, small), &want);
     }
-    Ok(())
 }

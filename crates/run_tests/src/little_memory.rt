@@ -1,7 +1,7 @@
 //! A small run that is refused memory: it gives fault 10, or 11 where a worker did not start, or its usual result. To
 //! be run with each allocation failing in turn; what these tests take of memory themselves counts too.
 
-use crate::expect::expect;
+use crate::expect::expect_at;
 use crate::outcomes::{always, commands_of};
 use fixtures::one_read::{CHANNELS, CORES};
 use fixtures::small::SMALL;
@@ -71,10 +71,10 @@ fn is_right_or_refused<R: Threads + Wait + Sync>(rt: &R, alloc: Global, workers:
 
 #[test]
 fn one_worker_with_little_memory(rt: HostRuntime) {
-    expect(&rt, &is_right_or_refused(&rt, rt.alloc(), 1), &true);
+    expect_at(&rt, &1, &is_right_or_refused(&rt, rt.alloc(), 1), &true);
 }
 
 #[test]
 fn two_workers_with_little_memory(rt: HostRuntime) {
-    expect(&rt, &is_right_or_refused(&rt, rt.alloc(), 2), &true);
+    expect_at(&rt, &2, &is_right_or_refused(&rt, rt.alloc(), 2), &true);
 }

@@ -1,24 +1,21 @@
 //! Runs in one thread whose results come in a chosen order, or are not one of each job.
 
-ghost use Rattle.std.specs.Prelude.{◌≡◌, ◌≢◌, ◌<◌, false, All, IfOk, IsPermutation};
+ghost use Rattle.std.specs.Prelude.{◌≡◌, ◌≢◌, ◌<◌, false, All};
 
-use crate::expect::{expect, expect_at};
-use crate::outcomes::{EVERY, commands_of};
-use cpu_trace::trace::Trace;
-use fixtures::small::{RANK_FIELD, small};
+use crate::expect::expect_at;
+use crate::outcomes::{EVERY, Run, Texts, commands_of};
+use crate::shared_out::{LONGEST, started};
+use fixtures::small::RANK_FIELD;
 use ordered::order::Order;
 use ordered::run::run_in_order;
 use run_outcome::outcome::Outcome;
-use shards::job::{Done, Job};
-use shards::planning::{Planned, plan};
-use shards::sharded::ShardedSim;
+use shards::job::Done;
 use sim_base::command::IssuedCommand;
 use sim_base::fault::{Fault, MergeFault};
 use sim_base::message::{Cycle, Message};
-use sim_base::trace::Entry;
-use std::alloc::{AllocError, Global};
-use std::test::Fail;
-use units::sim::Sim;
+use std::alloc::Global;
+use std::process::Abort;
+use std::thread::Threads;
 
 /// The results as they come.
 #[derive(Drop)]
@@ -65,6 +62,24 @@ impl Order for Leaves {
     }
 }
 
+/// No results: those of the phase are kept.
+#[derive(Drop)]
+struct Keeps {
+    alloc: Global,
+    kept: Vec<Done>,
+}
+
+impl Order for Keeps {
+    ghost use Rattle.std.specs.Prelude.{◌≡◌, []};
+
+    ghost may_give = { λ _ _ arranged. arranged ≡ [] };
+
+    fn arrange(&mut self, _phase: u64, results: Vec<Done>) -> Vec<Done> {
+        self.kept = results;
+        Vec::new(self.alloc)
+    }
+}
+
 /// Whether a result is of a job that ends at a cycle.
 fn ends_at(results: &[Done], until: Cycle) -> bool
     ensures { result ≡ false → All (λ r. r.name.until ≢ until) results.now }
@@ -99,28 +114,27 @@ impl Order for Brings {
     }
 }
 
-/// The small machine with two cores that read one line each, before their first cycle. `AllocError` stands for each
-/// fault.
-fn started(alloc: Global, changes: &[&str]) -> Result<Sim, AllocError>
-    ensures { IfOk result (λ sim. sim.now ≡ 0) }
+/// What a run did and left in shards whose results come in an order, or why it stops.
+pub(crate) fn run_by<R: Abort + Threads + Sync, O: Order>(
+    rt: &R,
+    alloc: Global,
+    run: &Run<'_>,
+    shards: usize,
+    order: &mut O,
+) -> Result<Outcome, Fault>
+    requires { 0 < shards }
 {
-    let Ok(config) = small(alloc, changes, "") else {
-        return Err(AllocError);
-    };
-    if config.cores != 2 {
-        return Err(AllocError);
+    let sim = started(rt, alloc, run);
+    match run_in_order(sim, alloc, shards, run.cycles.min(LONGEST), order) {
+        Ok(sim) => Ok(sim.outcome(alloc, EVERY).expect(rt, "memory")),
+        Err(fault) => Err(fault),
     }
-    let line = [Entry::Read(0)];
-    let first = Trace::from_entries(alloc, &line)?;
-    let second = Trace::from_entries(alloc, &line)?;
-    let traces = Vec::from_array(alloc, [first, second])?;
-    Sim::start(alloc, &config, traces, EVERY)
 }
 
 /// Lines of the small machine for two cores.
 const TWO_CORES: &[&str] = &[RANK_FIELD, "cores = 2"];
 
-/// The same with links of 8 cycles.
+/// Lines of the small machine for two cores, with links of 8 cycles.
 const SLOW_LINKS: &[&str] = &[
     RANK_FIELD,
     "cores = 2",
@@ -129,23 +143,33 @@ const SLOW_LINKS: &[&str] = &[
     "credit_latency = 8",
 ];
 
+/// The texts of a run of two cores that read one line each.
+fn two_reads(rt: &impl Abort, alloc: Global, changes: &[&str]) -> Texts {
+    Texts::of(rt, alloc, changes, "", &["0 0\n"; 2])
+}
+
 /// The commands of a run, and its messages in flight.
 type Did = (Vec<IssuedCommand>, Vec<Message>);
 
-fn did(alloc: Global, outcome: &Outcome) -> Result<Did, AllocError> {
-    let commands = commands_of(alloc, outcome)?;
-    let flight = outcome.last.in_flight.to_vec(alloc)?;
-    Ok((commands, flight))
+/// What the run of an outcome did and left.
+fn did(rt: &impl Abort, alloc: Global, outcome: &Outcome) -> Did {
+    let commands = commands_of(alloc, outcome).expect(rt, "memory");
+    let flight = outcome.last.in_flight.to_vec(alloc).expect(rt, "memory");
+    (commands, flight)
 }
 
 /// What two cores that read one line each did and left before cycle 16.
-fn did_by<O: Order>(alloc: Global, shards: usize, order: &mut O) -> Result<Did, Fault>
+fn did_by<R: Abort + Threads + Sync, O: Order>(
+    rt: &R,
+    alloc: Global,
+    shards: usize,
+    order: &mut O,
+) -> Did
     requires { 0 < shards }
 {
-    let sim = started(alloc, TWO_CORES)?;
-    let sim = run_in_order(sim, alloc, shards, 16, order)?;
-    let outcome = sim.outcome(alloc, EVERY)?;
-    Ok(did(alloc, &outcome)?)
+    let texts = two_reads(rt, alloc, TWO_CORES);
+    let outcome = run_by(rt, alloc, &texts.run(16), shards, order).expect(rt, "a run");
+    did(rt, alloc, &outcome)
 }
 
 /// The cycles of the first command and of the last, and of the arrivals of the first message and of the last.
@@ -165,66 +189,52 @@ fn ends_of(did: &Did) -> Ends {
 /// arrive in the cycles 15 and 20; the second is in flight before cycle 16. With three shards each unit is one of its
 /// own.
 #[test]
-fn orders_do_not_matter(rt: HostRuntime) -> Result<(), Fail> {
-    let whole = did_by(rt.alloc(), 3, &mut AsTheyCome)?;
-    expect(&rt, &whole.0.len(), &3);
+fn orders_do_not_matter(rt: HostRuntime) {
+    let whole = did_by(&rt, rt.alloc(), 3, &mut AsTheyCome);
     let ends = [Some(2), Some(10), Some(20), Some(20)];
-    expect(&rt, &ends_of(&whole), &ends);
+    expect_at(&rt, &whole.0.len(), &ends_of(&whole), &ends);
+    expect_at(&rt, &"commands", &whole.0.len(), &3);
     for shards in 1..4 {
-        let reversed = did_by(rt.alloc(), shards, &mut Reversed)?;
-        expect_at(&rt, &("shards", shards), &reversed, &whole);
+        let reversed = did_by(&rt, rt.alloc(), shards, &mut Reversed);
+        expect_at(&rt, &shards, &reversed, &whole);
     }
-    Ok(())
 }
 
-/// Why a run whose order loses results stops.
-fn stopped(alloc: Global, left: usize) -> Result<Option<Fault>, AllocError> {
-    let sim = started(alloc, TWO_CORES)?;
-    Ok(run_in_order(sim, alloc, 3, 16, &mut Leaves(left)).err())
+/// Why a run of two cores that read one line each stops.
+fn stopped<R: Abort + Threads + Sync, O: Order>(
+    rt: &R,
+    alloc: Global,
+    changes: &[&str],
+    order: &mut O,
+) -> Option<Fault> {
+    let texts = two_reads(rt, alloc, changes);
+    run_by(rt, alloc, &texts.run(16), 3, order).err()
 }
 
 /// Of the three units' results the last two are left, the last, or none: the first that is missing is the first core's.
 #[test]
-fn lost_results_stop_a_run(rt: HostRuntime) -> Result<(), Fail> {
+fn lost_results_stop_a_run(rt: HostRuntime) {
     for left in [2, 1, 0] {
-        let fault = stopped(rt.alloc(), left)?;
+        let fault = stopped(&rt, rt.alloc(), TWO_CORES, &mut Leaves(left));
         let missing = Fault::Merge(MergeFault::Missing(0));
-        expect_at(&rt, &("are left", left), &fault, &Some(missing));
-    }
-    Ok(())
-}
-
-/// The results of jobs, in their order.
-fn results_of(alloc: Global, jobs: Vec<Job>) -> Result<Vec<Done>, AllocError> {
-    let mut results = Vec::new(alloc);
-    for job in jobs {
-        results.push(job.run()?)?;
-    }
-    Ok(results)
-}
-
-/// The results of the first phase of a machine with slow links. `AllocError` stands for having none.
-fn slow_results(alloc: Global) -> Result<Vec<Done>, AllocError> {
-    let sim = started(alloc, SLOW_LINKS)?;
-    let sharded = ShardedSim::split(sim, alloc, 3)?;
-    match plan(sharded, alloc, 16)? {
-        Planned::AtLimit(_) => Err(AllocError),
-        Planned::Phase(_, jobs) => results_of(alloc, jobs),
+        expect_at(&rt, &left, &fault, &Some(missing));
     }
 }
 
-/// Why a run whose order hands in a result of another machine stops, too.
-fn brought(alloc: Global) -> Result<Option<Fault>, AllocError> {
-    let others = slow_results(alloc)?;
-    let sim = started(alloc, TWO_CORES)?;
-    Ok(run_in_order(sim, alloc, 3, 16, &mut Brings(others)).err())
-}
-
-/// The first phase has three results of its own, up to cycle 2. Behind them stands one of the first phase of the other
-/// machine, up to cycle 8, with the same number.
+/// A run whose order hands in a result of another machine stops, too. The first phase has three results of its own, up
+/// to cycle 2. Behind them stands one of the first phase of the other machine, up to cycle 8, with the same number.
 #[test]
-fn a_stranger_stops_a_run(rt: HostRuntime) -> Result<(), Fail> {
-    let fault = brought(rt.alloc())?;
-    expect(&rt, &fault, &Some(Fault::Merge(MergeFault::Stranger(3))));
-    Ok(())
+fn a_stranger_stops_a_run(rt: HostRuntime) {
+    let alloc = rt.alloc();
+    let mut slow = Keeps {
+        alloc,
+        kept: Vec::new(alloc),
+    };
+    let lost = stopped(&rt, alloc, SLOW_LINKS, &mut slow);
+    let fault = stopped(&rt, alloc, TWO_CORES, &mut Brings(slow.kept));
+    let want = (
+        Some(Fault::Merge(MergeFault::Missing(0))),
+        Some(Fault::Merge(MergeFault::Stranger(3))),
+    );
+    expect_at(&rt, &"kept, and brought", &(lost, fault), &want);
 }

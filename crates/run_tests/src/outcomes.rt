@@ -1,12 +1,11 @@
 //! Outcomes of runs, compared by the tables that are written of them.
 
-use crate::expect::expect;
+use crate::expect::expect_at;
+use fixtures::generated::{Generated, made_up};
 use fixtures::small::small_text;
 use fixtures::texts::texts_of;
 use reference::runs::simulate_plain;
-use reports::{write_commands, write_final, write_stats};
-use request_table::table::RequestTable;
-use request_table::times::{Access, RequestTimes};
+use reports::{write_commands, write_final, write_requests, write_stats};
 use run_outcome::outcome::Outcome;
 use run_outcome::tables::Tables;
 use sim_base::command::IssuedCommand;
@@ -47,44 +46,16 @@ pub(crate) const EVERY: Tables = Tables {
     requests: true,
 };
 
-/// The numbers of a row of requests.
-fn numbers_of(row: &RequestTimes) -> [u64; 9] {
-    [
-        u64::from(row.core),
-        row.entry,
-        u64::from(row.access == Access::Write),
-        u64::from(row.channel),
-        row.issued,
-        row.arrived,
-        row.served,
-        row.replied.unwrap_or(u64::MAX),
-        u64::from(row.hit),
-    ]
-}
-
-/// The numbers of all rows of a table of requests, as bytes.
-fn request_bytes(alloc: Global, requests: &RequestTable) -> Result<Vec<u8>, AllocError> {
-    let mut bytes = Vec::new(alloc);
-    for row in &requests.to_vec(alloc)? {
-        for number in numbers_of(row) {
-            bytes.extend_from_slice(&number.to_le_bytes())?;
-        }
-    }
-    Ok(bytes)
-}
-
-/// The bytes of an outcome's tables, one behind the other.
-pub(crate) fn tables_of(alloc: Global, outcome: &Outcome) -> Result<Vec<u8>, Fault> {
+/// The bytes of an outcome's four tables, one behind the other.
+pub(crate) fn tables_of(rt: &impl Abort, alloc: Global, outcome: &Outcome) -> Vec<u8> {
     let mut tables = Vec::new(alloc);
-    if let Some(commands) = &outcome.commands {
-        write_commands(alloc, outcome.ranks, commands, &mut tables)?;
-    }
-    if let Some(requests) = &outcome.requests {
-        tables.extend_from_slice(&request_bytes(alloc, requests)?)?;
-    }
-    write_stats(alloc, &outcome.stats, &mut tables)?;
-    write_final(alloc, &outcome.last, outcome.ranks, &mut tables)?;
-    Ok(tables)
+    let commands = outcome.commands.as_ref().expect(rt, "commands");
+    let requests = outcome.requests.as_ref().expect(rt, "requests");
+    write_commands(alloc, outcome.ranks, commands, &mut tables).expect(rt, "memory");
+    write_requests(alloc, requests, &mut tables).expect(rt, "memory");
+    write_stats(alloc, &outcome.stats, &mut tables).expect(rt, "memory");
+    write_final(alloc, &outcome.last, outcome.ranks, &mut tables).expect(rt, "memory");
+    tables
 }
 
 /// The commands of an outcome; none where their table was not asked for.
@@ -98,12 +69,29 @@ pub(crate) fn commands_of(
     }
 }
 
-/// What is run.
+/// What is run, up to which cycle, and by which workers.
 #[derive(Clone, Copy)]
 pub(crate) struct Run<'a> {
     pub(crate) config: &'a str,
     pub(crate) texts: &'a [Vec<u8>],
     pub(crate) cycles: Cycle,
+    pub(crate) workers: Workers,
+}
+
+impl<'a> Run<'a> {
+    /// The run by other workers.
+    pub(crate) fn by(self, workers: Workers) -> Run<'a> {
+        Run { workers, ..self }
+    }
+
+    /// How it is asked for, with all tables.
+    fn options(&self) -> RunOptions {
+        RunOptions {
+            cycles: self.cycles,
+            workers: self.workers,
+            tables: EVERY,
+        }
+    }
 }
 
 /// The texts of a run.
@@ -116,104 +104,100 @@ pub(crate) struct Texts {
 impl Texts {
     /// Those of the small machine with other lines for some keys and more lines at its end, and of these traces.
     pub(crate) fn of(
+        rt: &impl Abort,
         alloc: Global,
         changes: &[&str],
         more: &str,
         traces: &[&str],
-    ) -> Result<Self, AllocError> {
-        let config = small_text(alloc, changes, more)?;
-        Ok(Texts {
-            config,
-            traces: texts_of(alloc, traces)?,
-        })
+    ) -> Self {
+        Texts {
+            config: small_text(alloc, changes, more).expect(rt, "memory"),
+            traces: texts_of(alloc, traces).expect(rt, "memory"),
+        }
     }
 
-    /// The run up to a limit.
+    /// Those of the machine that a seed makes up, and its limit.
+    pub(crate) fn made_up(rt: &impl Abort, alloc: Global, seed: u64) -> (Self, Cycle) {
+        let Generated {
+            config,
+            traces,
+            limit,
+        } = made_up(alloc, seed).expect(rt, "memory");
+        (Texts { config, traces }, limit)
+    }
+
+    /// The run up to a limit, by one worker.
     pub(crate) fn run(&self, cycles: Cycle) -> Run<'_> {
         Run {
             config: self.config.as_str(),
             texts: &self.traces,
             cycles,
+            workers: auto(1),
         }
     }
 }
 
 /// The texts as slices of bytes.
-pub(crate) fn slices_of<'a>(
-    alloc: Global,
-    texts: &'a [Vec<u8>],
-) -> Result<Vec<&'a [u8]>, AllocError> {
-    texts.iter().map(|text| text.as_slice()).collect(alloc)
+fn slices_of<'a>(rt: &impl Abort, alloc: Global, texts: &'a [Vec<u8>]) -> Vec<&'a [u8]> {
+    let slices: Vec<&'a [u8]> = texts
+        .iter()
+        .map(|text| text.as_slice())
+        .collect(alloc)
+        .expect(rt, "memory");
+    slices
 }
 
 /// The outcome of a run by the plain machine, which only tests the number of workers.
-pub(crate) fn plain_outcome<R: Threads + Sync>(
+pub(crate) fn plain_outcome<R: Abort + Threads + Sync>(
     rt: &R,
     alloc: Global,
     run: &Run<'_>,
-    workers: u64,
 ) -> Result<Outcome, Fault> {
-    let texts = slices_of(alloc, run.texts)?;
+    let texts = slices_of(rt, alloc, run.texts);
     let input = InputTexts {
         config: run.config.as_bytes(),
         traces: &texts,
     };
-    let options = RunOptions {
-        cycles: run.cycles,
-        workers: Workers {
-            count: workers,
-            sharing: Sharing::default(),
-        },
-        tables: EVERY,
-    };
-    simulate_plain(rt, alloc, input, options)
+    simulate_plain(rt, alloc, input, run.options())
 }
 
-/// Its tables.
-pub(crate) fn plain_tables<R: Threads + Sync>(
+/// The tables of a run by the plain machine.
+pub(crate) fn plain_tables<R: Abort + Threads + Sync>(
     rt: &R,
     alloc: Global,
     run: &Run<'_>,
-) -> Result<Vec<u8>, Fault> {
-    let outcome = plain_outcome(rt, alloc, run, 1)?;
-    tables_of(alloc, &outcome)
+) -> Vec<u8> {
+    let outcome = plain_outcome(rt, alloc, run).expect(rt, "a run");
+    tables_of(rt, alloc, &outcome)
 }
 
-/// The outcome of a watched run by these workers.
-pub(crate) fn outcome_of<R: Threads + Wait + Sync, G: Gate + Sync, W: Watch>(
+/// The outcome of a run with these hooks.
+pub(crate) fn outcome_of<R: Abort + Threads + Wait + Sync, G: Gate + Sync, W: Watch>(
     rt: &R,
     alloc: Global,
-    gate: &G,
-    watch: &mut W,
+    hooks: Hooks<'_, G, W>,
     run: &Run<'_>,
-    workers: Workers,
 ) -> Result<Outcome, Fault> {
-    let texts = slices_of(alloc, run.texts)?;
+    let texts = slices_of(rt, alloc, run.texts);
     let input = InputTexts {
         config: run.config.as_bytes(),
         traces: &texts,
     };
-    let options = RunOptions {
-        cycles: run.cycles,
-        workers,
-        tables: EVERY,
-    };
-    simulate(rt, alloc, Hooks { gate, watch }, input, options)
+    simulate(rt, alloc, hooks, input, run.options())
 }
 
-/// Whether a watched run by these workers has these tables.
-pub(crate) fn has_tables<R: Threads + Wait + Sync, G: Gate + Sync, W: Watch>(
+/// A run with these hooks has these tables.
+pub(crate) fn assert_tables<R: Abort + Threads + Wait + Sync, G: Gate + Sync, W: Watch>(
     rt: &R,
     alloc: Global,
-    gate: &G,
-    watch: &mut W,
+    hooks: Hooks<'_, G, W>,
     run: &Run<'_>,
-    workers: Workers,
     want: &[u8],
-) -> Result<bool, Fault> {
-    let outcome = outcome_of(rt, alloc, gate, watch, run, workers)?;
-    let tables = tables_of(alloc, &outcome)?;
-    Ok(tables.as_slice() == want)
+) {
+    let outcome = outcome_of(rt, alloc, hooks, run).expect(rt, "a run");
+    let same = tables_of(rt, alloc, &outcome).as_slice() == want;
+    let case = (run.workers.count, run.cycles, run.config);
+    expect_at(rt, &case, &same, &true);
 }
 
 /// A run has the same tables by each of these workers as by the plain machine.
@@ -222,15 +206,13 @@ pub(crate) fn assert_same<R: Abort + Threads + Wait + Sync>(
     alloc: Global,
     run: &Run<'_>,
     workers: &[Workers],
-) -> Result<(), Fault> {
-    let plain = plain_tables(rt, alloc, run)?;
+) {
+    let plain = plain_tables(rt, alloc, run);
     for workers in workers {
-        let same = has_tables(rt, alloc, &Open, &mut Unwatched, run, *workers, &plain)?;
-        expect(
-            rt,
-            &(workers.count, run.cycles, run.config, same),
-            &(workers.count, run.cycles, run.config, true),
-        );
+        let hooks = Hooks {
+            gate: &Open,
+            watch: &mut Unwatched,
+        };
+        assert_tables(rt, alloc, hooks, &run.by(*workers), &plain);
     }
-    Ok(())
 }

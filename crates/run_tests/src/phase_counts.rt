@@ -1,14 +1,14 @@
 //! How many phases a run has, and over which cycles. Where a machine is split each unit is asked, in a phase of its
 //! own; after that, one begins where something is sent or arrives.
 
-use crate::expect::expect;
+use crate::expect::expect_at;
 use crate::outcomes::{EVERY, Texts};
 use crate::shared_out::{LONGEST, run_up_to, started};
 use shards::job::{Done, Job};
 use sim_base::fault::Fault;
 use sim_base::message::Cycle;
 use std::alloc::Global;
-use std::test::Fail;
+use std::process::Abort;
 use std::thread::Threads;
 use workers::gate::Open;
 use workers::runner::{Runner, Serial};
@@ -77,26 +77,22 @@ static COUNTED: [Counted; 3] = [
 ];
 
 /// The phases of a run.
-fn spans_of<R: Threads + Sync>(
-    rt: &R,
-    alloc: Global,
-    counted: &Counted,
-) -> Result<Vec<Span>, Fault> {
-    let texts = Texts::of(alloc, counted.changes, "", &[counted.trace])?;
-    let sim = started(rt, alloc, &texts.run(counted.cycles))?;
+fn spans_of<R: Abort + Threads + Sync>(rt: &R, alloc: Global, counted: &Counted) -> Vec<Span> {
+    let texts = Texts::of(rt, alloc, counted.changes, "", &[counted.trace]);
+    let sim = started(rt, alloc, &texts.run(counted.cycles));
     let mut noting = Noting {
         serial: Serial::new(alloc, &Open),
         spans: Vec::new(alloc),
     };
-    run_up_to(sim, alloc, counted.cycles, 2, &mut noting)?.outcome(alloc, EVERY)?;
-    Ok(noting.spans)
+    let sim = run_up_to(sim, alloc, counted.cycles, 2, &mut noting).expect(rt, "memory");
+    sim.outcome(alloc, EVERY).expect(rt, "memory");
+    noting.spans
 }
 
 #[test]
-fn a_phase_begins_where_something_happens(rt: HostRuntime) -> Result<(), Fail> {
+fn a_phase_begins_where_something_happens(rt: HostRuntime) {
     for counted in &COUNTED {
-        let spans = spans_of(&rt, rt.alloc(), counted)?;
-        expect(&rt, &spans.as_slice(), &counted.spans);
+        let spans = spans_of(&rt, rt.alloc(), counted);
+        expect_at(&rt, &counted.trace, &spans.as_slice(), &counted.spans);
     }
-    Ok(())
 }

@@ -4,135 +4,129 @@
 ghost use Rattle.std.specs.Prelude.{◌≡◌, ◌+◌, ◌<◌, ◌≤◌, [], length, vec_len};
 ghost use Rattle.crew.specs.Rule.{put_view};
 
-use crate::expect::expect;
+use crate::expect::expect_at;
 use crate::gates::Counting;
-use crate::outcomes::{Texts, always, assert_same, auto, commands_of, outcome_of};
-use crew::bell::Patience;
+use crate::outcomes::{Run, Texts, always, assert_same, commands_of, outcome_of};
 use crew::caller::Phases;
 use crew::open::Blank;
-use crew::rule::Room;
-use crew::run::{PhasedRun, Refused, with_crew};
+use crew::rule::BoardName;
+use crew::run::{CrewOptions, PhasedRun, Refused, with_crew};
 use crew::seats::{Board, PutSeat, TakeSeat};
+use crew::signal::WaitLimits;
 use crew::work::{DoneOf, Work};
 use fixtures::small::RANK_FIELD;
 use run_outcome::outcome::Outcome;
 use sim_base::command::IssuedCommand;
-use sim_base::fault::Fault;
 use sim_base::message::Cycle;
 use std::alloc::{AllocError, Global};
 use std::marker::Brand;
+use std::process::Abort;
 use std::sync::Wait;
-use std::test::Fail;
 use std::thread::Threads;
 use workers::gate::{Gate, Open};
+use workers::input::Hooks;
 use workers::sharing::{Sharing, Workers};
 use workers::watch::Unwatched;
 
 /// Four cores and two channels.
 static FOUR_CORES: [&str; 3] = [RANK_FIELD, "cores = 4", "channels = 2"];
 
+/// The texts of four cores that read one line each, on two channels. The end of the run is a line of its own.
+fn four_reads(rt: &impl Abort, alloc: Global, end: &str) -> Texts {
+    Texts::of(rt, alloc, &FOUR_CORES, end, &["0 0\n"; 4])
+}
+
 /// The commands of a run, its cycles, and how many messages it leaves in flight.
 type Did = (Vec<IssuedCommand>, Cycle, usize);
 
-fn did(alloc: Global, outcome: &Outcome) -> Result<Did, Fault> {
-    let commands = commands_of(alloc, outcome)?;
-    Ok((commands, outcome.stats.cycles, outcome.last.in_flight.len()))
+/// What the run of an outcome did.
+fn did(rt: &impl Abort, alloc: Global, outcome: &Outcome) -> Did {
+    let commands = commands_of(alloc, outcome).expect(rt, "memory");
+    (commands, outcome.stats.cycles, outcome.last.in_flight.len())
 }
 
-/// What a run of four cores that read one line each does, on two channels. The end of the run is a line of its own.
-fn did_by<R: Threads + Wait + Sync, G: Gate + Sync>(
+/// What a run does whose workers pass a gate.
+fn did_by<R: Abort + Threads + Wait + Sync, G: Gate + Sync>(
     rt: &R,
     alloc: Global,
     gate: &G,
-    workers: Workers,
-    end: &str,
-    limit: Cycle,
-) -> Result<Did, Fault> {
-    let texts = Texts::of(alloc, &FOUR_CORES, end, &["0 0\n"; 4])?;
-    let outcome = outcome_of(rt, alloc, gate, &mut Unwatched, &texts.run(limit), workers)?;
-    did(alloc, &outcome)
+    run: &Run<'_>,
+) -> Did {
+    let hooks = Hooks {
+        gate,
+        watch: &mut Unwatched,
+    };
+    let outcome = outcome_of(rt, alloc, hooks, run).expect(rt, "a run");
+    did(rt, alloc, &outcome)
 }
 
-/// How many jobs a run by two workers has: each phase has four, two for each of them.
-fn jobs_of<R: Threads + Wait + Sync>(
-    rt: &R,
-    alloc: Global,
-    sharing: Sharing,
-    limit: Cycle,
-) -> Result<u64, Fault> {
-    let counting = Counting::new();
-    let workers = Workers { count: 2, sharing };
-    did_by(rt, alloc, &counting, workers, "", limit)?;
-    Ok(counting.jobs())
-}
-
-/// Four cores read one line each, up to a distant cycle. The requests come in cycle 2, where the row is opened. It is read in the
-/// cycles 5, 10, 15 and 20, as the lines lie in one group. The credits come two cycles later, and the replies in 15, 20, 25 and
-/// 30. Where nothing happens, there is no phase: a phase begins in the cycles 0, 2, 5, 7, 10, 12, 15, 17, 20, 22, 25 and 30. Where a run goes by
-/// laps of 4,096 cycles, 8,192 and so on, each begins with a phase: three more up to cycle 60,000, in 4,096, 12,288 and 28,672.
+/// Four cores read one line each, up to a distant cycle. The requests come in cycle 2, where the row is opened. It is
+/// read in the cycles 5, 10, 15 and 20, as the lines lie in one group. The credits come two cycles later, and the
+/// replies in 15, 20, 25 and 30. Where nothing happens, there is no phase: a phase begins in the cycles 0, 2, 5, 7, 10,
+/// 12, 15, 17, 20, 22, 25 and 30. Where a run goes by laps of 4,096 cycles, 8,192 and so on, each begins with a phase:
+/// three more up to cycle 60,000, in 4,096, 12,288 and 28,672.
 #[test]
-fn a_machine_works_where_something_happens(rt: HostRuntime) -> Result<(), Fail> {
+fn a_machine_works_where_something_happens(rt: HostRuntime) {
     let in_laps = Sharing {
         first_lap: 4_096,
         ..Sharing::always()
     };
-    for (sharing, limit, phases) in [
-        (Sharing::always(), 16, 7),
-        (Sharing::always(), 60_000, 12),
-        (in_laps, 60_000, 15),
+    let texts = four_reads(&rt, rt.alloc(), "");
+    // Each phase has four jobs, two for each of two workers.
+    for (sharing, limit, jobs) in [
+        (Sharing::always(), 16, 4 * 7),
+        (Sharing::always(), 60_000, 4 * 12),
+        (in_laps, 60_000, 4 * 15),
     ] {
-        let jobs = jobs_of(&rt, rt.alloc(), sharing, limit)?;
-        expect(&rt, &(limit, jobs), &(limit, 4 * phases));
+        let counting = Counting::new();
+        let run = texts.run(limit).by(Workers { count: 2, sharing });
+        did_by(&rt, rt.alloc(), &counting, &run);
+        expect_at(&rt, &limit, &counting.jobs(), &jobs);
     }
-    Ok(())
 }
 
 /// Four cores read one line each, up to cycle 30: each worker count gives the same ACT and four RDs.
 #[test]
-fn a_machine_does_not_show_its_workers(rt: HostRuntime) -> Result<(), Fail> {
-    let one = did_by(&rt, rt.alloc(), &Open, auto(1), "", 30)?;
-    expect(&rt, &one.0.len(), &5);
+fn a_machine_does_not_show_its_workers(rt: HostRuntime) {
+    let texts = four_reads(&rt, rt.alloc(), "");
+    let run = texts.run(30);
+    let one = did_by(&rt, rt.alloc(), &Open, &run);
+    expect_at(&rt, &1, &one.0.len(), &5);
     for workers in [2, 3] {
-        let more = did_by(&rt, rt.alloc(), &Open, always(workers), "", 30)?;
-        expect(&rt, &(workers, &more), &(workers, &one));
+        let more = did_by(&rt, rt.alloc(), &Open, &run.by(always(workers)));
+        expect_at(&rt, &workers, &more, &one);
     }
-    Ok(())
 }
 
 const DRAINED: &str = "end = \"drained\"\n";
 
 /// Where the machine ends drained, it stops long before its limit, with nothing in flight.
 #[test]
-fn a_machine_ends_drained(rt: HostRuntime) -> Result<(), Fail> {
+fn a_machine_ends_drained(rt: HostRuntime) {
+    let texts = four_reads(&rt, rt.alloc(), DRAINED);
+    let run = texts.run(1_000);
     for workers in [1, 2, 3] {
-        let (commands, cycles, flight) = did_by(
-            &rt,
-            rt.alloc(),
-            &Open,
-            always(workers),
-            DRAINED,
-            1_000,
-        )?;
-        expect(&rt, &(commands.len(), cycles < 100, flight), &(5, true, 0));
+        let did = did_by(&rt, rt.alloc(), &Open, &run.by(always(workers)));
+        let (commands, cycles, flight) = &did;
+        let found = (commands.len(), *cycles < 100, *flight);
+        expect_at(&rt, &workers, &found, &(5, true, 0));
     }
-    Ok(())
 }
 
 /// A core and a channel, with more workers than units.
 #[test]
-fn most_workers_have_nothing_to_do(rt: HostRuntime) -> Result<(), Fail> {
-    let texts = Texts::of(rt.alloc(), &[], "", &["0 0\n7 4096\n3 64 128\n0 8192\n"])?;
+fn most_workers_have_nothing_to_do(rt: HostRuntime) {
+    let trace = "0 0\n7 4096\n3 64 128\n0 8192\n";
+    let texts = Texts::of(&rt, rt.alloc(), &[], "", &[trace]);
     let workers = [always(2), always(3), always(64)];
-    let same = assert_same(&rt, rt.alloc(), &texts.run(200), &workers);
-    drop(texts);
-    Ok(same?)
+    assert_same(&rt, rt.alloc(), &texts.run(200), &workers);
 }
 
 /// How long threads look for tasks before they sleep.
-const PATIENCE: Patience = Patience {
+const WAIT_LIMITS: WaitLimits = WaitLimits {
     spins: 50,
     yields: 5,
-    turns: 5,
+    order_spins: 5,
 };
 
 /// A number to be squared, or to be refused memory.
@@ -229,35 +223,42 @@ static WHOLE: [(u64, usize, usize); 4] = [
 ];
 
 #[test]
-fn many_phases_are_whole(rt: HostRuntime) -> Result<(), Fail> {
+fn many_phases_are_whole(rt: HostRuntime) {
     for (phases, room, workers) in &WHOLE {
         let phased = ManyPhases {
             phases: *phases,
             refused: *phases,
         };
-        let room = (*room).max(1);
-        let whole = with_crew(&rt, rt.alloc(), &Squaring, room, *workers, PATIENCE, phased);
-        expect(&rt, &(workers, whole), &(workers, Ok(*phases)));
+        let options = CrewOptions {
+            room: (*room).max(1),
+            workers: *workers,
+            limits: WAIT_LIMITS,
+        };
+        let whole = with_crew(&rt, rt.alloc(), &Squaring, options, phased);
+        expect_at(&rt, workers, &whole, &Ok(*phases));
     }
-    Ok(())
 }
 
 /// A task that is refused memory ends the run, whoever has it, and all threads end: otherwise this test would not end.
 #[test]
-fn refused_memory_ends_the_run(rt: HostRuntime) -> Result<(), Fail> {
+fn refused_memory_ends_the_run(rt: HostRuntime) {
     for refused in 0..40 {
         let phased = ManyPhases {
             phases: 40,
             refused,
         };
-        let whole = with_crew(&rt, rt.alloc(), &Squaring, 17, 4, PATIENCE, phased);
-        expect(&rt, &whole, &Err(Refused::Memory));
+        let options = CrewOptions {
+            room: 17,
+            workers: 4,
+            limits: WAIT_LIMITS,
+        };
+        let whole = with_crew(&rt, rt.alloc(), &Squaring, options, phased);
+        expect_at(&rt, &refused, &whole, &Err(Refused::Memory));
     }
-    Ok(())
 }
 
 /// Puts all tasks on a board.
-fn put_all<R: Wait, B: Room>(
+fn put_all<R: Wait, B: BoardName>(
     rt: &R,
     board: &Board<Number, B>,
     seat: &mut PutSeat<Number, B>,
@@ -275,7 +276,7 @@ fn put_all<R: Wait, B: Room>(
 }
 
 /// The number of the task in front, and how many the seat has then taken.
-fn take_number<R: Wait, B: Room>(
+fn take_number<R: Wait, B: BoardName>(
     rt: &R,
     board: &Board<Number, B>,
     seat: &mut TakeSeat<Number, B>,
@@ -290,9 +291,9 @@ fn take_number<R: Wait, B: Room>(
     }
 }
 
-/// Tasks are put and taken by two seats in turn, and once more by each; then both come home. The numbers of what was
-/// taken, and how many were missing before, between and after.
-fn take_in_turn<R: Wait, B: Room>(
+/// Tasks are put and taken by two seats in turn, and once more by each; then what both took is returned. The numbers of
+/// what was taken, and how many were missing before, between and after.
+fn take_in_turn<R: Wait, B: BoardName>(
     rt: &R,
     blank: Blank<Number>,
     tasks: Vec<Number>,
@@ -310,9 +311,9 @@ fn take_in_turn<R: Wait, B: Room>(
     let (ones, third) = take_number(rt, &board, &mut one, ones);
     let (twos, fourth) = take_number(rt, &board, &mut two, twos);
     let (ones, fifth) = take_number(rt, &board, &mut one, ones);
-    board.bring_home(&mut seat, one);
+    board.absorb(&mut seat, one);
     let between = board.missing(&mut seat, put, ones);
-    board.bring_home(&mut seat, two);
+    board.absorb(&mut seat, two);
     let after = board.missing(&mut seat, put, ones + twos);
     (
         [first, second, third, fourth, fifth],
@@ -322,18 +323,18 @@ fn take_in_turn<R: Wait, B: Room>(
 
 /// Tasks are taken in the order in which they were put.
 #[test]
-fn seats_take_tasks_in_their_order(rt: HostRuntime) -> Result<(), Fail> {
+fn seats_take_tasks_in_their_order(rt: HostRuntime) {
     let mut tasks = Vec::new(rt.alloc());
     for number in [7, 3, 5] {
-        tasks.push(Number {
+        let task = Number {
             number,
             refused: false,
-        })?;
+        };
+        tasks.push(task).expect(&rt, "memory");
     }
     let room = tasks.len().max(1);
-    let blank = Blank::open(rt.alloc(), room)?;
+    let blank = Blank::open(rt.alloc(), room).expect(&rt, "memory");
     let (numbers, missing) = take_in_turn::<HostRuntime, Brand>(&rt, blank, tasks);
-    expect(&rt, &missing, &[3, 1, 0]);
-    expect(&rt, &numbers, &[Some(7), Some(3), Some(5), None, None]);
-    Ok(())
+    let want = [Some(7), Some(3), Some(5), None, None];
+    expect_at(&rt, &"taken", &(numbers, missing), &(want, [3, 1, 0]));
 }

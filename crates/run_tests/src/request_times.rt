@@ -9,15 +9,13 @@ use crate::expect::expect_at;
 use crate::outcomes::{Texts, always, outcome_of};
 use request_table::table::RequestTable;
 use request_table::times::{Access, RequestTimes};
-use run_outcome::outcome::Outcome;
-use sim_base::fault::Fault;
 use sim_base::message::Cycle;
-use std::alloc::{AllocError, Global};
+use std::alloc::Global;
 use std::process::Abort;
 use std::sync::Wait;
-use std::test::Fail;
 use std::thread::Threads;
 use workers::gate::Open;
+use workers::input::Hooks;
 use workers::watch::Unwatched;
 
 const FIRST: RequestTimes = RequestTimes {
@@ -56,7 +54,7 @@ const SECOND: RequestTimes = RequestTimes {
     hit: true,
 };
 
-/// The same in a run that ends before its reply comes.
+/// The second read, in a run that ends before its reply comes.
 const UNANSWERED: RequestTimes = RequestTimes {
     replied: None,
     ..SECOND
@@ -72,57 +70,56 @@ static RUNS: [(Cycle, &[RequestTimes]); 4] = [
 
 /// The rows of a table, read piece by piece.
 fn in_pieces(
+    rt: &impl Abort,
     alloc: Global,
     table: &RequestTable,
     most: usize,
-) -> Result<Vec<RequestTimes>, AllocError> {
+) -> Vec<RequestTimes> {
     let mut rows = Vec::new(alloc);
-    for piece in &table.pieces(alloc, most)? {
-        let mut left = piece.copied(alloc)?;
+    for piece in &table.pieces(alloc, most).expect(rt, "memory") {
+        let mut left = piece.copied(alloc).expect(rt, "memory");
         for _ in 0..u64::MAX {
             let Some(row) = left.next() else {
                 break;
             };
-            rows.push(row)?;
+            rows.push(row).expect(rt, "memory");
         }
     }
-    Ok(rows)
+    rows
 }
 
-/// Whether the requests of an outcome are these, read at once and in pieces.
+/// Whether the requests of a table are these, read at once and in pieces.
 fn has_requests(
+    rt: &impl Abort,
     alloc: Global,
-    outcome: &Outcome,
+    table: &RequestTable,
     want: &[RequestTimes],
-) -> Result<bool, AllocError> {
-    let Some(table) = &outcome.requests else {
-        return Ok(false);
-    };
-    let whole = table.to_vec(alloc)?;
-    let ones = in_pieces(alloc, table, 1)?;
-    let twos = in_pieces(alloc, table, 2)?;
-    Ok(whole.as_slice() == want && ones.as_slice() == want && twos.as_slice() == want)
+) -> bool {
+    let whole = table.to_vec(alloc).expect(rt, "memory");
+    let ones = in_pieces(rt, alloc, table, 1);
+    let twos = in_pieces(rt, alloc, table, 2);
+    whole.as_slice() == want && ones.as_slice() == want && twos.as_slice() == want
 }
 
-fn assert_requests<R: Abort + Threads + Wait + Sync>(
-    rt: &R,
-    alloc: Global,
-    workers: u64,
-) -> Result<(), Fault> {
-    let texts = Texts::of(alloc, &[], "", &["0 0 64\n0 64\n"])?;
+fn assert_requests<R: Abort + Threads + Wait + Sync>(rt: &R, alloc: Global, workers: u64) {
+    let texts = Texts::of(rt, alloc, &[], "", &["0 0 64\n0 64\n"]);
     for (cycles, want) in &RUNS {
-        let run = texts.run(*cycles);
-        let outcome = outcome_of(rt, alloc, &Open, &mut Unwatched, &run, always(workers))?;
-        let same = has_requests(alloc, &outcome, want)?;
+        let hooks = Hooks {
+            gate: &Open,
+            watch: &mut Unwatched,
+        };
+        let run = texts.run(*cycles).by(always(workers));
+        let outcome = outcome_of(rt, alloc, hooks, &run);
+        let outcome = outcome.expect(rt, "a run");
+        let table = outcome.requests.as_ref().expect(rt, "requests");
+        let same = has_requests(rt, alloc, table, want);
         expect_at(rt, &(*cycles, workers), &same, &true);
     }
-    Ok(())
 }
 
 #[test]
-fn three_requests_in_place_and_shared_out(rt: HostRuntime) -> Result<(), Fail> {
-    assert_requests(&rt, rt.alloc(), 1)?;
-    assert_requests(&rt, rt.alloc(), 2)?;
-    assert_requests(&rt, rt.alloc(), 5)?;
-    Ok(())
+fn three_requests_in_place_and_shared_out(rt: HostRuntime) {
+    for workers in [1, 2, 5] {
+        assert_requests(&rt, rt.alloc(), workers);
+    }
 }

@@ -9,46 +9,28 @@ use fixtures::worked_runs::{
     READ_IN_FLIGHT, REFRESH_LATE, REFRESH_OPEN, REFRESHES, Run as Row, SAME_LINE, SLOW_REQUESTS,
     TWO_CHANNELS, TWO_CORES, WRITE,
 };
-use sim_base::fault::Fault;
-use sim_base::message::Cycle;
-use std::alloc::{AllocError, Global};
+use std::alloc::Global;
 use std::process::Abort;
 use std::sync::Wait;
-use std::test::Fail;
 use std::thread::Threads;
 
 /// The texts of a run, with one more link.
-pub(crate) fn texts_with(alloc: Global, row: &Row, link: &str) -> Result<Texts, AllocError> {
-    let mut more = String::from_str(alloc, row.more)?;
-    more.push_str(link)?;
-    Texts::of(alloc, row.changes, more.as_str(), row.traces)
+pub(crate) fn texts_with(rt: &impl Abort, alloc: Global, row: &Row, link: &str) -> Texts {
+    let mut more = String::from_str(alloc, row.more).expect(rt, "memory");
+    more.push_str(link).expect(rt, "memory");
+    Texts::of(rt, alloc, row.changes, more.as_str(), row.traces)
 }
 
 /// A run up to its own limit and to two others.
-fn assert_limits<R: Abort + Threads + Wait + Sync>(
-    rt: &R,
-    alloc: Global,
-    texts: &Texts,
-    limit: Cycle,
-) -> Result<(), Fault> {
+fn assert_run<R: Abort + Threads + Wait + Sync>(rt: &R, alloc: Global, row: &Row, link: &str) {
+    let texts = texts_with(rt, alloc, row, link);
     let workers = [auto(1), always(2), always(7), always(64)];
-    for cycles in [limit, 3, 16] {
-        assert_same(rt, alloc, &texts.run(cycles), &workers)?;
+    for cycles in [row.cycles, 3, 16] {
+        assert_same(rt, alloc, &texts.run(cycles), &workers);
     }
-    Ok(())
 }
 
-fn assert_run<R: Abort + Threads + Wait + Sync>(
-    rt: &R,
-    alloc: Global,
-    row: &Row,
-    link: &str,
-) -> Result<(), Fault> {
-    let texts = texts_with(alloc, row, link)?;
-    assert_limits(rt, alloc, &texts, row.cycles)
-}
-
-pub(crate) static ROWS: [Row; 28] = [
+static ROWS: [Row; 28] = [
     READ_IN_FLIGHT,
     HITS,
     GROUPS,
@@ -79,16 +61,20 @@ pub(crate) static ROWS: [Row; 28] = [
     DRAINED_LATE,
 ];
 
+/// The worked runs that have no link for credits of their own.
+pub(crate) fn worked_runs() -> &'static [Row] {
+    &ROWS
+}
+
 /// It has a link of its own, so that a fast one is not added to it.
 static SLOW_CREDIT: Row = DRAINED_SLOW_CREDIT;
 
 /// Each row, as it is and with a fast link.
 #[test]
-fn rows_do_not_show_their_workers(rt: HostRuntime) -> Result<(), Fail> {
-    for row in &ROWS {
-        assert_run(&rt, rt.alloc(), row, "")?;
-        assert_run(&rt, rt.alloc(), row, FAST_LINK)?;
+fn rows_do_not_show_their_workers(rt: HostRuntime) {
+    for row in worked_runs() {
+        assert_run(&rt, rt.alloc(), row, "");
+        assert_run(&rt, rt.alloc(), row, FAST_LINK);
     }
-    assert_run(&rt, rt.alloc(), &SLOW_CREDIT, "")?;
-    Ok(())
+    assert_run(&rt, rt.alloc(), &SLOW_CREDIT, "");
 }

@@ -1,13 +1,12 @@
 //! Machines in shards that `run_with` runs with a runner of the tests: neither how many shards there are affects the
 //! outcome, nor the order in which the results of a phase come.
 
-ghost use Rattle.std.specs.Prelude.{◌<◌};
+ghost use Rattle.std.specs.Prelude.{◌≡◌, ◌<◌};
 
-use crate::expect::expect;
-use crate::generated::TRACES;
+use crate::expect::expect_at;
+use crate::generated::large_texts;
 use crate::outcomes::{EVERY, Run, Texts, plain_tables, tables_of};
 use config_reader::read_config;
-use fixtures::generated::made_up;
 use fixtures::random::Random;
 use fixtures::texts::traces_of;
 use shards::job::{Done, Job};
@@ -15,7 +14,6 @@ use sim_base::fault::Fault;
 use sim_base::message::Cycle;
 use std::alloc::Global;
 use std::process::Abort;
-use std::test::Fail;
 use std::thread::Threads;
 use units::sim::Sim;
 use workers::gate::Open;
@@ -26,17 +24,16 @@ use workers::runner::{Runner, Serial};
 pub(crate) const LONGEST: Cycle = 1_000_000_000_000;
 
 /// The machine of a run before its first cycle.
-pub(crate) fn started<R: Threads + Sync>(
-    rt: &R,
-    alloc: Global,
-    run: &Run<'_>,
-) -> Result<Sim, Fault> {
-    let config = read_config(alloc, run.config.as_bytes())?;
-    let traces = traces_of(rt, alloc, run.texts)?;
-    if traces.len() != usize::from(config.cores) {
-        return Err(Fault::TraceCount);
-    }
-    Ok(Sim::start(alloc, &config, traces, EVERY)?)
+pub(crate) fn started<R: Abort + Threads + Sync>(rt: &R, alloc: Global, run: &Run<'_>) -> Sim
+    ensures { result.now ≡ 0 }
+{
+    let config = read_config(alloc, run.config.as_bytes()).expect(rt, "a machine");
+    let traces = traces_of(rt, alloc, run.texts).expect(rt, "traces");
+    assert!(rt;
+        traces.len() == usize::from(config.cores),
+        "a trace for each core"
+    );
+    Sim::start(alloc, &config, traces, EVERY).expect(rt, "memory")
 }
 
 /// Runs the jobs of a phase one after the other, and gives their results from the last to the first.
@@ -72,98 +69,59 @@ pub(crate) fn run_up_to<N: Runner>(
 
 /// The simulator at the end of its run, which stops twice on the way.
 fn run_in_shards(
-    sim: Sim,
+    rt: &impl Abort,
     alloc: Global,
-    cycles: Cycle,
-    stop: Cycle,
+    mut sim: Sim,
+    limits: [Cycle; 3],
     shards: usize,
-) -> Result<Sim, Fault>
+) -> Sim
     requires { 0 < shards }
 {
     let mut runner = Reversed {
         serial: Serial::new(alloc, &Open),
     };
-    let mut sim = sim;
-    for limit in [stop / 2, stop, cycles] {
-        sim = run_up_to(sim, alloc, limit, shards, &mut runner)?;
+    for limit in limits {
+        sim = run_up_to(sim, alloc, limit, shards, &mut runner).expect(rt, "memory");
     }
-    Ok(sim)
-}
-
-/// The tables of a run that stops at a cycle.
-fn tables_by<R: Threads + Sync>(
-    rt: &R,
-    alloc: Global,
-    run: &Run<'_>,
-    stop: Cycle,
-    shards: usize,
-) -> Result<Vec<u8>, Fault>
-    requires { 0 < shards }
-{
-    let sim = started(rt, alloc, run)?;
-    let sim = run_in_shards(sim, alloc, run.cycles, stop, shards)?;
-    let outcome = sim.outcome(alloc, EVERY)?;
-    tables_of(alloc, &outcome)
+    sim
 }
 
 /// A run that stops at a cycle has the tables of the plain machine, in however many shards. Some machines have fewer
 /// units than there are shards.
-fn assert_shared<R: Abort + Threads + Sync>(
-    rt: &R,
-    alloc: Global,
-    run: &Run<'_>,
-    stop: Cycle,
-) -> Result<(), Fault> {
-    let plain = plain_tables(rt, alloc, run)?;
+fn assert_shared<R: Abort + Threads + Sync>(rt: &R, alloc: Global, run: &Run<'_>, stop: Cycle) {
+    let plain = plain_tables(rt, alloc, run);
     for shards in [1, 2, 5] {
-        let tables = tables_by(rt, alloc, run, stop, shards)?;
-        let same = tables.as_slice() == plain.as_slice();
-        expect(
-            rt,
-            &(shards, stop, run.config, same),
-            &(shards, stop, run.config, true),
-        );
+        let sim = started(rt, alloc, run);
+        let sim = run_in_shards(rt, alloc, sim, [stop / 2, stop, run.cycles], shards);
+        let outcome = sim.outcome(alloc, EVERY).expect(rt, "memory");
+        let same = tables_of(rt, alloc, &outcome).as_slice() == plain.as_slice();
+        expect_at(rt, &(shards, stop, run.config), &same, &true);
     }
-    Ok(())
 }
 
 /// Two cores and a channel, which end at a limit or drained.
 #[test]
-fn shards_of_three_units_do_not_show(rt: HostRuntime) -> Result<(), Fail> {
+fn shards_of_three_units_do_not_show(rt: HostRuntime) {
     let traces = ["0 0\n7 4096\n3 64 128\n", "5 64\n0 8192 64\n2 0\n"];
     for end in ["", "end = \"drained\"\n"] {
-        let texts = Texts::of(rt.alloc(), &["cores = 2"], end, &traces)?;
-        assert_shared(&rt, rt.alloc(), &texts.run(300), 150)?;
+        let texts = Texts::of(&rt, rt.alloc(), &["cores = 2"], end, &traces);
+        assert_shared(&rt, rt.alloc(), &texts.run(300), 150);
     }
-    Ok(())
 }
 
 /// Twenty-four cores and two channels.
 #[test]
-fn shards_of_a_large_machine_do_not_show(rt: HostRuntime) -> Result<(), Fail> {
-    let changes = ["cores = 24", "channels = 2"];
-    let texts = Texts::of(rt.alloc(), &changes, "", &TRACES)?;
-    let same = assert_shared(&rt, rt.alloc(), &texts.run(400), 200);
-    drop(texts);
-    Ok(same?)
+fn shards_of_a_large_machine_do_not_show(rt: HostRuntime) {
+    let texts = large_texts(&rt, rt.alloc(), "request_latency = 2");
+    assert_shared(&rt, rt.alloc(), &texts.run(400), 200);
 }
 
-/// The machine of a seed, which stops at a cycle of the seed, or at half of that.
-fn assert_seed<R: Abort + Threads + Sync>(rt: &R, alloc: Global, seed: u64) -> Result<(), Fault> {
-    let made = made_up(alloc, seed)?;
-    let run = Run {
-        config: made.config.as_str(),
-        texts: &made.traces,
-        cycles: made.limit,
-    };
-    let stop = Random::new(seed).below(made.limit);
-    assert_shared(rt, alloc, &run, stop)
-}
-
+/// The machine of a seed stops at a cycle of the seed, and at half of that.
 #[test]
-fn shards_of_generated_machines_do_not_show(rt: HostRuntime) -> Result<(), Fail> {
+fn shards_of_generated_machines_do_not_show(rt: HostRuntime) {
     for seed in 0..300 {
-        assert_seed(&rt, rt.alloc(), seed)?;
+        let (texts, limit) = Texts::made_up(&rt, rt.alloc(), seed);
+        let stop = Random::new(seed).below(limit);
+        assert_shared(&rt, rt.alloc(), &texts.run(limit), stop);
     }
-    Ok(())
 }

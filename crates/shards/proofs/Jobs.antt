@@ -20,10 +20,10 @@ use Rattle.units.specs.Units.{unit_at, unit_count}
 use Rattle.wake_words.specs.Wakes.{AreLowered, HaveGone, IsAsleep, WaitAll, sent_in, sleeper_at}
 use Rattle.units.specs.declared.machine.Machine.{Machine}
 use Rattle.shards.specs.declared.shard.Shard.{Shard}
-use Rattle.wake_words.specs.declared.slot.Slot.{Slot}
+use Rattle.wake_words.specs.declared.timed_unit.TimedUnit.{TimedUnit}
 use Rattle.shards.specs.declared.job.JobName.{JobName}
 use Rattle.units.proofs.Joining.{fresh-late}
-use Rattle.wake_words.proofs.Jumping.{some-slot, still-waits}
+use Rattle.wake_words.proofs.Jumping.{some-unit, still-waits}
 use Rattle.wake_words.proofs.Lowering.{lowered-wait_all}
 use Rattle.wake_words.proofs.Sharing.{among-joins}
 use Rattle.units.proofs.Standing.{same-default}
@@ -35,47 +35,47 @@ inbound-later machine bounds index now shard inbound h =
     let all = sent_in machine h.began h.last in
     All-from_recursion (λ (m : Message). now ≤ m.arrival) (lists_of inbound)
     (subst (AllByRecursion (λ (m : Message). now ≤ m.arrival)) (sym h.inbound_are)
-    (Each-filter (λ (m : Message). now ≤ m.arrival) (goes_among machine.config shard.first (shard.first + length shard.slots.items)) all (recursion_from_All (λ (m : Message). now ≤ m.arrival) all h.arrivals)))
+    (Each-filter (λ (m : Message). now ≤ m.arrival) (goes_among machine.config shard.range.first (shard.range.first + length shard.range.units.items)) all (recursion_from_All (λ (m : Message). now ≤ m.arrival) all h.arrivals)))
 
 -- a shard that takes up what was sent to it waits where nothing happens up to there
 pub taken-up : (machine : Machine) (bounds : List ℕ) (index now : ℕ) (shard : Shard) (inbound : List (Vec Message Global)) (words : List ℕ) (links : InFlight)
-    → IsUpTo machine bounds index now shard inbound → AreLowered machine.config shard.first (lists_of inbound) shard.words.items words
-    → links ≡ record shard.links { messages = fold insert_by_age shard.links.messages (lists_of inbound) }
-    → IsAsleep machine shard.first now shard.slots.items words links
+    → IsUpTo machine bounds index now shard inbound → AreLowered machine.config shard.range.first (lists_of inbound) shard.range.words.items words
+    → links ≡ record shard.traffic.links { messages = fold insert_by_age shard.traffic.links.messages (lists_of inbound) }
+    → IsAsleep machine shard.range.first now shard.range.units.items words links
 taken-up machine bounds index now shard inbound words links h low e =
-    let first = shard.first in
-    let slots = shard.slots.items in
-    let past = first + length slots in
+    let first = shard.range.first in
+    let units = shard.range.units.items in
+    let past = first + length units in
     record {
       early = h.early;
       within = h.gone.within;
       words_count = low.count ∙ h.gone.words_count;
-      wait = λ k d less. still-waits machine (unit_at machine.config (first + k)) h.last now (sleeper_at slots words k d) (before k d less) h.still h.since (later k less);
+      wait = λ k d less. still-waits machine (unit_at machine.config (first + k)) h.last now (sleeper_at units words k d) (before k d less) h.still h.since (later k less);
       flight = e
           ∙ ap {A = InFlight} {B = InFlight} (λ l. record l { messages = fold insert_by_age l.messages (lists_of inbound) }) h.gone.flight
           ∙ ap {B = InFlight} (λ ms. record { channels = machine.config.channels; messages = ms })
           (ap (fold insert_by_age _) h.inbound_are ∙ among-joins machine first past h.began h.last h.order h.travels ∙ ap (among machine.config first past) (sym h.still.flight));
     }
   where
-    before : WaitAll machine shard.first h.last h.last shard.slots.items words
-    before = lowered-wait_all machine shard.first h.began h.last shard.slots.items shard.words.items words (lists_of inbound) h.order h.travels h.gone.words_count h.gone.between h.inbound_are low
+    before : WaitAll machine shard.range.first h.last h.last shard.range.units.items words
+    before = lowered-wait_all machine shard.range.first h.began h.last shard.range.units.items shard.range.words.items words (lists_of inbound) h.order h.travels h.gone.words_count h.gone.between h.inbound_are low
 
-    later : (k : ℕ) → k < length shard.slots.items → now ≤ get_or words k 0
+    later : (k : ℕ) → k < length shard.range.units.items → now ≤ get_or words k 0
     later k less =
-        let i : k < length shard.words.items = omega (arith, less, h.gone.words_count) in
+        let i : k < length shard.range.words.items = omega (arith, less, h.gone.words_count) in
         low.since now (inbound-later machine bounds index now shard inbound h) k i (h.sleep k 0 i)
 
 -- a shard that has gone over its part of a phase
 pub job-ends : (machine : Machine) (bounds : List ℕ) (name : JobName) (wake : ℕ) (before after : Shard) (inbound lists : List (Vec Message Global)) → IsJob machine bounds name before inbound
-    → after.machine ≡ before.machine → after.bounds ≡ before.bounds → after.first ≡ before.first → length after.slots.items ≡ length before.slots.items
+    → after.machine ≡ before.machine → after.bounds ≡ before.bounds → after.range.first ≡ before.range.first → length after.range.units.items ≡ length before.range.units.items
     → HasGone machine name.from name.until after
-    → after.mail.sent.items ≡ sent_by machine name.from name.until before.first (length before.slots.items)
-    → name.until ≤ wake → All (λ word. wake ≤ word) after.words.items → All (λ m. wake ≤ m.arrival) after.mail.sent.items → length lists ≡ length inbound
-    → AreDealt machine.config bounds after.mail.sent.items lists
+    → after.traffic.mail.sent.items ≡ sent_by machine name.from name.until before.range.first (length before.range.units.items)
+    → name.until ≤ wake → All (λ word. wake ≤ word) after.range.words.items → All (λ m. wake ≤ m.arrival) after.traffic.mail.sent.items → length lists ≡ length inbound
+    → AreDealt machine.config bounds after.traffic.mail.sent.items lists
     → IsDone machine bounds name wake after lists
 job-ends machine bounds name wake before after inbound lists h shared same first count gone sent since sleep arrivals many each =
     let is = h.before.is in
-    let sends : after.mail.sent.items ≡ sent_of_shard machine name.from name.until after =
+    let sends : after.traffic.mail.sent.items ≡ sent_of_shard machine name.from name.until after =
     sent ∙ ap₂ (sent_by machine name.from name.until) (sym first) (sym count) in
     record {
       split = h.before.split;
@@ -102,11 +102,11 @@ job-ends machine bounds name wake before after inbound lists h shared same first
     }
 
 -- at the end of a phase no word is sooner
-pub gone-words : (machine : Machine) (first now until : ℕ) (slots : List Slot) (words : List ℕ) (links : InFlight) → HaveGone machine first now until slots words links → All (λ w. until ≤ w) words
-gone-words machine first now until slots words links h k d less =
-    let i : k < length slots = omega (arith, less, h.words_count) in
+pub gone-words : (machine : Machine) (first now until : ℕ) (units : List TimedUnit) (words : List ℕ) (links : InFlight) → HaveGone machine first now until units words links → All (λ w. until ≤ w) words
+gone-words machine first now until units words links h k d less =
+    let i : k < length units = omega (arith, less, h.words_count) in
     let e : get_or words k 0 ≡ get_or words k d = same-default words k 0 d less in
-    subst (λ w. until ≤ w) e (h.between k (some-slot slots (omega (arith, i))) i).ahead
+    subst (λ w. until ≤ w) e (h.between k (some-unit units (omega (arith, i))) i).ahead
 
 -- nor does what some units send in it arrive sooner
 pub part-late : (machine : Machine) (now until first count : ℕ) → first + count ≤ unit_count machine.config → now ≤ until → TravelsFor machine.config (until - now) → All (λ m. until ≤ m.arrival) (sent_by machine now until first count)

@@ -28,11 +28,11 @@ use Rattle.units.specs.Parts.{late}
 use Rattle.units.specs.Units.{unit_at, unit_count}
 use Rattle.wake_words.specs.Wakes.{Sleeper, HaveGone, IsAsleep, IsStill, Waits, sent_in, sleeper_at}
 use Rattle.shards.specs.declared.shard.Shard.{Shard}
-use Rattle.wake_words.specs.declared.slot.Slot.{Slot}
+use Rattle.wake_words.specs.declared.timed_unit.TimedUnit.{TimedUnit}
 use Rattle.units.proofs.Joining.{flat-split, fresh-is}
 use Rattle.units.proofs.Due.{flight-each}
 use Rattle.units.proofs.Filters.{filter-all}
-use Rattle.wake_words.proofs.Jumping.{AllRest, all-none, asleep-until, sleep-on, some-slot}
+use Rattle.wake_words.proofs.Jumping.{AllRest, all-none, asleep-until, sleep-on, some-unit}
 use Rattle.units.proofs.Travelling.{Goes}
 use Rattle.wake_words.proofs.Lowering.{lowered-waits}
 use Rattle.wake_words.proofs.Waiting.{none-due}
@@ -85,7 +85,7 @@ all-shards_sent machine bounds now until count split e =
 shard-sent : (machine : Machine) (bounds : List ℕ) (now until index : ℕ) (shard : Shard) → IsShard machine bounds index shard
     → sent_of_shard machine now until shard ≡ sent_by machine now until (bound bounds index) (bound bounds (suc index) - bound bounds index)
 shard-sent machine bounds now until index shard h =
-    let count : length shard.slots.items ≡ bound bounds (suc index) - bound bounds index = omega (arith, h.first_is, h.past_is) in
+    let count : length shard.range.units.items ≡ bound bounds (suc index) - bound bounds index = omega (arith, h.first_is, h.past_is) in
     ap₂ (sent_by machine now until) h.first_is count
 
 -- so all that was sent arrives no sooner than what each shard sent
@@ -127,18 +127,18 @@ sharded-still machine bounds now phase wake then shards inbound h l w = sleep-on
         let shard = (get_or shards at.index some).value in
         let r = h.rest at.index some there in
         let k = place - bound bounds at.index in
-        let i : k < length shard.slots.items = omega (arith, at.since, at.before, r.is.first_is, r.is.past_is) in
-        let d = some-slot shard.slots.items (omega (arith, i)) in
-        let slot = sleeper_at shard.slots.items shard.words.items k d in
-        let e : shard.first + k ≡ place = omega (arith, at.since, r.is.first_is) in
+        let i : k < length shard.range.units.items = omega (arith, at.since, at.before, r.is.first_is, r.is.past_is) in
+        let d = some-unit shard.range.units.items (omega (arith, i)) in
+        let sleeper = sleeper_at shard.range.units.items shard.range.words.items k d in
+        let e : shard.range.first + k ≡ place = omega (arith, at.since, r.is.first_is) in
         let u = unit_at machine.config place in
-        let b = subst (λ n. Waits machine (unit_at machine.config n) now h.began slot) e (r.gone.between k d i) in
+        let b = subst (λ n. Waits machine (unit_at machine.config n) now h.began sleeper) e (r.gone.between k d i) in
         let later = r.sleep k 0 (omega (arith, i, r.gone.words_count)) in
-        let after : Sleeper = record { part = slot.part; at = slot.at; wake = then } in
+        let after : Sleeper = record { part = sleeper.part; at = sleeper.at; wake = then } in
         record {
-          slot = after;
+          sleeper = after;
           wakes = omega arith;
-          waits = lowered-waits machine u h.began now slot after h.order h.travels b refl refl l (omega (arith, later, w))
+          waits = lowered-waits machine u h.began now sleeper after h.order h.travels b refl refl l (omega (arith, later, w))
               (none-due machine.config.channels now then then u (sent_in machine h.began now) (λ j m o to. sent j m o) (omega arith));
         }
 
@@ -160,7 +160,7 @@ sharded-up_to machine bounds now phase wake then shards inbound h l w early inde
       inbound_are = h.inbound_are index d e less;
       since = l;
       early = early;
-      sleep = words-sooner then wake (get_or shards index d).value.words.items w r.sleep;
+      sleep = words-sooner then wake (get_or shards index d).value.range.words.items w r.sleep;
       arrivals = All-sooner then wake (sent_in machine h.began now) w (sent-later machine bounds h.began now wake shards h.split h.count h.rest);
       still = sharded-still machine bounds now phase wake then shards inbound h l w;
     }
@@ -191,7 +191,7 @@ inbound-is machine bounds now until wake index shards d lists split count rest s
     let here = (rest index d less).is in
     let p = goes_among machine.config (bound bounds index) (bound bounds (suc index)) in
     let sent = λ (i : ℕ). sent_by machine now until (bound bounds i) (bound bounds (suc i) - bound bounds i) in
-    let past : bound bounds (suc index) ≡ shard.first + length shard.slots.items = sym here.past_is in
+    let past : bound bounds (suc index) ≡ shard.range.first + length shard.range.units.items = sym here.past_is in
     flat-by_number (λ (list : Vec Message Global). list.items) (λ i. filter p (sent i)) 0 lists
     (λ i e l.
     let j : i < length shards = omega (arith, l, same) in
@@ -264,13 +264,13 @@ late-now machine now =
     since a l = grind (arith, nat_tests)
 
 -- units that wait at a cycle have gone over no cycles
-asleep-gone : (machine : Machine) (first now : ℕ) (slots : List Slot) (words : List ℕ) (links : InFlight) → IsAsleep machine first now slots words links → HaveGone machine first now now slots words links
-asleep-gone machine first now slots words links h =
+asleep-gone : (machine : Machine) (first now : ℕ) (units : List TimedUnit) (words : List ℕ) (links : InFlight) → IsAsleep machine first now units words links → HaveGone machine first now now units words links
+asleep-gone machine first now units words links h =
     record {
       within = h.within;
       words_count = h.words_count;
       between = h.wait;
-      flight = h.flight ∙ ap {B = InFlight} (λ ms. record { channels = machine.config.channels; messages = among machine.config first (first + length slots) ms }) (sym (late-now machine now));
+      flight = h.flight ∙ ap {B = InFlight} (λ ms. record { channels = machine.config.channels; messages = among machine.config first (first + length units) ms }) (sym (late-now machine now));
     }
 
 -- the shards of a machine before any phase
@@ -295,15 +295,15 @@ sharded-begins machine bounds now phase shards inbound counted early h many squa
           let a = h.asleep index d less in
           record {
             is = h.each index d less;
-            gone = asleep-gone machine shard.first now shard.slots.items shard.words.items shard.links a;
+            gone = asleep-gone machine shard.range.first now shard.range.units.items shard.range.words.items shard.traffic.links a;
             since = omega arith;
-            sleep = asleep-until machine shard.first now shard.slots.items shard.words.items shard.links a;
-            arrivals = subst (All (λ (m : Message). now ≤ m.arrival)) (sym (none-by machine now shard.first (length shard.slots.items))) (λ k e l. absurd (omega (arith, l)));
+            sleep = asleep-until machine shard.range.first now shard.range.units.items shard.range.words.items shard.traffic.links a;
+            arrivals = subst (All (λ (m : Message). now ≤ m.arrival)) (sym (none-by machine now shard.range.first (length shard.range.units.items))) (λ k e l. absurd (omega (arith, l)));
           };
       lists = λ index d less. ap suc (square index d less) ∙ h.count;
       inbound_are = λ index d e less.
           let shard = (get_or shards index d).value in
-          empty index e less ∙ ap (among machine.config shard.first (shard.first + length shard.slots.items)) (sym (none-in machine now));
+          empty index e less ∙ ap (among machine.config shard.range.first (shard.range.first + length shard.range.units.items)) (sym (none-in machine now));
     }
   where
     none : 0 ≡ now - now

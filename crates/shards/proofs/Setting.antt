@@ -80,18 +80,18 @@ seam-stop machine bounds now shards ys rest x inbound left d h e l =
 
 -- the words of a shard are of units that the machine has
 pub stop-within : (machine : Machine) (bounds : List ℕ) (index now : ℕ) (shard : Shard) (inbound : List (Vec Message Global)) → IsUpTo machine bounds index now shard inbound
-    → shard.first + length shard.words.items ≤ unit_count (arc_value shard.machine).config
+    → shard.range.first + length shard.range.words.items ≤ unit_count (arc_value shard.machine).config
 stop-within machine bounds index now shard inbound h = let same = ap (λ (m : Machine). unit_count m.config) h.is.machine_is in omega (arith, same, h.gone.within, h.gone.words_count)
 
 -- a shard that takes up its lists sleeps
 pub stops : (machine : Machine) (bounds : List ℕ) (index now : ℕ) (before after : Shard) (inbound : List (Vec Message Global)) → IsUpTo machine bounds index now before inbound
-    → after ≡ record before { words = after.words; links = after.links }
-    → AreLowered (arc_value before.machine).config before.first (lists_of inbound) before.words.items after.words.items
-    → after.links ≡ record before.links { messages = fold insert_by_age before.links.messages (lists_of inbound) }
-    → IsShard machine bounds index after × IsAsleep machine after.first now after.slots.items after.words.items after.links
+    → after ≡ record before { range = record before.range { words = after.range.words }; traffic = record before.traffic { links = after.traffic.links } }
+    → AreLowered (arc_value before.machine).config before.range.first (lists_of inbound) before.range.words.items after.range.words.items
+    → after.traffic.links ≡ record before.traffic.links { messages = fold insert_by_age before.traffic.links.messages (lists_of inbound) }
+    → IsShard machine bounds index after × IsAsleep machine after.range.first now after.range.units.items after.range.words.items after.traffic.links
 stops machine bounds index now before after inbound h same low links =
     let is = h.is in
-    subst (λ (x : Shard). IsShard machine bounds index x × IsAsleep machine x.first now x.slots.items x.words.items x.links) (sym same) (
+    subst (λ (x : Shard). IsShard machine bounds index x × IsAsleep machine x.range.first now x.range.units.items x.range.words.items x.traffic.links) (sym same) (
       record {
         machine_is = is.machine_is;
         bounds_are = is.bounds_are;
@@ -99,6 +99,6 @@ stops machine bounds index now before after inbound h same low links =
         first_is = is.first_is;
         past_is = is.past_is;
       },
-      taken-up machine bounds index now before inbound after.words.items after.links h
-          (subst (λ (m : Machine). AreLowered m.config before.first (lists_of inbound) before.words.items after.words.items) is.machine_is low) links,
+      taken-up machine bounds index now before inbound after.range.words.items after.traffic.links h
+          (subst (λ (m : Machine). AreLowered m.config before.range.first (lists_of inbound) before.range.words.items after.range.words.items) is.machine_is low) links,
     )

@@ -23,7 +23,7 @@ use Rattle.units.specs.Units.{unit_at}
 use Rattle.units.proofs.Due.{flight-each}
 use Rattle.units.proofs.Filters.{filter-filter, filter-same}
 use Rattle.wake_words.specs.Wakes.{AllBrought, HaveGone, IsAsleep, IsBrought, WaitAll, units_from, links_after}
-use Rattle.wake_words.specs.declared.slot.Slot.{Slot}
+use Rattle.wake_words.specs.declared.timed_unit.TimedUnit.{TimedUnit}
 use Rattle.wake_words.proofs.Going.{units-places}
 use Rattle.wake_words.proofs.Sharing.{due-among}
 use Rattle.wake_words.proofs.Waiting.{due-flight, known-phase}
@@ -35,16 +35,16 @@ none-in_flight machine now (Channel channel) =
     ap (filter (is_due machine.config.channels (Channel channel) 0 now)) (sym (flights-meet machine.config machine.traces.items now)) ∙ unit-overdue machine.config machine.traces.items now now (Channel channel)
 
 -- what is in flight is brought to all units, in a phase that is no longer than any message travels
-pub phase-brought : (machine : Machine) (first now until : ℕ) (slots : List Slot) (words : List ℕ) (links : InFlight) → IsAsleep machine first now slots words links → now ≤ until
-    → TravelsFor machine.config (until - now) → AllBrought machine first (length slots) now now until links
-phase-brought machine first now until slots words links h l t k less =
+pub phase-brought : (machine : Machine) (first now until : ℕ) (units : List TimedUnit) (words : List ℕ) (links : InFlight) → IsAsleep machine first now units words links → now ≤ until
+    → TravelsFor machine.config (until - now) → AllBrought machine first (length units) now now until links
+phase-brought machine first now until units words links h l t k less =
     let u = unit_at machine.config (first + k) in
     let flying = flight_at machine now in
     subst (IsBrought machine now now until u) (sym h.flight)
     (record {
       channels_are = refl;
-      overdue = due-among machine.config first (first + length slots) 0 now (first + k) flying (omega arith) (omega (arith, less)) ∙ none-in_flight machine now u;
-      due = λ from to m. due-among machine.config first (first + length slots) from to (first + k) flying (omega arith) (omega (arith, less)) ∙ due-flight machine.config machine.traces.items now from to u m;
+      overdue = due-among machine.config first (first + length units) 0 now (first + k) flying (omega arith) (omega (arith, less)) ∙ none-in_flight machine now u;
+      due = λ from to m. due-among machine.config first (first + length units) from to (first + k) flying (omega arith) (omega (arith, less)) ∙ due-flight machine.config machine.traces.items now from to u m;
       known = known-phase machine now until u l t;
     })
 
@@ -85,10 +85,10 @@ phase-left machine first count now until =
         ∙ kept (goes m) (leb now m.arrival) (ltb m.arrival until) since
 
 -- so the phase is over for them
-pub phase-gone : (machine : Machine) (first now until : ℕ) (before slots : List Slot) (old words : List ℕ) (links after : InFlight) → IsAsleep machine first now before old links
-    → length slots ≡ length before → length words ≡ length old → WaitAll machine first until now slots words → after ≡ links_after machine.config now until first (length before) links
-    → HaveGone machine first now until slots words after
-phase-gone machine first now until before slots old words links after h e f wait left =
+pub phase-gone : (machine : Machine) (first now until : ℕ) (before units : List TimedUnit) (old words : List ℕ) (links after : InFlight) → IsAsleep machine first now before old links
+    → length units ≡ length before → length words ≡ length old → WaitAll machine first until now units words → after ≡ links_after machine.config now until first (length before) links
+    → HaveGone machine first now until units words after
+phase-gone machine first now until before units old words links after h e f wait left =
     record {
       within = omega (arith, h.within, e);
       words_count = f ∙ h.words_count ∙ sym e;

@@ -28,10 +28,10 @@ use Rattle.units.specs.Flight.{is_at_places, goes_among, among}
 use Rattle.shards.specs.Shards.{AllAwake, AreShards, IsShard, IsSplit, Sleeps, links_among}
 use Rattle.units.specs.Parts.{IsPart, StandAt}
 use Rattle.units.specs.Units.{unit_count, unit_at}
-use Rattle.wake_words.specs.Wakes.{AreSlots, IsAsleep, Waits, sleeper}
+use Rattle.wake_words.specs.Wakes.{AreTimedUnits, IsAsleep, Waits, sleeper}
 use Rattle.units.specs.declared.part.UnitState.{UnitState}
 use Rattle.shards.specs.declared.shard.Shard.{Shard}
-use Rattle.wake_words.specs.declared.slot.Slot.{Slot}
+use Rattle.wake_words.specs.declared.timed_unit.TimedUnit.{TimedUnit}
 use Rattle.units.proofs.Due.{place_of_unit, at-place, place-within, unit_is}
 use Rattle.units.proofs.Filters.{filter-filter, filter-same, Each-taken}
 use Rattle.wake_words.proofs.Sharing.{flight-sorted}
@@ -179,29 +179,29 @@ among-nothing s (m ∷ ms) = cond-false _ _ _ (none (receiver_of s.channels m.li
     none (Channel channel) = grind (arith, nat_tests)
 
 -- units that all stand at a cycle sleep, with what goes to them of the messages in flight
-pub shard-asleep : (machine : Machine) (first past now : ℕ) (slots : List Slot) (words : List ℕ) (links : InFlight) → now ≤ 10 ^ 12 → first + length slots ≡ past → past ≤ unit_count machine.config
-    → AllAwake machine first now slots → words ≡ replicate (length slots) now → links ≡ links_among machine.config first past (flight_at machine now) → IsAsleep machine first now slots words links
-shard-asleep machine first past now slots words links early count within wait fill flight = record {
+pub shard-asleep : (machine : Machine) (first past now : ℕ) (units : List TimedUnit) (words : List ℕ) (links : InFlight) → now ≤ 10 ^ 12 → first + length units ≡ past → past ≤ unit_count machine.config
+    → AllAwake machine first now units → words ≡ replicate (length units) now → links ≡ links_among machine.config first past (flight_at machine now) → IsAsleep machine first now units words links
+shard-asleep machine first past now units words links early count within wait fill flight = record {
   early = early;
   within = omega (arith, count, within);
-  words_count = ap length fill ∙ length-replicate (length slots) now;
+  words_count = ap length fill ∙ length-replicate (length units) now;
   wait = λ k d l.
-      let word : get_or words k 0 ≡ now = ap (λ z. get_or z k 0) fill ∙ get_or-replicate (length slots) k now 0 l in
-      subst (λ w. Waits machine (unit_at machine.config (first + k)) now now (sleeper (get_or slots k d) w)) (sym word) (wait k d l);
+      let word : get_or words k 0 ≡ now = ap (λ z. get_or z k 0) fill ∙ get_or-replicate (length units) k now 0 l in
+      subst (λ w. Waits machine (unit_at machine.config (first + k)) now now (sleeper (get_or units k d) w)) (sym word) (wait k d l);
   flight = flight
       ∙ ap {B = InFlight} (λ z. record { channels = machine.config.channels; messages = z }) (flight-share machine now first past)
       ∙ ap {B = InFlight} (λ n. record { channels = machine.config.channels; messages = among machine.config first n (flight_at machine now) }) (sym count);
 }
 
 -- so many of the units at places from one on
-pub front-waits : (machine : Machine) (now first n : ℕ) (slots left own : List Slot) → left ≡ drop first slots → own ≡ take n left → first + n ≤ length slots
-    → AllAwake machine 0 now slots → AllAwake machine first now own
-front-waits machine now first n slots left own e f l h k d m =
+pub front-waits : (machine : Machine) (now first n : ℕ) (units left own : List TimedUnit) → left ≡ drop first units → own ≡ take n left → first + n ≤ length units
+    → AllAwake machine 0 now units → AllAwake machine first now own
+front-waits machine now first n units left own e f l h k d m =
     let size : length own ≤ n = omega (arith, ap length f, length-take n left) in
     let less : k < n = omega (arith, m, size) in
-    let at : get_or own k d ≡ get_or slots (first + k) d = ap (λ z. get_or z k d) (f ∙ ap (take n) e) ∙ get_or-take n (drop first slots) k d less ∙ get_or-drop first slots k d in
-    subst (λ (x : Slot). Waits machine (unit_at machine.config (first + k)) now now (sleeper x now)) (sym at)
-    (subst (λ n. Waits machine (unit_at machine.config n) now now (sleeper (get_or slots (first + k) d) now)) (zero-add (first + k)) (h (first + k) d (omega (arith, less, l))))
+    let at : get_or own k d ≡ get_or units (first + k) d = ap (λ z. get_or z k d) (f ∙ ap (take n) e) ∙ get_or-take n (drop first units) k d less ∙ get_or-drop first units k d in
+    subst (λ (x : TimedUnit). Waits machine (unit_at machine.config (first + k)) now now (sleeper x now)) (sym at)
+    (subst (λ n. Waits machine (unit_at machine.config n) now now (sleeper (get_or units (first + k) d) now)) (zero-add (first + k)) (h (first + k) d (omega (arith, less, l))))
 
 -- a shard with its number
 abbrev pub IsMade : Machine → List ℕ → ℕ → ℕ → Box Shard Global → Type 0
@@ -243,27 +243,27 @@ shards-early machine bounds now [] h = absurd (omega (arith, h.split.some, h.cou
 shards-early machine bounds now (x ∷ xs) h = (h.asleep 0 x (omega arith)).early
 
 -- units that all stand at a cycle are asked in the next phase
-pub slots-wait : (machine : Machine) (now : ℕ) (parts : List UnitState) (slots : List Slot) → StandAt machine now parts → AreSlots now parts slots → AllAwake machine 0 now slots
-slots-wait machine now parts slots h e k d l =
+pub units-wait : (machine : Machine) (now : ℕ) (parts : List UnitState) (units : List TimedUnit) → StandAt machine now parts → AreTimedUnits now parts units → AllAwake machine 0 now units
+units-wait machine now parts units h e k d l =
     let less : k < length parts = omega (arith, l, e.count) in
     let p = some-part parts (omega (arith, less)) in
     let stands = subst (IsPart machine (unit_at machine.config k) now) (sym (e.parts_are k d p less)) (h k (get_or parts k p) (slice_get-get_or parts k p less)) in
-    subst (λ n. Waits machine (unit_at machine.config n) now now (sleeper (get_or slots k d) now)) (sym (zero-add k))
-    (awake-waits machine (unit_at machine.config k) now (sleeper (get_or slots k d) now) stands (e.stand k d less) refl)
+    subst (λ n. Waits machine (unit_at machine.config n) now now (sleeper (get_or units k d) now)) (sym (zero-add k))
+    (awake-waits machine (unit_at machine.config k) now (sleeper (get_or units k d) now) stands (e.stand k d less) refl)
   where
     some-part : (xs : List UnitState) → 0 < length xs → UnitState
     some-part [] l = absurd (omega (arith, l))
     some-part (x ∷ xs) l = x
 
 -- the units of a shard are as many as its bounds say
-pub front-count : (a b : ℕ) (slots left own : List Slot) → left ≡ drop a slots → own ≡ take (b - a) left → a ≤ b → b ≤ length slots → a + length own ≡ b
-front-count a b slots left own e f l m =
-    let size = ap length e ∙ length-drop a slots in
+pub front-count : (a b : ℕ) (units left own : List TimedUnit) → left ≡ drop a units → own ≡ take (b - a) left → a ≤ b → b ≤ length units → a + length own ≡ b
+front-count a b units left own e f l m =
+    let size = ap length e ∙ length-drop a units in
     let taken = ap length f ∙ length-take (b - a) left in
     omega (arith, size, taken, l, m)
 
 -- and the others stand behind them
-pub front-rest : (a b : ℕ) (slots left rest : List Slot) → left ≡ drop a slots → rest ≡ drop (b - a) left → a ≤ b → rest ≡ drop b slots
-front-rest a b slots left rest e f l =
+pub front-rest : (a b : ℕ) (units left rest : List TimedUnit) → left ≡ drop a units → rest ≡ drop (b - a) left → a ≤ b → rest ≡ drop b units
+front-rest a b units left rest e f l =
     let sum : a + (b - a) ≡ b = omega (arith, l) in
-    f ∙ ap (drop (b - a)) e ∙ drop-drop (b - a) a slots ∙ ap (λ n. drop n slots) sum
+    f ∙ ap (drop (b - a)) e ∙ drop-drop (b - a) a units ∙ ap (λ n. drop n units) sum

@@ -84,7 +84,7 @@ rest-lower machine bounds index from until wake least shard since h r = record {
   is = r.is;
   gone = r.gone;
   since = since;
-  sleep = All-weaker (λ word. wake ≤ word) (λ word. least ≤ word) (λ word k. omega arith) shard.words.items r.sleep;
+  sleep = All-weaker (λ word. wake ≤ word) (λ word. least ≤ word) (λ word k. omega arith) shard.range.words.items r.sleep;
   arrivals = All-weaker (λ (m : Message). wake ≤ m.arrival) (λ (m : Message). least ≤ m.arrival) (λ m k. omega arith) (sent_of_shard machine from until shard) r.arrivals;
 }
 

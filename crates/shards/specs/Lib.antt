@@ -4,3 +4,4 @@ pub mod Jobs
 pub mod Phases
 pub mod Planning
 pub mod Merging
+pub mod Standing

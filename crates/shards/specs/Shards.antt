@@ -5,10 +5,12 @@
 --     IsShard machine bounds index shard      the shard with a number, of this machine
 --     Sleeps machine now shard      a shard's units wait at a cycle, with what is in flight to them
 --     SleepsAt machine first now shard      so they do at places from one on
+--     IsRangeAsleep machine now range links      so do units at their places
 --     HasGone machine from until shard      a shard's units have gone over a phase
---     AllAwake machine first now slots      units at places from one on stand at a cycle, where each may be asked
+--     HasRangeGone machine from until range links      so have units at their places
+--     AllAwake machine first now units      units at places from one on stand at a cycle, where each may be asked
 --     links_among s first past ms, flight_to machine now first past      links that hold what goes to some units
---     HaveSent machine first from until slots mail      what so many units sent in a span stands in a list
+--     HaveSent machine from until range mail      what units sent in a span stands in a list
 --     sent_of_shard machine from until shard      what the units of a shard send in a span
 --     AreFor machine from until shard lists      lists hold what was sent to the units of a shard in a span
 --     AreFrom machine bounds from until shard lists      they hold what its units sent, by the shard that it goes to
@@ -39,7 +41,8 @@ use Rattle.units.specs.declared.machine.Machine.{Machine}
 use Rattle.units.specs.declared.mail.Mail.{Mail}
 use Rattle.units.specs.declared.part.UnitState.{UnitState}
 use Rattle.wake_words.specs.Wakes.{IsStill, HaveGone, IsAsleep, Waits, sent_in, sleeper}
-use Rattle.wake_words.specs.declared.slot.Slot.{Slot}
+use Rattle.wake_words.specs.declared.timed_unit.TimedUnit.{TimedUnit}
+use Rattle.wake_words.specs.declared.waking.UnitRange.{UnitRange}
 use Rattle.shards.specs.declared.shard.Shard.{Shard}
 use Rattle.shards.specs.Lists.{bound, lists_of, AreDealt, LowersAll}
 
@@ -59,27 +62,37 @@ pub record IsShard (machine : Machine) (bounds : List ℕ) (index : ℕ) (shard 
   pub machine_is : arc_value shard.machine ≡ machine
   pub bounds_are : shard.bounds.items ≡ bounds
   pub exists : suc index < length bounds
-  pub first_is : shard.first ≡ bound bounds index
-  pub past_is : shard.first + length shard.slots.items ≡ bound bounds (suc index)
+  pub first_is : shard.range.first ≡ bound bounds index
+  pub past_is : shard.range.first + length shard.range.units.items ≡ bound bounds (suc index)
 
 -- The units of a shard, at places from one on, wait at a cycle, each with its word, and its links hold just what is
 -- in flight to them.
 abbrev pub SleepsAt : Machine → ℕ → ℕ → Shard → Type 0
-SleepsAt machine first now shard = IsAsleep machine first now shard.slots.items shard.words.items shard.links
+SleepsAt machine first now shard =
+    IsAsleep machine first now shard.range.units.items shard.range.words.items shard.traffic.links
 
--- so do they at the places of the shard
+-- units wait so at their places
+abbrev pub IsRangeAsleep : Machine → ℕ → UnitRange → InFlight → Type 0
+IsRangeAsleep machine now range links = IsAsleep machine range.first now range.units.items range.words.items links
+
+-- so do those of a shard
 abbrev pub Sleeps : Machine → ℕ → Shard → Type 0
-Sleeps machine now shard = SleepsAt machine shard.first now shard
+Sleeps machine now shard = IsRangeAsleep machine now shard.range shard.traffic.links
 
--- the units of a shard have gone over a phase, and its links hold what was in flight to them before and arrives later
+-- units have gone over a phase, and the links hold what was in flight to them before and arrives later
+abbrev pub HasRangeGone : Machine → ℕ → ℕ → UnitRange → InFlight → Type 0
+HasRangeGone machine from until range links =
+    HaveGone machine range.first from until range.units.items range.words.items links
+
+-- so have those of a shard
 abbrev pub HasGone : Machine → ℕ → ℕ → Shard → Type 0
-HasGone machine from until shard = HaveGone machine shard.first from until shard.slots.items shard.words.items shard.links
+HasGone machine from until shard = HasRangeGone machine from until shard.range shard.traffic.links
 
 -- units at places from one on stand at a cycle, which is the word of each
-abbrev pub AllAwake : Machine → ℕ → ℕ → List Slot → Type 0
-AllAwake machine first now slots =
-    (k : ℕ) (d : Slot) → k < length slots
-    → Waits machine (unit_at machine.config (first + k)) now now (sleeper (slice_index_or slots k d) now)
+abbrev pub AllAwake : Machine → ℕ → ℕ → List TimedUnit → Type 0
+AllAwake machine first now units =
+    (k : ℕ) (d : TimedUnit) → k < length units
+    → Waits machine (unit_at machine.config (first + k)) now now (sleeper (slice_index_or units k d) now)
 
 -- links that hold, of these messages, those to units at places from one on and before another, put in by age
 abbrev pub links_among : Config → ℕ → ℕ → List Message → InFlight
@@ -92,16 +105,17 @@ flight_to machine now first past =
 
 -- what the units of a shard send in a span
 abbrev pub sent_of_shard : Machine → ℕ → ℕ → Shard → List Message
-sent_of_shard machine from until shard = sent_by machine from until shard.first (length shard.slots.items)
+sent_of_shard machine from until shard = sent_by machine from until shard.range.first (length shard.range.units.items)
 
--- a list holds what as many units as these, at places from one on, send in a span
-abbrev pub HaveSent : Machine → ℕ → ℕ → ℕ → List Slot → Mail → Type 0
-HaveSent machine first from until slots mail = mail.sent.items ≡ sent_by machine from until first (length slots)
+-- a list holds what units send in a span
+abbrev pub HaveSent : Machine → ℕ → ℕ → UnitRange → Mail → Type 0
+HaveSent machine from until range mail =
+    mail.sent.items ≡ sent_by machine from until range.first (length range.units.items)
 
 -- lists hold, of what all units sent in a span, what goes to those of a shard
 abbrev pub AreFor : Machine → ℕ → ℕ → Shard → List (Vec Message Global) → Type 0
 AreFor machine from until shard lists =
-    lists_of lists ≡ among machine.config shard.first (shard.first + length shard.slots.items) (sent_in machine from until)
+    lists_of lists ≡ among machine.config shard.range.first (shard.range.first + length shard.range.units.items) (sent_in machine from until)
 
 -- the list with a number holds, of what the units of a shard sent in a span, what goes to those of the shard with
 -- this number
@@ -111,34 +125,38 @@ pub record AreFrom (machine : Machine) (bounds : List ℕ) (from until : ℕ) (s
 
 -- there are as many units more as a shard has
 abbrev pub HasJoined : Shard → List UnitState → List UnitState → Type 0
-HasJoined shard old new = length new ≡ length old + length shard.slots.items
+HasJoined shard old new = length new ≡ length old + length shard.range.units.items
 
 -- the words of a shard are of units that its machine has
 abbrev pub IsWithin : Shard → Type 0
-IsWithin shard = shard.first + length shard.words.items ≤ unit_count (arc_value shard.machine).config
+IsWithin shard = shard.range.first + length shard.range.words.items ≤ unit_count (arc_value shard.machine).config
 
 -- a shard is the same but for the words of its units and what is in flight to them
 abbrev pub ChangesOnlyMail : Shard → Shard → Type 0
-ChangesOnlyMail old new = new ≡ record old { words = new.words; links = new.links }
+ChangesOnlyMail old new =
+    new ≡ record old {
+      range = record old.range { words = new.range.words };
+      traffic = record old.traffic { links = new.traffic.links };
+    }
 
 -- the words of a shard's units are lowered to the arrivals of what stands in lists
 abbrev pub LowersWords : List (Vec Message Global) → Shard → Shard → Type 0
-LowersWords lists old new = LowersAll (arc_value old.machine).config old.first lists old.words.items new.words.items
+LowersWords lists old new = LowersAll (arc_value old.machine).config old.range.first lists old.range.words.items new.range.words.items
 
 -- a shard keeps what its units sent in a span
 abbrev pub HasSent : ℕ → ℕ → Shard → Shard → Type 0
-HasSent from until old new = new.mail.sent.items ≡ sent_of_shard (arc_value old.machine) from until old
+HasSent from until old new = new.traffic.mail.sent.items ≡ sent_of_shard (arc_value old.machine) from until old
 
 -- lists hold what a shard keeps, by the shard that it goes to
 abbrev pub HoldWhatWasSent : Shard → List (Vec Message Global) → Type 0
-HoldWhatWasSent shard lists = AreDealt (arc_value shard.machine).config shard.bounds.items shard.mail.sent.items lists
+HoldWhatWasSent shard lists = AreDealt (arc_value shard.machine).config shard.bounds.items shard.traffic.mail.sent.items lists
 
 -- A shard at the end of a phase. Before a cycle its units send nothing, and nothing that they sent arrives.
 pub record IsAtRest (machine : Machine) (bounds : List ℕ) (index from until wake : ℕ) (shard : Shard) : Type 0 where
   pub is : IsShard machine bounds index shard
   pub gone : HasGone machine from until shard
   pub since : until ≤ wake
-  pub sleep : All (λ word. wake ≤ word) shard.words.items
+  pub sleep : All (λ word. wake ≤ word) shard.range.words.items
   pub arrivals : All (λ m. wake ≤ m.arrival) (sent_of_shard machine from until shard)
 
 -- A shard stands at the end of a phase, lists hold what was sent to its units in that phase, and nothing happens from
@@ -155,7 +173,7 @@ pub record IsUpTo (machine : Machine) (bounds : List ℕ) (index now : ℕ) (sha
   pub inbound_are : AreFor machine began last shard inbound
   pub since : last ≤ now
   pub early : now ≤ 10 ^ 12
-  pub sleep : All (λ word. now ≤ word) shard.words.items
+  pub sleep : All (λ word. now ≤ word) shard.range.words.items
   pub arrivals : All (λ m. now ≤ m.arrival) (sent_in machine began last)
   pub still : IsStill machine last now
 

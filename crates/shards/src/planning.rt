@@ -2,18 +2,17 @@
 
 ghost use Rattle.std.specs.Prelude.{◌≡◌, ◌≤◌, ◌^◌, IfOk};
 ghost use Rattle.shards.specs.Planning.{IsPlanned};
-ghost use Rattle.shards.specs.Shards.{AreShards};
-ghost use Rattle.shards.specs.Phases.{MayGo, MayStop, jobs_of, phase_over};
+ghost use Rattle.shards.specs.Phases.{MayGo, jobs_of};
+ghost use Rattle.shards.specs.Standing.{AreShardsAt, MayStopAt};
 
 use crate::job::{Job, JobName};
 use crate::merging::{Outline, Phase, Span, no_results};
 use crate::shard::Shard;
 use crate::sharded::ShardedSim;
-use crate::split::joined;
+use crate::split::{Standing, joined};
 use sim_base::message::{Cycle, Message};
 use std::alloc::{AllocError, Global};
 use std::mem;
-use units::machine::Machine;
 use units::sim::Sim;
 use units::span::end_of_phase;
 
@@ -29,15 +28,14 @@ pub enum Planned {
 /// The jobs of a phase, one for each shard, in their order.
 fn jobs_for(
     alloc: Global,
-    machine: &Machine,
-    bounds: &[usize],
+    phase: &Outline,
     shards: Vec<Box<Shard>>,
     inbound: Vec<Vec<Vec<Message>>>,
-    span: Span,
 ) -> Result<Vec<Job>, AllocError>
-    requires { MayGo (phase_over machine.now bounds.now span) shards.items inbound.items }
-    ensures { IfOk result (λ jobs. jobs.items ≡ jobs_of (phase_over machine.now bounds.now span)) }
+    requires { MayGo phase.now shards.items inbound.items }
+    ensures { IfOk result (λ jobs. jobs.items ≡ jobs_of phase.now) }
 {
+    let span = phase.span;
     let mut inbound = inbound;
     let mut jobs = Vec::with_capacity(alloc, shards.len())?;
     for shard in shards {
@@ -60,14 +58,12 @@ fn jobs_for(
 /// All shards at a cycle before which nothing happens any more, with what was sent to them taken up.
 fn settled(
     alloc: Global,
-    machine: &Machine,
-    bounds: &[usize],
+    standing: &Standing,
     shards: Vec<Box<Shard>>,
     inbound: Vec<Vec<Vec<Message>>>,
-    now: Cycle,
 ) -> Result<Vec<Box<Shard>>, AllocError>
-    requires { MayStop machine.now bounds.now now shards.items inbound.items }
-    ensures { IfOk result (λ settled. AreShards machine.now bounds.now now settled.items) }
+    requires { MayStopAt standing.now shards.items inbound.items }
+    ensures { IfOk result (λ settled. AreShardsAt standing.now settled.items) }
 {
     let mut inbound = inbound;
     let mut settled = Vec::with_capacity(alloc, shards.len())?;
@@ -98,20 +94,25 @@ pub fn plan(sim: ShardedSim, alloc: Global, limit: Cycle) -> Result<Planned, All
         ..
     } = sim;
     if wake >= limit {
-        let shards = settled(alloc, &machine, &bounds, shards, inbound, limit)?;
-        return Ok(Planned::AtLimit(joined(alloc, machine, &bounds, shards, limit, number)?));
+        let standing = Standing {
+            machine,
+            bounds,
+            at: limit,
+        };
+        let shards = settled(alloc, &standing, shards, inbound)?;
+        return Ok(Planned::AtLimit(joined(alloc, standing, shards, number)?));
     }
     let span = Span {
         number,
         from: wake,
         until: end_of_phase(&machine.config, wake, limit),
     };
-    let jobs = jobs_for(alloc, &machine, &bounds, shards, inbound, span)?;
     let outline = Outline {
         machine,
         bounds,
         span,
     };
+    let jobs = jobs_for(alloc, &outline, shards, inbound)?;
     let places = no_results(alloc, &outline)?;
     Ok(Planned::Phase(Phase { outline, places }, jobs))
 }

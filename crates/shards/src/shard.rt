@@ -5,9 +5,9 @@ ghost use Rattle.std.specs.Arc.{arc_value};
 ghost use Rattle.sim_base.specs.Locality.{TravelsFor};
 ghost use Rattle.links.specs.InFlight.{NoneBefore, with_sent};
 ghost use Rattle.units.specs.Units.{unit_count};
-ghost use Rattle.wake_words.specs.Wakes.{AreLowered, HaveGone, IsAsleep};
+ghost use Rattle.wake_words.specs.Wakes.{AreLowered};
 ghost use Rattle.shards.specs.Lists.{AllEmpty, LowersAll, with_lists};
-ghost use Rattle.shards.specs.Shards.{ChangesOnlyMail, HasGone, HasSent, HaveSent, HoldWhatWasSent, IsSplit, IsWithin, LowersWords, Sleeps};
+ghost use Rattle.shards.specs.Shards.{ChangesOnlyMail, HasGone, HasRangeGone, HasSent, HaveSent, HoldWhatWasSent, IsRangeAsleep, IsSplit, IsWithin, LowersWords, Sleeps};
 
 use crate::post::deal;
 use links::flight::Links;
@@ -15,24 +15,19 @@ use sim_base::message::{Cycle, Message};
 use std::alloc::AllocError;
 use std::sync::Arc;
 use units::machine::Machine;
-use units::mail::Mail;
 use wake_words::lane_scan::least;
-use wake_words::slot::{Slot, Span};
-use wake_words::waking::go_on;
+use wake_words::timed_unit::{Span, Traffic};
+use wake_words::waking::{UnitRange, go_on};
 use wake_words::words::lower_all;
 
-/// Units at places one after the other, with the wake word of each, and the messages in flight to them.
+/// Units at consecutive places, with the wake word of each, and the messages in flight to them.
 #[derive(Drop)]
 pub(crate) struct Shard {
     pub machine: Arc<Machine>,
     /// The place where each shard of the machine begins, and the number of units.
     pub bounds: Vec<usize>,
-    /// The place where this one begins.
-    pub first: usize,
-    pub slots: Vec<Slot>,
-    pub words: Vec<Cycle>,
-    pub links: Links,
-    pub mail: Mail,
+    pub range: UnitRange,
+    pub traffic: Traffic,
 }
 
 /// The least arrival of messages, or a cycle that comes sooner.
@@ -87,33 +82,31 @@ fn take_up_all(
     Ok(())
 }
 
-/// Takes units, at places from one on, over a phase of all units, which is no longer than the shortest latency.
+/// Takes units over a phase of all units, which is no longer than the shortest latency.
 fn go_all(
     machine: &Machine,
-    links: &mut Links,
-    mail: &mut Mail,
-    slots: &mut [Slot],
-    words: &mut [Cycle],
-    first: usize,
+    traffic: &mut Traffic,
+    range: &mut UnitRange,
     now: Cycle,
     until: Cycle,
 ) -> Result<(), AllocError>
-    requires asleep { IsAsleep machine.now first now slots.old words.old links.old }
+    requires asleep { IsRangeAsleep machine.now now range.old traffic.old.links }
     requires order { now < until }
     requires early { until ≤ 10 ^ 12 }
     requires travels { TravelsFor machine.now.config (until - now) }
-    requires sent { mail.old.sent.items ≡ [] }
-    ensures count { length slots.new ≡ length slots.old }
-    ensures words { length words.new ≡ length words.old }
-    ensures gone { OnOk result (HaveGone machine.now first now until slots.new words.new links.new) }
-    ensures sent { OnOk result (HaveSent machine.now first now until slots.old mail.new) }
+    requires sent { traffic.old.mail.sent.items ≡ [] }
+    ensures first { range.new.first ≡ range.old.first }
+    ensures count { length range.new.units.items ≡ length range.old.units.items }
+    ensures words { length range.new.words.items ≡ length range.old.words.items }
+    ensures gone { OnOk result (HasRangeGone machine.now now until range.new traffic.new.links) }
+    ensures sent { OnOk result (HaveSent machine.now now until range.old traffic.new.mail) }
 {
     let span = Span {
         here: now,
         there: now,
         until,
     };
-    go_on(machine, links, mail, slots, words, first, &span)?;
+    go_on(machine, traffic, range, &span)?;
     Ok(())
 }
 
@@ -123,15 +116,16 @@ impl Shard {
         requires { IsWithin self.old }
         ensures same { OnOk result (ChangesOnlyMail self.old self.new) }
         ensures words { OnOk result (LowersWords lists.old self.old self.new) }
-        ensures links { OnOk result (self.new.links ≡ with_lists self.old.links lists.old) }
+        ensures links { OnOk result (
+            self.new.traffic.links ≡ with_lists self.old.traffic.links lists.old) }
         ensures count { OnOk result (length lists.new ≡ length lists.old) }
         ensures empty { OnOk result (AllEmpty lists.new) }
     {
         take_up_all(
             &self.machine,
-            self.first,
-            &mut self.words,
-            &mut self.links,
+            self.range.first,
+            &mut self.range.words,
+            &mut self.traffic.links,
             lists,
         )
     }
@@ -145,26 +139,23 @@ impl Shard {
         requires travels { TravelsFor (arc_value self.old.machine).config (until - now) }
         ensures machine { self.new.machine ≡ self.old.machine }
         ensures bounds { self.new.bounds ≡ self.old.bounds }
-        ensures first { self.new.first ≡ self.old.first }
-        ensures count { length self.new.slots.items ≡ length self.old.slots.items }
+        ensures first { self.new.range.first ≡ self.old.range.first }
+        ensures count { length self.new.range.units.items ≡ length self.old.range.units.items }
         ensures gone { OnOk result (HasGone (arc_value self.old.machine) now until self.new) }
         ensures sent { OnOk result (HasSent now until self.old self.new) }
         ensures since { IfOk result (λ wake. until ≤ wake) }
-        ensures sleep { IfOk result (λ wake. All (λ word. wake ≤ word) self.new.words.items) }
-        ensures arrivals { IfOk result (λ wake. NoneBefore wake self.new.mail.sent.items) }
+        ensures sleep { IfOk result (λ wake. All (λ word. wake ≤ word) self.new.range.words.items) }
+        ensures arrivals { IfOk result (λ wake. NoneBefore wake self.new.traffic.mail.sent.items) }
     {
-        self.mail.sent.clear();
+        self.traffic.mail.sent.clear();
         go_all(
             &self.machine,
-            &mut self.links,
-            &mut self.mail,
-            &mut self.slots,
-            &mut self.words,
-            self.first,
+            &mut self.traffic,
+            &mut self.range,
             now,
             until,
         )?;
-        Ok(first_arrival(&self.mail.sent, least(&self.words)))
+        Ok(first_arrival(&self.traffic.mail.sent, least(&self.range.words)))
     }
 
     /// Deals out what the units sent, to lists by the shard that it goes to.
@@ -175,6 +166,11 @@ impl Shard {
         ensures count { length lists.new ≡ length lists.old }
         ensures each { OnOk result (HoldWhatWasSent self.now lists.new) }
     {
-        deal(&self.machine.config, &self.bounds, &self.mail.sent, lists)
+        deal(
+            &self.machine.config,
+            &self.bounds,
+            &self.traffic.mail.sent,
+            lists,
+        )
     }
 }

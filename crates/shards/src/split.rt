@@ -4,12 +4,12 @@ ghost use Rattle.std.specs.Prelude.{◌≡◌, ◌<◌, ◌≤◌, ◌^◌, ◌+
 ghost use Rattle.std.specs.Arc.{arc_value};
 ghost use Rattle.links.specs.InFlight.{nothing_in_flight};
 ghost use Rattle.units.specs.Flight.{among, goes_among};
-ghost use Rattle.units.specs.Parts.{StandAt};
-ghost use Rattle.units.specs.Runs.{flight_at, links_at};
+ghost use Rattle.units.specs.Runs.{links_at};
 ghost use Rattle.units.specs.Units.{unit_count};
 ghost use Rattle.shards.specs.Lists.{bound};
 ghost use Rattle.shards.specs.Phases.{sim_at};
-ghost use Rattle.shards.specs.Shards.{AllAwake, AreShards, HasJoined, IsShard, IsSplit, Sleeps, SleepsAt, links_among, flight_to};
+ghost use Rattle.shards.specs.Shards.{AreShards, HasJoined, IsShard, IsSplit, Sleeps, links_among};
+ghost use Rattle.shards.specs.Standing.{AreAwake, AreBroughtUp, AreShardsAt, ComesNext, HoldsFlight, flight_first};
 
 use crate::shard::Shard;
 use links::flight::Links;
@@ -22,8 +22,8 @@ use units::machine::Machine;
 use units::mail::Mail;
 use units::part::UnitState;
 use units::sim::Sim;
-use wake_words::slot::Slot;
-use wake_words::waking::{bring_up, slots_of};
+use wake_words::timed_unit::{TimedUnit, Traffic};
+use wake_words::waking::{UnitRange, bring_up, timed_units};
 use wake_words::words::receiver_place;
 
 /// How many of the units are in the first `parts` of `count` parts, which are as equal as possible.
@@ -118,72 +118,84 @@ fn links_to(
     Ok(links)
 }
 
+/// A machine at a cycle, with the messages that are then in flight.
+#[derive(Drop)]
+struct Snapshot {
+    machine: Arc<Machine>,
+    at: Cycle,
+    messages: Vec<Message>,
+}
+
 /// The shard with a number, of units that all stand at a cycle, with what goes to them of the messages in flight.
 fn shard_of(
     alloc: Global,
-    machine: &Arc<Machine>,
+    snapshot: &Snapshot,
     bounds: &[usize],
     index: usize,
-    slots: Vec<Slot>,
-    now: Cycle,
-    messages: &[Message],
+    units: Vec<TimedUnit>,
 ) -> Result<Box<Shard>, AllocError>
-    requires split { IsSplit (arc_value machine.now).config bounds.now }
+    requires split { IsSplit (arc_value snapshot.now.machine).config bounds.now }
     requires exists { suc index < length bounds.now }
-    requires count { bound bounds.now index + length slots.items ≡ bound bounds.now (suc index) }
-    requires early { now ≤ 10 ^ 12 }
-    requires wait { AllAwake (arc_value machine.now) (bound bounds.now index) now slots.items }
-    requires flight { messages.now ≡ flight_at (arc_value machine.now) now }
-    ensures shard { IfOk result (λ b. IsShard (arc_value machine.now) bounds.now index b.value) }
-    ensures asleep { IfOk result (λ b. Sleeps (arc_value machine.now) now b.value) }
+    requires count { bound bounds.now index + length units.items ≡ bound bounds.now (suc index) }
+    requires early { snapshot.now.at ≤ 10 ^ 12 }
+    requires wait { AreAwake snapshot.now (bound bounds.now index) units.items }
+    requires flight { HoldsFlight snapshot.now }
+    ensures shard { IfOk result (λ b.
+        IsShard (arc_value snapshot.now.machine) bounds.now index b.value) }
+    ensures asleep { IfOk result (λ b.
+        Sleeps (arc_value snapshot.now.machine) snapshot.now.at b.value) }
 {
     let first = bounds[index];
-    let words = vec![in alloc; now; slots.len()]?;
-    let links = links_to(alloc, &machine.config, first, bounds[index + 1], messages)?;
-    let shard = Shard {
-        machine: machine.clone()?,
-        bounds: Vec::from_slice(alloc, bounds)?,
+    let past = bounds[index + 1];
+    let range = UnitRange::awake(alloc, first, units, snapshot.at)?;
+    let links = links_to(
+        alloc,
+        &snapshot.machine.config,
         first,
-        slots,
-        words,
-        links,
-        mail: Mail::new(alloc),
+        past,
+        &snapshot.messages,
+    )?;
+    let mail = Mail::new(alloc);
+    let shard = Shard {
+        machine: snapshot.machine.clone()?,
+        bounds: Vec::from_slice(alloc, bounds)?,
+        range,
+        traffic: Traffic { links, mail },
     };
     Ok(Box::new(alloc, shard)?)
 }
 
 /// Takes `count` units from the front of a list.
-fn take_front(slots: &mut Vec<Slot>, count: usize) -> Result<Vec<Slot>, AllocError>
-    requires { count ≤ length slots.old.items }
-    ensures front { IfOk result (λ front. front.items ≡ take count slots.old.items) }
-    ensures rest { OnOk result (slots.new.items ≡ drop count slots.old.items) }
+fn take_front(units: &mut Vec<TimedUnit>, count: usize) -> Result<Vec<TimedUnit>, AllocError>
+    requires { count ≤ length units.old.items }
+    ensures front { IfOk result (λ front. front.items ≡ take count units.old.items) }
+    ensures rest { OnOk result (units.new.items ≡ drop count units.old.items) }
 {
-    let rest = slots.split_off(count)?;
-    Ok(mem::replace(slots, rest))
+    let rest = units.split_off(count)?;
+    Ok(mem::replace(units, rest))
 }
 
-/// The shards of a machine whose units all stand at a cycle, with these messages in flight.
+/// The shards of a machine whose units all stand at a cycle, with the messages that are then in flight.
 fn shards_from(
     alloc: Global,
-    machine: &Arc<Machine>,
+    snapshot: &Snapshot,
     bounds: &[usize],
-    slots: Vec<Slot>,
-    now: Cycle,
-    messages: &[Message],
+    units: Vec<TimedUnit>,
 ) -> Result<Vec<Box<Shard>>, AllocError>
-    requires split { IsSplit (arc_value machine.now).config bounds.now }
-    requires count { length slots.items ≡ unit_count (arc_value machine.now).config }
-    requires early { now ≤ 10 ^ 12 }
-    requires wait { AllAwake (arc_value machine.now) 0 now slots.items }
-    requires flight { messages.now ≡ flight_at (arc_value machine.now) now }
-    ensures { IfOk result (λ v. AreShards (arc_value machine.now) bounds.now now v.items) }
+    requires split { IsSplit (arc_value snapshot.now.machine).config bounds.now }
+    requires count { length units.items ≡ unit_count (arc_value snapshot.now.machine).config }
+    requires early { snapshot.now.at ≤ 10 ^ 12 }
+    requires wait { AreAwake snapshot.now 0 units.items }
+    requires flight { HoldsFlight snapshot.now }
+    ensures { IfOk result (λ v.
+        AreShards (arc_value snapshot.now.machine) bounds.now snapshot.now.at v.items) }
 {
-    let mut left = slots;
+    let mut left = units;
     let count = bounds.len() - 1;
     let mut shards = Vec::with_capacity(alloc, count)?;
     for index in 0..count {
         let own = take_front(&mut left, bounds[index + 1] - bounds[index])?;
-        shards.push(shard_of(alloc, machine, bounds, index, own, now, messages)?)?;
+        shards.push(shard_of(alloc, snapshot, bounds, index, own)?)?;
     }
     Ok(shards)
 }
@@ -205,35 +217,46 @@ pub(crate) fn shards_of(
         ..
     } = sim;
     let messages = links.messages(alloc)?;
-    let slots = slots_of(alloc, parts, now)?;
-    shards_from(alloc, &machine, bounds, slots, now, &messages)
+    let units = timed_units(alloc, parts, now)?;
+    let snapshot = Snapshot {
+        machine,
+        at: now,
+        messages,
+    };
+    shards_from(alloc, &snapshot, bounds, units)
+}
+
+/// Where the shards of a machine stand.
+#[derive(Drop)]
+pub(crate) struct Standing {
+    pub machine: Arc<Machine>,
+    /// The place where each shard begins, and the number of units.
+    pub bounds: Vec<usize>,
+    pub at: Cycle,
 }
 
 /// Puts the units of a shard, where the machine stands, behind those of a list, and what is in flight to them into
 /// links.
 fn join_shard(
     alloc: Global,
-    machine: &Machine,
+    standing: &Standing,
     shard: Box<Shard>,
-    now: Cycle,
     parts: &mut Vec<UnitState>,
     links: &mut Links,
 ) -> Result<(), AllocError>
-    requires asleep { SleepsAt machine.now (length parts.old.items) now shard.value }
-    requires stand { StandAt machine.now now parts.old.items }
-    requires links { links.old ≡ flight_to machine.now now 0 (length parts.old.items) }
+    requires asleep { ComesNext standing.now (length parts.old.items) shard.value }
+    requires stand { AreBroughtUp standing.now parts.old.items }
+    requires links { links.old ≡ flight_first standing.now (length parts.old.items) }
     ensures count { OnOk result (HasJoined shard.value parts.old.items parts.new.items) }
-    ensures stand { OnOk result (StandAt machine.now now parts.new.items) }
-    ensures links { OnOk result (links.new ≡ flight_to machine.now now 0 (length parts.new.items)) }
+    ensures stand { OnOk result (AreBroughtUp standing.now parts.new.items) }
+    ensures links { OnOk result (links.new ≡ flight_first standing.now (length parts.new.items)) }
 {
-    let Shard {
-        slots,
-        words,
+    let Shard { range, traffic, .. } = Box::into_inner(shard);
+    let Traffic {
         links: own,
         mut mail,
-        ..
-    } = Box::into_inner(shard);
-    bring_up(machine, &mut mail, slots, &words, now, parts)?;
+    } = traffic;
+    bring_up(&standing.machine, &mut mail, range, standing.at, parts)?;
     links.accept(&mut own.messages(alloc)?)?;
     Ok(())
 }
@@ -242,22 +265,22 @@ fn join_shard(
 /// empty links.
 fn join_all(
     alloc: Global,
-    machine: &Machine,
-    bounds: &[usize],
+    standing: &Standing,
     shards: Vec<Box<Shard>>,
-    now: Cycle,
     parts: &mut Vec<UnitState>,
     links: &mut Links,
 ) -> Result<(), AllocError>
-    requires shards { AreShards machine.now bounds.now now shards.items }
+    requires shards { AreShardsAt standing.now shards.items }
     requires none { parts.old.items ≡ [] }
-    requires empty { links.old ≡ nothing_in_flight machine.now.config }
-    ensures count { OnOk result (length parts.new.items ≡ unit_count machine.now.config) }
-    ensures stand { OnOk result (StandAt machine.now now parts.new.items) }
-    ensures links { OnOk result (links.new ≡ links_at machine.now now) }
+    requires empty { links.old ≡ nothing_in_flight (arc_value standing.now.machine).config }
+    ensures count { OnOk result (
+        length parts.new.items ≡ unit_count (arc_value standing.now.machine).config) }
+    ensures stand { OnOk result (AreBroughtUp standing.now parts.new.items) }
+    ensures links { OnOk result (
+        links.new ≡ links_at (arc_value standing.now.machine) standing.now.at) }
 {
     for shard in shards {
-        join_shard(alloc, machine, shard, now, parts, links)?;
+        join_shard(alloc, standing, shard, parts, links)?;
     }
     Ok(())
 }
@@ -265,22 +288,22 @@ fn join_all(
 /// The simulator that shards were split from, at the cycle where they stand.
 pub(crate) fn joined(
     alloc: Global,
-    machine: Arc<Machine>,
-    bounds: &[usize],
+    standing: Standing,
     shards: Vec<Box<Shard>>,
-    now: Cycle,
     phase: u64,
 ) -> Result<Sim, AllocError>
-    requires shards { AreShards (arc_value machine) bounds.now now shards.items }
-    requires counted { phase ≤ now }
-    ensures { IfOk result (λ sim. sim ≡ sim_at (arc_value machine) now phase) }
+    requires shards { AreShardsAt standing shards.items }
+    requires counted { phase ≤ standing.at }
+    ensures { IfOk result (λ sim. sim ≡ sim_at (arc_value standing.machine) standing.at phase) }
 {
-    let mut parts = Vec::with_capacity(alloc, bounds[bounds.len() - 1])?;
-    let mut links = Links::start(alloc, &machine.config)?;
-    join_all(alloc, &machine, bounds, shards, now, &mut parts, &mut links)?;
+    let count = standing.bounds[standing.bounds.len() - 1];
+    let mut parts = Vec::with_capacity(alloc, count)?;
+    let mut links = Links::start(alloc, &standing.machine.config)?;
+    join_all(alloc, &standing, shards, &mut parts, &mut links)?;
+    let Standing { machine, at, .. } = standing;
     Ok(Sim {
         machine,
-        now,
+        now: at,
         phase,
         parts,
         links,

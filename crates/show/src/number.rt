@@ -123,32 +123,27 @@ fn scale_of(form: Form, halves: u128) -> Scale {
     coarse_scale(halves)
 }
 
-// The first scale with a unit that fits a number.
+/// The units of numbers of ten thousand and more, each a thousand times the one before it.
+static UNITS: [&str; 6] = ["k", "M", "G", "T", "P", "E"];
+
+// The first scale with a unit that fits a number, or the last one: for each unit there are three, with two decimals,
+// one and none.
 fn coarse_scale(halves: u128) -> Scale {
-    let scales = [
-        Scale::new(100_000, 1, 1_000, "k"),
-        Scale::new(1_000_000, 0, 1_000, "k"),
-        Scale::new(10_000_000, 2, 1_000, "M"),
-        Scale::new(100_000_000, 1, 1_000, "M"),
-        Scale::new(1_000_000_000, 0, 1_000, "M"),
-        Scale::new(10_000_000_000, 2, 1_000, "G"),
-        Scale::new(100_000_000_000, 1, 1_000, "G"),
-        Scale::new(1_000_000_000_000, 0, 1_000, "G"),
-        Scale::new(10_000_000_000_000, 2, 1_000, "T"),
-        Scale::new(100_000_000_000_000, 1, 1_000, "T"),
-        Scale::new(1_000_000_000_000_000, 0, 1_000, "T"),
-        Scale::new(10_000_000_000_000_000, 2, 1_000, "P"),
-        Scale::new(100_000_000_000_000_000, 1, 1_000, "P"),
-        Scale::new(1_000_000_000_000_000_000, 0, 1_000, "P"),
-        Scale::new(10_000_000_000_000_000_000, 2, 1_000, "E"),
-        Scale::new(100_000_000_000_000_000_000, 1, 1_000, "E"),
-    ];
-    for scale in scales {
+    let mut last_digit = 1_000u128;
+    for place in 0..18usize {
+        last_digit = last_digit.saturating_mul(10);
+        let decimals = match place % 3 {
+            0 => 2,
+            1 => 1,
+            _ => 0,
+        };
+        let unit = UNITS.get(place / 3).copied().unwrap_or("E");
+        let scale = Scale::new(last_digit, decimals, 1_000, unit);
         if scale.fits(halves) {
             return scale;
         }
     }
-    Scale::new(1_000_000_000_000_000_000_000, 0, 10_000, "E")
+    Scale::new(last_digit, 0, 1_000, "E")
 }
 
 impl Number {

@@ -32,7 +32,7 @@ pub(crate) static CHANNEL_HEADINGS: [&str; 11] = [
     "GB/s",
 ];
 
-/// The same with a clock and no configuration.
+/// The headings of a channel's numbers with a clock and no configuration.
 pub(crate) static CLOCKED_CHANNEL_HEADINGS: [&str; 10] = [
     "rd",
     "wr",

@@ -3,7 +3,7 @@
 use crate::expect::expect;
 use crate::explained_configs::OF_CONFIGS;
 use crate::explained_others::OF_OTHERS;
-use explain::{TableKind, of_config, of_host, of_numbers, of_table, of_traces};
+use explain::{RunNumbers, TableKind, of_config, of_host, of_numbers, of_table, of_traces};
 use sim_base::fault::{Fault, LineCause};
 use std::alloc::{AllocError, Global};
 use std::process::Abort;
@@ -56,7 +56,12 @@ fn text_of(alloc: Global, asked: Asked) -> Result<String, AllocError> {
         }
         Asked::TooLong => of_traces(alloc, Fault::TraceTooLong { core: 0 }, &paths, &[b"", b""]),
         Asked::Numbers(fault, cores, traces) => {
-            of_numbers(alloc, fault, cores, traces, 1_000_000_000_001, 65)
+            let numbers = RunNumbers {
+                traces,
+                cycles: 1_000_000_000_001,
+                workers: 65,
+            };
+            of_numbers(alloc, fault, cores, numbers)
         }
         Asked::Row(kind, row, table) => {
             of_table(alloc, Fault::CheckRow(row), kind, "t.csv", table.as_bytes())

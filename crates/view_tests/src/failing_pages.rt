@@ -4,6 +4,7 @@ use crate::expect::expect_at;
 use crate::page_runs::{ALONE, ONE_READ, WHOLE, list_of, stats_of};
 use page::fault::PageFault;
 use page::page::write_page;
+use page::window::RunCommands;
 use std::io;
 use std::io::{ErrorKind, Write};
 
@@ -50,12 +51,16 @@ static ENDS: [(u64, bool, Result<(), PageFault>); 11] = [
 fn a_writer_that_fails_is_told(rt: HostRuntime) {
     let stats = stats_of(&rt, rt.alloc(), 1000);
     let commands = list_of(&rt, rt.alloc(), &ONE_READ);
+    let run = RunCommands {
+        stats: &stats,
+        commands: &commands,
+    };
     for (left, fails, want) in &ENDS {
         let mut writer = Failing {
             left: *left,
             fails: *fails,
         };
-        let ended = write_page(rt.alloc(), &stats, &commands, ALONE, WHOLE, &mut writer);
+        let ended = write_page(rt.alloc(), &run, ALONE, WHOLE, &mut writer);
         expect_at(&rt, left, &ended, want);
     }
 }

@@ -5,7 +5,7 @@ use command_table::list::CommandList;
 use fixtures::none::{NO_CHANNEL, NO_CORE};
 use page::fault::PageFault;
 use page::page::write_page;
-use page::window::{Beside, View, Window};
+use page::window::{Beside, RunCommands, View, Window};
 use sim_base::command::{Command, IssuedCommand, Source};
 use sim_base::message::Cycle;
 use sim_base::place::BankId;
@@ -125,15 +125,12 @@ pub(crate) struct Shown<'a> {
 // The page of a run, and how the call ended.
 fn page_of(rt: &impl Abort, alloc: Global, shown: &Shown<'_>) -> (Vec<u8>, Result<(), PageFault>) {
     let list = list_of(rt, alloc, shown.rows);
+    let run = RunCommands {
+        stats: shown.stats,
+        commands: &list,
+    };
     let mut page = Vec::new(alloc);
-    let ended = write_page(
-        alloc,
-        shown.stats,
-        &list,
-        shown.beside,
-        shown.view,
-        &mut page,
-    );
+    let ended = write_page(alloc, &run, shown.beside, shown.view, &mut page);
     (page, ended)
 }
 

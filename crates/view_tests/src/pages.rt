@@ -9,7 +9,7 @@ use crate::page_runs::{
 use fixtures::small::small;
 use page::fault::PageFault;
 use page::page::write_page;
-use page::window::{Beside, View, Window};
+use page::window::{Beside, RunCommands, View, Window};
 use sim_base::command::{Command, IssuedCommand};
 use sim_base::config::Config;
 use sim_base::message::Cycle;
@@ -286,8 +286,12 @@ static OTHERS: [Ended; 3] = [
 fn assert_ended(rt: &impl Abort, alloc: Global, (cycles, rows, want): &Ended) {
     let stats = stats_of(rt, alloc, *cycles);
     let list = list_of(rt, alloc, rows);
+    let run = RunCommands {
+        stats: &stats,
+        commands: &list,
+    };
     let mut page = Vec::new(alloc);
-    let ended = write_page(alloc, &stats, &list, ALONE, WHOLE, &mut page);
+    let ended = write_page(alloc, &run, ALONE, WHOLE, &mut page);
     let found = (page.is_empty(), ended);
     expect_at(rt, cycles, &found, &(want.is_err(), *want));
 }

@@ -9,7 +9,6 @@ use Rattle.sim_base.specs.History.{is_unit}
 use Rattle.sim_base.specs.declared.message.Message.{Message}
 use Rattle.sim_base.specs.declared.message.Unit.{Unit as MachineUnit}
 use Rattle.sim_base.specs.declared.message.Unit.TheVariants.{Core, Channel}
-use Rattle.sim_base.specs.declared.trace.Entry.{Entry}
 use Rattle.links.specs.InFlight.{InFlight, is_due, is_due_before}
 use Rattle.links.proofs.Due.{none_overdue}
 use Rattle.span_laws.specs.Flight.{has_unit, left_after}
@@ -121,11 +120,11 @@ taken-links s first here until k old links after e a =
     ∙ ap {B = InFlight} (λ z. record old { messages = z }) (after-more s here until first k old.messages)
 
 -- a unit that is left alone has nothing in them that is due
-pub left-alone : (machine : Machine) (first here there until k : ℕ) (old : InFlight) (slot : Sleeper) → here ≤ until → IsBrought machine here there until (unit_at machine.config (first + k)) old
-    → until ≤ slot.wake → Waits machine (unit_at machine.config (first + k)) here there slot → links_after machine.config here until first k old ≡ links_after machine.config here until first (suc k) old
-left-alone machine first here there until k old slot l brought w h =
+pub left-alone : (machine : Machine) (first here there until k : ℕ) (old : InFlight) (sleeper : Sleeper) → here ≤ until → IsBrought machine here there until (unit_at machine.config (first + k)) old
+    → until ≤ sleeper.wake → Waits machine (unit_at machine.config (first + k)) here there sleeper → links_after machine.config here until first k old ≡ links_after machine.config here until first (suc k) old
+left-alone machine first here there until k old sleeper l brought w h =
     let u = unit_at machine.config (first + k) in
     let left = left_after machine.config.channels here until (units_from machine.config first k) old.messages in
     let none : filter (is_due machine.config.channels u here until) left ≡ [] =
-    (left-brought machine first here there until k old (links_after machine.config here until first k old) brought refl).due here until (omega arith) ∙ untouched-none machine u here there until slot w h in
+    (left-brought machine first here there until k old (links_after machine.config here until first k old) brought refl).due here until (omega arith) ∙ untouched-none machine u here there until sleeper w h in
     ap {B = InFlight} (λ z. record old { messages = z }) (sym (none-taken (is_due machine.config.channels u here until) left none) ∙ after-more machine.config here until first k old.messages)

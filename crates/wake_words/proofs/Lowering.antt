@@ -4,14 +4,10 @@ use Rattle.std.specs.Prelude.{filter, slice_get, option_map, Some, None, All}
 use Rattle.std.specs.List.{AllByRecursion as Each}
 use Rattle.std.proofs.lemmas.Bool.Decides.{nat_tests}
 use Rattle.std.proofs.lemmas.List.Elements.{All-from_recursion, recursion_from_All}
-use Rattle.sim_base.specs.declared.config.Config.{Config}
-use Rattle.sim_base.specs.Counts.{in_flight}
 use Rattle.sim_base.specs.History.{is_unit}
 use Rattle.sim_base.specs.Locality.{TravelsFor}
-use Rattle.sim_base.specs.Machine.{run}
 use Rattle.sim_base.specs.declared.message.Message.{Message}
 use Rattle.sim_base.specs.declared.message.Unit.{Unit as MachineUnit}
-use Rattle.sim_base.specs.declared.trace.Entry.{Entry}
 use Rattle.sim_base.proofs.Arrived.{puts, fold-puts}
 use Rattle.sim_base.proofs.Each.{Each-all, Each-filter, Each-flat_map_below}
 use Rattle.sim_base.proofs.Ordered.{filter-puts}
@@ -23,7 +19,7 @@ use Rattle.units.specs.Flight.{fresh, goes_among, among}
 use Rattle.units.specs.Parts.{late, IsPart}
 use Rattle.units.specs.Units.{unit_at, unit_count}
 use Rattle.wake_words.specs.Wakes.{Sleeper, Waits, WaitAll, AreLowered, sleeper_at, sent_in}
-use Rattle.wake_words.specs.declared.slot.Slot.{Slot}
+use Rattle.wake_words.specs.declared.timed_unit.TimedUnit.{TimedUnit}
 use Rattle.units.proofs.Filters.{filter-filter, filter-same, implied}
 use Rattle.units.proofs.Joining.{join-flight, fresh-late}
 use Rattle.wake_words.proofs.Sharing.{due-among, filters-commute, flight-sorted}
@@ -39,17 +35,17 @@ sent-late machine now until l t =
     (Each-flat_map_below (λ (m : Message). until ≤ m.arrival) (fresh machine now until) (unit_count machine.config) (λ place k. fresh-late machine now until place k l t))
 
 -- a unit waits on, once its word is lowered to what was sent to it in the phase
-pub lowered-waits : (machine : Machine) (u : MachineUnit) (now until : ℕ) (slot after : Sleeper) → now ≤ until → TravelsFor machine.config (until - now)
-    → Waits machine u until now slot → after.part ≡ slot.part → after.at ≡ slot.at → until ≤ after.wake → after.wake ≤ slot.wake
+pub lowered-waits : (machine : Machine) (u : MachineUnit) (now until : ℕ) (sleeper after : Sleeper) → now ≤ until → TravelsFor machine.config (until - now)
+    → Waits machine u until now sleeper → after.part ≡ sleeper.part → after.at ≡ sleeper.at → until ≤ after.wake → after.wake ≤ sleeper.wake
     → filter (is_due machine.config.channels u until after.wake) (sent_in machine now until) ≡ [] → Waits machine u until until after
-lowered-waits machine u now until slot after l t h part at since within none-new =
+lowered-waits machine u now until sleeper after l t h part at since within none-new =
     let old = flight_at machine now in
     let new = sent_in machine now until in
     let w = after.wake in
     let p = is_due machine.config.channels u until w in
-    let none-old : filter p old ≡ [] = due-flight machine.config machine.traces.items now until w u l ∙ none-part machine.config machine.traces.items now slot.at slot.wake until w u h.behind within h.may.none in
-    let none-before : mail_in machine.config machine.traces.items until u slot.at until ≡ [] =
-    known-mail machine now slot.at until u (known-phase machine now until u l t) ∙ none-part machine.config machine.traces.items now slot.at slot.wake slot.at until u (omega arith) h.ahead h.may.none in
+    let none-old : filter p old ≡ [] = due-flight machine.config machine.traces.items now until w u l ∙ none-part machine.config machine.traces.items now sleeper.at sleeper.wake until w u h.behind within h.may.none in
+    let none-before : mail_in machine.config machine.traces.items until u sleeper.at until ≡ [] =
+    known-mail machine now sleeper.at until u (known-phase machine now until u l t) ∙ none-part machine.config machine.traces.items now sleeper.at sleeper.wake sleeper.at until u (omega arith) h.ahead h.may.none in
     let none-late : filter p (late until old) ≡ [] = filters-commute p (λ m. not (ltb m.arrival until)) old ∙ ap (late until) none-old in
     let none : filter p (flight_at machine until) ≡ [] =
     ap (filter p) (sym (join-flight machine now until l t) ∙ fold-puts (late until old) new)
@@ -58,11 +54,11 @@ lowered-waits machine u now until slot after l t h part at since within none-new
     record {
       behind = omega (arith, at, h.behind);
       ahead = since;
-      stands = subst (λ n. IsPart machine u n after.part) (sym at) (subst (IsPart machine u slot.at) (sym part) h.stands);
+      stands = subst (λ n. IsPart machine u n after.part) (sym at) (subst (IsPart machine u sleeper.at) (sym part) h.stands);
       may = record {
-        silent = subst (λ n. IsSilent machine.config machine.traces.items n w u) (sym at) (silent-sooner machine.config machine.traces.items slot.at w slot.wake u within h.may.silent);
+        silent = subst (λ n. IsSilent machine.config machine.traces.items n w u) (sym at) (silent-sooner machine.config machine.traces.items sleeper.at w sleeper.wake u within h.may.silent);
         none = ap (λ n. mail n w) at
-            ∙ none-first machine.config machine.traces.items until slot.at until w u h.behind since none-before
+            ∙ none-first machine.config machine.traces.items until sleeper.at until w u h.behind since none-before
             ∙ sym (due-flight machine.config machine.traces.items until until w u (omega arith))
             ∙ none;
       };
@@ -72,10 +68,10 @@ lowered-waits machine u now until slot after l t h part at since within none-new
     mail a b = mail_in machine.config machine.traces.items until u a b
 
 -- so do all units, once their words are lowered to what goes to them of what was sent
-pub lowered-wait_all : (machine : Machine) (first now until : ℕ) (slots : List Slot) (old new : List ℕ) (sent : List Message) → now ≤ until → TravelsFor machine.config (until - now)
-    → length old ≡ length slots → WaitAll machine first until now slots old → sent ≡ among machine.config first (first + length slots) (sent_in machine now until)
-    → AreLowered machine.config first sent old new → WaitAll machine first until until slots new
-lowered-wait_all machine first now until slots old new sent l t words between are low k d less =
+pub lowered-wait_all : (machine : Machine) (first now until : ℕ) (units : List TimedUnit) (old new : List ℕ) (sent : List Message) → now ≤ until → TravelsFor machine.config (until - now)
+    → length old ≡ length units → WaitAll machine first until now units old → sent ≡ among machine.config first (first + length units) (sent_in machine now until)
+    → AreLowered machine.config first sent old new → WaitAll machine first until until units new
+lowered-wait_all machine first now until units old new sent l t words between are low k d less =
     let b = between k d less in
     let i : k < length old = omega (arith, less, words) in
     let u = unit_at machine.config (first + k) in
@@ -83,12 +79,12 @@ lowered-wait_all machine first now until slots old new sent l t words between ar
     let late-sent : All (λ m. until ≤ m.arrival) sent =
     All-from_recursion (λ (m : Message). until ≤ m.arrival) sent
     (subst (Each (λ (m : Message). until ≤ m.arrival)) (sym are)
-    (Each-filter (λ (m : Message). until ≤ m.arrival) (goes_among machine.config first (first + length slots)) all (recursion_from_All (λ (m : Message). until ≤ m.arrival) all (sent-late machine now until l t)))) in
+    (Each-filter (λ (m : Message). until ≤ m.arrival) (goes_among machine.config first (first + length units)) all (recursion_from_All (λ (m : Message). until ≤ m.arrival) all (sent-late machine now until l t)))) in
     let since = low.since until late-sent k i b.ahead in
     let none : filter (is_due machine.config.channels u until (get_or new k 0)) sent ≡ [] =
     none-due machine.config.channels until (get_or new k 0) (get_or new k 0) u sent (λ j e m to. low.arrivals k j e i m to) (omega arith) in
-    lowered-waits machine u now until (sleeper_at slots old k d) (sleeper_at slots new k d) l t b refl refl since (low.less k i)
-    (sym (due-among machine.config first (first + length slots) until (get_or new k 0) (first + k) all (omega arith) (omega (arith, less)))
+    lowered-waits machine u now until (sleeper_at units old k d) (sleeper_at units new k d) l t b refl refl since (low.less k i)
+    (sym (due-among machine.config first (first + length units) until (get_or new k 0) (first + k) all (omega arith) (omega (arith, less)))
     ∙ ap (filter (is_due machine.config.channels u until (get_or new k 0))) (sym are)
     ∙ none)
 

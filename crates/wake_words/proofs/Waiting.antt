@@ -32,7 +32,7 @@ use Rattle.horizon_laws.proofs.Flights.{flights-meet}
 use Rattle.horizon_laws.proofs.Bringing.{unit-due}
 use Rattle.span_laws.proofs.Silent.{silent-sooner, none-part, none-first, silent-sent}
 use Rattle.span_laws.proofs.Idle.{rest-messages, rests-sooner}
-use Rattle.span_laws.specs.Units.{Exists, sent_of}
+use Rattle.span_laws.specs.Units.{Exists}
 use Rattle.units.specs.Parts.{IsPart, IsReadyFor, HasRun}
 use Rattle.units.specs.Quiet.{IsNextActOf}
 use Rattle.units.specs.declared.part.UnitState.TheVariants as part
@@ -73,45 +73,45 @@ known-mail machine there from until u h =
     sym (arriving-arrived from until (inbox machine.config machine.traces.items (run_of machine until) u)) ∙ ap (arriving from until) h ∙ arriving-arrived from until (inbox machine.config machine.traces.items (run_of machine there) u)
 
 -- as far as is known nothing arrived at a unit that waits
-pub waits-none : (machine : Machine) (u : MachineUnit) (here there : ℕ) (slot : Sleeper) → Waits machine u here there slot → mail_in machine.config machine.traces.items there u slot.at here ≡ []
-waits-none machine u here there slot h = none-part machine.config machine.traces.items there slot.at slot.wake slot.at here u (omega arith) h.ahead h.may.none
+pub waits-none : (machine : Machine) (u : MachineUnit) (here there : ℕ) (sleeper : Sleeper) → Waits machine u here there sleeper → mail_in machine.config machine.traces.items there u sleeper.at here ≡ []
+waits-none machine u here there sleeper h = none-part machine.config machine.traces.items there sleeper.at sleeper.wake sleeper.at here u (omega arith) h.ahead h.may.none
 
 -- it has sent nothing since the cycle where it stands
-pub waits-sent : (machine : Machine) (u : MachineUnit) (here there : ℕ) (slot : Sleeper) → Exists machine.config u → IsKnown machine there here u → Waits machine u here there slot
-    → sent_at machine here u ≡ sent_at machine slot.at u
-waits-sent machine u here there slot k known h =
-    silent-sent machine.config machine.traces.items slot.at here u k h.behind (silent-sooner machine.config machine.traces.items slot.at here slot.wake u h.ahead h.may.silent)
-    (known-mail machine there slot.at here u known ∙ waits-none machine u here there slot h)
+pub waits-sent : (machine : Machine) (u : MachineUnit) (here there : ℕ) (sleeper : Sleeper) → Exists machine.config u → IsKnown machine there here u → Waits machine u here there sleeper
+    → sent_at machine here u ≡ sent_at machine sleeper.at u
+waits-sent machine u here there sleeper k known h =
+    silent-sent machine.config machine.traces.items sleeper.at here u k h.behind (silent-sooner machine.config machine.traces.items sleeper.at here sleeper.wake u h.ahead h.may.silent)
+    (known-mail machine there sleeper.at here u known ∙ waits-none machine u here there sleeper h)
 
 -- it goes on, untouched, up to a cycle that is not past its word: it sends nothing, and nothing arrives at it
-pub untouched : (machine : Machine) (u : MachineUnit) (here there until : ℕ) (slot : Sleeper) → Exists machine.config u → here ≤ until → IsKnown machine there until u
-    → until ≤ slot.wake → Waits machine u here there slot → HasGoneOn machine u here there until slot []
-untouched machine u here there until slot k l known w h =
-    let none : mail_in machine.config machine.traces.items until u slot.at until ≡ [] =
-    known-mail machine there slot.at until u known ∙ none-part machine.config machine.traces.items there slot.at slot.wake slot.at until u (omega arith) w h.may.none in
+pub untouched : (machine : Machine) (u : MachineUnit) (here there until : ℕ) (sleeper : Sleeper) → Exists machine.config u → here ≤ until → IsKnown machine there until u
+    → until ≤ sleeper.wake → Waits machine u here there sleeper → HasGoneOn machine u here there until sleeper []
+untouched machine u here there until sleeper k l known w h =
+    let none : mail_in machine.config machine.traces.items until u sleeper.at until ≡ [] =
+    known-mail machine there sleeper.at until u known ∙ none-part machine.config machine.traces.items there sleeper.at sleeper.wake sleeper.at until u (omega arith) w h.may.none in
     record {
       waits = record { behind = omega (arith, h.behind, l); ahead = w; stands = h.stands; may = h.may };
-      sent = silent-sent machine.config machine.traces.items slot.at until u k (omega (arith, h.behind, l)) (silent-sooner machine.config machine.traces.items slot.at until slot.wake u w h.may.silent) none
-          ∙ sym (waits-sent machine u here there slot k (known-sooner machine there here until u l known) h) ∙ sym (append-nil (sent_at machine here u));
+      sent = silent-sent machine.config machine.traces.items sleeper.at until u k (omega (arith, h.behind, l)) (silent-sooner machine.config machine.traces.items sleeper.at until sleeper.wake u w h.may.silent) none
+          ∙ sym (waits-sent machine u here there sleeper k (known-sooner machine there here until u l known) h) ∙ sym (append-nil (sent_at machine here u));
     }
 
 -- nothing arrives at it in the span
-pub untouched-none : (machine : Machine) (u : MachineUnit) (here there until : ℕ) (slot : Sleeper) → until ≤ slot.wake → Waits machine u here there slot
+pub untouched-none : (machine : Machine) (u : MachineUnit) (here there until : ℕ) (sleeper : Sleeper) → until ≤ sleeper.wake → Waits machine u here there sleeper
     → mail_in machine.config machine.traces.items there u here until ≡ []
-untouched-none machine u here there until slot w h = none-part machine.config machine.traces.items there slot.at slot.wake here until u h.behind w h.may.none
+untouched-none machine u here there until sleeper w h = none-part machine.config machine.traces.items there sleeper.at sleeper.wake here until u h.behind w h.may.none
 
 -- a unit that is woken is run from its own cycle, however far back that is, with what arrives at it from where its kind stands
-pub woken-ready : (machine : Machine) (u : MachineUnit) (here there until : ℕ) (slot : Sleeper) (inbox : List Message) → Exists machine.config u → here ≤ until → until ≤ 10 ^ 12
-    → IsKnown machine there until u → Waits machine u here there slot → inbox ≡ mail_in machine.config machine.traces.items there u here until → IsReadyFor machine u slot.part inbox slot.at until
-woken-ready machine u here there until slot mail k l early known h e =
+pub woken-ready : (machine : Machine) (u : MachineUnit) (here there until : ℕ) (sleeper : Sleeper) (inbox : List Message) → Exists machine.config u → here ≤ until → until ≤ 10 ^ 12
+    → IsKnown machine there until u → Waits machine u here there sleeper → inbox ≡ mail_in machine.config machine.traces.items there u here until → IsReadyFor machine u sleeper.part inbox sleeper.at until
+woken-ready machine u here there until sleeper mail k l early known h e =
     record {
       exists = k;
       order = omega (arith, h.behind, l);
       early = early;
       stands = h.stands;
       mail = e
-          ∙ sym (none-first machine.config machine.traces.items there slot.at here until u h.behind l (waits-none machine u here there slot h))
-          ∙ sym (known-mail machine there slot.at until u known);
+          ∙ sym (none-first machine.config machine.traces.items there sleeper.at here until u h.behind l (waits-none machine u here there sleeper h))
+          ∙ sym (known-mail machine there sleeper.at until u known);
     }
 
 empty-span : (until arrival : ℕ) → (leb until arrival && ltb arrival until) ≡ true → (leb until arrival && ltb arrival until) ≡ false
@@ -198,20 +198,20 @@ none-due channels from word least u (m ∷ ms) h l =
     ∙ none-due channels from word least u ms (λ k d i. h (suc k) d (omega (arith, i))) l
 
 -- a unit that waits may be run up to the cycle where the machine stands, where nothing arrives at it
-pub waits-ready : (machine : Machine) (u : MachineUnit) (now : ℕ) (slot : Sleeper) (none : List Message) → Exists machine.config u → now ≤ 10 ^ 12 → Waits machine u now now slot → none ≡ []
-    → IsReadyFor machine u slot.part none slot.at now
-waits-ready machine u now slot none k early h e =
-    record { exists = k; order = h.behind; early = early; stands = h.stands; mail = e ∙ sym (waits-none machine u now now slot h) }
+pub waits-ready : (machine : Machine) (u : MachineUnit) (now : ℕ) (sleeper : Sleeper) (none : List Message) → Exists machine.config u → now ≤ 10 ^ 12 → Waits machine u now now sleeper → none ≡ []
+    → IsReadyFor machine u sleeper.part none sleeper.at now
+waits-ready machine u now sleeper none k early h e =
+    record { exists = k; order = h.behind; early = early; stands = h.stands; mail = e ∙ sym (waits-none machine u now now sleeper h) }
 
 -- a unit that stands where the machine does may be woken at once
-pub awake-waits : (machine : Machine) (u : MachineUnit) (now : ℕ) (slot : Sleeper) → IsPart machine u now slot.part → slot.at ≡ now → slot.wake ≡ now → Waits machine u now now slot
-awake-waits machine u now slot h at wake =
+pub awake-waits : (machine : Machine) (u : MachineUnit) (now : ℕ) (sleeper : Sleeper) → IsPart machine u now sleeper.part → sleeper.at ≡ now → sleeper.wake ≡ now → Waits machine u now now sleeper
+awake-waits machine u now sleeper h at wake =
     record {
       behind = omega (arith, at);
       ahead = omega (arith, wake);
-      stands = subst (λ n. IsPart machine u n slot.part) (sym at) h;
+      stands = subst (λ n. IsPart machine u n sleeper.part) (sym at) h;
       may = record {
-        silent = subst (λ n. IsSilent machine.config machine.traces.items n slot.wake u) (sym at) (subst (λ n. IsSilent machine.config machine.traces.items now n u) (sym wake) (rests-silent machine.config machine.traces.items now now u (rests-in_none machine.config machine.traces.items now u)));
+        silent = subst (λ n. IsSilent machine.config machine.traces.items n sleeper.wake u) (sym at) (subst (λ n. IsSilent machine.config machine.traces.items now n u) (sym wake) (rests-silent machine.config machine.traces.items now now u (rests-in_none machine.config machine.traces.items now u)));
         none = ap₂ (λ m n. mail_in machine.config machine.traces.items now u m n) at wake ∙ span-none now _;
       };
     }

@@ -1,9 +1,11 @@
 -- Units of a kind that go on over a span, while those that send to them stand.
---     WaitsAt machine place span slot      the unit at a place waits where the span begins
---     WaitsNow machine place now slot      it waits where all units stand
+--     WaitsAt machine place span sleeper      the unit at a place waits where the span begins
+--     WaitsNow machine place now sleeper      it waits where all units stand
 --     IsBroughtTo machine place span links      the links hold what arrives at it up to the end of the span
+--     MayBeWoken machine place span unit      a unit waits there with some word
+--     MayBeBroughtUp machine place now unit      so does one where all units stand
 --     links_taken machine place span links      the links when it has taken what arrives at it in the span
---     GoesOnOver machine place span slot old new      it has gone on, and what it sent is put at the end of a list
+--     GoesOnOver machine place span sleeper old new      it has gone on, and what it sent is put at the end of a list
 --     WaitAllAt, WaitAllPast, AllBroughtTo, links_taken_by, sent_over      the same of units at places from one on
 --     NothingArrives links unit from until      no message in flight arrives at a unit in a span
 --     IsReceiver s link place, HasNoReceiver s link      the place of the unit that a link leads to; and that there is none
@@ -17,17 +19,28 @@ use Rattle.links.specs.InFlight.{InFlight, is_due, receiver_of}
 use Rattle.units.specs.Flight.{sent_by}
 use Rattle.units.specs.Units.{unit_at, unit_count}
 use Rattle.units.specs.declared.machine.Machine.{Machine}
-use Rattle.wake_words.specs.Wakes.{Sleeper, Waits, WaitAll, IsBrought, AllBrought, AddsWhatItSent, links_after}
-use Rattle.wake_words.specs.declared.slot.Slot.{Slot}
-use Rattle.wake_words.specs.declared.slot.Span.{Span}
+use Rattle.wake_words.specs.Wakes.{Sleeper, Waits, WaitAll, IsBrought, AllBrought, AddsWhatItSent, links_after, sleeper}
+use Rattle.wake_words.specs.declared.timed_unit.TimedUnit.{TimedUnit}
+use Rattle.wake_words.specs.declared.timed_unit.Span.{Span}
+use Rattle.wake_words.specs.declared.waking.UnitRange.{UnitRange}
 
 -- the unit at a place waits where a span begins
 abbrev pub WaitsAt : Machine → ℕ → Span → Sleeper → Type 0
-WaitsAt machine place span slot = Waits machine (unit_at machine.config place) span.here span.there slot
+WaitsAt machine place span sleeper = Waits machine (unit_at machine.config place) span.here span.there sleeper
 
 -- the unit at a place waits where all units stand
 abbrev pub WaitsNow : Machine → ℕ → ℕ → Sleeper → Type 0
-WaitsNow machine place now slot = Waits machine (unit_at machine.config place) now now slot
+WaitsNow machine place now sleeper = Waits machine (unit_at machine.config place) now now sleeper
+
+-- the unit at a place waits where a span begins, with some word
+pub record MayBeWoken (machine : Machine) (place : ℕ) (span : Span) (unit : TimedUnit) : Type 0 where
+  pub word : ℕ
+  pub waits : WaitsAt machine place span (sleeper unit word)
+
+-- the unit at a place waits where all units stand, with some word
+pub record MayBeBroughtUp (machine : Machine) (place now : ℕ) (unit : TimedUnit) : Type 0 where
+  pub word : ℕ
+  pub waits : WaitsNow machine place now (sleeper unit word)
 
 -- the links hold what arrives at the unit at a place up to the end of a span
 abbrev pub IsBroughtTo : Machine → ℕ → Span → InFlight → Type 0
@@ -42,28 +55,32 @@ links_taken machine place span links =
 
 -- the unit at a place has gone on over a span, and what it sent is put at the end of a list
 abbrev pub GoesOnOver : Machine → ℕ → Span → Sleeper → List Message → List Message → Type 0
-GoesOnOver machine place span slot old new =
-    AddsWhatItSent machine (unit_at machine.config place) span.here span.there span.until slot old new
+GoesOnOver machine place span sleeper old new =
+    AddsWhatItSent machine (unit_at machine.config place) span.here span.there span.until sleeper old new
 
--- units at places from one on wait where a span begins
-abbrev pub WaitAllAt : Machine → ℕ → Span → List Slot → List ℕ → Type 0
-WaitAllAt machine first span slots words = WaitAll machine first span.here span.there slots words
+-- units wait where a span begins
+abbrev pub WaitAllAt : Machine → Span → UnitRange → Type 0
+WaitAllAt machine span range =
+    WaitAll machine range.first span.here span.there range.units.items range.words.items
 
--- units at places from one on wait at the end of a span
-abbrev pub WaitAllPast : Machine → ℕ → Span → List Slot → List ℕ → Type 0
-WaitAllPast machine first span slots words = WaitAll machine first span.until span.there slots words
+-- units wait at the end of a span
+abbrev pub WaitAllPast : Machine → Span → UnitRange → Type 0
+WaitAllPast machine span range =
+    WaitAll machine range.first span.until span.there range.units.items range.words.items
 
--- the links hold what arrives at so many units at places from one on up to the end of a span
-abbrev pub AllBroughtTo : Machine → ℕ → ℕ → Span → InFlight → Type 0
-AllBroughtTo machine first count span links = AllBrought machine first count span.here span.there span.until links
+-- the links hold what arrives at units up to the end of a span
+abbrev pub AllBroughtTo : Machine → Span → UnitRange → InFlight → Type 0
+AllBroughtTo machine span range links =
+    AllBrought machine range.first (length range.units.items) span.here span.there span.until links
 
--- the links when so many units at places from one on have taken what arrives at them in a span
-abbrev pub links_taken_by : Machine → ℕ → ℕ → Span → InFlight → InFlight
-links_taken_by machine first count span links = links_after machine.config span.here span.until first count links
+-- the links when units have taken what arrives at them in a span
+abbrev pub links_taken_by : Machine → Span → UnitRange → InFlight → InFlight
+links_taken_by machine span range links =
+    links_after machine.config span.here span.until range.first (length range.units.items) links
 
--- what so many units at places from one on send in a span
-abbrev pub sent_over : Machine → ℕ → ℕ → Span → List Message
-sent_over machine first count span = sent_by machine span.here span.until first count
+-- what units send in a span
+abbrev pub sent_over : Machine → Span → UnitRange → List Message
+sent_over machine span range = sent_by machine span.here span.until range.first (length range.units.items)
 
 -- no message in flight arrives at a unit from a cycle on and before another
 abbrev pub NothingArrives : InFlight → MachineUnit → ℕ → ℕ → Type 0

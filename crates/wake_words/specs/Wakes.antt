@@ -1,18 +1,18 @@
 -- A machine whose units stand at cycles of their own, so that a phase touches only those with something to do.
 --     Sleeper      a unit, the cycle where it stands, and its wake word
---     AreSlots now parts slots      units that all stand at a cycle
+--     AreTimedUnits now parts units      units that all stand at a cycle
 --     HasRunAndTells machine unit from until part held holds send      a unit has run over a span, and tells when it may send again
 --     MayWait machine unit known at wake      as far as a run is known, a unit that stands at a cycle may be left alone up to another
---     Waits machine unit here there slot      a unit of a kind that stands at a cycle may be left alone up to its wake word
---     WaitAll machine first here there slots words      so may all units at places from one on, in their order
+--     Waits machine unit here there sleeper      a unit of a kind that stands at a cycle may be left alone up to its wake word
+--     WaitAll machine first here there units words      so may all units at places from one on, in their order
 --     IsKnown machine there until unit      what arrives at a unit before a cycle was sent in the first cycles of a run
 --     IsBrought machine here there until unit links      the links hold what arrives at a unit up to a cycle, and it is known
 --     AllBrought machine first count here there until links      so it is with all units at places from one on
 --     units_from s first count      the units at places from one on
 --     links_after s from until first count links      the links when those have taken what arrives at them in a span
---     HasGoneOn machine unit here there until slot messages      a unit that has gone on to a cycle, with what it sent
---     IsAsleep machine first now slots words links      what holds of some units of a machine between two phases, with what is in flight to them
---     HaveGone machine first now until slots words links      what holds of some units at the end of a phase, with what is in flight to them
+--     HasGoneOn machine unit here there until sleeper messages      a unit that has gone on to a cycle, with what it sent
+--     IsAsleep machine first now units words links      what holds of some units of a machine between two phases, with what is in flight to them
+--     HaveGone machine first now until units words links      what holds of some units at the end of a phase, with what is in flight to them
 --     arrived_at, arriving_at machine known unit ..      what arrives at a unit before a cycle, and in a span, as far as a run is known
 --     links_to s first count mail      links with the messages that go to units at places from one on
 --     goes_to_place s m place      a message goes to the unit at a place
@@ -34,7 +34,7 @@ use Rattle.units.specs.Runs.{flight_at, sent_at}
 use Rattle.units.specs.Units.{unit_at, unit_count}
 use Rattle.units.specs.declared.machine.Machine.{Machine}
 use Rattle.units.specs.declared.part.UnitState.{UnitState}
-use Rattle.wake_words.specs.declared.slot.Slot.{Slot}
+use Rattle.wake_words.specs.declared.timed_unit.TimedUnit.{TimedUnit}
 
 -- A unit, the cycle where it stands, and its wake word: before that it sends nothing, and nothing arrives at it.
 pub record Sleeper : Type 0 where
@@ -43,18 +43,18 @@ pub record Sleeper : Type 0 where
   pub wake : ℕ
 
 -- units in their order, each at the same cycle
-pub record AreSlots (now : ℕ) (parts : List UnitState) (slots : List Slot) : Type 0 where
-  pub count : length slots ≡ length parts
-  pub parts_are : (k : ℕ) (d : Slot) (e : UnitState) → k < length parts → (slice_index_or slots k d).part.value ≡ slice_index_or parts k e
-  pub stand : (k : ℕ) (d : Slot) → k < length parts → (slice_index_or slots k d).at ≡ now
+pub record AreTimedUnits (now : ℕ) (parts : List UnitState) (units : List TimedUnit) : Type 0 where
+  pub count : length units ≡ length parts
+  pub parts_are : (k : ℕ) (d : TimedUnit) (e : UnitState) → k < length parts → (slice_index_or units k d).part.value ≡ slice_index_or parts k e
+  pub stand : (k : ℕ) (d : TimedUnit) → k < length parts → (slice_index_or units k d).at ≡ now
 
--- a slot with its word
-abbrev pub sleeper : Slot → ℕ → Sleeper
-sleeper slot word = record { part = slot.part.value; at = slot.at; wake = word }
+-- a unit with its word
+abbrev pub sleeper : TimedUnit → ℕ → Sleeper
+sleeper unit word = record { part = unit.part.value; at = unit.at; wake = word }
 
--- the slot at a place with its word
-abbrev pub sleeper_at : List Slot → List ℕ → ℕ → Slot → Sleeper
-sleeper_at slots words k d = sleeper (slice_index_or slots k d) (slice_index_or words k 0)
+-- the unit at a place with its word
+abbrev pub sleeper_at : List TimedUnit → List ℕ → ℕ → TimedUnit → Sleeper
+sleeper_at units words k d = sleeper (slice_index_or units k d) (slice_index_or words k 0)
 
 -- A unit stands at the end of a span, and what it sends in it is put behind what a list held before. It sends nothing
 -- more before a cycle, if nothing arrives at it.
@@ -82,17 +82,17 @@ pub record MayWait (machine : Machine) (unit : MachineUnit) (known at wake : ℕ
 
 -- A unit stands for its part of a run up to its own cycle, which is not past the one where its kind stands, and may
 -- be left alone up to its word, as far as is known from the units that send to it, which stand at a cycle of theirs.
-pub record Waits (machine : Machine) (unit : MachineUnit) (here there : ℕ) (slot : Sleeper) : Type 0 where
-  pub behind : slot.at ≤ here
-  pub ahead : here ≤ slot.wake
-  pub stands : IsPart machine unit slot.at slot.part
-  pub may : MayWait machine unit there slot.at slot.wake
+pub record Waits (machine : Machine) (unit : MachineUnit) (here there : ℕ) (sleeper : Sleeper) : Type 0 where
+  pub behind : sleeper.at ≤ here
+  pub ahead : here ≤ sleeper.wake
+  pub stands : IsPart machine unit sleeper.at sleeper.part
+  pub may : MayWait machine unit there sleeper.at sleeper.wake
 
 -- so do all units at places from one on, in their order, each with the word at its place
-abbrev pub WaitAll : Machine → ℕ → ℕ → ℕ → List Slot → List ℕ → Type 0
-WaitAll machine first here there slots words =
-    (k : ℕ) (d : Slot) → k < length slots
-    → Waits machine (unit_at machine.config (first + k)) here there (sleeper_at slots words k d)
+abbrev pub WaitAll : Machine → ℕ → ℕ → ℕ → List TimedUnit → List ℕ → Type 0
+WaitAll machine first here there units words =
+    (k : ℕ) (d : TimedUnit) → k < length units
+    → Waits machine (unit_at machine.config (first + k)) here there (sleeper_at units words k d)
 
 -- what arrives at a unit before a cycle was sent in the first `there` cycles of a run
 abbrev pub IsKnown : Machine → ℕ → ℕ → MachineUnit → Type 0
@@ -128,32 +128,32 @@ links_to s first count mail = record { channels = s.channels; messages = among s
 
 -- A unit has gone on with its kind from one cycle to another, while those that send to it have not. What they have
 -- sent so far it knows.
-pub record HasGoneOn (machine : Machine) (unit : MachineUnit) (here there until : ℕ) (slot : Sleeper) (messages : List Message) : Type 0 where
-  pub waits : Waits machine unit until there slot
+pub record HasGoneOn (machine : Machine) (unit : MachineUnit) (here there until : ℕ) (sleeper : Sleeper) (messages : List Message) : Type 0 where
+  pub waits : Waits machine unit until there sleeper
   pub sent : sent_at machine until unit ≡ sent_at machine here unit ++ messages
 
 -- what it sent is put at the end of a list
-pub record AddsWhatItSent (machine : Machine) (unit : MachineUnit) (here there until : ℕ) (slot : Sleeper) (old new : List Message) : Type 0 where
+pub record AddsWhatItSent (machine : Machine) (unit : MachineUnit) (here there until : ℕ) (sleeper : Sleeper) (old new : List Message) : Type 0 where
   pub messages : List Message
-  pub gone : HasGoneOn machine unit here there until slot messages
+  pub gone : HasGoneOn machine unit here there until sleeper messages
   pub added : new ≡ old ++ messages
 
 -- What holds of some units of a machine, at places from one on, between two phases: the links hold exactly what is in
 -- flight to them in the run.
-pub record IsAsleep (machine : Machine) (first now : ℕ) (slots : List Slot) (words : List ℕ) (links : InFlight) : Type 0 where
+pub record IsAsleep (machine : Machine) (first now : ℕ) (units : List TimedUnit) (words : List ℕ) (links : InFlight) : Type 0 where
   pub early : now ≤ 10 ^ 12
-  pub within : first + length slots ≤ unit_count machine.config
-  pub words_count : length words ≡ length slots
-  pub wait : WaitAll machine first now now slots words
-  pub flight : links ≡ links_to machine.config first (length slots) (flight_at machine now)
+  pub within : first + length units ≤ unit_count machine.config
+  pub words_count : length words ≡ length units
+  pub wait : WaitAll machine first now now units words
+  pub flight : links ≡ links_to machine.config first (length units) (flight_at machine now)
 
 -- What holds of some units of a machine, at places from one on, at the end of a phase: their words do not yet know
 -- what was sent in it, and the links hold exactly what was in flight to them at its beginning and arrives later.
-pub record HaveGone (machine : Machine) (first now until : ℕ) (slots : List Slot) (words : List ℕ) (links : InFlight) : Type 0 where
-  pub within : first + length slots ≤ unit_count machine.config
-  pub words_count : length words ≡ length slots
-  pub between : WaitAll machine first until now slots words
-  pub flight : links ≡ links_to machine.config first (length slots) (late until (flight_at machine now))
+pub record HaveGone (machine : Machine) (first now until : ℕ) (units : List TimedUnit) (words : List ℕ) (links : InFlight) : Type 0 where
+  pub within : first + length units ≤ unit_count machine.config
+  pub words_count : length words ≡ length units
+  pub between : WaitAll machine first until now units words
+  pub flight : links ≡ links_to machine.config first (length units) (late until (flight_at machine now))
 
 -- what all units send in a phase
 abbrev pub sent_in : Machine → ℕ → ℕ → List Message

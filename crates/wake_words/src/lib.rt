@@ -3,6 +3,6 @@
 #![tactic(auto)]
 
 pub mod lane_scan;
-pub mod slot;
+pub mod timed_unit;
 pub mod waking;
 pub mod words;

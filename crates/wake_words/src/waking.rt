@@ -1,19 +1,50 @@
 //! Units that stand at cycles of their own, taken over a span: only those that wake in it are touched.
 
-ghost use Rattle.std.specs.Prelude.{◌≡◌, ◌<◌, ◌≤◌, ◌^◌, ◌+◌, ℕ, [], length, IfOk, OnOk, slice_index_or};
+ghost use Rattle.std.specs.Prelude.{◌≡◌, ◌<◌, ◌≤◌, ◌^◌, ◌+◌, ℕ, [], length, replicate, IfOk, OnOk, slice_index_or};
 ghost use Rattle.units.specs.Parts.{StandAt};
 ghost use Rattle.units.specs.Units.{unit_count};
-ghost use Rattle.wake_words.specs.GoingOn.{WaitAllAt, WaitAllPast, AllBroughtTo, GrowsBy, links_taken_by, sent_over};
-ghost use Rattle.wake_words.specs.Wakes.{WaitAll, AreSlots};
+ghost use Rattle.wake_words.specs.GoingOn.{AllBroughtTo, GrowsBy, WaitAllAt, WaitAllPast, links_taken_by, sent_over};
+ghost use Rattle.wake_words.specs.Wakes.{AreTimedUnits, WaitAll};
 
 use crate::lane_scan::first_below;
-use crate::slot::{Slot, Span};
-use links::flight::Links;
+use crate::timed_unit::{Span, TimedUnit, Traffic};
 use sim_base::message::Cycle;
 use std::alloc::{AllocError, Global};
 use units::machine::Machine;
 use units::mail::Mail;
 use units::part::UnitState;
+
+/// Units at consecutive places of a machine, each with its wake word: a cycle before which it sends nothing, and
+/// nothing arrives at it.
+#[derive(Drop)]
+pub struct UnitRange {
+    /// The place of the first unit.
+    pub first: usize,
+    pub units: Vec<TimedUnit>,
+    pub words: Vec<Cycle>,
+}
+
+impl UnitRange {
+    /// Units at places from one on, each with the cycle where all stand as its word.
+    pub fn awake(
+        alloc: Global,
+        first: usize,
+        units: Vec<TimedUnit>,
+        now: Cycle,
+    ) -> Result<UnitRange, AllocError>
+        ensures first { IfOk result (λ range. range.first ≡ first) }
+        ensures units { IfOk result (λ range. range.units ≡ units) }
+        ensures words { IfOk result (λ range.
+            range.words.items ≡ replicate (length units.items) now) }
+    {
+        let words = vec![in alloc; now; units.len()]?;
+        Ok(UnitRange {
+            first,
+            units,
+            words,
+        })
+    }
+}
 
 /// The first place from one on whose word is before a cycle, or the number of words where there is none.
 fn next_waking(words: &[Cycle], from: usize, until: Cycle) -> usize
@@ -29,74 +60,79 @@ fn next_waking(words: &[Cycle], from: usize, until: Cycle) -> usize
     }
 }
 
-/// Takes units, at places from one on, over a span: those whose word is before its end are run, the others are left
-/// as they are.
+/// Takes units over a span: those whose word is before its end are run, the others are left as they are.
 pub fn go_on(
     machine: &Machine,
-    links: &mut Links,
-    mail: &mut Mail,
-    slots: &mut [Slot],
-    words: &mut [Cycle],
-    first: usize,
+    traffic: &mut Traffic,
+    range: &mut UnitRange,
     span: &Span,
 ) -> Result<(), AllocError>
-    requires within { first + length slots.old ≤ unit_count machine.now.config }
-    requires words { length words.old ≡ length slots.old }
+    requires within { range.old.first + length range.old.units.items
+        ≤ unit_count machine.now.config }
+    requires words { length range.old.words.items ≡ length range.old.units.items }
     requires order { span.now.here ≤ span.now.until }
     requires early { span.now.until ≤ 10 ^ 12 }
-    requires wait { WaitAllAt machine.now first span.now slots.old words.old }
-    requires brought { AllBroughtTo machine.now first (length slots.old) span.now links.old }
-    requires sent { mail.old.sent.items ≡ [] }
-    ensures count { length slots.new ≡ length slots.old }
-    ensures words { length words.new ≡ length words.old }
-    ensures wait { OnOk result (WaitAllPast machine.now first span.now slots.new words.new) }
+    requires wait { WaitAllAt machine.now span.now range.old }
+    requires brought { AllBroughtTo machine.now span.now range.old traffic.old.links }
+    requires sent { traffic.old.mail.sent.items ≡ [] }
+    ensures first { range.new.first ≡ range.old.first }
+    ensures count { length range.new.units.items ≡ length range.old.units.items }
+    ensures words { length range.new.words.items ≡ length range.old.words.items }
+    ensures wait { OnOk result (WaitAllPast machine.now span.now range.new) }
     ensures links { OnOk result (
-        links.new ≡ links_taken_by machine.now first (length slots.old) span.now links.old) }
+        traffic.new.links ≡ links_taken_by machine.now span.now range.old traffic.old.links) }
     ensures sent { OnOk result (
-        mail.new.sent.items ≡ sent_over machine.now first (length slots.old) span.now) }
+        traffic.new.mail.sent.items ≡ sent_over machine.now span.now range.old) }
 {
-    let mut place = next_waking(words, 0, span.until);
-    while place < slots.len() {
-        let word = words[place];
-        words[place] = slots[place].woken(machine, links, mail, word, first + place, span)?;
-        place = next_waking(words, place + 1, span.until);
+    let first = range.first;
+    let mut place = next_waking(&range.words, 0, span.until);
+    while place < range.units.len() {
+        let word = range.units[place].woken(machine, traffic, first + place, span)?;
+        range.words[place] = word;
+        place = next_waking(&range.words, place + 1, span.until);
     }
     Ok(())
 }
 
-/// Units, at places from one on, brought up to the cycle where the machine stands, behind those of a list.
+/// Units brought up to the cycle where the machine stands, behind those of a list, which come before them.
 pub fn bring_up(
     machine: &Machine,
     mail: &mut Mail,
-    slots: Vec<Slot>,
-    words: &[Cycle],
+    range: UnitRange,
     now: Cycle,
     parts: &mut Vec<UnitState>,
 ) -> Result<(), AllocError>
-    requires within { length parts.old.items + length slots.items ≤ unit_count machine.now.config }
-    requires words { length words.now ≡ length slots.items }
+    requires within { length parts.old.items + length range.units.items
+        ≤ unit_count machine.now.config }
+    requires words { length range.words.items ≡ length range.units.items }
     requires early { now ≤ 10 ^ 12 }
-    requires wait { WaitAll machine.now (length parts.old.items) now now slots.items words.now }
+    requires wait { WaitAll machine.now (length parts.old.items) now now
+        range.units.items range.words.items }
     requires stand { StandAt machine.now now parts.old.items }
-    ensures count { OnOk result (GrowsBy (length slots.items) parts.old.items parts.new.items) }
+    ensures count { OnOk result (
+        GrowsBy (length range.units.items) parts.old.items parts.new.items) }
     ensures stand { OnOk result (StandAt machine.now now parts.new.items) }
 {
-    let first = parts.len();
-    for slot in slots {
+    let UnitRange { units, .. } = range;
+    for unit in units {
         let place = parts.len();
-        parts.push(slot.brought_up(machine, mail, words[place - first], place, now)?)?;
+        parts.push(unit.brought_up(machine, mail, place, now)?)?;
     }
     Ok(())
 }
 
 /// Units, each where the machine stands.
-pub fn slots_of(alloc: Global, parts: Vec<UnitState>, now: Cycle) -> Result<Vec<Slot>, AllocError>
-    ensures { IfOk result (λ slots. AreSlots now parts.items slots.items) }
+pub fn timed_units(
+    alloc: Global,
+    parts: Vec<UnitState>,
+    now: Cycle,
+) -> Result<Vec<TimedUnit>, AllocError>
+    ensures { IfOk result (λ units. AreTimedUnits now parts.items units.items) }
 {
-    let mut slots = Vec::with_capacity(alloc, parts.len())?;
+    let mut units = Vec::with_capacity(alloc, parts.len())?;
     for part in parts {
         let part = Box::new(alloc, part)?;
-        slots.push(Slot { part, at: now })?;
+        units.push(TimedUnit { part, at: now })?;
     }
-    Ok(slots)
+    Ok(units)
 }

@@ -15,7 +15,7 @@ use crate::moves::{Move, discard_one, move_in, path_of, place_one};
 use command_table::table::CommandTable;
 use refusal::reason::Reason;
 use refusal::refusal::Refusal;
-use reports::{write_commands_by, write_final, write_requests_by, write_stats};
+use reports::{TableThreads, write_commands_by, write_final, write_requests_by, write_stats};
 use request_table::table::RequestTable;
 use run_outcome::outcome::Outcome;
 use sim_base::fault::Fault;
@@ -50,17 +50,9 @@ struct Planned<'a> {
     way: Move,
 }
 
-// Who puts tables together: at most so many threads of the host, with this memory.
-#[derive(Drop)]
-struct Crew<'a, R> {
-    rt: &'a R,
-    alloc: Global,
-    threads: usize,
-}
-
 // Writes what a table holds.
 fn write_contents<R: Threads + Sync, W: Write>(
-    crew: &Crew<'_, R>,
+    threads: &TableThreads<'_, R>,
     contents: &Contents<'_>,
     writer: &mut W,
 ) -> Result<(), Fault>
@@ -69,19 +61,17 @@ fn write_contents<R: Threads + Sync, W: Write>(
 {
     match contents {
         Contents::Commands(ranks, commands) => {
-            write_commands_by(crew.rt, crew.alloc, crew.threads, *ranks, commands, writer)
+            write_commands_by(threads, *ranks, commands, writer)
         }
-        Contents::Stats(stats) => write_stats(crew.alloc, stats, writer),
-        Contents::Final(ranks, last) => write_final(crew.alloc, last, *ranks, writer),
-        Contents::Requests(requests) => {
-            write_requests_by(crew.rt, crew.alloc, crew.threads, requests, writer)
-        }
+        Contents::Stats(stats) => write_stats(threads.alloc, stats, writer),
+        Contents::Final(ranks, last) => write_final(threads.alloc, last, *ranks, writer),
+        Contents::Requests(requests) => write_requests_by(threads, requests, writer),
     }
 }
 
 // Writes a table under the name that ends in `.part`.
 fn stage_one<R: Threads + Sync, F: FileSet>(
-    crew: &Crew<'_, R>,
+    threads: &TableThreads<'_, R>,
     files: &mut F,
     table: &Planned<'_>,
 ) -> Result<(), Reason>
@@ -94,11 +84,11 @@ fn stage_one<R: Threads + Sync, F: FileSet>(
         → SameBut (from_path table.now.way) (F.held files.old) (F.held files.new) }
 {
     let path = table.way.from.as_str();
-    let mut out = files.create(crew.alloc, path)?;
-    if let Err(fault) = write_contents(crew, &table.contents, &mut out) {
-        return Err(files.cause(crew.alloc, path, &out, fault));
+    let mut out = files.create(threads.alloc, path)?;
+    if let Err(fault) = write_contents(threads, &table.contents, &mut out) {
+        return Err(files.cause(threads.alloc, path, &out, fault));
     }
-    files.close(crew.alloc, path, out)
+    files.close(threads.alloc, path, out)
 }
 
 // Adds a table to those that are to be written, if there is one.
@@ -202,7 +192,7 @@ fn others_of(alloc: Global, folder: &str, run: &Outcome) -> Result<Vec<String>, 
 
 // Writes the tables, one after the other, under the names that end in `.part`.
 fn stage<R: Threads + Sync, F: FileSet>(
-    crew: &Crew<'_, R>,
+    threads: &TableThreads<'_, R>,
     files: &mut F,
     planned: &[Planned<'_>],
 ) -> Result<(), Reason>
@@ -215,7 +205,7 @@ fn stage<R: Threads + Sync, F: FileSet>(
         → SameOutside (from_paths (plans_of planned.now)) (F.held files.old) (F.held files.new) }
 {
     for table in planned {
-        stage_one(crew, files, table)?;
+        stage_one(threads, files, table)?;
     }
     Ok(())
 }
@@ -322,7 +312,7 @@ fn test_all<F: FileSet>(
 // Writes the tables that are planned, and gives them their places. Faults that can be found beforehand are refused
 // before the first has its place.
 fn write_planned<R: Threads + Sync, F: FileSet>(
-    crew: &Crew<'_, R>,
+    threads: &TableThreads<'_, R>,
     files: &mut F,
     planned: &[Planned<'_>],
     others: &[String],
@@ -336,7 +326,7 @@ fn write_planned<R: Threads + Sync, F: FileSet>(
         → IsLeftUnplaced e (plans_of planned.now) (F.held files.old) (F.held files.new)) }
     ensures fault { IfErr result (λ e. IsWriteFault (fault_of e)) }
 {
-    if let Err(reason) = stage(crew, files, planned) {
+    if let Err(reason) = stage(threads, files, planned) {
         discard(files, planned);
         return Err(Refusal::Kept(reason));
     }
@@ -344,7 +334,7 @@ fn write_planned<R: Threads + Sync, F: FileSet>(
         discard(files, planned);
         return Err(Refusal::Kept(reason));
     }
-    match place(crew.alloc, files, planned) {
+    match place(threads.alloc, files, planned) {
         Ok(()) => Ok(()),
         Err(Refusal::Kept(reason)) => {
             discard(files, planned);
@@ -358,12 +348,10 @@ fn write_planned<R: Threads + Sync, F: FileSet>(
 /// and when all are whole, they get their places, one right after the other, in the order of `commands.csv`,
 /// `stats.csv`, `final.csv` and `requests.csv`. Then those that were not asked for, which an earlier run may have left
 /// there, are removed. If that fails before the first has its place, what was written is removed, and the places hold
-/// what they held before; if it fails later, the refusal is `Torn`, and nothing is removed. The tables of commands and
-/// of requests are put together by at most `threads` threads.
+/// what they held before; if it fails later, the refusal is `Torn`, and nothing is removed. `threads` put the tables of
+/// commands and of requests together, and their memory serves the rest of the call too.
 pub fn write_tables<R: Threads + Sync, F: FileSet>(
-    rt: &R,
-    alloc: Global,
-    threads: usize,
+    threads: &TableThreads<'_, R>,
     files: &mut F,
     folder: &str,
     run: &Outcome,
@@ -376,10 +364,9 @@ pub fn write_tables<R: Threads + Sync, F: FileSet>(
         (F.held files.old) (F.held files.new) (F.opened files.old) (F.opened files.new)) }
     ensures fault { IfErr result (λ e. IsWriteFault (fault_of e)) }
 {
-    let planned = plan_all(alloc, folder, run)?;
-    let others = others_of(alloc, folder, run)?;
-    let crew = Crew { rt, alloc, threads };
-    write_planned(&crew, files, &planned, &others)?;
+    let planned = plan_all(threads.alloc, folder, run)?;
+    let others = others_of(threads.alloc, folder, run)?;
+    write_planned(threads, files, &planned, &others)?;
     remove_all(files, &others);
     Ok(())
 }

@@ -11,11 +11,11 @@ use crate::gate::{AtGate, Gate};
 use crate::input::{Hooks, MachineInput, RunOptions};
 use crate::runner::{Claims, Runner};
 use crate::sharing::{Sharing, Workers};
-use crate::watch::{Plan, Watch, entries_of, stretch_end};
-use crew::bell::Patience;
+use crate::watch::{RunExtent, Watch, WatchState, entries_of, stretch_end};
 use crew::caller::Phases;
-use crew::run::{PhasedRun, Refused, with_crew};
-use in_place::rested::run_alone;
+use crew::run::{CrewOptions, PhasedRun, Refused, with_crew};
+use crew::signal::WaitLimits;
+use in_place::timed_sim::run_alone;
 use run_outcome::outcome::Outcome;
 use shards::job::{Done, Job};
 use shards::merging::{Phase, merge};
@@ -31,10 +31,10 @@ use units::sim::Sim;
 
 /// How long a worker looks for the next phase before it sleeps: for a tenth of a millisecond, which is longer than
 /// most phases, and then with its processor left to others between two looks.
-const PATIENCE: Patience = Patience {
+const WAIT_LIMITS: WaitLimits = WaitLimits {
     spins: 2_000,
     yields: 10_000,
-    turns: 200,
+    order_spins: 200,
 };
 
 /// How many shards there are at most: what is sent goes through a list for each pair of them.
@@ -212,15 +212,17 @@ fn run_by<W: Watch, M: Mode>(
 {
     let MachineInput { config, traces } = machine;
     let RunOptions { cycles, tables, .. } = options;
-    let plan = Plan {
-        limit: cycles,
-        ends_drained: config.ends_drained,
-        entries: entries_of(&traces),
+    let mut state = WatchState {
+        extent: RunExtent {
+            limit: cycles,
+            ends_drained: config.ends_drained,
+            entries: entries_of(&traces),
+        },
+        look: 0,
     };
-    let mut look = 0;
     let mut sim = Sim::start(alloc, config, traces, tables)?;
     while let Some(stop) = sim.next_stop(cycles) {
-        let until = stretch_end(&sim, alloc, stop, plan, watch, &mut look);
+        let until = stretch_end(&sim, alloc, stop, watch, &mut state);
         sim = mode.run_to(sim, alloc, until)?;
     }
     let outcome = sim.outcome(alloc, tables)?;
@@ -306,7 +308,12 @@ fn run_together<R: Threads + Wait + Sync, G: Gate + Sync, W: Watch>(
         split: Split { shards, sharing },
     };
     let work = AtGate { gate };
-    match with_crew(rt, alloc, &work, shards, count.min(shards), PATIENCE, run) {
+    let crew_options = CrewOptions {
+        room: shards,
+        workers: count.min(shards),
+        limits: WAIT_LIMITS,
+    };
+    match with_crew(rt, alloc, &work, crew_options, run) {
         Ok(outcome) => Ok(outcome),
         Err(Refused::Memory) => Err(Fault::Memory),
         Err(Refused::Start) => Err(Fault::WorkerStart),

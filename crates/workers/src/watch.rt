@@ -1,7 +1,7 @@
 //! Who is told how far a run is, and how far it goes before it is told again.
 
 ghost use Rattle.std.specs.Prelude.{◌≡◌, ◌<◌, ◌≤◌, length, sum_by, IfSome};
-ghost use Rattle.workers.specs.Stages.{retired_by, IsPlanOf, IsStageOf};
+ghost use Rattle.workers.specs.Stages.{retired_by, IsExtentOf, IsStageOf};
 
 use cpu_trace::trace::Trace;
 use sim_base::message::Cycle;
@@ -53,12 +53,23 @@ impl Watch for Unwatched {
     fn end(&mut self) {}
 }
 
-/// The part of what a watcher is told that stays the same over a run.
+/// How far a run can go. A watcher is told it each time, and it stays the same over the run.
 #[derive(Clone, Copy)]
-pub(crate) struct Plan {
+pub(crate) struct RunExtent {
+    /// The limit in cycles.
     pub(crate) limit: Cycle,
+    /// Whether the run ends sooner where all is done.
     pub(crate) ends_drained: bool,
+    /// How many entries the traces have.
     pub(crate) entries: u128,
+}
+
+/// What a run keeps for its watcher.
+#[derive(Clone, Copy)]
+pub(crate) struct WatchState {
+    pub(crate) extent: RunExtent,
+    /// The cycle from which the watcher is asked next.
+    pub(crate) look: Cycle,
 }
 
 /// How many entries traces have.
@@ -94,15 +105,15 @@ fn retired_in(sim: &Sim, alloc: Global) -> Option<u128>
 }
 
 // How far a simulator is.
-fn stage_of(sim: &Sim, alloc: Global, plan: Plan) -> Stage
-    requires { IsPlanOf sim.now.machine plan }
-    ensures { IsStageOf sim.entry.now.machine plan.limit sim.entry.now.now result }
+fn stage_of(sim: &Sim, alloc: Global, extent: RunExtent) -> Stage
+    requires { IsExtentOf sim.now.machine extent }
+    ensures { IsStageOf sim.entry.now.machine extent.limit sim.entry.now.now result }
 {
-    let Plan {
+    let RunExtent {
         limit,
         ends_drained,
         entries,
-    } = plan;
+    } = extent;
     Stage {
         now: sim.now(),
         limit,
@@ -113,28 +124,28 @@ fn stage_of(sim: &Sim, alloc: Global, plan: Plan) -> Stage
 }
 
 /// A later cycle up to which a run goes, and no later than a stop. Where the watcher is to be asked, from the cycle
-/// `look` on, it is asked first, and `look` is the cycle where it is to be asked next.
+/// `state.look` on, it is asked first, and `state.look` is the cycle where it is to be asked next.
 pub(crate) fn stretch_end<W: Watch>(
     sim: &Sim,
     alloc: Global,
     stop: Cycle,
-    plan: Plan,
     watch: &mut W,
-    look: &mut Cycle,
+    state: &mut WatchState,
 ) -> Cycle
     requires before { sim.now.now < stop }
-    requires plan { IsPlanOf sim.now.machine plan }
+    requires extent { IsExtentOf sim.now.machine state.old.extent }
     ensures later { sim.entry.now.now < result }
     ensures within { result ≤ stop }
-    ensures unasked { sim.entry.now.now < look.old → look.new ≡ look.old }
+    ensures unasked { sim.entry.now.now < state.old.look → state.new.look ≡ state.old.look }
+    ensures same { state.new.extent ≡ state.old.extent }
 {
     if !watch.watches() {
         return stop;
     }
     let now = sim.now();
-    if *look <= now {
-        let stretch = watch.next_stretch(&stage_of(sim, alloc, plan));
-        *look = now.saturating_add(stretch.max(1));
+    if state.look <= now {
+        let stretch = watch.next_stretch(&stage_of(sim, alloc, state.extent));
+        state.look = now.saturating_add(stretch.max(1));
     }
-    stop.min(*look)
+    stop.min(state.look)
 }

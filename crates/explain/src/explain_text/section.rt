@@ -21,73 +21,75 @@ pub(crate) struct Section<'a> {
 impl<'a> Section<'a> {
     /// Says what is wrong with the type of a key's value, or that the key is missing, after the path.
     pub(crate) fn key_text(&self, alloc: Global, key: Key) -> Result<String, AllocError> {
-        let Some(value) = self.table.get(key.name()) else {
-            return self.missing_text(alloc, key);
-        };
-        let entry = entry_text(alloc, key, value)?;
-        value_text(
-            alloc,
-            self.place,
-            entry.as_str(),
-            type_of(key),
-            range_of(key),
-        )
+        match self.table.get(key.name()) {
+            Some(value) => self.value_text(alloc, key, value, type_of(key)),
+            None => self.missing_text(alloc, key),
+        }
     }
 
     /// Says that the value of a key is out of its range, after the path.
     pub(crate) fn range_text(&self, alloc: Global, key: Key) -> Result<String, AllocError> {
-        let Some(value) = self.table.get(key.name()) else {
-            let pieces = [
-                Words(self.place),
-                Words(" at "),
-                Words(key.name()),
-                Words(" "),
-                Words(range_of(key)),
-                Words(" may stand\n"),
-            ];
-            return joined(alloc, &pieces);
-        };
+        match self.table.get(key.name()) {
+            Some(value) => self.value_text(alloc, key, value, ""),
+            None => self.absent_text(alloc, key),
+        }
+    }
+
+    // What stands at a key, and what may stand there: what is of this type and in the range of the key.
+    fn value_text(
+        &self,
+        alloc: Global,
+        key: Key,
+        value: &Value,
+        of_type: &str,
+    ) -> Result<String, AllocError> {
         let entry = entry_text(alloc, key, value)?;
-        value_text(alloc, self.place, entry.as_str(), "", range_of(key))
+        value_line(alloc, self.place, entry.as_str(), of_type, range_of(key))
+    }
+
+    // What may stand at a key that is not there.
+    fn absent_text(&self, alloc: Global, key: Key) -> Result<String, AllocError> {
+        let pieces = [
+            Words(self.place),
+            Words(" at "),
+            Words(key.name()),
+            Words(" "),
+            Words(range_of(key)),
+            Words(" may stand\n"),
+        ];
+        joined(alloc, &pieces)
     }
 
     fn missing_text(&self, alloc: Global, key: Key) -> Result<String, AllocError> {
         let instead = self.instead_text(alloc, key)?;
-        joined(
-            alloc,
-            &[
-                Words(self.place),
-                Words(" the key "),
-                Words(key.name()),
-                Words(" is missing; "),
-                Words(type_of(key)),
-                Words(range_of(key)),
-                Words(" may stand there\n"),
-                Words(instead.as_str()),
-            ],
-        )
+        let (path, colon, place) = if instead.is_empty() {
+            ("", "", "")
+        } else {
+            (self.path, ":", self.place)
+        };
+        let pieces = [
+            Words(self.place),
+            Words(" the key "),
+            Words(key.name()),
+            Words(" is missing; "),
+            Words(type_of(key)),
+            Words(range_of(key)),
+            Words(" may stand there\n"),
+            Words(path),
+            Words(colon),
+            Words(place),
+            Words(instead.as_str()),
+        ];
+        joined(alloc, &pieces)
     }
 
-    // What stands in the document and may have been meant as the missing key, as a line of its own.
+    // What stands in the document and may have been meant as the missing key, as the rest of a line after the place.
     fn instead_text(&self, alloc: Global, key: Key) -> Result<String, AllocError> {
         if let Some(holder) = self.holder_of(key) {
-            return joined(
-                alloc,
-                &[
-                    Words(self.path),
-                    Words(":"),
-                    Words(self.place),
-                    Words(" it stands in the table "),
-                    Foreign(holder.as_bytes()),
-                    Words(", and must stand in none, so before the first line in brackets\n"),
-                ],
-            );
+            return held_line(alloc, holder);
         }
         match self.misspelt(alloc, key)? {
-            Some(name) => {
-                let head = joined(alloc, &[Words(self.path), Words(":"), Words(self.place)])?;
-                unknown_line(alloc, head.as_str(), name, key.name())
-            }
+            Some(name) => unknown_line(alloc, "", name, key.name()),
             None => Ok(String::new(alloc)),
         }
     }
@@ -165,7 +167,7 @@ fn unknown_line<'a>(
 }
 
 // What stands at a key, and what may stand there: what is of this type and in this range.
-fn value_text<'a>(
+fn value_line<'a>(
     alloc: Global,
     place: &'a str,
     entry: &'a str,
@@ -180,6 +182,16 @@ fn value_text<'a>(
         Words(of_type),
         Words(range),
         Words(" may stand\n"),
+    ];
+    joined(alloc, &pieces)
+}
+
+// Says in which table a key stands that must stand in none, after the place.
+fn held_line(alloc: Global, holder: &str) -> Result<String, AllocError> {
+    let pieces = [
+        Words(" it stands in the table "),
+        Foreign(holder.as_bytes()),
+        Words(", and must stand in none, so before the first line in brackets\n"),
     ];
     joined(alloc, &pieces)
 }

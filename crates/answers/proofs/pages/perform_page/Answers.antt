@@ -1,28 +1,38 @@
-use Rattle.std.proofs.Common.{rules, ◌≡◌, ◌∙◌, Err, option_map}
-use Rattle.answers.proofs.PageFacts.{whole_from, text_refused}
-use Rattle.answers.proofs.RequestFacts.{requests_before, page_beside}
+-- The page was made of the tables in the folder, or is refused by them or by the requests beside them.
+use Rattle.std.proofs.Common.{inl, inr, ◌∙◌, sym, subst}
+use Rattle.std.proofs.lemmas.Result.{IfOk-weaker, IfErr-weaker, on_err_weaker}
+use Rattle.refusal.specs.Warnings.{IsWarningOf}
+use Rattle.answers.proofs.NamedFacts.{ok_with, ok_so, err_with}
+use Rattle.answers.proofs.PageFacts.{whole_from, unwritten_from, screen_refused, write_refused}
+use Rattle.answers.proofs.RequestFacts.{requests_before}
 use Rattle.answers.proofs.pages.perform_page.Goals as goal
 
 pub returns-clause-done : goal.returns-clause-done
-returns-clause-done g c = λ tells. record {
-  stats = c.in_ok-found.found.run.stats;
-  commands = c.in_ok-found.found.commands;
-  requests = option_map (λ r. r.items) c.in_ok-requests.requests;
-  text = c.in_ok-text.text.items;
-  tables = c.in_ok-found.ensures.tables tells;
-  configured = c.in_ok-found.ensures.fits tells;
-  requests_are = requests_before _ _ _ _ _ _ c.in_ok-found.ensures.same c.in_ok-requests.ensures.found tells;
-  of_run = c.in_ok-text.ensures.of_run;
-  written = whole_from _ _ _ _ _ (λ path. c.requests_in.ensures.same tells path ∙ c.tables_in.ensures.same tells path) (rw c.deref-2.ensures.value at c.in_ok-write_whole.ensures.whole tells);
-  warned = rw c.deref.ensures.value at c.warning_of-warning.ensures;
-}
+returns-clause-done g c = IfOk-weaker c.put_page.result _ _ (λ warning given tells.
+    let made = ok_with c.page_in-page.result _ _ c.page_in-page.ensures.warned given in
+    let at = ok_so c.page_in-page.result _ c.page_in-page.ensures.requests given tells in
+    record {
+      stats = c.in_ok-found.found.run.stats;
+      commands = c.in_ok-found.found.commands;
+      requests = at.requests;
+      text = made.0.text.items;
+      tables = c.in_ok-found.ensures.tables tells;
+      configured = c.in_ok-found.ensures.fits tells;
+      requests_are = requests_before _ _ _ _ _ _ c.in_ok-found.ensures.same (λ t. at.requests_are) tells;
+      of_run = ok_so c.page_in-page.result _ c.page_in-page.ensures.of_run given;
+      written = whole_from _ _ _ _ _ (λ path. c.page_in-page.ensures.same tells path ∙ c.in_ok-found.ensures.same tells path) (made.2.1 tells);
+      warned = subst (IsWarningOf made.0.text.items) (sym made.2.0) made.1;
+    }) c.put_page.ensures.put
 
-pub returns-in_err-text-clause-fault : goal.returns-in_err-text-clause-fault
-returns-in_err-text-clause-fault g c =
-    let kept : c.from_residual-in_err-text.result ≡ Err c.in_err-text.field-0.0 = search rules in
-    rw kept (text_refused _ _ _ c.in_ok-found.found.run.stats c.in_ok-found.found.commands _ c.in_ok-found.ensures.ready c.in_err-text.ensures.fault)
+pub returns-clause-refused : goal.returns-clause-refused
+returns-clause-refused g c = on_err_weaker c.put_page.result
+    (λ left. unwritten_from _ _ _ _ _ _ _ _ (λ t path. c.page_in-page.ensures.same t path ∙ c.in_ok-found.ensures.same t path)
+    (λ t. c.page_in-page.ensures.unopened t ∙ c.in_ok-found.ensures.unopened t) left)
+    c.put_page.ensures.refused
 
-pub returns-in_err-requests-clause-fault : goal.returns-in_err-requests-clause-fault
-returns-in_err-requests-clause-fault g c =
-    let kept : c.from_residual-in_err-requests.result ≡ Err c.in_err-requests.field-0.0 = search rules in
-    rw kept (page_beside _ _ _ _ c.in_ok-found.ensures.ready c.in_err-requests.ensures.kind)
+pub returns-clause-fault : goal.returns-clause-fault
+returns-clause-fault g c = IfErr-weaker c.put_page.result _ _ (λ fault refused. elim refused [
+  | inl write ↦ write_refused _ _ _ _ c.in_ok-found.ensures.ready write
+  | inr other ↦ screen_refused _ _ _ c.in_ok-found.found.run.stats c.in_ok-found.found.commands _ c.in_ok-found.ensures.ready
+      (err_with c.page_in-page.result _ _ c.page_in-page.ensures.fault other)
+]) c.put_page.ensures.fault

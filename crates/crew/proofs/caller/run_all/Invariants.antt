@@ -7,4 +7,4 @@ abbrev pub invariant-loop-task : goal.invariant-loop-task
 invariant-loop-task g l =
     (l.yielded ++ into_iter_items l.task-iterator ≡ into_iter_items l.initial.task-iterator)
     × (into_iter_len l.task-iterator ≡ length (into_iter_items l.task-iterator))
-    × (map g.D.DoneOf.task l.dones.items ≡ l.yielded)
+    × (map g.D.DoneOf.task l.results.items ≡ l.yielded)

@@ -1,66 +1,96 @@
 use Rattle.std.proofs.Common.{◌≡◌, ◌++◌, length, take, drop, sym, ap, ap₂, subst, ◌∙◌, arith}
 use Rattle.std.specs.Prelude.{fold}
+use Rattle.std.specs.Vec.{with_items}
+use Rattle.std.proofs.lemmas.List.{drop_at, take_at, with_items_is}
 use Rattle.sim_base.specs.History.{insert_by_age}
 use Rattle.links.specs.InFlight.{InFlight}
 use Rattle.units.specs.Flight.{sent_by}
-use Rattle.in_place.specs.Turns.{AreInTurns}
+use Rattle.in_place.specs.Turns.{AreInTurns, all_units, all_words}
 use Rattle.wake_words.specs.Wakes.{WaitAll, AllBrought, AreLowered, links_after}
-use Rattle.in_place.proofs.Turning.{channels-brought, channels-wait_all, channels-turned}
+use Rattle.in_place.proofs.Turning.{channels-brought, channels-wait_all, channels-turned, channels-many, channel-words_many}
 use Rattle.in_place.proofs.taking_turns.channels_turn.Goals as goal
+
+pub go_on-requires-clause-within : goal.go_on-requires-clause-within
+go_on-requires-clause-within c =
+    let turns = c.requires.turns in
+    omega (arith, turns.0.channels_first, channels-many c.args.machine.now c.args.at.cores_at c.args.at.channels_at c.args.kinds.now c.args.traffic.now.links turns.0 turns.1)
+
+pub go_on-requires-clause-words : goal.go_on-requires-clause-words
+go_on-requires-clause-words c =
+    let turns = c.requires.turns in
+    channel-words_many c.args.machine.now c.args.at.cores_at c.args.at.channels_at c.args.kinds.now c.args.traffic.now.links turns.0 turns.1 ∙ sym (channels-many c.args.machine.now c.args.at.cores_at c.args.at.channels_at c.args.kinds.now c.args.traffic.now.links turns.0 turns.1)
 
 pub go_on-requires-clause-wait : goal.go_on-requires-clause-wait
 go_on-requires-clause-wait c =
     let machine = c.args.machine.now in
-    let s = machine.config in
-    let traces = machine.traces.items in
+    let n = machine.config.cores in
     let at = c.args.at in
-    let n = c.from-cores.result in
-    let slots = c.args.slots.now in
-    let words = c.args.words.now in
-    subst (λ xs. WaitAll machine n at.channels_at at.cores_at xs c.split_at_mut-core_words.result.1.now) (sym c.split_at_mut-channel_slots.ensures.back)
-    (subst (λ ws. WaitAll machine n at.channels_at at.cores_at (drop n slots) ws) (sym c.split_at_mut-core_words.ensures.back)
-    (subst (λ i. WaitAll machine i at.channels_at at.cores_at (drop i slots) (drop i words)) (sym c.from-cores.ensures)
-    (channels-wait_all machine at.cores_at at.channels_at slots words c.args.links.now c.requires.turns)))
+    let kinds = c.args.kinds.now in
+    let turns = c.requires.turns in
+    let units = kinds.channels.units.items in
+    let words = kinds.channels.words.items in
+    subst (λ i. WaitAll machine i at.channels_at at.cores_at units words) (sym turns.0.channels_first)
+    (subst (λ ws. WaitAll machine n at.channels_at at.cores_at units ws) (drop_at kinds.cores.words.items words n turns.0.core_words)
+    (subst (λ xs. WaitAll machine n at.channels_at at.cores_at xs (drop n (all_words kinds))) (drop_at kinds.cores.units.items units n turns.0.cores_count)
+    (channels-wait_all machine at.cores_at at.channels_at (all_units kinds) (all_words kinds) c.args.traffic.now.links turns.1)))
 
 pub go_on-requires-clause-brought : goal.go_on-requires-clause-brought
 go_on-requires-clause-brought c =
     let machine = c.args.machine.now in
-    let s = machine.config in
-    let traces = machine.traces.items in
     let at = c.args.at in
-    let r = c.requires in
-    let links = c.args.links.now in
-    let many : length c.split_at_mut-channel_slots.result.1.now ≡ s.channels = omega (arith, c.split_at_mut-channel_slots.ensures.back_len, c.from-cores.ensures, r.turns.count) in
-    subst (λ i. AllBrought machine i (length c.split_at_mut-channel_slots.result.1.now) at.channels_at at.cores_at c.args.until links) (sym c.from-cores.ensures)
-    (subst (λ m. AllBrought machine s.cores m at.channels_at at.cores_at c.args.until links) (sym many)
-    (channels-brought machine at.cores_at at.channels_at c.args.until c.args.slots.now c.args.words.now links r.turns r.travels))
+    let kinds = c.args.kinds.now in
+    let links = c.args.traffic.now.links in
+    let turns = c.requires.turns in
+    let many = channels-many machine at.cores_at at.channels_at kinds links turns.0 turns.1 in
+    subst (λ i. AllBrought machine i (length kinds.channels.units.items) at.channels_at at.cores_at c.args.until links) (sym turns.0.channels_first)
+    (subst (λ m. AllBrought machine machine.config.cores m at.channels_at at.cores_at c.args.until links) (sym many)
+    (channels-brought machine at.cores_at at.channels_at c.args.until (all_units kinds) (all_words kinds) links turns.1 c.requires.travels))
+
+pub lower_all-requires : goal.lower_all-requires
+lower_all-requires c =
+    let by_kind = c.requires.turns.0 in
+    let count = ap length c.deref_mut.ensures.value ∙ by_kind.core_words in
+    omega (arith, by_kind.cores_first, count)
 
 pub returns-clause-turns : goal.returns-clause-turns
 returns-clause-turns c =
     let machine = c.args.machine.now in
     let s = machine.config in
-    let traces = machine.traces.items in
+    let n = s.cores in
     let at = c.args.at in
-    let r = c.requires in
     let until = c.args.until in
-    let slots = c.args.slots.now in
-    let words = c.args.words.now in
-    let links = c.args.links.now in
-    let e = c.from-cores.ensures in
+    let kinds = c.args.kinds.now in
+    let links = c.args.traffic.now.links in
+    let r = c.requires in
+    let by_kind = r.turns.0 in
+    let core_units = kinds.cores.units.items in
+    let core_words = kinds.cores.words.items in
+    let units = kinds.channels.units.items in
+    let words = kinds.channels.words.items in
     let gone = c.in_ok-go_on.ensures in
-    let sent = c.go_on.new.mail.sent.items in
-    let many : length c.split_at_mut-channel_slots.result.1.now ≡ s.channels = omega (arith, c.split_at_mut-channel_slots.ensures.back_len, e, r.turns.count) in
-    let back = c.split_at_mut-channel_slots.ensures.back ∙ ap (λ i. drop i slots) e in
-    let back_words = c.split_at_mut-core_words.ensures.back ∙ ap (λ i. drop i words) e in
-    let front_words = c.split_at_mut-core_words.ensures.front ∙ ap (λ i. take i words) e in
-    subst (λ xs. AreInTurns machine at.cores_at until (xs ++ c.go_on.new.slots) (c.lower_all.new.words ++ c.go_on.new.words) c.accept.new.self)
-    (sym (c.split_at_mut-channel_slots.ensures.front ∙ ap (λ i. take i slots) e))
-    (channels-turned machine at.cores_at at.channels_at until slots c.go_on.new.slots words c.lower_all.new.words c.go_on.new.words links c.accept.new.self sent r.turns r.order r.travels
-    (gone.count ∙ ap length back)
-    (gone.words ∙ ap length back_words)
-    (subst (λ i. WaitAll machine i until at.cores_at c.go_on.new.slots c.go_on.new.words) e gone.wait)
-    (gone.sent ∙ ap₂ (λ i m. sent_by machine at.channels_at until i m) e many)
-    (subst (λ ms. AreLowered s 0 ms (take s.cores words) c.lower_all.new.words) c.deref.ensures.value (subst (λ ws. AreLowered s 0 c.deref.result.now ws c.lower_all.new.words) front_words c.lower_all.ensures))
-    (c.in_ok-accept.ensures.ok
-    ∙ ap₂ {C = InFlight} (λ (x : InFlight) ms. record x { messages = fold insert_by_age x.messages ms })
-    (gone.links ∙ ap₂ {C = InFlight} (λ i m. links_after s at.channels_at until i m links) e many) c.deref_mut.ensures.value))
+    let moved = c.go_on.new.range in
+    let sent = c.go_on.new.traffic.mail.sent.items in
+    let lowered = c.lower_all.new.words in
+    let many = channels-many machine at.cores_at at.channels_at kinds links by_kind r.turns.1 in
+    let count : length lowered ≡ kinds.cores.words.len = c.lower_all.ensures.count ∙ ap length c.deref_mut.ensures.value ∙ sym kinds.cores.words.ok.0 in
+    let is_lowered : (with_items kinds.cores.words lowered).items ≡ lowered = with_items_is kinds.cores.words lowered count in (
+      record {
+        cores_first = by_kind.cores_first;
+        channels_first = gone.first ∙ by_kind.channels_first;
+        cores_count = by_kind.cores_count;
+        core_words = ap length is_lowered ∙ count ∙ kinds.cores.words.ok.0 ∙ by_kind.core_words;
+      },
+      subst (λ ws. AreInTurns machine at.cores_at until (core_units ++ moved.units.items) (ws ++ moved.words.items) c.accept.new.self) (sym is_lowered)
+          (subst (λ xs. AreInTurns machine at.cores_at until (xs ++ moved.units.items) (lowered ++ moved.words.items) c.accept.new.self) (take_at core_units units n by_kind.cores_count)
+          (channels-turned machine at.cores_at at.channels_at until (all_units kinds) moved.units.items (all_words kinds) lowered moved.words.items links c.accept.new.self sent r.turns.1 r.order r.travels
+          (gone.count ∙ ap length (sym (drop_at core_units units n by_kind.cores_count)))
+          (gone.words ∙ ap length (sym (drop_at core_words words n by_kind.core_words)))
+          (subst (λ i. WaitAll machine i until at.cores_at moved.units.items moved.words.items) (gone.first ∙ by_kind.channels_first) gone.wait)
+          (gone.sent ∙ ap₂ (λ i m. sent_by machine at.channels_at until i m) by_kind.channels_first many)
+          (subst (λ ms. AreLowered s 0 ms (take n (all_words kinds)) lowered) c.deref.ensures.value
+          (subst (λ ws. AreLowered s 0 c.deref.result.now ws lowered) (c.deref_mut.ensures.value ∙ sym (take_at core_words words n by_kind.core_words))
+          (subst (λ i. AreLowered s i c.deref.result.now c.deref_mut.result.now lowered) by_kind.cores_first c.lower_all.ensures)))
+          (c.in_ok-accept.ensures.ok
+          ∙ ap₂ {C = InFlight} (λ (x : InFlight) ms. record x { messages = fold insert_by_age x.messages ms })
+          (gone.links ∙ ap₂ {C = InFlight} (λ i m. links_after s at.channels_at until i m links) by_kind.channels_first many) c.deref_mut-2.ensures.value))),
+    )

@@ -1,65 +1,95 @@
-use Rattle.std.proofs.Common.{◌≡◌, ◌++◌, length, take, drop, sym, ap, ap₂, subst, ◌∙◌}
+use Rattle.std.proofs.Common.{◌≡◌, ◌++◌, length, take, drop, sym, ap, ap₂, subst, ◌∙◌, arith}
 use Rattle.std.specs.Prelude.{fold}
+use Rattle.std.specs.Vec.{with_items}
+use Rattle.std.proofs.lemmas.List.{drop_at, take_at, with_items_is}
 use Rattle.sim_base.specs.History.{insert_by_age}
 use Rattle.links.specs.InFlight.{InFlight}
 use Rattle.units.specs.Flight.{sent_by}
-use Rattle.in_place.specs.Turns.{AreInTurns}
+use Rattle.in_place.specs.Turns.{AreInTurns, all_units, all_words}
 use Rattle.wake_words.specs.Wakes.{WaitAll, AllBrought, AreLowered, links_after}
-use Rattle.in_place.proofs.Turning.{cores-brought, cores-wait_all, cores-turned}
+use Rattle.in_place.proofs.Turning.{cores-brought, cores-wait_all, cores-turned, channel-words_many}
 use Rattle.in_place.proofs.taking_turns.cores_turn.Goals as goal
+
+pub go_on-requires-clause-within : goal.go_on-requires-clause-within
+go_on-requires-clause-within c =
+    let by_kind = c.requires.turns.0 in
+    omega (arith, by_kind.cores_first, by_kind.cores_count)
+
+pub go_on-requires-clause-words : goal.go_on-requires-clause-words
+go_on-requires-clause-words c =
+    let by_kind = c.requires.turns.0 in
+    by_kind.core_words ∙ sym by_kind.cores_count
 
 pub go_on-requires-clause-wait : goal.go_on-requires-clause-wait
 go_on-requires-clause-wait c =
     let machine = c.args.machine.now in
-    let s = machine.config in
-    let traces = machine.traces.items in
+    let n = machine.config.cores in
     let at = c.args.at in
-    let n = c.from-cores.result in
-    let slots = c.args.slots.now in
-    let words = c.args.words.now in
-    subst (λ xs. WaitAll machine 0 at.cores_at at.channels_at xs c.split_at_mut-core_words.result.0.now) (sym c.split_at_mut-core_slots.ensures.front)
-    (subst (λ ws. WaitAll machine 0 at.cores_at at.channels_at (take n slots) ws) (sym c.split_at_mut-core_words.ensures.front)
-    (subst (λ i. WaitAll machine 0 at.cores_at at.channels_at (take i slots) (take i words)) (sym c.from-cores.ensures)
-    (cores-wait_all machine at.cores_at at.channels_at slots words c.args.links.now c.requires.turns)))
+    let kinds = c.args.kinds.now in
+    let turns = c.requires.turns in
+    let units = kinds.cores.units.items in
+    let words = kinds.cores.words.items in
+    subst (λ i. WaitAll machine i at.cores_at at.channels_at units words) (sym turns.0.cores_first)
+    (subst (λ ws. WaitAll machine 0 at.cores_at at.channels_at units ws) (take_at words kinds.channels.words.items n turns.0.core_words)
+    (subst (λ xs. WaitAll machine 0 at.cores_at at.channels_at xs (take n (all_words kinds))) (take_at units kinds.channels.units.items n turns.0.cores_count)
+    (cores-wait_all machine at.cores_at at.channels_at (all_units kinds) (all_words kinds) c.args.traffic.now.links turns.1)))
 
 pub go_on-requires-clause-brought : goal.go_on-requires-clause-brought
 go_on-requires-clause-brought c =
     let machine = c.args.machine.now in
-    let s = machine.config in
-    let traces = machine.traces.items in
     let at = c.args.at in
-    let r = c.requires in
-    let links = c.args.links.now in
-    subst (λ m. AllBrought machine 0 m at.cores_at at.channels_at c.args.until links) (sym (c.split_at_mut-core_slots.ensures.front_len ∙ c.from-cores.ensures))
-    (cores-brought machine at.cores_at at.channels_at c.args.until c.args.slots.now c.args.words.now links r.turns r.takes)
+    let kinds = c.args.kinds.now in
+    let links = c.args.traffic.now.links in
+    let turns = c.requires.turns in
+    subst (λ i. AllBrought machine i (length kinds.cores.units.items) at.cores_at at.channels_at c.args.until links) (sym turns.0.cores_first)
+    (subst (λ m. AllBrought machine 0 m at.cores_at at.channels_at c.args.until links) (sym turns.0.cores_count)
+    (cores-brought machine at.cores_at at.channels_at c.args.until (all_units kinds) (all_words kinds) links turns.1 c.requires.takes))
+
+pub lower_all-requires : goal.lower_all-requires
+lower_all-requires c =
+    let turns = c.requires.turns in
+    let count = ap length c.deref_mut.ensures.value ∙ channel-words_many c.args.machine.now c.args.at.cores_at c.args.at.channels_at c.args.kinds.now c.args.traffic.now.links turns.0 turns.1 in
+    omega (arith, turns.0.channels_first, count)
 
 pub returns-clause-turns : goal.returns-clause-turns
 returns-clause-turns c =
     let machine = c.args.machine.now in
     let s = machine.config in
-    let traces = machine.traces.items in
+    let n = s.cores in
     let at = c.args.at in
-    let r = c.requires in
     let until = c.args.until in
-    let slots = c.args.slots.now in
-    let words = c.args.words.now in
-    let links = c.args.links.now in
-    let e = c.from-cores.ensures in
+    let kinds = c.args.kinds.now in
+    let links = c.args.traffic.now.links in
+    let r = c.requires in
+    let by_kind = r.turns.0 in
+    let units = kinds.cores.units.items in
+    let words = kinds.cores.words.items in
+    let channel_units = kinds.channels.units.items in
+    let channel_words = kinds.channels.words.items in
     let gone = c.in_ok-go_on.ensures in
-    let sent = c.go_on.new.mail.sent.items in
-    let many : length c.split_at_mut-core_slots.result.0.now ≡ s.cores = c.split_at_mut-core_slots.ensures.front_len ∙ e in
-    let front = c.split_at_mut-core_slots.ensures.front ∙ ap (λ i. take i slots) e in
-    let front_words = c.split_at_mut-core_words.ensures.front ∙ ap (λ i. take i words) e in
-    let back_words = c.split_at_mut-core_words.ensures.back ∙ ap (λ i. drop i words) e in
-    subst (λ xs. AreInTurns machine until at.channels_at (c.go_on.new.slots ++ xs) (c.go_on.new.words ++ c.lower_all.new.words) c.accept.new.self)
-    (sym (c.split_at_mut-core_slots.ensures.back ∙ ap (λ i. drop i slots) e))
-    (cores-turned machine at.cores_at at.channels_at until slots c.go_on.new.slots words c.lower_all.new.words c.go_on.new.words links c.accept.new.self sent r.turns r.order r.takes
-    (gone.count ∙ ap length front)
-    (gone.words ∙ ap length front_words)
-    gone.wait
-    (gone.sent ∙ ap (sent_by machine at.cores_at until 0) many)
-    (subst (λ ms. AreLowered s s.cores ms (drop s.cores words) c.lower_all.new.words) c.deref.ensures.value
-    (subst (λ ws. AreLowered s s.cores c.deref.result.now ws c.lower_all.new.words) back_words (subst (λ i. AreLowered s i c.deref.result.now c.split_at_mut-core_words.result.1.now c.lower_all.new.words) e c.lower_all.ensures)))
-    (c.in_ok-accept.ensures.ok
-    ∙ ap₂ {C = InFlight} (λ (x : InFlight) ms. record x { messages = fold insert_by_age x.messages ms })
-    (gone.links ∙ ap {B = InFlight} (λ m. links_after s at.cores_at until 0 m links) many) c.deref_mut.ensures.value))
+    let moved = c.go_on.new.range in
+    let sent = c.go_on.new.traffic.mail.sent.items in
+    let lowered = c.lower_all.new.words in
+    let many = by_kind.cores_count in
+    let count : length lowered ≡ kinds.channels.words.len = c.lower_all.ensures.count ∙ ap length c.deref_mut.ensures.value ∙ sym kinds.channels.words.ok.0 in
+    let is_lowered : (with_items kinds.channels.words lowered).items ≡ lowered = with_items_is kinds.channels.words lowered count in (
+      record {
+        cores_first = gone.first ∙ by_kind.cores_first;
+        channels_first = by_kind.channels_first;
+        cores_count = gone.count ∙ by_kind.cores_count;
+        core_words = gone.words ∙ by_kind.core_words;
+      },
+      subst (λ ws. AreInTurns machine until at.channels_at (moved.units.items ++ channel_units) (moved.words.items ++ ws) c.accept.new.self) (sym is_lowered)
+          (subst (λ xs. AreInTurns machine until at.channels_at (moved.units.items ++ xs) (moved.words.items ++ lowered) c.accept.new.self) (drop_at units channel_units n by_kind.cores_count)
+          (cores-turned machine at.cores_at at.channels_at until (all_units kinds) moved.units.items (all_words kinds) lowered moved.words.items links c.accept.new.self sent r.turns.1 r.order r.takes
+          (gone.count ∙ ap length (sym (take_at units channel_units n by_kind.cores_count)))
+          (gone.words ∙ ap length (sym (take_at words channel_words n by_kind.core_words)))
+          (subst (λ i. WaitAll machine i until at.channels_at moved.units.items moved.words.items) (gone.first ∙ by_kind.cores_first) gone.wait)
+          (gone.sent ∙ ap₂ (λ i m. sent_by machine at.cores_at until i m) by_kind.cores_first many)
+          (subst (λ ms. AreLowered s n ms (drop n (all_words kinds)) lowered) c.deref.ensures.value
+          (subst (λ ws. AreLowered s n c.deref.result.now ws lowered) (c.deref_mut.ensures.value ∙ sym (drop_at words channel_words n by_kind.core_words))
+          (subst (λ i. AreLowered s i c.deref.result.now c.deref_mut.result.now lowered) by_kind.channels_first c.lower_all.ensures)))
+          (c.in_ok-accept.ensures.ok
+          ∙ ap₂ {C = InFlight} (λ (x : InFlight) ms. record x { messages = fold insert_by_age x.messages ms })
+          (gone.links ∙ ap₂ {C = InFlight} (λ i m. links_after s at.cores_at until i m links) by_kind.cores_first many) c.deref_mut-2.ensures.value))),
+    )

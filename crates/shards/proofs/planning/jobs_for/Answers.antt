@@ -8,8 +8,9 @@ use Rattle.std.specs.declared.alloc.Global.{Global}
 use Rattle.statistics.proofs.Lists.{length-push_suc}
 use Rattle.sim_base.specs.History.{below}
 use Rattle.sim_base.specs.declared.message.Message.{Message}
-use Rattle.shards.specs.Jobs.{JobView, IsJob, job_view}
-use Rattle.shards.specs.Phases.{job_of, name_of, phase_over}
+use Rattle.shards.specs.Jobs.{JobView, IsJob, IsOwnJob, job_view}
+use Rattle.shards.specs.Phases.{PhaseView, job_of, name_of}
+use Rattle.shards.specs.declared.job.JobName.{JobName}
 use Rattle.units.proofs.Standing.{all-yielded, places-more}
 use Rattle.shards.proofs.Setting.{left-next, seam-left, seam-job, job-own, job-seen}
 use Rattle.shards.proofs.planning.jobs_for.Goals as goal
@@ -25,7 +26,7 @@ index_mut-requires c =
 
 pub invariant_of-push : goal.invariant_of-push
 invariant_of-push c =
-    let p = phase_over c.args.machine.now c.args.bounds.now c.args.span in
+    let p = c.args.phase.now in
     let at = c.loop-shard in
     let x = c.in-Some.shard in
     let lists = c.replace.result in
@@ -34,14 +35,16 @@ invariant_of-push c =
     let len : c.len-index.result ≡ length at.jobs.items = search rules in
     let index : length at.yielded ≡ c.len-index.result = sym (len ∙ at.invariant.count) in
     let taken : get_or at.inbound.items (length at.yielded) d ≡ lists = ap (λ n. get_or at.inbound.items n d) index ∙ sym (c.replace.ensures.value ∙ c.index_mut.ensures.value) in
-    job-own p.machine p.bounds _ x.value lists.items
+    let named = ap {B = JobName} (λ (v : PhaseView). name_of v c.len-index.result) (sym c.phase.view_is) in
+    subst (λ name. IsOwnJob name x.value lists.items) named
+    (job-own p.machine p.bounds _ x.value lists.items
     (subst (λ n. IsJob p.machine p.bounds (name_of p n) x.value lists.items) index
     (subst (λ (v : Vec (Vec Message Global) Global). IsJob p.machine p.bounds (name_of p (length at.yielded)) x.value v.items) taken
-    (seam-job p c.args.shards.items at.yielded _ x c.args.inbound.items at.inbound.items d c.requires whole at.invariant.left)))
+    (seam-job p c.args.shards.items at.yielded _ x c.args.inbound.items at.inbound.items d c.requires whole at.invariant.left))))
 
 pub loop-shard-preserved : goal.loop-shard-preserved
 loop-shard-preserved c =
-    let p = phase_over c.args.machine.now c.args.bounds.now c.args.span in
+    let p = c.args.phase.now in
     let at = c.loop-shard in
     let x = c.in-Some.shard in
     let f = job_of p in
@@ -52,7 +55,8 @@ loop-shard-preserved c =
     let len : c.len-index.result ≡ length at.jobs.items = search rules in
     let index : length at.yielded ≡ c.len-index.result = sym (len ∙ at.invariant.count) in
     let job = seam-job p c.args.shards.items at.yielded _ x c.args.inbound.items at.inbound.items c.index_mut.result.now c.requires whole at.invariant.left in
-    let seen = ap {B = JobView} (λ n. job_view x.value (name_of p n)) (sym index) ∙ job-seen p (length at.yielded) x.value job.before.is in
+    let named = ap {B = JobView} (λ (v : PhaseView). job_view x.value (name_of v c.len-index.result)) c.phase.view_is in
+    let seen = named ∙ ap {B = JobView} (λ n. job_view x.value (name_of p n)) (sym index) ∙ job-seen p (length at.yielded) x.value job.before.is in
     record {
       order = append_assoc at.yielded (x ∷ []) _ ∙ ap (λ z. at.yielded ++ z) (sym steps.0) ∙ at.invariant.order;
       finite =
@@ -67,7 +71,7 @@ loop-shard-preserved c =
 
 pub returns : goal.returns
 returns c =
-    let p = phase_over c.args.machine.now c.args.bounds.now c.args.span in
+    let p = c.args.phase.now in
     let at = c.loop-shard in
     let f = job_of p in
     let all = all-yielded at.yielded (into_iter_items at.shard-iterator) c.args.shards.items (at.invariant.order ∙ c.into_iter-shard-iterator.ensures.into_iter_gives.0)

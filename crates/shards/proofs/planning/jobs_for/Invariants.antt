@@ -3,7 +3,7 @@ use Rattle.std.proofs.Common.{◌≡◌, ◌++◌, length}
 use Rattle.std.specs.Prelude.{map}
 use Rattle.std.specs.Vec.Iter.{into_iter_items, into_iter_len}
 use Rattle.sim_base.specs.History.{below}
-use Rattle.shards.specs.Phases.{job_of, phase_over}
+use Rattle.shards.specs.Phases.{job_of}
 use Rattle.shards.proofs.Setting.{AreLeft}
 use Rattle.shards.proofs.planning.jobs_for.Given as goal
 
@@ -13,5 +13,5 @@ invariant-loop-shard l = record {
   finite : into_iter_len l.shard-iterator ≡ length (into_iter_items l.shard-iterator);
   left : AreLeft (length l.yielded) l.fn.inbound.items l.inbound.items;
   count : length l.jobs.items ≡ length l.yielded;
-  jobs : l.jobs.items ≡ map (job_of (phase_over l.machine l.bounds l.span)) (below (length l.yielded));
+  jobs : l.jobs.items ≡ map (job_of l.phase) (below (length l.yielded));
 }

@@ -16,20 +16,20 @@ use Rattle.shards.proofs.planning.settled.Goals as goal
 
 pub take_up-requires : goal.take_up-requires
 take_up-requires c =
-    let machine = c.args.machine.now in
-    let bounds = c.args.bounds.now in
+    let machine = arc_value c.args.standing.now.machine in
+    let bounds = c.args.standing.now.bounds.items in
     let at = c.loop-shard in
     let x = c.in-Some.shard in
     let whole = ap (λ z. at.yielded ++ z) (sym c.in-Some.ensures.steps.0) ∙ at.invariant.order ∙ c.into_iter-shard-iterator.ensures.into_iter_gives.0 in
-    let stop = seam-stop machine bounds c.args.now c.args.shards.items at.yielded _ x c.args.inbound.items at.inbound.items c.index_mut.result.now c.requires whole at.invariant.left in
+    let stop = seam-stop machine bounds c.args.standing.now.at c.args.shards.items at.yielded _ x c.args.inbound.items at.inbound.items c.index_mut.result.now c.requires whole at.invariant.left in
     subst IsWithin (sym c.deref_mut.ensures.value)
-    (stop-within machine bounds (length at.yielded) c.args.now x.value _ stop)
+    (stop-within machine bounds (length at.yielded) c.args.standing.now.at x.value _ stop)
 
 pub loop-shard-preserved : goal.loop-shard-preserved
 loop-shard-preserved c =
-    let machine = c.args.machine.now in
-    let bounds = c.args.bounds.now in
-    let now = c.args.now in
+    let machine = arc_value c.args.standing.now.machine in
+    let bounds = c.args.standing.now.bounds.items in
+    let now = c.args.standing.now.at in
     let at = c.loop-shard in
     let x = c.in-Some.shard in
     let shard = x.value in
@@ -46,12 +46,12 @@ loop-shard-preserved c =
     let old = c.deref_mut.ensures.value in
     let lists : c.deref_mut-in-loop-shard.result.now ≡ own =
     c.deref_mut-in-loop-shard.ensures.value ∙ ap (λ (v : Vec (Vec Message Global) Global). v.items) (c.index_mut.ensures.value ∙ ap (λ n. get_or at.inbound.items n d) index) in
-    let same : new ≡ record shard { words = new.words; links = new.links } =
-    up.same ∙ ap {A = Shard} {B = Shard} (λ y. record y { words = new.words; links = new.links }) old in
-    let low : AreLowered (arc_value shard.machine).config shard.first (lists_of own) shard.words.items new.words.items =
-    subst (λ (y : Shard). AreLowered (arc_value y.machine).config y.first (lists_of own) y.words.items new.words.items) old
-    (subst (λ ls. AreLowered (arc_value c.deref_mut.result.now.machine).config c.deref_mut.result.now.first (lists_of ls) c.deref_mut.result.now.words.items new.words.items) lists up.words) in
-    let links = up.links ∙ ap₂ {C = InFlight} (λ (y : Shard) ls. with_lists y.links ls) old lists in
+    let same : new ≡ record shard { range = record shard.range { words = new.range.words }; traffic = record shard.traffic { links = new.traffic.links } } =
+    up.same ∙ ap {A = Shard} {B = Shard} (λ y. record y { range = record y.range { words = new.range.words }; traffic = record y.traffic { links = new.traffic.links } }) old in
+    let low : AreLowered (arc_value shard.machine).config shard.range.first (lists_of own) shard.range.words.items new.range.words.items =
+    subst (λ (y : Shard). AreLowered (arc_value y.machine).config y.range.first (lists_of own) y.range.words.items new.range.words.items) old
+    (subst (λ ls. AreLowered (arc_value c.deref_mut.result.now.machine).config c.deref_mut.result.now.range.first (lists_of ls) c.deref_mut.result.now.range.words.items new.range.words.items) lists up.words) in
+    let links = up.links ∙ ap₂ {C = InFlight} (λ (y : Shard) ls. with_lists y.traffic.links ls) old lists in
     let stop = seam-stop machine bounds now c.args.shards.items at.yielded _ x c.args.inbound.items at.inbound.items d c.requires whole at.invariant.left in
     let made = stops machine bounds (length at.yielded) now shard new own stop same low links in
     record {

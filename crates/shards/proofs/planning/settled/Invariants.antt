@@ -1,5 +1,6 @@
 -- The shards so far sleep where the machine stands; the lists of the others stand where they stood.
 use Rattle.std.proofs.Common.{◌≡◌, ◌++◌, length}
+use Rattle.std.specs.Arc.{arc_value}
 use Rattle.std.specs.Vec.Iter.{into_iter_items, into_iter_len}
 use Rattle.shards.proofs.Setting.{AreLeft}
 use Rattle.shards.proofs.Splitting.{AreMade}
@@ -11,5 +12,5 @@ invariant-loop-shard l = record {
   finite : into_iter_len l.shard-iterator ≡ length (into_iter_items l.shard-iterator);
   left : AreLeft (length l.yielded) l.fn.inbound.items l.inbound.items;
   count : length l.settled.items ≡ length l.yielded;
-  made : AreMade l.machine l.bounds l.now l.settled.items;
+  made : AreMade (arc_value l.standing.machine) l.standing.bounds.items l.standing.at l.settled.items;
 }

@@ -1,4 +1,5 @@
 use Rattle.std.proofs.Common.{◌≡◌, ◌+◌, ◌∙◌, ◌∷◌, [], ◌++◌, rules, length, refl, sym, ap, subst, append_assoc, arith}
+use Rattle.std.specs.Arc.{arc_value}
 use Rattle.std.specs.Vec.Iter.{into_iter_items}
 use Rattle.statistics.proofs.Lists.{length-push_suc}
 use Rattle.links.specs.InFlight.{InFlight}
@@ -13,8 +14,8 @@ use Rattle.shards.proofs.split.join_all.Goals as goal
 
 pub loop-shard-init : goal.loop-shard-init
 loop-shard-init c =
-    let machine = c.args.machine.now in
-    let now = c.args.now in
+    let machine = arc_value c.args.standing.now.machine in
+    let now = c.args.standing.now.at in
     let ms = flight_at machine now in
     let begins = sym c.requires.shards.split.begins in (
       refl,
@@ -28,9 +29,9 @@ loop-shard-init c =
 
 pub loop-shard-preserved : goal.loop-shard-preserved
 loop-shard-preserved c =
-    let machine = c.args.machine.now in
-    let now = c.args.now in
-    let bounds = c.args.bounds.now in
+    let machine = arc_value c.args.standing.now.machine in
+    let now = c.args.standing.now.at in
+    let bounds = c.args.standing.now.bounds.items in
     let at = c.loop-shard in
     let x = c.in-Some.shard in
     let steps = c.in-Some.ensures.steps in
@@ -38,8 +39,8 @@ loop-shard-preserved c =
     let made = shard-seam machine bounds now c.args.shards.items at.yielded _ x c.requires.shards whole in
     let grown = length-push_suc at.yielded x in
     let joined = c.in_ok-join_shard.ensures {u = tt} in
-    let past : length at.parts.items + length x.value.slots.items ≡ bound bounds (length (at.yielded ++ x ∷ [])) =
-    ap (λ n. n + length x.value.slots.items) (at.invariant.2 ∙ sym made.0.first_is) ∙ made.0.past_is ∙ ap (bound bounds) (sym grown) in (
+    let past : length at.parts.items + length x.value.range.units.items ≡ bound bounds (length (at.yielded ++ x ∷ [])) =
+    ap (λ n. n + length x.value.range.units.items) (at.invariant.2 ∙ sym made.0.first_is) ∙ made.0.past_is ∙ ap (bound bounds) (sym grown) in (
       append_assoc at.yielded (x ∷ []) _ ∙ ap (λ z. at.yielded ++ z) (sym steps.0) ∙ at.invariant.0,
       let was = at.invariant.1 in
           let gone = steps.1 in
@@ -52,33 +53,33 @@ loop-shard-preserved c =
 
 pub join_shard-requires-clause-asleep : goal.join_shard-requires-clause-asleep
 join_shard-requires-clause-asleep c =
-    let machine = c.args.machine.now in
+    let machine = arc_value c.args.standing.now.machine in
     let at = c.loop-shard in
     let x = c.in-Some.shard in
     let whole = ap (λ z. at.yielded ++ z) (sym c.in-Some.ensures.steps.0) ∙ at.invariant.0 ∙ c.into_iter-shard-iterator.ensures.into_iter_gives.0 in
-    let made = shard-seam machine c.args.bounds.now c.args.now c.args.shards.items at.yielded _ x c.requires.shards whole in
-    subst (λ n. SleepsAt machine n c.args.now x.value) (made.0.first_is ∙ sym at.invariant.2) made.1
+    let made = shard-seam machine c.args.standing.now.bounds.items c.args.standing.now.at c.args.shards.items at.yielded _ x c.requires.shards whole in
+    subst (λ n. SleepsAt machine n c.args.standing.now.at x.value) (made.0.first_is ∙ sym at.invariant.2) made.1
 
 pub join_shard-requires-clause-links : goal.join_shard-requires-clause-links
 join_shard-requires-clause-links c =
-    let machine = c.args.machine.now in
+    let machine = arc_value c.args.standing.now.machine in
     c.loop-shard.invariant.4
-    ∙ ap {B = InFlight} (flight_to machine c.args.now 0) (sym c.loop-shard.invariant.2)
+    ∙ ap {B = InFlight} (flight_to machine c.args.standing.now.at 0) (sym c.loop-shard.invariant.2)
 
 pub returns-clause-count : goal.returns-clause-count
 returns-clause-count c =
     let at = c.loop-shard in
     let all = all-yielded at.yielded (into_iter_items at.shard-iterator) c.args.shards.items (at.invariant.0 ∙ c.into_iter-shard-iterator.ensures.into_iter_gives.0)
     (sym at.invariant.1 ∙ c.in-None.ensures.steps.0) in
-    at.invariant.2 ∙ ap (bound c.args.bounds.now) (ap length all) ∙ c.requires.shards.split.ends (length c.args.shards.items) c.requires.shards.count
+    at.invariant.2 ∙ ap (bound c.args.standing.now.bounds.items) (ap length all) ∙ c.requires.shards.split.ends (length c.args.shards.items) c.requires.shards.count
 
 pub returns-clause-links : goal.returns-clause-links
 returns-clause-links c =
-    let machine = c.args.machine.now in
+    let machine = arc_value c.args.standing.now.machine in
     let at = c.loop-shard in
     let all = all-yielded at.yielded (into_iter_items at.shard-iterator) c.args.shards.items (at.invariant.0 ∙ c.into_iter-shard-iterator.ensures.into_iter_gives.0)
     (sym at.invariant.1 ∙ c.in-None.ensures.steps.0) in
-    let whole = ap (bound c.args.bounds.now) (ap length all) ∙ c.requires.shards.split.ends (length c.args.shards.items) c.requires.shards.count in
+    let whole = ap (bound c.args.standing.now.bounds.items) (ap length all) ∙ c.requires.shards.split.ends (length c.args.shards.items) c.requires.shards.count in
     at.invariant.4
-    ∙ ap {B = InFlight} (flight_to machine c.args.now 0) whole
-    ∙ ap {B = InFlight} (λ z. record { channels = machine.config.channels; messages = z }) (among-all machine.config machine.traces.items c.args.now)
+    ∙ ap {B = InFlight} (flight_to machine c.args.standing.now.at 0) whole
+    ∙ ap {B = InFlight} (λ z. record { channels = machine.config.channels; messages = z }) (among-all machine.config machine.traces.items c.args.standing.now.at)

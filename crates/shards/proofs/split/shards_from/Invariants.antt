@@ -7,6 +7,6 @@ use Rattle.shards.proofs.split.shards_from.Given as goal
 
 abbrev pub invariant-loop-index : goal.invariant-loop-index
 invariant-loop-index l =
-    (l.left.items ≡ drop (bound l.bounds l.index) l.fn.slots.items)
+    (l.left.items ≡ drop (bound l.bounds l.index) l.fn.units.items)
     × (length l.shards.items ≡ l.index)
-    × AreMade (arc_value l.machine) l.bounds l.now l.shards.items
+    × AreMade (arc_value l.snapshot.machine) l.bounds l.snapshot.at l.shards.items

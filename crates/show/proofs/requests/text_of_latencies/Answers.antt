@@ -1,7 +1,7 @@
 -- The head, and the table below it.
-use Rattle.std.proofs.Common.{◌≡◌, ◌++◌, ◌∙◌, ap, length, string_bytes, append_assoc, rules}
+use Rattle.std.proofs.Common.{◌≡◌, ◌++◌, ◌∙◌, ap, length, string_bytes, append_assoc}
 use Rattle.measures.specs.Latency.{read_latencies}
-use Rattle.show.specs.Requests.{latencies_head, replies_of}
+use Rattle.show.specs.Requests.{latencies_head}
 use Rattle.show.proofs.Texts.{replies_are}
 use Rattle.show.proofs.requests.text_of_latencies.Goals as goal
 

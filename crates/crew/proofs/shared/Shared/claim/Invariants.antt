@@ -3,4 +3,4 @@ use Rattle.std.proofs.Common.{◌≡◌, map}
 use Rattle.crew.proofs.shared.Shared.claim.Given as goal
 
 abbrev pub invariant-loop : goal.invariant-loop
-invariant-loop g l = l.seat ≡ map g.D.DoneOf.task l.dones.items
+invariant-loop g l = l.seat ≡ map g.D.DoneOf.task l.results.items

@@ -1,4 +1,4 @@
--- The seat has nothing that it has not sent home.
+-- The seat has nothing that it has not returned.
 use Rattle.std.proofs.Common.{◌≡◌, []}
 use Rattle.crew.proofs.shared.Shared.serve.Given as goal
 

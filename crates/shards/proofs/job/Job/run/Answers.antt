@@ -24,14 +24,14 @@ go-requires-clause-asleep c =
     let new = c.take_up.new.self in
     let old = c.deref_mut.ensures.value in
     let lists = c.deref_mut-2.ensures.value in
-    let same : c.deref_mut-3.result.now ≡ record shard { words = new.words; links = new.links } =
-    c.deref_mut-3.ensures.value ∙ up.same ∙ ap {A = Shard} {B = Shard} (λ x. record x { words = new.words; links = new.links }) old in
-    let low : AreLowered m.config shard.first (lists_of f.inbound.items) shard.words.items new.words.items =
-    subst (λ (x : Shard). AreLowered (arc_value x.machine).config x.first (lists_of f.inbound.items) x.words.items new.words.items) old
-    (subst (λ ls. AreLowered (arc_value c.deref_mut.result.now.machine).config c.deref_mut.result.now.first (lists_of ls) c.deref_mut.result.now.words.items new.words.items) lists up.words) in
-    let links = up.links ∙ ap₂ {C = InFlight} (λ (x : Shard) ls. with_lists x.links ls) old lists in
+    let same : c.deref_mut-3.result.now ≡ record shard { range = record shard.range { words = new.range.words }; traffic = record shard.traffic { links = new.traffic.links } } =
+    c.deref_mut-3.ensures.value ∙ up.same ∙ ap {A = Shard} {B = Shard} (λ x. record x { range = record x.range { words = new.range.words }; traffic = record x.traffic { links = new.traffic.links } }) old in
+    let low : AreLowered m.config shard.range.first (lists_of f.inbound.items) shard.range.words.items new.range.words.items =
+    subst (λ (x : Shard). AreLowered (arc_value x.machine).config x.range.first (lists_of f.inbound.items) x.range.words.items new.range.words.items) old
+    (subst (λ ls. AreLowered (arc_value c.deref_mut.result.now.machine).config c.deref_mut.result.now.range.first (lists_of ls) c.deref_mut.result.now.range.words.items new.range.words.items) lists up.words) in
+    let links = up.links ∙ ap₂ {C = InFlight} (λ (x : Shard) ls. with_lists x.traffic.links ls) old lists in
     subst (λ (x : Shard). Sleeps (arc_value x.machine) f.name.from x) (sym same)
-    (taken-up m shard.bounds.items f.name.shard f.name.from shard f.inbound.items new.words.items new.links c.self.invariant.before low links)
+    (taken-up m shard.bounds.items f.name.shard f.name.from shard f.inbound.items new.range.words.items new.traffic.links c.self.invariant.before low links)
 
 pub invariant_of-result : goal.invariant_of-result
 invariant_of-result c =
@@ -43,12 +43,12 @@ invariant_of-result c =
     let dealt = c.in_ok-deal_sent.ensures {u = tt} in
     let new = c.take_up.new.self in
     let after = c.go.new.self in
-    let same : c.deref_mut-3.result.now ≡ record shard { words = new.words; links = new.links } =
-    c.deref_mut-3.ensures.value ∙ up.same ∙ ap {A = Shard} {B = Shard} (λ x. record x { words = new.words; links = new.links }) c.deref_mut.ensures.value in
+    let same : c.deref_mut-3.result.now ≡ record shard { range = record shard.range { words = new.range.words }; traffic = record shard.traffic { links = new.traffic.links } } =
+    c.deref_mut-3.ensures.value ∙ up.same ∙ ap {A = Shard} {B = Shard} (λ x. record x { range = record x.range { words = new.range.words }; traffic = record x.traffic { links = new.traffic.links } }) c.deref_mut.ensures.value in
     let machine : after.machine ≡ shard.machine = went.machine ∙ ap (λ (x : Shard). x.machine) same in
     let bounds : after.bounds ≡ shard.bounds = went.bounds ∙ ap (λ (x : Shard). x.bounds) same in
-    let first : after.first ≡ shard.first = went.first ∙ ap (λ (x : Shard). x.first) same in
-    let count : length after.slots.items ≡ length shard.slots.items = went.count ∙ ap (λ (x : Shard). length x.slots.items) same in
+    let first : after.range.first ≡ shard.range.first = went.first ∙ ap (λ (x : Shard). x.range.first) same in
+    let count : length after.range.units.items ≡ length shard.range.units.items = went.count ∙ ap (λ (x : Shard). length x.range.units.items) same in
     let gone = subst (λ (x : Shard). HasGone (arc_value x.machine) f.name.from f.name.until after) same went.gone in
     let sent = went.sent ∙ ap (λ (x : Shard). sent_of_shard (arc_value x.machine) f.name.from f.name.until x) same in
     let up-lists = with_items_is f.inbound c.take_up.new.lists (up.count ∙ ap length c.deref_mut-2.ensures.value ∙ sym f.inbound.ok.0) in
@@ -56,9 +56,9 @@ invariant_of-result c =
     let many : length c.deal_sent.new.lists ≡ length f.inbound.items = dealt.count ∙ ap length c.deref_mut-4.ensures.value ∙ many-up in
     let lists = with_items_is (with_items f.inbound c.take_up.new.lists) c.deal_sent.new.lists (many ∙ sym f.inbound.ok.0) in
     let dealt-after : HoldWhatWasSent after c.deal_sent.new.lists = subst (λ (x : Shard). HoldWhatWasSent x c.deal_sent.new.lists) c.deref.ensures dealt.each in
-    let each : AreDealt m.config shard.bounds.items after.mail.sent.items c.deal_sent.new.lists =
-    subst (λ (x : Vec ℕ Global). AreDealt m.config x.items after.mail.sent.items c.deal_sent.new.lists) bounds
-    (subst (λ (x : Arc Machine Global). AreDealt (arc_value x).config after.bounds.items after.mail.sent.items c.deal_sent.new.lists) machine dealt-after) in
+    let each : AreDealt m.config shard.bounds.items after.traffic.mail.sent.items c.deal_sent.new.lists =
+    subst (λ (x : Vec ℕ Global). AreDealt m.config x.items after.traffic.mail.sent.items c.deal_sent.new.lists) bounds
+    (subst (λ (x : Arc Machine Global). AreDealt (arc_value x).config after.bounds.items after.traffic.mail.sent.items c.deal_sent.new.lists) machine dealt-after) in
     let ends = job-ends m shard.bounds.items f.name c.in_ok-wake.wake shard after f.inbound.items c.deal_sent.new.lists c.self.invariant machine bounds first count gone sent went.since went.sleep went.arrivals many each in
     subst (IsDone (arc_value after.machine) after.bounds.items f.name c.in_ok-wake.wake after) (sym lists)
     (subst (λ (x : Vec ℕ Global). IsDone (arc_value after.machine) x.items f.name c.in_ok-wake.wake after c.deal_sent.new.lists) (sym bounds)

@@ -1,8 +1,0 @@
-use Rattle.std.proofs.Common.{ap}
-use Rattle.crew.proofs.Keeps.{homes}
-use Rattle.crew.proofs.seats.Board.bring_home.Goals as goal
-
-pub absorb-requires-clause-rule : goal.absorb-requires-clause-rule
-absorb-requires-clause-rule g c =
-    let is = c.theirs.invariant.2 in
-    homes _ _ _ _ (ap (λ u. u.parts) is) (ap (λ u. u.put) is)

@@ -1,0 +1,132 @@
+//! Answers that are printed. They open and change no file.
+
+ghost use Rattle.std.specs.Prelude.{◌≡◌, ◌≤◌, None, IfOk, IfErr};
+ghost use Rattle.answers.specs.Inputs.{RefusesCheck, RefusesCompare, RefusesMap};
+ghost use Rattle.program.specs.Answered.{IsAnswer, IsCheckAnswer, IsCompareAnswer, IsMapAnswer};
+ghost use Rattle.program.specs.Runs.{sight, words_of, LeavesFiles, RefusesAsk};
+ghost use Rattle.refusal.specs.Refusals.{fault_of};
+
+use crate::asked::{layout_of, options_of};
+use crate::done::Done;
+use answers::banks::perform_show_banks;
+use answers::comparisons::perform_compare;
+use answers::folder::RunFolder;
+use answers::places::perform_map;
+use answers::screens::perform_show;
+use answers::verdicts::perform_check;
+use command_line::words::{Ask, ShowArguments};
+use refusal::refusal::Refusal;
+use std::alloc::Global;
+use std::io::Write;
+use whole_files::files::FileSet;
+
+/// The verdict on a table of commands; its status is 1 where a rule is broken.
+pub(crate) fn answer_check<F: FileSet, P: Write>(
+    alloc: Global,
+    files: &mut F,
+    output: &mut P,
+    config: &str,
+    commands: &str,
+) -> Result<Done, Refusal>
+    ensures answered { let old = sight F.FileSet P.Write files.old output.old in
+        let new = sight F.FileSet P.Write files.new output.new in
+        IfOk result (λ done. F.tells
+        → IsCheckAnswer config.now commands.now done.status old new) }
+    ensures status { IfOk result (λ done. done.status ≤ 1) }
+    ensures quiet { IfOk result (λ done. done.warning ≡ None) }
+    ensures refused { IfErr result (LeavesFiles F.FileSet files.old files.new) }
+    ensures fault { IfErr result (λ e.
+        RefusesCheck F.FileSet files.old config.now commands.now (fault_of e)) }
+{
+    let status = perform_check(alloc, files, output, config, commands)?;
+    Ok(Done::with_status(status))
+}
+
+/// The place of an address.
+pub(crate) fn answer_map<F: FileSet, P: Write>(
+    alloc: Global,
+    files: &mut F,
+    output: &mut P,
+    config: &str,
+    address: u64,
+) -> Result<Done, Refusal>
+    ensures answered { let old = sight F.FileSet P.Write files.old output.old in
+        let new = sight F.FileSet P.Write files.new output.new in
+        IfOk result (λ done. F.tells → IsMapAnswer config.now address done.status old new) }
+    ensures status { IfOk result (λ done. done.status ≤ 1) }
+    ensures quiet { IfOk result (λ done. done.warning ≡ None) }
+    ensures refused { IfErr result (LeavesFiles F.FileSet files.old files.new) }
+    ensures fault { IfErr result (λ e.
+        RefusesMap F.FileSet files.old config.now (fault_of e)) }
+{
+    perform_map(alloc, files, output, config, address)?;
+    Ok(Done::quiet())
+}
+
+/// The screen of a run.
+pub(crate) fn answer_show<F: FileSet, P: Write>(
+    alloc: Global,
+    files: &mut F,
+    output: &mut P,
+    show: &ShowArguments<'_>,
+) -> Result<Done, Refusal>
+    ensures answered { let old = sight F.FileSet P.Write files.old output.old in
+        let new = sight F.FileSet P.Write files.new output.new in
+        IfOk result (λ done. F.tells → IsAnswer (Ask.Show show.now) done old new) }
+    ensures status { IfOk result (λ done. done.status ≤ 1) }
+    ensures quiet { IfOk result (λ done. done.warning ≡ None) }
+    ensures refused { IfErr result (LeavesFiles F.FileSet files.old files.new) }
+    ensures fault { IfErr result (RefusesAsk F.FileSet files.old (Ask.Show show.now)) }
+{
+    let folder = RunFolder {
+        dir: show.dir,
+        config: show.config,
+    };
+    perform_show(alloc, files, output, &folder, options_of(show))?;
+    Ok(Done::quiet())
+}
+
+/// The screen of a run, with its banks.
+pub(crate) fn answer_show_banks<F: FileSet, P: Write>(
+    alloc: Global,
+    files: &mut F,
+    output: &mut P,
+    show: &ShowArguments<'_>,
+) -> Result<Done, Refusal>
+    ensures answered { let old = sight F.FileSet P.Write files.old output.old in
+        let new = sight F.FileSet P.Write files.new output.new in
+        IfOk result (λ done. F.tells → IsAnswer (Ask.ShowBanks show.now) done old new) }
+    ensures status { IfOk result (λ done. done.status ≤ 1) }
+    ensures quiet { IfOk result (λ done. done.warning ≡ None) }
+    ensures refused { IfErr result (LeavesFiles F.FileSet files.old files.new) }
+    ensures fault { IfErr result (RefusesAsk F.FileSet files.old (Ask.ShowBanks show.now)) }
+{
+    let folder = RunFolder {
+        dir: show.dir,
+        config: show.config,
+    };
+    perform_show_banks(alloc, files, output, &folder, options_of(show))?;
+    Ok(Done::quiet())
+}
+
+/// The comparison of runs, as a screen or as a table of CSV.
+pub(crate) fn answer_compare<F: FileSet, P: Write>(
+    alloc: Global,
+    files: &mut F,
+    output: &mut P,
+    dirs: &[&str],
+    csv: bool,
+) -> Result<Done, Refusal>
+    ensures answered { let old = sight F.FileSet P.Write files.old output.old in
+        let new = sight F.FileSet P.Write files.new output.new in
+        IfOk result (λ done. F.tells
+        → IsCompareAnswer (words_of dirs.now) csv done.status old new) }
+    ensures status { IfOk result (λ done. done.status ≤ 1) }
+    ensures quiet { IfOk result (λ done. done.warning ≡ None) }
+    ensures refused { IfErr result (LeavesFiles F.FileSet files.old files.new) }
+    ensures fault { IfErr result (λ e.
+        RefusesCompare F.FileSet files.old dirs.now (fault_of e)) }
+{
+    perform_compare(alloc, files, output, dirs, layout_of(csv))?;
+    Ok(Done::quiet())
+}
