@@ -3,8 +3,8 @@
 ghost use Rattle.std.specs.Prelude.{◌≡◌, ◌+◌, ◌*◌, ◌^◌, ◌<◌, ◌≤◌, length};
 
 use crate::words::{
-    RankState, bound_until, note_act_in_rank, own_number, raise_acts, raise_data, raise_own,
-    raise_rank, raise_rank_groups, raise_rank_words, unused_rank,
+    DataCommand, RankState, bound_until, note_act_in_rank, own_number, raise_acts, raise_data,
+    raise_own, raise_rank, raise_rank_groups, raise_rank_words, unused_rank,
 };
 use sim_base::command::{Command, Kind, Relation};
 use sim_base::config::Config;
@@ -165,8 +165,9 @@ impl Banks {
         let delays = &*self.delays;
         let own = own_number(bank);
         let to_pre = bound_until(delays, cycle, kind, Kind::Pre, Relation::SameBank);
-        let to_rd = raise_data(delays, &mut self.rd_groups, bank, cycle, kind, Kind::Rd);
-        let to_wr = raise_data(delays, &mut self.wr_groups, bank, cycle, kind, Kind::Wr);
+        let data = DataCommand { kind, bank, cycle };
+        let to_rd = raise_data(delays, &mut self.rd_groups, data, Kind::Rd);
+        let to_wr = raise_data(delays, &mut self.wr_groups, data, Kind::Wr);
         self.rd_floor = self.rd_floor.max(to_rd);
         self.wr_floor = self.wr_floor.max(to_wr);
         raise_own(&mut self.pre, own, to_pre);

@@ -202,31 +202,38 @@ pub(crate) fn raise_all_groups(
     }
 }
 
-/// Raises the words of the groups for a kind of command that moves data after another one, which was issued to a bank. Gives the
-/// least of the cycles up to which that one holds them back: in its own group, in another group and in another rank.
+/// A command that moves data, which was issued to a bank in a cycle.
+#[derive(Clone, Copy)]
+pub(crate) struct DataCommand {
+    pub(crate) kind: Kind,
+    pub(crate) bank: BankId,
+    pub(crate) cycle: Cycle,
+}
+
+/// Raises the words of the groups for a kind of command that moves data after another one. Gives the least of the cycles up to
+/// which that one holds them back: in its own group, in another group and in another rank.
 #[inline(always)]
 #[tactic(auto, using(crate::proofs::Bounds::data_bound, crate::proofs::Bounds::data_least, crate::proofs::Places::data_raised))]
 pub(crate) fn raise_data(
     delays: &GapTable,
     words: &mut [Cycle],
-    bank: BankId,
-    cycle: Cycle,
-    earlier: Kind,
+    earlier: DataCommand,
     later: Kind,
 ) -> Cycle
-    requires earlier { IsTrue (moves_data earlier) }
+    requires earlier { IsTrue (moves_data earlier.kind) }
     requires later { IsTrue (moves_data later) }
-    requires cycle { cycle < 2 ^ 62 }
-    requires inside { 4 * bank.rank + 4 ≤ length words.old }
+    requires cycle { earlier.cycle < 2 ^ 62 }
+    requires inside { 4 * earlier.bank.rank + 4 ≤ length words.old }
     requires whole { length words.old % 4 ≡ 0 }
     ensures words { AreAllRaised words.old words.new
-        (data_until delays.now cycle earlier later bank) }
+        (data_until delays.now earlier.cycle earlier.kind later earlier.bank) }
     ensures least { (relation : Relation)
-        → result ≤ held_until delays.now cycle earlier later relation }
+        → result ≤ held_until delays.now earlier.cycle earlier.kind later relation }
 {
-    let same_group = bound_until(delays, cycle, earlier, later, Relation::SameGroup);
-    let other_group = bound_until(delays, cycle, earlier, later, Relation::OtherGroup);
-    let other_rank = bound_until(delays, cycle, earlier, later, Relation::OtherRank);
+    let DataCommand { kind, bank, cycle } = earlier;
+    let same_group = bound_until(delays, cycle, kind, later, Relation::SameGroup);
+    let other_group = bound_until(delays, cycle, kind, later, Relation::OtherGroup);
+    let other_rank = bound_until(delays, cycle, kind, later, Relation::OtherRank);
     raise_all_groups(words, bank, same_group, other_group, other_rank);
     same_group.min(other_group).min(other_rank)
 }
