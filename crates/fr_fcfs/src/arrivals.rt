@@ -100,30 +100,31 @@ fn chosen_moves_data(bank_candidates: &BankCandidates, log: &[Arrived], choice: 
     }
 }
 
-/// Whether the choice for a cycle, which is the next one, is known to stay the same now that the requests of the log from a place on
-/// have arrived. It stays if none of them goes before it. If the channel ever drains its writes, none is looked at, and it is not known.
+/// Whether what was found, the next cycle with a command and what needs it, is known to stay the same now that the requests of the log
+/// from a place on have arrived. It stays if none of them goes before it. If the channel ever drains its writes, none is looked at, and it is not known.
 #[inline(always)]
 pub fn stays(
     queue: &Queue,
     bank_candidates: &BankCandidates,
     banks: &Banks,
     from: usize,
-    cycle: Cycle,
-    choice: Choice,
+    found: (Cycle, Choice),
 ) -> bool
     requires places { AreInBanks (rank_count banks.now) queue.now.log }
     requires banks { OfSameBanks bank_candidates.now banks.now }
-    requires choice { IsFor (rank_count banks.now) queue.now.log choice }
+    requires choice { IsFor (rank_count banks.now) queue.now.log found.1 }
     ensures { (s : Config) (history : List IssuedCommand) (earlier : QueueView) (command : Command)
         → result ≡ true → BanksStandFor banks.now s history
         → CandidatesStandFor bank_candidates.now queue.now.log (rows_after history)
         → s.write_high ≡ queue.now.high → earlier.log ≡ take from queue.now.log
-        → command_of s history queue.now.log choice ≡ Some command
-        → KeepsNext (choice_in s history earlier) (choice_in s history queue.now) cycle command }
+        → command_of s history queue.now.log found.1 ≡ Some command
+        → KeepsNext (choice_in s history earlier) (choice_in s history queue.now)
+        found.0 command }
 {
     if queue.high() != 0 {
         return false;
     }
+    let (cycle, choice) = found;
     let log = queue.log().log();
     let hit = chosen_moves_data(bank_candidates, log, choice);
     for slot in from..log.len() {

@@ -108,11 +108,19 @@ fn hit(bank_candidates: &BankCandidates, accesses: Accesses) -> BankSet
     reads.union(writes)
 }
 
-/// What opens or closes rows, for the requests of the accesses that go: an ACT of closed banks, or a PRE of open ones.
+/// What opens or closes rows from a cycle on, for the requests of the accesses that go: an ACT of closed banks, or a PRE of open ones.
 #[derive(Clone, Copy)]
 struct RowCommands {
     kind: Kind,
     accesses: Accesses,
+    now: Cycle,
+}
+
+/// What moves data of row hits from a cycle on: a WR, or a RD.
+#[derive(Clone, Copy)]
+struct DataCommands {
+    write: bool,
+    now: Cycle,
 }
 
 /// Takes what opens or closes the row of one more bank into the best offer so far. Some request of the accesses that go asks for the bank,
@@ -121,10 +129,9 @@ struct RowCommands {
 fn with_row(
     best: &mut Offer,
     bank_candidates: &BankCandidates,
+    banks: &Banks,
     bank: usize,
     commands: RowCommands,
-    banks: &Banks,
-    now: Cycle,
 )
     requires bank_candidates { bank < bank_count bank_candidates.now }
     requires banks { bank < 16 * rank_count banks.now }
@@ -132,14 +139,15 @@ fn with_row(
     requires names_bank { IsTrue (names_bank commands.kind) }
     ensures { (s : Config) (history : List IssuedCommand) (log : List Arrived)
         → StandForLog bank_candidates.now banks.now s history log
-        → TakesRows log now best.old best.new (rows_in s history log commands.accesses bank) }
+        → TakesRows log commands.now best.old best.new
+        (rows_in s history log commands.accesses bank) }
 {
     let ready = ready(banks, bank, commands.kind);
     if best.cycle < ready {
         return;
     }
     let slot = oldest(bank_candidates, bank, commands.accesses);
-    improve(best, ready, false, slot, now);
+    improve(best, ready, false, slot, commands.now);
 }
 
 /// Takes the row hit of one more bank into the best offer so far. It is looked for only where it may be issued soon enough.
@@ -147,23 +155,23 @@ fn with_row(
 fn with_hit(
     best: &mut Offer,
     bank_candidates: &BankCandidates,
-    bank: usize,
-    write: bool,
     banks: &Banks,
-    now: Cycle,
+    bank: usize,
+    commands: DataCommands,
 )
     requires bank_candidates { bank < bank_count bank_candidates.now }
     requires banks { bank < 16 * rank_count banks.now }
     ensures { (s : Config) (history : List IssuedCommand) (log : List Arrived)
         → StandForLog bank_candidates.now banks.now s history log
-        → TakesHits log now best.old best.new (hits_in s history log (only write) bank) }
+        → TakesHits log commands.now best.old best.new
+        (hits_in s history log (only commands.write) bank) }
 {
-    let ready = ready(banks, bank, column_kind(write));
+    let ready = ready(banks, bank, column_kind(commands.write));
     if best.cycle < ready {
         return;
     }
-    if let Some(slot) = bank_candidates.of_access(bank, write).hit {
-        improve(best, ready, true, slot, now);
+    if let Some(slot) = bank_candidates.of_access(bank, commands.write).hit {
+        improve(best, ready, true, slot, commands.now);
     }
 }
 
@@ -173,10 +181,9 @@ fn with_hit(
 fn with_rows_of(
     best: &mut Offer,
     bank_candidates: &BankCandidates,
+    banks: &Banks,
     asked: BankSet,
     commands: RowCommands,
-    banks: &Banks,
-    now: Cycle,
 )
     requires same_banks { OfSameBanks bank_candidates.now banks.now }
     requires within { (bank : ℕ) → is_in asked bank ≡ true → bank < bank_count bank_candidates.now }
@@ -187,14 +194,14 @@ fn with_rows_of(
         (hits : ℕ → Option ℕ) (left : ℕ → Bool)
         → StandForLog bank_candidates.now banks.now s history log
         → AreNotLeft (is_in asked) left
-        → IsBestSoFar (length log) now hits
+        → IsBestSoFar (length log) commands.now hits
         (rows_beside s history log commands.accesses (with_left (is_in asked) left)) best.old
-        → IsBestSoFar (length log) now hits
+        → IsBestSoFar (length log) commands.now hits
         (rows_beside s history log commands.accesses left) best.new }
 {
     let mut rest = asked;
     while let Some(bank) = rest.first() {
-        with_row(best, bank_candidates, bank, commands, banks, now);
+        with_row(best, bank_candidates, banks, bank, commands);
         rest = rest.without_first();
     }
 }
@@ -224,13 +231,15 @@ fn with_rows(
     let close = RowCommands {
         kind: Kind::Pre,
         accesses,
+        now,
     };
-    with_rows_of(best, bank_candidates, opened, close, banks, now);
+    with_rows_of(best, bank_candidates, banks, opened, close);
     let activate = RowCommands {
         kind: Kind::Act,
         accesses,
+        now,
     };
-    with_rows_of(best, bank_candidates, closed, activate, banks, now);
+    with_rows_of(best, bank_candidates, banks, closed, activate);
 }
 
 /// Takes the row hits to write, or to read, into the best offer so far, in all banks.
@@ -238,18 +247,18 @@ fn with_rows(
 fn with_all_hits(
     best: &mut Offer,
     bank_candidates: &BankCandidates,
-    write: bool,
     banks: &Banks,
-    now: Cycle,
+    commands: DataCommands,
 )
     requires { OfSameBanks bank_candidates.now banks.now }
     ensures { (s : Config) (history : List IssuedCommand) (log : List Arrived)
         → StandForLog bank_candidates.now banks.now s history log
-        → TakesHits log now best.old best.new (all_hits s history log (only write)) }
+        → TakesHits log commands.now best.old best.new
+        (all_hits s history log (only commands.write)) }
 {
-    let mut rest = bank_candidates.hit(write);
+    let mut rest = bank_candidates.hit(commands.write);
     while let Some(bank) = rest.first() {
-        with_hit(best, bank_candidates, bank, write, banks, now);
+        with_hit(best, bank_candidates, banks, bank, commands);
         rest = rest.without_first();
     }
 }
@@ -260,23 +269,23 @@ fn with_all_hits(
 fn with_hits(
     best: &mut Offer,
     bank_candidates: &BankCandidates,
-    write: bool,
-    goes: bool,
     banks: &Banks,
-    now: Cycle,
+    commands: DataCommands,
+    goes: bool,
 )
     requires { OfSameBanks bank_candidates.now banks.now }
     ensures { (s : Config) (history : List IssuedCommand) (log : List Arrived)
         → StandForLog bank_candidates.now banks.now s history log
-        → TakesHits log now best.old best.new (hits_if goes s history log write) }
+        → TakesHits log commands.now best.old best.new
+        (hits_if goes s history log commands.write) }
 {
     if !goes {
         return;
     }
-    if best.cycle < banks.data_floor(column_kind(write)) {
+    if best.cycle < banks.data_floor(column_kind(commands.write)) {
         return;
     }
-    with_all_hits(best, bank_candidates, write, banks, now);
+    with_all_hits(best, bank_candidates, banks, commands);
 }
 
 /// Takes the offers of all banks into the best one so far, which stands for none.
@@ -296,8 +305,10 @@ fn with_banks(
         (all_hits s history log accesses) (all_rows s history log accesses) best.new }
 {
     with_rows(best, bank_candidates, accesses, banks, now);
-    with_hits(best, bank_candidates, false, accesses.reads, banks, now);
-    with_hits(best, bank_candidates, true, accesses.writes, banks, now);
+    let read = DataCommands { write: false, now };
+    with_hits(best, bank_candidates, banks, read, accesses.reads);
+    let write = DataCommands { write: true, now };
+    with_hits(best, bank_candidates, banks, write, accesses.writes);
 }
 
 /// The offer that goes first of all banks, from now on, of the accesses that go.

@@ -12,11 +12,11 @@ use Rattle.fr_fcfs.proofs.choice.next.Given as goal
 -- the first command, as far as only the ranks from this one on are to be refreshed
 abbrev pub invariant-loop-rank : goal.invariant-loop-rank
 invariant-loop-rank l = record {
-  rank : l.rank ≤ l.refresh.ranks;
-  next : (s : Config) (history : List IssuedCommand) → StandFor l.bank_candidates l.banks l.refresh l.queue l.groups s history → (n : ℕ) → l.rank + n ≡ l.refresh.ranks
-      → IsNext (chosen_from s history (candidates_of s l.queue) l.rank n) (command_of s history l.queue.log) l.now l.next;
-  place : (s : Config) (history : List IssuedCommand) → StandFor l.bank_candidates l.banks l.refresh l.queue l.groups s history
-      → IfSome l.next (λ next. IsFor (rank_count l.banks) l.queue.log next.1);
+  rank : l.rank ≤ l.parts.refresh.now.ranks;
+  next : (s : Config) (history : List IssuedCommand) → StandFor l.parts.bank_candidates.now l.parts.banks.now l.parts.refresh.now l.parts.queue.now l.parts.groups s history → (n : ℕ) → l.rank + n ≡ l.parts.refresh.now.ranks
+      → IsNext (chosen_from s history (candidates_of s l.parts.queue.now) l.rank n) (command_of s history l.parts.queue.now.log) l.now l.next;
+  place : (s : Config) (history : List IssuedCommand) → StandFor l.parts.bank_candidates.now l.parts.banks.now l.parts.refresh.now l.parts.queue.now l.parts.groups s history
+      → IfSome l.next (λ next. IsFor (rank_count l.parts.banks.now) l.parts.queue.now.log next.1);
 }
 
 abbrev pub decreases-loop-rank : goal.decreases-loop-rank

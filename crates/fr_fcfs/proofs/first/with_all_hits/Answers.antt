@@ -13,8 +13,8 @@ use Rattle.fr_fcfs.proofs.first.with_all_hits.Goals as goal
 
 pub loop-bank-init : goal.loop-bank-init
 loop-bank-init c =
-    let now = c.args.now in
-    let write = c.args.write in
+    let now = c.args.commands.now in
+    let write = c.args.commands.write in
     let rest = c.hit-rest.result in
     record {
       within = c.hit-rest.ensures.within;
@@ -40,8 +40,8 @@ loop-bank-smaller c =
 
 pub loop-bank-preserved : goal.loop-bank-preserved
 loop-bank-preserved c =
-    let now = c.args.now in
-    let write = c.args.write in
+    let now = c.args.commands.now in
+    let write = c.args.commands.write in
     let bank = c.in-Some.bank in
     let rest = c.loop-bank.rest in
     let after = c.without_first-rest.result in
@@ -67,7 +67,7 @@ loop-bank-preserved c =
 pub returns : goal.returns
 returns c s history log known hits rows before =
     let rest = c.loop-bank.rest in
-    so_far_same (length log) c.args.now (λ cycle. earlier (hits cycle) (place_beside (λ k. is_in rest k) (hits_now s history (only c.args.write) cycle) log)) rows
-    (λ cycle. earlier (hits cycle) (first_place (hits_now s history (only c.args.write) cycle) log)) rows c.loop-bank.best
-    (λ cycle late. ap (earlier (hits cycle)) (beside_all (λ k. is_in rest k) (hits_now s history (only c.args.write) cycle) log c.in_default.ensures.none)) (λ cycle late. refl)
+    so_far_same (length log) c.args.commands.now (λ cycle. earlier (hits cycle) (place_beside (λ k. is_in rest k) (hits_now s history (only c.args.commands.write) cycle) log)) rows
+    (λ cycle. earlier (hits cycle) (first_place (hits_now s history (only c.args.commands.write) cycle) log)) rows c.loop-bank.best
+    (λ cycle late. ap (earlier (hits cycle)) (beside_all (λ k. is_in rest k) (hits_now s history (only c.args.commands.write) cycle) log c.in_default.ensures.none)) (λ cycle late. refl)
     (c.loop-bank.invariant.so_far s history log hits rows known before)

@@ -10,8 +10,8 @@ use Rattle.fr_fcfs.proofs.first.with_hit.Goals as goal
 pub returns-then-best-ready : goal.returns-then-best-ready
 returns-then-best-ready c s history log known hits rows so_far =
     let bank = c.args.bank in
-    let write = c.args.write in
-    let now = c.args.now in
+    let write = c.args.commands.write in
+    let now = c.args.commands.now in
     let best = c.args.best.now in
     let ready = c.ready-ready.result in
     let h = candidates_of_bank c.args.bank_candidates.now bank in
@@ -23,8 +23,8 @@ returns-then-best-ready c s history log known hits rows so_far =
 pub returns-in-Some : goal.returns-in-Some
 returns-in-Some c s history log known hits rows so_far =
     let bank = c.args.bank in
-    let write = c.args.write in
-    let now = c.args.now in
+    let write = c.args.commands.write in
+    let now = c.args.commands.now in
     let best = c.args.best.now in
     let ready = c.ready-ready.result in
     let h = candidates_of_bank c.args.bank_candidates.now bank in
@@ -36,8 +36,8 @@ returns-in-Some c s history log known hits rows so_far =
 pub returns-in_default : goal.returns-in_default
 returns-in_default c s history log known hits rows so_far =
     let bank = c.args.bank in
-    let write = c.args.write in
-    let now = c.args.now in
+    let write = c.args.commands.write in
+    let now = c.args.commands.now in
     let best = c.args.best.now in
     let ready = c.ready-ready.result in
     let h = candidates_of_bank c.args.bank_candidates.now bank in

@@ -11,7 +11,7 @@ pub returns-then-best-ready : goal.returns-then-best-ready
 returns-then-best-ready c s history log known hits rows so_far =
     let bank = c.args.bank in
     let accesses = c.args.commands.accesses in
-    let now = c.args.now in
+    let now = c.args.commands.now in
     let best = c.args.best.now in
     let ready = c.ready-ready.result in
     let h = candidates_of_bank c.args.bank_candidates.now bank in
@@ -24,7 +24,7 @@ pub returns : goal.returns
 returns c s history log known hits rows so_far =
     let bank = c.args.bank in
     let accesses = c.args.commands.accesses in
-    let now = c.args.now in
+    let now = c.args.commands.now in
     let best = c.args.best.now in
     let ready = c.ready-ready.result in
     let h = candidates_of_bank c.args.bank_candidates.now bank in

@@ -32,7 +32,7 @@ with_row-requires-clause-needed c = c.requires.needed c.in-Some.bank (c.loop-ban
 
 pub loop-bank-preserved : goal.loop-bank-preserved
 loop-bank-preserved c =
-    let now = c.args.now in
+    let now = c.args.commands.now in
     let accesses = c.args.commands.accesses in
     let bank = c.in-Some.bank in
     let rest = c.loop-bank.rest in
@@ -58,7 +58,7 @@ pub returns : goal.returns
 returns c s history log hits left known apart before =
     let accesses = c.args.commands.accesses in
     let rest = c.loop-bank.rest in
-    so_far_same (length log) c.args.now hits (rows_beside s history log accesses (λ k. is_in rest k || left k)) hits (rows_beside s history log accesses left) c.loop-bank.best
+    so_far_same (length log) c.args.commands.now hits (rows_beside s history log accesses (λ k. is_in rest k || left k)) hits (rows_beside s history log accesses left) c.loop-bank.best
     (λ cycle late. refl)
     (λ cycle late. beside_same (λ k. is_in rest k || left k) left (rows_now s history log accesses cycle) log (λ k. ap (λ b. b || left k) (c.in_default.ensures.none k)))
     (c.loop-bank.invariant.so_far s history log hits left known apart before)

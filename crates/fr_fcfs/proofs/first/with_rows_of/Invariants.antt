@@ -15,8 +15,8 @@ invariant-loop-bank l = record {
   so_far : (s : Config) (history : List IssuedCommand) (log : List Arrived) (hits : ℕ → Option ℕ) (left : ℕ → Bool)
       → StandForLog l.bank_candidates l.banks s history log
       → AreNotLeft (is_in l.fn.asked) left
-      → IsBestSoFar (length log) l.now hits (rows_beside s history log l.commands.accesses (with_left (is_in l.fn.asked) left)) l.fn.best
-      → IsBestSoFar (length log) l.now hits (rows_beside s history log l.commands.accesses (with_left (is_in l.rest) left)) l.best;
+      → IsBestSoFar (length log) l.commands.now hits (rows_beside s history log l.commands.accesses (with_left (is_in l.fn.asked) left)) l.fn.best
+      → IsBestSoFar (length log) l.commands.now hits (rows_beside s history log l.commands.accesses (with_left (is_in l.rest) left)) l.best;
 }
 
 abbrev pub decreases-loop-bank : goal.decreases-loop-bank
