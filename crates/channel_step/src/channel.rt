@@ -37,7 +37,7 @@ use bank_ready::banks::Banks;
 use bank_ready::refresh::Refresh;
 use command_table::list::CommandList;
 use fr_fcfs::arrivals::stays;
-use fr_fcfs::choice::{Choice, next};
+use fr_fcfs::choice::{ChannelParts, Choice, next};
 use fr_fcfs::needs::refresh_command;
 use queue::Queue;
 use queue::bank_candidates::BankCandidates;
@@ -48,6 +48,7 @@ use sim_base::message::{ChannelId, Cycle, Message, Request};
 use sim_base::place::BankId;
 use statistics::channels::ChannelStats;
 use std::alloc::{AllocError, Global};
+use std::ops::Range;
 
 /// A channel, with all that it keeps of its past.
 #[derive(Drop)]
@@ -201,11 +202,13 @@ impl Channel {
             Ahead::Known(None) => None,
             Ahead::Known(Some((cycle, choice))) if now <= cycle => Some((cycle, choice)),
             _ => next(
-                &self.queue,
-                &self.bank_candidates,
-                &self.banks,
-                &self.refresh,
-                self.config.groups,
+                &ChannelParts {
+                    queue: &self.queue,
+                    bank_candidates: &self.bank_candidates,
+                    banks: &self.banks,
+                    refresh: &self.refresh,
+                    groups: self.config.groups,
+                },
                 now,
             ),
         }
@@ -565,14 +568,7 @@ impl Channel {
             → IsAhead s history self.now.queue self.now.cycle (Known found) }
     {
         match found {
-            Some((cycle, choice)) => stays(
-                &self.queue,
-                &self.bank_candidates,
-                &self.banks,
-                older,
-                cycle,
-                choice,
-            ),
+            Some(next) => stays(&self.queue, &self.bank_candidates, &self.banks, older, next),
             None => false,
         }
     }
@@ -659,33 +655,33 @@ impl Channel {
         due
     }
 
-    /// Goes on from a cycle, where the channel stands, over the next one in which it issues a command, or over all before the next
-    /// one in which something arrives, if that comes first; and no further than `until`. What it issues, where that is kept, and
+    /// Goes on from the first of these cycles, where the channel stands, over the next one in which it issues a command, or over all
+    /// before the next one in which something arrives, if that comes first; and no further than their end. What it issues, where that is kept, and
     /// sends is added to the commands and messages. On an error some of it may be missing.
     #[inline(always)]
     fn advance(
         &mut self,
         inbox: &[Message],
-        now: Cycle,
-        until: Cycle,
+        cycles: Range<Cycle>,
         commands: &mut Option<CommandList>,
         messages: &mut Vec<Message>,
     ) -> Result<Advance, AllocError>
-        requires can_run { CanRun self.old inbox.now now until }
-        requires span { now < until }
-        requires until { until ≤ 2 ^ 62 }
+        requires can_run { CanRun self.old inbox.now cycles.start cycles.end }
+        requires span { cycles.start < cycles.end }
+        requires until { cycles.end ≤ 2 ^ 62 }
         ensures some { IfOk result (λ advance. advance.arrived ≤ length inbox.now) }
-        ensures from_now { IfOk result (λ advance. now ≤ advance.last) }
-        ensures within { IfOk result (λ advance. advance.last < until) }
+        ensures from_now { IfOk result (λ advance. cycles.start ≤ advance.last) }
+        ensures within { IfOk result (λ advance. advance.last < cycles.end) }
         ensures done { (s : Config) (channel : ℕ) (steps : Steps) (mail : List Message)
-            → StandsFor self.old s channel steps mail → length steps ≡ now
-            → IsFit s channel steps mail inbox.now now until
+            → StandsFor self.old s channel steps mail → length steps ≡ cycles.start
+            → IsFit s channel steps mail inbox.now cycles.start cycles.end
             → IfOk result (λ advance. HasAdvanced self.new s channel steps mail inbox.now
-            now (advance.last + 1) until advance.arrived
+            cycles.start (advance.last + 1) cycles.end advance.arrived
             commands.old commands.new messages.old.items messages.new.items) }
     {
+        let now = cycles.start;
         let arrived = self.arrive(inbox, now);
-        let end = next_arrival(&inbox[arrived..], until);
+        let end = next_arrival(&inbox[arrived..], cycles.end);
         match self.look(now, end) {
             Some((cycle, choice)) => {
                 self.wait(cycle);
@@ -729,7 +725,7 @@ impl Channel {
         }
     }
 
-    /// Runs the channel over the cycles from `from` on and before `until`, in which these messages arrive, by arrival and then
+    /// Runs the channel over these cycles, in which these messages arrive, by arrival and then
     /// by link. What it issues, where commands are kept, and sends is put behind what the commands and messages hold. The only error is
     /// out of memory; what the channel and the lists hold is then not known. It goes from one cycle in which something arrives or is issued to the next, and
     /// skips those between.
@@ -737,24 +733,24 @@ impl Channel {
     pub fn run(
         &mut self,
         inbox: &[Message],
-        from: Cycle,
-        until: Cycle,
+        cycles: Range<Cycle>,
         commands: &mut Option<CommandList>,
         messages: &mut Vec<Message>,
     ) -> Result<(), AllocError>
-        requires can_run { CanRun self.old inbox.now from until }
-        requires span { from ≤ until }
-        requires until { until ≤ 2 ^ 62 }
+        requires can_run { CanRun self.old inbox.now cycles.start cycles.end }
+        requires span { cycles.start ≤ cycles.end }
+        requires until { cycles.end ≤ 2 ^ 62 }
         ensures { (s : Config) (channel : ℕ) (steps : Steps) (mail : List Message)
-            → StandsFor self.old s channel steps mail → length steps ≡ from
-            → IsFit s channel steps mail inbox.now from until
-            → OnOk result (IsDone self.new s channel steps mail inbox.now from until
+            → StandsFor self.old s channel steps mail → length steps ≡ cycles.start
+            → IsFit s channel steps mail inbox.now cycles.start cycles.end
+            → OnOk result (IsDone self.new s channel steps mail inbox.now cycles.start cycles.end
             commands.old commands.new messages.old.items messages.new.items) }
     {
         let mut arrived = 0;
-        let mut now = from;
+        let mut now = cycles.start;
+        let until = cycles.end;
         while now < until {
-            let advance = self.advance(&inbox[arrived..], now, until, commands, messages)?;
+            let advance = self.advance(&inbox[arrived..], now..until, commands, messages)?;
             arrived += advance.arrived;
             now = advance.last + 1;
         }

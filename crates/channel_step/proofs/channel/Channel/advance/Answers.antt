@@ -15,20 +15,20 @@ use Rattle.channel_step.proofs.channel.Channel.advance.Goals as goal
 pub look-requires : goal.look-requires
 look-requires c =
     let p = c.requires.can_run in
-    let h = c.arrive-arrived.ensures.in_cycle p.s p.channel p.steps p.mail c.args.until p.stands p.at c.requires.span p.fit in
+    let h = c.arrive-arrived.ensures.in_cycle p.s p.channel p.steps p.mail c.args.cycles.end p.stands p.at c.requires.span p.fit in
     record { s = p.s; channel = p.channel; steps = p.steps; mail = p.mail ++ take c.arrive-arrived.result c.args.inbox.now; is_in = h; at = p.at }
 
 pub wait-requires-clause-in_cycle : goal.wait-requires-clause-in_cycle
 wait-requires-clause-in_cycle c =
     let p = c.requires.can_run in
-    let h = c.arrive-arrived.ensures.in_cycle p.s p.channel p.steps p.mail c.args.until p.stands p.at c.requires.span p.fit in
+    let h = c.arrive-arrived.ensures.in_cycle p.s p.channel p.steps p.mail c.args.cycles.end p.stands p.at c.requires.span p.fit in
     let k = c.look.ensures.in_cycle p.s p.channel p.steps (p.mail ++ take c.arrive-arrived.result c.args.inbox.now) h in
     record { s = p.s; channel = p.channel; steps = p.steps; mail = p.mail ++ take c.arrive-arrived.result c.args.inbox.now; is_in = k; at = sym k.cycle_is }
 
 pub wait-requires-clause-span : goal.wait-requires-clause-span
 wait-requires-clause-span c =
     let p = c.requires.can_run in
-    let h = c.arrive-arrived.ensures.in_cycle p.s p.channel p.steps p.mail c.args.until p.stands p.at c.requires.span p.fit in
+    let h = c.arrive-arrived.ensures.in_cycle p.s p.channel p.steps p.mail c.args.cycles.end p.stands p.at c.requires.span p.fit in
     let i = ((c.in-Some.ensures {u = tt}).next p.s p.channel p.steps (p.mail ++ take c.arrive-arrived.result c.args.inbox.now) h p.at).is_next in
     let k = c.look.ensures.in_cycle p.s p.channel p.steps (p.mail ++ take c.arrive-arrived.result c.args.inbox.now) h in
     omega (arith, k.cycle_is, i.from_now)
@@ -37,16 +37,16 @@ pub wait-requires-clause-until : goal.wait-requires-clause-until
 wait-requires-clause-until c =
     let p = c.requires.can_run in
     let arrived = c.arrive-arrived.ensures in
-    let h = arrived.in_cycle p.s p.channel p.steps p.mail c.args.until p.stands p.at c.requires.span p.fit in
-    let g = goes c.arrive-arrived.new.self p.s p.channel p.steps p.mail c.args.inbox.now c.args.now c.args.until c.arrive-arrived.result c.next_arrival-end.result h p.at p.fit c.requires.span arrived.some c.next_arrival-end.ensures in
-    let within = goes-end p.s p.channel p.steps p.mail c.args.inbox.now c.args.now c.args.until c.arrive-arrived.result c.next_arrival-end.result g in
+    let h = arrived.in_cycle p.s p.channel p.steps p.mail c.args.cycles.end p.stands p.at c.requires.span p.fit in
+    let g = goes c.arrive-arrived.new.self p.s p.channel p.steps p.mail c.args.inbox.now c.args.cycles.start c.args.cycles.end c.arrive-arrived.result c.next_arrival-end.result h p.at p.fit c.requires.span arrived.some c.next_arrival-end.ensures in
+    let within = goes-end p.s p.channel p.steps p.mail c.args.inbox.now c.args.cycles.start c.args.cycles.end c.arrive-arrived.result c.next_arrival-end.result g in
     let i = ((c.in-Some.ensures {u = tt}).next p.s p.channel p.steps (p.mail ++ take c.arrive-arrived.result c.args.inbox.now) h p.at).is_next in
     omega (arith, i.before_end, within.1, c.requires.until)
 
 pub perform-requires-clause-chosen : goal.perform-requires-clause-chosen
 perform-requires-clause-chosen c =
     let p = c.requires.can_run in
-    let h = c.arrive-arrived.ensures.in_cycle p.s p.channel p.steps p.mail c.args.until p.stands p.at c.requires.span p.fit in
+    let h = c.arrive-arrived.ensures.in_cycle p.s p.channel p.steps p.mail c.args.cycles.end p.stands p.at c.requires.span p.fit in
     let there = p.mail ++ take c.arrive-arrived.result c.args.inbox.now in
     let i = (c.in-Some.ensures {u = tt}).next p.s p.channel p.steps there h p.at in
     let n = c.in-Some.cycle - length p.steps in
@@ -69,9 +69,9 @@ pub perform-requires-clause-early : goal.perform-requires-clause-early
 perform-requires-clause-early c =
     let p = c.requires.can_run in
     let arrived = c.arrive-arrived.ensures in
-    let h = arrived.in_cycle p.s p.channel p.steps p.mail c.args.until p.stands p.at c.requires.span p.fit in
-    let g = goes c.arrive-arrived.new.self p.s p.channel p.steps p.mail c.args.inbox.now c.args.now c.args.until c.arrive-arrived.result c.next_arrival-end.result h p.at p.fit c.requires.span arrived.some c.next_arrival-end.ensures in
-    let within = goes-end p.s p.channel p.steps p.mail c.args.inbox.now c.args.now c.args.until c.arrive-arrived.result c.next_arrival-end.result g in
+    let h = arrived.in_cycle p.s p.channel p.steps p.mail c.args.cycles.end p.stands p.at c.requires.span p.fit in
+    let g = goes c.arrive-arrived.new.self p.s p.channel p.steps p.mail c.args.inbox.now c.args.cycles.start c.args.cycles.end c.arrive-arrived.result c.next_arrival-end.result h p.at p.fit c.requires.span arrived.some c.next_arrival-end.ensures in
+    let within = goes-end p.s p.channel p.steps p.mail c.args.inbox.now c.args.cycles.start c.args.cycles.end c.arrive-arrived.result c.next_arrival-end.result g in
     let there = p.mail ++ take c.arrive-arrived.result c.args.inbox.now in
     let i = ((c.in-Some.ensures {u = tt}).next p.s p.channel p.steps there h p.at).is_next in
     let k = c.wait.ensures.in_cycle p.s p.channel p.steps there (c.look.ensures.in_cycle p.s p.channel p.steps there h) in
@@ -80,7 +80,7 @@ perform-requires-clause-early c =
 pub wait-requires-in-None-clause-in_cycle : goal.wait-requires-in-None-clause-in_cycle
 wait-requires-in-None-clause-in_cycle c =
     let p = c.requires.can_run in
-    let h = c.arrive-arrived.ensures.in_cycle p.s p.channel p.steps p.mail c.args.until p.stands p.at c.requires.span p.fit in
+    let h = c.arrive-arrived.ensures.in_cycle p.s p.channel p.steps p.mail c.args.cycles.end p.stands p.at c.requires.span p.fit in
     let k = c.look.ensures.in_cycle p.s p.channel p.steps (p.mail ++ take c.arrive-arrived.result c.args.inbox.now) h in
     record { s = p.s; channel = p.channel; steps = p.steps; mail = p.mail ++ take c.arrive-arrived.result c.args.inbox.now; is_in = k; at = sym k.cycle_is }
 
@@ -88,9 +88,9 @@ pub wait-requires-in-None-clause-span : goal.wait-requires-in-None-clause-span
 wait-requires-in-None-clause-span c =
     let p = c.requires.can_run in
     let arrived = c.arrive-arrived.ensures in
-    let h = arrived.in_cycle p.s p.channel p.steps p.mail c.args.until p.stands p.at c.requires.span p.fit in
-    let g = goes c.arrive-arrived.new.self p.s p.channel p.steps p.mail c.args.inbox.now c.args.now c.args.until c.arrive-arrived.result c.next_arrival-end.result h p.at p.fit c.requires.span arrived.some c.next_arrival-end.ensures in
-    let within = goes-end p.s p.channel p.steps p.mail c.args.inbox.now c.args.now c.args.until c.arrive-arrived.result c.next_arrival-end.result g in
+    let h = arrived.in_cycle p.s p.channel p.steps p.mail c.args.cycles.end p.stands p.at c.requires.span p.fit in
+    let g = goes c.arrive-arrived.new.self p.s p.channel p.steps p.mail c.args.inbox.now c.args.cycles.start c.args.cycles.end c.arrive-arrived.result c.next_arrival-end.result h p.at p.fit c.requires.span arrived.some c.next_arrival-end.ensures in
+    let within = goes-end p.s p.channel p.steps p.mail c.args.inbox.now c.args.cycles.start c.args.cycles.end c.arrive-arrived.result c.next_arrival-end.result g in
     let k = c.look.ensures.in_cycle p.s p.channel p.steps (p.mail ++ take c.arrive-arrived.result c.args.inbox.now) h in
     omega (arith, k.cycle_is, p.at, within.0)
 
@@ -98,24 +98,24 @@ pub wait-requires-in-None-clause-until : goal.wait-requires-in-None-clause-until
 wait-requires-in-None-clause-until c =
     let p = c.requires.can_run in
     let arrived = c.arrive-arrived.ensures in
-    let h = arrived.in_cycle p.s p.channel p.steps p.mail c.args.until p.stands p.at c.requires.span p.fit in
-    let g = goes c.arrive-arrived.new.self p.s p.channel p.steps p.mail c.args.inbox.now c.args.now c.args.until c.arrive-arrived.result c.next_arrival-end.result h p.at p.fit c.requires.span arrived.some c.next_arrival-end.ensures in
-    let within = goes-end p.s p.channel p.steps p.mail c.args.inbox.now c.args.now c.args.until c.arrive-arrived.result c.next_arrival-end.result g in
+    let h = arrived.in_cycle p.s p.channel p.steps p.mail c.args.cycles.end p.stands p.at c.requires.span p.fit in
+    let g = goes c.arrive-arrived.new.self p.s p.channel p.steps p.mail c.args.inbox.now c.args.cycles.start c.args.cycles.end c.arrive-arrived.result c.next_arrival-end.result h p.at p.fit c.requires.span arrived.some c.next_arrival-end.ensures in
+    let within = goes-end p.s p.channel p.steps p.mail c.args.inbox.now c.args.cycles.start c.args.cycles.end c.arrive-arrived.result c.next_arrival-end.result g in
     omega (arith, within.1, c.requires.until)
 
 pub overflow_sub-result : goal.overflow_sub-result
 overflow_sub-result c =
     let p = c.requires.can_run in
     let arrived = c.arrive-arrived.ensures in
-    let h = arrived.in_cycle p.s p.channel p.steps p.mail c.args.until p.stands p.at c.requires.span p.fit in
-    let g = goes c.arrive-arrived.new.self p.s p.channel p.steps p.mail c.args.inbox.now c.args.now c.args.until c.arrive-arrived.result c.next_arrival-end.result h p.at p.fit c.requires.span arrived.some c.next_arrival-end.ensures in
-    let within = goes-end p.s p.channel p.steps p.mail c.args.inbox.now c.args.now c.args.until c.arrive-arrived.result c.next_arrival-end.result g in
+    let h = arrived.in_cycle p.s p.channel p.steps p.mail c.args.cycles.end p.stands p.at c.requires.span p.fit in
+    let g = goes c.arrive-arrived.new.self p.s p.channel p.steps p.mail c.args.inbox.now c.args.cycles.start c.args.cycles.end c.arrive-arrived.result c.next_arrival-end.result h p.at p.fit c.requires.span arrived.some c.next_arrival-end.ensures in
+    let within = goes-end p.s p.channel p.steps p.mail c.args.inbox.now c.args.cycles.start c.args.cycles.end c.arrive-arrived.result c.next_arrival-end.result g in
     omega (arith, within.0)
 
 pub returns-in_ok-perform-in-Some-clause-from_now : goal.returns-in_ok-perform-in-Some-clause-from_now
 returns-in_ok-perform-in-Some-clause-from_now c =
     let p = c.requires.can_run in
-    let h = c.arrive-arrived.ensures.in_cycle p.s p.channel p.steps p.mail c.args.until p.stands p.at c.requires.span p.fit in
+    let h = c.arrive-arrived.ensures.in_cycle p.s p.channel p.steps p.mail c.args.cycles.end p.stands p.at c.requires.span p.fit in
     let i = ((c.in-Some.ensures {u = tt}).next p.s p.channel p.steps (p.mail ++ take c.arrive-arrived.result c.args.inbox.now) h p.at).is_next in
     omega (arith, p.at, i.from_now)
 
@@ -123,9 +123,9 @@ pub returns-in_ok-perform-in-Some-clause-within : goal.returns-in_ok-perform-in-
 returns-in_ok-perform-in-Some-clause-within c =
     let p = c.requires.can_run in
     let arrived = c.arrive-arrived.ensures in
-    let h = arrived.in_cycle p.s p.channel p.steps p.mail c.args.until p.stands p.at c.requires.span p.fit in
-    let g = goes c.arrive-arrived.new.self p.s p.channel p.steps p.mail c.args.inbox.now c.args.now c.args.until c.arrive-arrived.result c.next_arrival-end.result h p.at p.fit c.requires.span arrived.some c.next_arrival-end.ensures in
-    let within = goes-end p.s p.channel p.steps p.mail c.args.inbox.now c.args.now c.args.until c.arrive-arrived.result c.next_arrival-end.result g in
+    let h = arrived.in_cycle p.s p.channel p.steps p.mail c.args.cycles.end p.stands p.at c.requires.span p.fit in
+    let g = goes c.arrive-arrived.new.self p.s p.channel p.steps p.mail c.args.inbox.now c.args.cycles.start c.args.cycles.end c.arrive-arrived.result c.next_arrival-end.result h p.at p.fit c.requires.span arrived.some c.next_arrival-end.ensures in
+    let within = goes-end p.s p.channel p.steps p.mail c.args.inbox.now c.args.cycles.start c.args.cycles.end c.arrive-arrived.result c.next_arrival-end.result g in
     let i = ((c.in-Some.ensures {u = tt}).next p.s p.channel p.steps (p.mail ++ take c.arrive-arrived.result c.args.inbox.now) h p.at).is_next in
     omega (arith, i.before_end, within.1)
 
@@ -134,8 +134,8 @@ returns-in_ok-perform-in-Some-clause-done c s channel steps mail stands at f =
     let arrived = c.arrive-arrived.ensures in
     let n = c.arrive-arrived.result in
     let there = mail ++ take n c.args.inbox.now in
-    let h = arrived.in_cycle s channel steps mail c.args.until stands at c.requires.span f in
-    let g = goes c.arrive-arrived.new.self s channel steps mail c.args.inbox.now c.args.now c.args.until n c.next_arrival-end.result h at f c.requires.span arrived.some c.next_arrival-end.ensures in
+    let h = arrived.in_cycle s channel steps mail c.args.cycles.end stands at c.requires.span f in
+    let g = goes c.arrive-arrived.new.self s channel steps mail c.args.inbox.now c.args.cycles.start c.args.cycles.end n c.next_arrival-end.result h at f c.requires.span arrived.some c.next_arrival-end.ensures in
     let i = (c.in-Some.ensures {u = tt}).next s channel steps there h at in
     let k = c.wait.ensures.in_cycle s channel steps there (c.look.ensures.in_cycle s channel steps there h) in
     let from = i.is_next.from_now in
@@ -149,7 +149,7 @@ returns-in_ok-perform-in-Some-clause-done c s channel steps mail stands at f =
     record {
       issued = issued_in channel c.in-Some.cycle (Some i.command);
       sent = messages_at s channel c.in-Some.cycle (Some i.command);
-      has_run = acts c.wait.new.self c.perform.new.self s channel steps mail c.args.inbox.now c.args.now c.args.until n c.next_arrival-end.result c.in-Some.cycle i.command g i.is_next k after.stands;
+      has_run = acts c.wait.new.self c.perform.new.self s channel steps mail c.args.inbox.now c.args.cycles.start c.args.cycles.end n c.next_arrival-end.result c.in-Some.cycle i.command g i.is_next k after.stands;
       commands_are = after.commands_are ∙ ap (λ t. with_more c.args.commands.now (issued_in channel t (Some i.command))) len;
       messages_are = after.messages_are ∙ ap (λ t. c.args.messages.now.items ++ messages_at s channel t (Some i.command)) len;
     }
@@ -158,18 +158,18 @@ pub returns-in-None-clause-from_now : goal.returns-in-None-clause-from_now
 returns-in-None-clause-from_now c =
     let p = c.requires.can_run in
     let arrived = c.arrive-arrived.ensures in
-    let h = arrived.in_cycle p.s p.channel p.steps p.mail c.args.until p.stands p.at c.requires.span p.fit in
-    let g = goes c.arrive-arrived.new.self p.s p.channel p.steps p.mail c.args.inbox.now c.args.now c.args.until c.arrive-arrived.result c.next_arrival-end.result h p.at p.fit c.requires.span arrived.some c.next_arrival-end.ensures in
-    let within = goes-end p.s p.channel p.steps p.mail c.args.inbox.now c.args.now c.args.until c.arrive-arrived.result c.next_arrival-end.result g in
+    let h = arrived.in_cycle p.s p.channel p.steps p.mail c.args.cycles.end p.stands p.at c.requires.span p.fit in
+    let g = goes c.arrive-arrived.new.self p.s p.channel p.steps p.mail c.args.inbox.now c.args.cycles.start c.args.cycles.end c.arrive-arrived.result c.next_arrival-end.result h p.at p.fit c.requires.span arrived.some c.next_arrival-end.ensures in
+    let within = goes-end p.s p.channel p.steps p.mail c.args.inbox.now c.args.cycles.start c.args.cycles.end c.arrive-arrived.result c.next_arrival-end.result g in
     omega (arith, within.0)
 
 pub returns-in-None-clause-within : goal.returns-in-None-clause-within
 returns-in-None-clause-within c =
     let p = c.requires.can_run in
     let arrived = c.arrive-arrived.ensures in
-    let h = arrived.in_cycle p.s p.channel p.steps p.mail c.args.until p.stands p.at c.requires.span p.fit in
-    let g = goes c.arrive-arrived.new.self p.s p.channel p.steps p.mail c.args.inbox.now c.args.now c.args.until c.arrive-arrived.result c.next_arrival-end.result h p.at p.fit c.requires.span arrived.some c.next_arrival-end.ensures in
-    let within = goes-end p.s p.channel p.steps p.mail c.args.inbox.now c.args.now c.args.until c.arrive-arrived.result c.next_arrival-end.result g in
+    let h = arrived.in_cycle p.s p.channel p.steps p.mail c.args.cycles.end p.stands p.at c.requires.span p.fit in
+    let g = goes c.arrive-arrived.new.self p.s p.channel p.steps p.mail c.args.inbox.now c.args.cycles.start c.args.cycles.end c.arrive-arrived.result c.next_arrival-end.result h p.at p.fit c.requires.span arrived.some c.next_arrival-end.ensures in
+    let within = goes-end p.s p.channel p.steps p.mail c.args.inbox.now c.args.cycles.start c.args.cycles.end c.arrive-arrived.result c.next_arrival-end.result g in
     omega (arith, within.0, within.1)
 
 pub returns-in-None-clause-done : goal.returns-in-None-clause-done
@@ -178,15 +178,15 @@ returns-in-None-clause-done c s channel steps mail stands at f =
     let n = c.arrive-arrived.result in
     let there = mail ++ take n c.args.inbox.now in
     let end = c.next_arrival-end.result in
-    let h = arrived.in_cycle s channel steps mail c.args.until stands at c.requires.span f in
-    let g = goes c.arrive-arrived.new.self s channel steps mail c.args.inbox.now c.args.now c.args.until n end h at f c.requires.span arrived.some c.next_arrival-end.ensures in
-    let within = goes-end s channel steps mail c.args.inbox.now c.args.now c.args.until n end g in
+    let h = arrived.in_cycle s channel steps mail c.args.cycles.end stands at c.requires.span f in
+    let g = goes c.arrive-arrived.new.self s channel steps mail c.args.inbox.now c.args.cycles.start c.args.cycles.end n end h at f c.requires.span arrived.some c.next_arrival-end.ensures in
+    let within = goes-end s channel steps mail c.args.inbox.now c.args.cycles.start c.args.cycles.end n end g in
     let k = c.look.ensures.in_cycle s channel steps there h in
     let idle = subst (IsNextBefore s channel steps there c.arrive-arrived.new.self.queue.log end) c.in-None.is (c.look.ensures.next s channel steps there h at) in
     record {
       issued = [];
       sent = [];
-      has_run = waits c.wait-in-None.new.self s channel steps mail c.args.inbox.now c.args.now c.args.until n end g idle
+      has_run = waits c.wait-in-None.new.self s channel steps mail c.args.inbox.now c.args.cycles.start c.args.cycles.end n end g idle
           (waited-stands c.look.new.self c.wait-in-None.new.self s channel steps there (end - length steps) k (c.wait-in-None.ensures.in_cycle s channel steps there k) (omega (arith, within.0)));
       commands_are = sym (with_more-none c.args.commands.now);
       messages_are = sym (append-nil c.args.messages.now.items);

@@ -14,8 +14,8 @@ stays-requires-clause-choice c =
 
 pub returns-in-Some : goal.returns-in-Some
 returns-in-Some c s history earlier keeps more known =
-    let cycle = c.in-Some.cycle in
-    let choice = c.in-Some.choice in
+    let cycle = c.in-Some.next.0 in
+    let choice = c.in-Some.next.1 in
     let x = c.args.self.now in
     let found_is : Known c.args.found ≡ Known (Some (cycle, choice)) = ap Known c.in-Some.is in
     subst (IsAhead s history x.queue x.cycle) (sym found_is)

@@ -11,7 +11,7 @@ loop-now-init c = (
   omega arith,
   omega arith,
   λ s channel steps mail h at f.
-      turned-none c.args.self.now s channel steps mail c.args.inbox.now c.args.from c.args.until c.args.commands.now c.args.messages.now.items h f,
+      turned-none c.args.self.now s channel steps mail c.args.inbox.now c.args.cycles.start c.args.cycles.end c.args.commands.now c.args.messages.now.items h f,
 )
 
 pub advance-requires-clause-can_run : goal.advance-requires-clause-can_run
@@ -19,7 +19,7 @@ advance-requires-clause-can_run c =
     let p = c.requires.can_run in
     let l = c.loop-now in
     let h = l.invariant.3 p.s p.channel p.steps p.mail p.stands p.at p.fit in
-    run-can_go_on l.self p.s p.channel p.steps p.mail c.args.inbox.now c.args.from l.now c.args.until l.arrived h.issued h.sent p.at l.invariant.1 h.has_run
+    run-can_go_on l.self p.s p.channel p.steps p.mail c.args.inbox.now c.args.cycles.start l.now c.args.cycles.end l.arrived h.issued h.sent p.at l.invariant.1 h.has_run
 
 pub loop-now-preserved : goal.loop-now-preserved
 loop-now-preserved c =
@@ -32,42 +32,42 @@ loop-now-preserved c =
       λ s channel steps mail stands at f.
           let inbox = c.args.inbox.now in
           let h = l.invariant.3 s channel steps mail stands at f in
-          let before = channel_run s channel steps (mail ++ inbox) (l.now - c.args.from) in
+          let before = channel_run s channel steps (mail ++ inbox) (l.now - c.args.cycles.start) in
           let there = mail ++ take l.arrived inbox in
-          turned-more l.self c.advance.new.self s channel steps mail inbox c.args.from l.now c.args.until l.arrived advance.arrived advance.last _ _ _ _ _ _ at l.invariant.1 done.from_now h
-          (done.done s channel before there h.has_run.stands (run-length s channel steps (mail ++ inbox) c.args.from l.now at l.invariant.1)
-          (run-fit l.self s channel steps mail inbox c.args.from l.now c.args.until l.arrived h.issued h.sent h.has_run)),
+          turned-more l.self c.advance.new.self s channel steps mail inbox c.args.cycles.start l.now c.args.cycles.end l.arrived advance.arrived advance.last _ _ _ _ _ _ at l.invariant.1 done.from_now h
+          (done.done s channel before there h.has_run.stands (run-length s channel steps (mail ++ inbox) c.args.cycles.start l.now at l.invariant.1)
+          (run-fit l.self s channel steps mail inbox c.args.cycles.start l.now c.args.cycles.end l.arrived h.issued h.sent h.has_run)),
     )
 
 pub foresee-requires : goal.foresee-requires
 foresee-requires c =
     let p = c.requires.can_run in
     let l = c.loop-now in
-    let end : l.now ≡ c.args.until = omega (arith, l.invariant.2) in
-    let h = subst (λ t. HasAdvanced l.self p.s p.channel p.steps p.mail c.args.inbox.now c.args.from t c.args.until l.arrived c.args.commands.now l.commands c.args.messages.now.items l.messages.items) end
+    let end : l.now ≡ c.args.cycles.end = omega (arith, l.invariant.2) in
+    let h = subst (λ t. HasAdvanced l.self p.s p.channel p.steps p.mail c.args.inbox.now c.args.cycles.start t c.args.cycles.end l.arrived c.args.commands.now l.commands c.args.messages.now.items l.messages.items) end
     (l.invariant.3 p.s p.channel p.steps p.mail p.stands p.at p.fit) in
     record {
       s = p.s;
       channel = p.channel;
-      steps = channel_run p.s p.channel p.steps (p.mail ++ c.args.inbox.now) (c.args.until - c.args.from);
+      steps = channel_run p.s p.channel p.steps (p.mail ++ c.args.inbox.now) (c.args.cycles.end - c.args.cycles.start);
       mail = p.mail ++ c.args.inbox.now;
-      stands = run-ends l.self p.s p.channel p.steps p.mail c.args.inbox.now c.args.from c.args.until l.arrived h.issued h.sent h.has_run;
-      at = run-length p.s p.channel p.steps (p.mail ++ c.args.inbox.now) c.args.from c.args.until p.at c.requires.span;
+      stands = run-ends l.self p.s p.channel p.steps p.mail c.args.inbox.now c.args.cycles.start c.args.cycles.end l.arrived h.issued h.sent h.has_run;
+      at = run-length p.s p.channel p.steps (p.mail ++ c.args.inbox.now) c.args.cycles.start c.args.cycles.end p.at c.requires.span;
     }
 
 pub returns : goal.returns
 returns c s channel steps mail stands at f =
     let l = c.loop-now in
-    let end : l.now ≡ c.args.until = omega (arith, l.invariant.2) in
-    let h = subst (λ t. HasAdvanced l.self s channel steps mail c.args.inbox.now c.args.from t c.args.until l.arrived c.args.commands.now l.commands c.args.messages.now.items l.messages.items) end
+    let end : l.now ≡ c.args.cycles.end = omega (arith, l.invariant.2) in
+    let h = subst (λ t. HasAdvanced l.self s channel steps mail c.args.inbox.now c.args.cycles.start t c.args.cycles.end l.arrived c.args.commands.now l.commands c.args.messages.now.items l.messages.items) end
     (l.invariant.3 s channel steps mail stands at f) in
     record {
       issued = h.issued;
       sent = h.sent;
       stands =
-          c.foresee.ensures s channel (channel_run s channel steps (mail ++ c.args.inbox.now) (c.args.until - c.args.from)) (mail ++ c.args.inbox.now)
-          (run-ends l.self s channel steps mail c.args.inbox.now c.args.from c.args.until l.arrived h.issued h.sent h.has_run)
-          (run-length s channel steps (mail ++ c.args.inbox.now) c.args.from c.args.until at c.requires.span);
+          c.foresee.ensures s channel (channel_run s channel steps (mail ++ c.args.inbox.now) (c.args.cycles.end - c.args.cycles.start)) (mail ++ c.args.inbox.now)
+          (run-ends l.self s channel steps mail c.args.inbox.now c.args.cycles.start c.args.cycles.end l.arrived h.issued h.sent h.has_run)
+          (run-length s channel steps (mail ++ c.args.inbox.now) c.args.cycles.start c.args.cycles.end at c.requires.span);
       commands_are = h.has_run.commands_are;
       messages_are = h.has_run.messages_are;
       commands_behind = h.commands_are;

@@ -9,10 +9,10 @@ use Rattle.channel_step.proofs.channel.Channel.run.Given as goal
 
 abbrev pub invariant-loop-now : goal.invariant-loop-now
 invariant-loop-now l =
-    (l.arrived ≤ length l.inbox) × (l.fn.from ≤ l.now) × (l.now ≤ l.fn.until)
+    (l.arrived ≤ length l.inbox) × (l.fn.cycles.start ≤ l.now) × (l.now ≤ l.fn.cycles.end)
     × ((s : Config) (channel : ℕ) (steps : List (Option Command)) (mail : List Message)
-    → StandsFor l.fn.self s channel steps mail → length steps ≡ l.fn.from → IsFit s channel steps mail l.inbox l.fn.from l.fn.until
-    → HasAdvanced l.self s channel steps mail l.inbox l.fn.from l.now l.fn.until l.arrived l.fn.commands l.commands l.fn.messages.items l.messages.items)
+    → StandsFor l.fn.self s channel steps mail → length steps ≡ l.fn.cycles.start → IsFit s channel steps mail l.inbox l.fn.cycles.start l.fn.cycles.end
+    → HasAdvanced l.self s channel steps mail l.inbox l.fn.cycles.start l.now l.fn.cycles.end l.arrived l.fn.commands l.commands l.fn.messages.items l.messages.items)
 
 abbrev pub decreases-loop-now : goal.decreases-loop-now
-decreases-loop-now l = l.fn.until - l.now
+decreases-loop-now l = l.fn.cycles.end - l.now
