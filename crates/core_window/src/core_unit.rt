@@ -23,8 +23,8 @@ ghost use Rattle.core_window.specs.Counting.{IsCreditedAt};
 
 use crate::counts::{count_cycle, count_cycles, count_memory};
 use crate::flow::{Flow, WindowNumbers, cycles_within, flow_of};
-use crate::issue::{Ahead, entry_issued, issue_of, look_ahead, most_issued, next_two};
-use crate::issue_effects::{send, spend, wait_for};
+use crate::issue::{Ahead, Progress, entry_issued, issue_of, look_ahead, most_issued, next_two};
+use crate::issue_effects::{Sender, send, spend, wait_for};
 use crate::outstanding::OutstandingReads;
 use crate::receive::{add_credit_at, channel_of, count_reply};
 use crate::retire::{cause_where_full, is_next_done, is_stuck, retire_count};
@@ -59,7 +59,7 @@ pub struct Core {
 }
 
 /// What a core does in a cycle, and why it stops; with the memory entry that it issues, if it issues one.
-#[derive(Clone, Copy, PartialEq, Eq, Debug)]
+#[derive(Clone, Copy)]
 pub(crate) struct CycleWork {
     pub core_step: CoreStep,
     pub why: Stop,
@@ -125,9 +125,10 @@ impl Core {
         let waiting = self.outstanding.as_slice();
         let retired = retire_count(width, waiting, number, self.stats.retired);
         let gone = self.stats.retired + u64::from(retired);
-        let near = most_issued(&self.config, len, number, gone);
+        let progress = Progress { len, number, gone };
+        let near = most_issued(&self.config, progress);
         let lacks = self.found.one < near && is_without_credit(&self.credits, &self.found);
-        let issue = issue_of(&self.config, len, number, gone, &self.found, lacks);
+        let issue = issue_of(&self.config, progress, &self.found, lacks);
         let memory = entry_issued(number, &self.found, issue.count);
         CycleWork {
             core_step: CoreStep {
@@ -154,14 +155,12 @@ impl Core {
         count_memory(&mut self.stats, cycle_work.memory);
         wait_for(&mut self.outstanding, cycle_work.memory, self.cycle)?;
         spend(&mut self.credits, &self.found.place, cycle_work.memory);
-        send(
-            sent,
-            &self.config,
-            self.id,
-            self.cycle,
-            &self.found.place,
-            cycle_work.memory,
-        )?;
+        let sender = Sender {
+            config: &self.config,
+            core: self.id,
+            cycle: self.cycle,
+        };
+        send(sent, &sender, &self.found.place, cycle_work.memory)?;
         count_cycle(
             &mut self.stats,
             cycle_work.core_step,

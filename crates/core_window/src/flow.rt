@@ -6,7 +6,7 @@ ghost use Rattle.core_window.specs.Work.{IsFlowOf};
 use crate::outstanding::OutstandingRead;
 
 /// In each of `cycles` cycles a core issues its width of Plain entries and retires `retired` entries.
-#[derive(Clone, Copy, PartialEq, Eq, Debug)]
+#[derive(Clone, Copy)]
 pub struct Flow {
     pub retired: u16,
     pub cycles: u64,
@@ -14,7 +14,7 @@ pub struct Flow {
 
 /// The numbers of a core by which entries go through its window: how many entries it issued and retired, and how many of the
 /// next ones are Plain, except for the last of its trace.
-#[derive(Clone, Copy, PartialEq, Eq, Debug)]
+#[derive(Clone, Copy)]
 pub struct WindowNumbers {
     pub width: u16,
     pub window: u32,

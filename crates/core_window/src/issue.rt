@@ -34,7 +34,7 @@ fn next_or_end(trace: &Trace, from: u64, before: u64) -> MemoryEntry
 
 /// The numbers of the next two memory entries, or the length of the trace, and these entries, with the place where the first
 /// lies.
-#[derive(Clone, Copy, PartialEq, Eq, Debug)]
+#[derive(Clone, Copy)]
 pub struct Ahead {
     pub one: u64,
     pub entry: Entry,
@@ -121,31 +121,32 @@ pub fn next_two(digits: &Digits, trace: &Trace, from: u64, before: u64) -> Ahead
 }
 
 /// How many entries issue, and why no more.
-#[derive(Clone, Copy, PartialEq, Eq, Debug)]
+#[derive(Clone, Copy)]
 pub struct Issue {
     pub count: u16,
     pub why: Stop,
 }
 
+/// How far a core is in its trace: how long that is, the number of the next entry that issues, and how many entries were retired.
+#[derive(Clone, Copy)]
+pub struct Progress {
+    pub len: u64,
+    pub number: u64,
+    pub gone: u64,
+}
+
 /// Why no more than this number of entries issue.
-pub fn cause_at(
-    width: u16,
-    window: u32,
-    len: u64,
-    number: u64,
-    gone: u64,
-    two: u64,
-    count: u16,
-) -> Stop
-    requires { number ≤ 2 ^ 62 }
-    ensures { result ≡ cause_at width window len number gone two count }
+pub fn cause_at(config: &Config, progress: Progress, two: u64, count: u16) -> Stop
+    requires { progress.number ≤ 2 ^ 62 }
+    ensures { result ≡ cause_at config.now.width config.now.window
+        progress.len progress.number progress.gone two count }
 {
-    let next = number + u64::from(count);
-    if next == len {
+    let next = progress.number + u64::from(count);
+    if next == progress.len {
         Stop::End
-    } else if count == width {
+    } else if count == config.width {
         Stop::Width
-    } else if next.saturating_sub(gone) == u64::from(window) {
+    } else if next.saturating_sub(progress.gone) == u64::from(config.window) {
         Stop::Window
     } else if next == two {
         Stop::Memory
@@ -154,12 +155,14 @@ pub fn cause_at(
     }
 }
 
-/// How many entries issue from a number on, where `gone` entries were retired.
-fn count_of(width: u16, window: u32, number: u64, gone: u64, ahead: &Ahead, lacks: bool) -> u16
-    ensures { result ≡ issue_count width window number gone ahead.now.one ahead.now.two lacks }
+/// How many entries issue.
+fn count_of(config: &Config, progress: Progress, ahead: &Ahead, lacks: bool) -> u16
+    ensures { result ≡ issue_count config.now.width config.now.window
+        progress.number progress.gone ahead.now.one ahead.now.two lacks }
 {
-    let room = u64::from(window).saturating_sub(number.saturating_sub(gone));
-    let most = u64::from(width)
+    let number = progress.number;
+    let room = u64::from(config.window).saturating_sub(number.saturating_sub(progress.gone));
+    let most = u64::from(config.width)
         .min(room)
         .min(ahead.two.saturating_sub(number));
     let count = if lacks {
@@ -170,39 +173,27 @@ fn count_of(width: u16, window: u32, number: u64, gone: u64, ahead: &Ahead, lack
     count as u16
 }
 
-/// The number up to which entries may issue by the width, the window and the end of the trace, where `gone` entries were retired.
-pub fn most_issued(config: &Config, len: u64, number: u64, gone: u64) -> u64
-    requires { number ≤ 2 ^ 62 }
-    ensures { result ≡ issue_limit config.now number gone len }
+/// The number up to which entries may issue by the width, the window and the end of the trace.
+pub fn most_issued(config: &Config, progress: Progress) -> u64
+    requires { progress.number ≤ 2 ^ 62 }
+    ensures { result ≡ issue_limit config.now progress.number progress.gone progress.len }
 {
-    let room = u64::from(config.window).saturating_sub(number.saturating_sub(gone));
-    (number + u64::from(config.width).min(room)).min(len)
+    let number = progress.number;
+    let room = u64::from(config.window).saturating_sub(number.saturating_sub(progress.gone));
+    (number + u64::from(config.width).min(room)).min(progress.len)
 }
 
-/// How many entries issue from a number on, where `gone` were retired, and why no more: the memory entries ahead are known,
-/// and whether the core lacks a credit for the first of them, if this is near enough to issue.
-pub fn issue_of(
-    config: &Config,
-    len: u64,
-    number: u64,
-    gone: u64,
-    ahead: &Ahead,
-    lacks: bool,
-) -> Issue
-    requires { number ≤ 2 ^ 62 }
-    ensures why { result.why ≡ cause_of config.now len number gone ahead.now result.count }
-    ensures count { result.count ≡ issue_count_of config.now number gone ahead.now lacks }
+/// How many entries issue, and why no more: the memory entries ahead are known, and whether the core lacks a credit for the first of
+/// them, if this is near enough to issue.
+pub fn issue_of(config: &Config, progress: Progress, ahead: &Ahead, lacks: bool) -> Issue
+    requires { progress.number ≤ 2 ^ 62 }
+    ensures why { result.why ≡ cause_of config.now
+        progress.len progress.number progress.gone ahead.now result.count }
+    ensures count { result.count ≡ issue_count_of config.now
+        progress.number progress.gone ahead.now lacks }
 {
-    let count = count_of(config.width, config.window, number, gone, ahead, lacks);
-    let why = cause_at(
-        config.width,
-        config.window,
-        len,
-        number,
-        gone,
-        ahead.two,
-        count,
-    );
+    let count = count_of(config, progress, ahead, lacks);
+    let why = cause_at(config, progress, ahead.two, count);
     Issue { count, why }
 }
 

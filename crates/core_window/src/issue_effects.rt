@@ -78,22 +78,31 @@ fn request_latency(config: &Config, link: LinkId) -> u32
     }
 }
 
+/// A core that sends, in a cycle.
+#[derive(Clone, Copy)]
+pub struct Sender<'a> {
+    pub config: &'a Config,
+    pub core: CoreId,
+    pub cycle: Cycle,
+}
+
 #[tactic(auto, unfolding(sim_base::specs::History::request))]
 fn request_of_address(
-    config: &Config,
-    core: CoreId,
-    now: Cycle,
+    sender: &Sender<'_>,
     entry: u64,
     write: bool,
     address: u64,
     place: Place,
 ) -> Message
-    requires early { now < 2 ^ 62 }
-    requires placed { place ≡ place_of config.now address }
-    ensures { result ≡ request config.now core now entry write address }
+    requires early { sender.now.cycle < 2 ^ 62 }
+    requires placed { place ≡ place_of sender.now.config.now address }
+    ensures { result ≡ request sender.now.config.now sender.now.core sender.now.cycle
+        entry write address }
 {
+    let config = sender.config;
+    let core = sender.core;
     let link = config.request_link(core, place.channel);
-    let arrival = now + u64::from(request_latency(config, link));
+    let arrival = sender.cycle + u64::from(request_latency(config, link));
     Message {
         link,
         arrival,
@@ -112,15 +121,14 @@ fn request_of_address(
 /// The entry that issues, which lies at this place, sends its request.
 pub fn send(
     sent: &mut Vec<Message>,
-    config: &Config,
-    core: CoreId,
-    now: Cycle,
+    sender: &Sender<'_>,
     place: &Place,
     memory: Option<MemoryEntry>,
 ) -> Result<(), AllocError>
-    requires early { now < 2 ^ 62 }
-    requires placed { IfSome memory (λ e. IsPlaced config.now e.entry place.now) }
-    ensures { OnOk result (SendsFor memory config.now core now sent.old.items sent.new.items) }
+    requires early { sender.now.cycle < 2 ^ 62 }
+    requires placed { IfSome memory (λ e. IsPlaced sender.now.config.now e.entry place.now) }
+    ensures { OnOk result (SendsFor memory sender.now.config.now sender.now.core sender.now.cycle
+        sent.old.items sent.new.items) }
 {
     if let Some(next) = memory {
         let (write, address) = match next.entry {
@@ -129,7 +137,7 @@ pub fn send(
             Entry::Plain => return Ok(()),
         };
         sent.reserve(1)?;
-        let request = request_of_address(config, core, now, next.number, write, address, *place);
+        let request = request_of_address(sender, next.number, write, address, *place);
         sent.push_reserved(request);
     }
     Ok(())

@@ -8,7 +8,7 @@ use sim_base::message::Cycle;
 use std::alloc::{AllocError, Global};
 
 /// A Read that was issued and has no reply.
-#[derive(Clone, Copy, PartialEq, Eq, Debug)]
+#[derive(Clone, Copy)]
 pub struct OutstandingRead {
     /// The number of the entry.
     pub entry: u64,
