@@ -226,8 +226,7 @@ impl Session {
         let mut commands = self.commands.hand_out(alloc);
         self.channel.run(
             &self.coming[..due],
-            self.cycle,
-            until,
+            self.cycle..until,
             &mut commands,
             &mut self.replies.all,
         )?;
