@@ -1,19 +1,15 @@
 -- A table of several lists goes on with the row of the list that begins soonest.
 use Rattle.std.proofs.Common.{◌≡◌, ℕ, zero, suc, ◌<◌, ◌≤◌, Bool, true, false, eqb, List, [], ◌∷◌, ◌++◌, length, get_or, set, drop, slice_get, Option, Some, None, IfSome, refl, sym, ap, subst, ◌∙◌, arith}
-use Rattle.std.specs.Prelude.{flat_map, All}
+use Rattle.std.specs.Prelude.{All}
 use Rattle.std.specs.List.{AllByRecursion as Each}
 use Rattle.std.proofs.lemmas.Bool.{eqb-true, eqb-false}
 use Rattle.std.proofs.lemmas.List.{get_or_default, append-nil}
 use Rattle.std.proofs.lemmas.List.Elements.{filter-append, recursion_from_All, All-set}
 use Rattle.sim_base.specs.declared.command.IssuedCommand.{IssuedCommand}
 use Rattle.sim_base.proofs.Each.{Each-append}
-use Rattle.command_table.specs.Tables.{IsRising, rows_in, HaveSameCycles, by_cycle, table_of}
+use Rattle.command_table.specs.Tables.{IsRising, rows_in, all_rows as all, HaveSameCycles, by_cycle, table_of}
 use Rattle.command_table.specs.Lefts.{first_cycle, IsNext}
 use Rattle.command_table.proofs.Rising.{Rising, rising-pairs, own-cycle, other-cycle, cons-same, by_cycle-is, by_cycle-rising, by_cycle-same, each-by_cycle}
-
--- the rows of all lists
-abbrev all : List (List IssuedCommand) → List IssuedCommand
-all lists = flat_map (λ rows. rows) lists
 
 -- a list that begins no sooner than in a cycle
 abbrev pub From : ℕ → List IssuedCommand → Type 0

@@ -10,13 +10,9 @@ use Rattle.std.proofs.lemmas.List.Elements.{filter-append}
 use Rattle.std.proofs.lemmas.List.Filters.{length-filter_both}
 use Rattle.sim_base.specs.declared.command.IssuedCommand.{IssuedCommand}
 use Rattle.sim_base.proofs.Each.{Each-append}
-use Rattle.command_table.specs.Tables.{rows_in, rows_up_to, rows_after, HaveSameCycles, by_cycle, table_of}
+use Rattle.command_table.specs.Tables.{rows_in, all_rows as all, rows_up_to, rows_after, HaveSameCycles, by_cycle, table_of}
 use Rattle.command_table.specs.Lefts.{AllUpTo, AllAfter}
 use Rattle.command_table.proofs.Rising.{Rising, own-cycle, other-cycle, cons-same, by_cycle-is, by_cycle-rising, by_cycle-same, each-by_cycle}
-
--- the rows of all lists
-abbrev all : List (List IssuedCommand) → List IssuedCommand
-all lists = flat_map (λ rows. rows) lists
 
 each-up-to : (cycle : ℕ) (rows : List IssuedCommand) → AllUpTo cycle (rows_up_to cycle rows)
 each-up-to cycle [] = tt

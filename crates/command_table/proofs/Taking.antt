@@ -1,6 +1,6 @@
 -- What is left of a list without its first row.
 use Rattle.std.proofs.Common.{◌≡◌, ℕ, zero, suc, ◌+◌, ◌<◌, List, [], ◌∷◌, ◌++◌, length, get_or, take, drop, set, Some, None, slice_get, refl, sym, ap, ap₂, ◌∙◌, add-one, arith}
-use Rattle.std.specs.Prelude.{flat_map}
+use Rattle.command_table.specs.Tables.{all_rows as all}
 use Rattle.std.specs.List.{remove}
 use Rattle.std.proofs.lemmas.List.{take_more, append-nil}
 use Rattle.std.proofs.lemmas.List.Concat.{flat_map-append}
@@ -30,30 +30,17 @@ drop-one rows place = ap (λ n. drop n rows) (add-one place) ∙ by rows place
     by (row ∷ rows) (suc place) = by rows place
 
 -- a list with no row can be left out
-pub without-empty : (lists : List (List IssuedCommand)) (place : ℕ) → place < length lists → flat_map (λ rows. rows) (remove lists place) ≡ flat_map (λ rows. rows) (set lists place [])
+pub without-empty : (lists : List (List IssuedCommand)) (place : ℕ) → place < length lists → all (remove lists place) ≡ all (set lists place [])
 without-empty [] place l = absurd (omega (arith, l))
 without-empty (rows ∷ lists) zero l = refl
 without-empty (rows ∷ lists) (suc place) l = ap (λ z. rows ++ z) (without-empty lists place (omega (arith, l)))
 
--- the rows of all lists
-abbrev all : List (List IssuedCommand) → List IssuedCommand
-all lists = flat_map (λ rows. rows) lists
-
 -- one list more
-pub some-more : (lists lefts new : List (List IssuedCommand)) (i : ℕ) (list left : List IssuedCommand) → i < length lists → list ≡ get_or lists i list → left ≡ list → new ≡ lefts ++ left ∷ []
-    → flat_map (λ rows. rows) lefts ≡ flat_map (λ rows. rows) (take i lists) → flat_map (λ rows. rows) new ≡ flat_map (λ rows. rows) (take (i + 1) lists)
-some-more lists lefts new i list left l is same pushed h =
-    ap all pushed
-    ∙ flat_map-append (λ rows. rows) lefts (left ∷ [])
-    ∙ ap₂ (λ xs ys. xs ++ (ys ++ [])) h (same ∙ is)
-    ∙ sym (ap all (take_more lists i list l) ∙ flat_map-append (λ rows. rows) (take i lists) (get_or lists i list ∷ []))
-
--- one more that has no row
-pub none-more : (lists lefts : List (List IssuedCommand)) (i : ℕ) (list : List IssuedCommand) → i < length lists → list ≡ get_or lists i list → list ≡ []
-    → flat_map (λ rows. rows) lefts ≡ flat_map (λ rows. rows) (take i lists) → flat_map (λ rows. rows) lefts ≡ flat_map (λ rows. rows) (take (i + 1) lists)
-none-more lists lefts i list l is none h =
-    h
+pub part-more : (lists lefts new : List (List IssuedCommand)) (i : ℕ) (list part : List IssuedCommand) → i < length lists → list ≡ get_or lists i list → part ≡ list
+    → all lefts ≡ all (take i lists) → all new ≡ all lefts ++ part → all new ≡ all (take (i + 1) lists)
+part-more lists lefts new i list part l is same h added =
+    added
+    ∙ ap₂ (λ xs ys. xs ++ ys) h (same ∙ is)
     ∙ sym (ap all (take_more lists i list l)
     ∙ flat_map-append (λ rows. rows) (take i lists) (get_or lists i list ∷ [])
-    ∙ ap (λ rows. all (take i lists) ++ (rows ++ [])) (sym is ∙ none)
-    ∙ append-nil (all (take i lists)))
+    ∙ ap (λ rows. all (take i lists) ++ rows) (append-nil (get_or lists i list)))

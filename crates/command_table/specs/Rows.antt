@@ -1,8 +1,10 @@
 -- What a row that is kept in few bytes stands for.
 --     command_of kind rank group bank row column core entry      the command of a kind, with as many of these operands as it has
+--     command_with kind operands      the same with operands that are together
+--     row_kept kind cycle entry row_and_channel column_and_bank core      the row that numbers of few bytes stand for
 --     operands_in command      the operands of a command, and 0 for those that it does not have
 --     IsUsual row      its numbers are those of a usual machine and trace
-use Rattle.std.specs.Prelude.{ℕ, ◌^◌, ◌<◌}
+use Rattle.std.specs.Prelude.{ℕ, ◌^◌, ◌<◌, ◌/◌, ◌%◌}
 use Rattle.sim_base.specs.declared.command.Command.{Command}
 use Rattle.sim_base.specs.declared.command.Command.TheVariants.{Act as ACT, Rd as RD, Wr as WR, Pre as PRE, Prea as PREA, Ref as REF}
 use Rattle.sim_base.specs.declared.command.IssuedCommand.{IssuedCommand}
@@ -18,6 +20,21 @@ command_of Wr rank group bank row column core entry = WR (record { rank = rank; 
 command_of Pre rank group bank row column core entry = PRE (record { rank = rank; group = group; bank = bank }) (record { core = core; entry = entry })
 command_of Prea rank group bank row column core entry = PREA rank
 command_of Ref rank group bank row column core entry = REF rank
+
+-- the same with operands that are together
+abbrev pub command_with : Kind → Operands → Command
+command_with kind operands =
+    command_of kind operands.bank.rank operands.bank.group operands.bank.bank operands.row operands.column operands.source.core operands.source.entry
+
+-- the row that numbers of few bytes stand for: the channel is the lowest 8 bits below the row, and the rank, the group and the bank are 2 bits
+-- each below the column
+abbrev pub row_kept : Kind → ℕ → ℕ → ℕ → ℕ → ℕ → IssuedCommand
+row_kept kind cycle entry row_and_channel column_and_bank core =
+    record {
+      cycle = cycle;
+      channel = row_and_channel % 256;
+      command = command_of kind (column_and_bank / 16 % 4) (column_and_bank / 4 % 4) (column_and_bank % 4) (row_and_channel / 256) (column_and_bank / 64) core entry;
+    }
 
 -- the operands of a command, and 0 for those that it does not have
 abbrev pub operands_in : Command → Operands

@@ -3,6 +3,7 @@
 --     rows_in cycle table      the rows of one cycle
 --     rows_up_to cycle table      the rows up to a cycle
 --     rows_after cycle table      the rows after a cycle
+--     all_rows lists      the rows of all lists, one list after another
 --     HaveSameCycles table other      two tables have the same rows in each cycle, in the same order
 --     by_cycle rows      rows by cycle, those of a cycle in the order in which they stand
 --     table_of lists      the rows of some lists as one table: by cycle, and those of a cycle by their list
@@ -40,6 +41,10 @@ unfoldable pub by_cycle : List IssuedCommand → List IssuedCommand
 by_cycle [] = []
 by_cycle (row ∷ rows) = put row (by_cycle rows)
 
+-- the rows of all lists, one list after another
+abbrev pub all_rows : List (List IssuedCommand) → List IssuedCommand
+all_rows lists = flat_map (λ rows. rows) lists
+
 -- the rows of some lists as one table: by cycle, and those of a cycle by their list
 abbrev pub table_of : List (List IssuedCommand) → List IssuedCommand
-table_of lists = by_cycle (flat_map (λ rows. rows) lists)
+table_of lists = by_cycle (all_rows lists)

@@ -2,7 +2,7 @@
 
 ghost use Rattle.std.specs.Prelude.{◌≡◌, ◌↔◌, IsSome, IfSome};
 ghost use Rattle.sim_base.specs.Rules.{kind_of};
-ghost use Rattle.command_table.specs.Rows.{command_of, operands_in, IsUsual};
+ghost use Rattle.command_table.specs.Rows.{command_with, operands_in, IsUsual};
 
 use sim_base::command::{Command, IssuedCommand, Kind, Source};
 use sim_base::message::Cycle;
@@ -25,13 +25,13 @@ pub(crate) struct Compact {
 }
 
 impl Model for Compact {
-    ghost use Rattle.std.specs.Prelude.{◌/◌, ◌%◌};
     ghost use Rattle.sim_base.specs.declared.command.IssuedCommand.{IssuedCommand as Row};
-    ghost use Rattle.command_table.specs.Rows.{command_of};
+    ghost use Rattle.command_table.specs.Rows.{row_kept};
 
     ghost Value = { Row };
 
-    ghost view = { λ c. record { cycle = c.cycle; channel = c.row_and_channel % 256; command = command_of c.kind (c.column_and_bank / 16 % 4) (c.column_and_bank / 4 % 4) (c.column_and_bank % 4) (c.row_and_channel / 256) (c.column_and_bank / 64) c.core c.entry } };
+    ghost view = { λ c. row_kept c.kind c.cycle c.entry c.row_and_channel c.column_and_bank
+        c.core };
 }
 
 const _: () = prove!(size_of::<Compact>() == 16);
@@ -49,7 +49,7 @@ const NO_SOURCE: Source = Source { core: 0, entry: 0 };
 
 fn operands_of(command: Command) -> Operands
     ensures operands { result ≡ operands_in command }
-    ensures command { command_of (kind_of command) result.bank.rank result.bank.group result.bank.bank result.row result.column result.source.core result.source.entry ≡ command }
+    ensures command { command_with (kind_of command) result ≡ command }
 {
     match command {
         Command::Act { bank, row, source } => Operands {
@@ -96,7 +96,7 @@ fn operands_of(command: Command) -> Operands
 
 /// The command of a kind with these operands.
 fn command_with(kind: Kind, operands: Operands) -> Command
-    ensures { result ≡ command_of kind operands.bank.rank operands.bank.group operands.bank.bank operands.row operands.column operands.source.core operands.source.entry }
+    ensures { result ≡ command_with kind operands }
 {
     let Operands {
         bank,

@@ -1,9 +1,9 @@
 //! A table in pieces, which can be read at the same time.
 
-ghost use Rattle.std.specs.Prelude.{◌≡◌, ◌<◌, ◌++◌, [], length, min, unwrap_or, flat_map, All, IfOk, IfSome, OnOk, MatchOption};
-ghost use Rattle.command_table.specs.Tables.{IsRising, rows_up_to, rows_after};
+ghost use Rattle.std.specs.Prelude.{◌≡◌, ◌<◌, length, min, flat_map, All, IfOk, IfSome, MatchOption};
+ghost use Rattle.command_table.specs.Tables.{IsRising, all_rows, rows_up_to, rows_after};
 
-use crate::left::Left;
+use crate::left::{Left, add};
 use crate::table::{CommandTable, Rows};
 use sim_base::message::Cycle;
 use std::alloc::{AllocError, Global};
@@ -20,7 +20,7 @@ fn sooner(cycle: Cycle, other: Option<Cycle>) -> Cycle
 
 /// The least cycle of the commands that have `count` others of their list before them, if a list has one.
 fn cut_of(lefts: &[Left<'_>], count: usize) -> Option<Cycle>
-    ensures { IfSome result (λ cycle. 0 < length (rows_up_to cycle (flat_map (λ rows. rows) lefts.now))) }
+    ensures { IfSome result (λ cycle. 0 < length (rows_up_to cycle (all_rows lefts.now))) }
 {
     let mut least = None;
     for left in lefts {
@@ -29,17 +29,6 @@ fn cut_of(lefts: &[Left<'_>], count: usize) -> Option<Cycle>
         }
     }
     least
-}
-
-/// Adds what is left of a list, if anything is.
-fn add<'a>(lefts: &mut Vec<Left<'a>>, left: Option<Left<'a>>) -> Result<(), AllocError>
-    ensures rows { OnOk result (flat_map (λ rows. rows) lefts.new.items ≡ flat_map (λ rows. rows) lefts.old.items ++ unwrap_or left.entry []) }
-    ensures rising { OnOk result (IsRising (unwrap_or left.entry []) → All IsRising lefts.old.items → All IsRising lefts.new.items) }
-{
-    match left {
-        Some(left) => Ok(lefts.push(left)?),
-        None => Ok(()),
-    }
 }
 
 /// What is left of lists in two parts: up to a cycle, and after it.
@@ -52,9 +41,12 @@ struct Parts<'a> {
 /// What is left of lists, up to a cycle and after it. The only error is out of memory.
 fn parts_of<'a>(alloc: Global, lefts: &[Left<'a>], cycle: Cycle) -> Result<Parts<'a>, AllocError>
     requires { All IsRising lefts.now }
-    ensures before { IfOk result (λ parts. flat_map (λ rows. rows) parts.before.items ≡ rows_up_to cycle (flat_map (λ rows. rows) lefts.now)) }
-    ensures behind { IfOk result (λ parts. flat_map (λ rows. rows) parts.behind.items ≡ rows_after cycle (flat_map (λ rows. rows) lefts.now)) }
-    ensures rising { IfOk result (λ parts. All IsRising parts.before.items × All IsRising parts.behind.items) }
+    ensures before { IfOk result (λ parts. all_rows parts.before.items
+        ≡ rows_up_to cycle (all_rows lefts.now)) }
+    ensures behind { IfOk result (λ parts. all_rows parts.behind.items
+        ≡ rows_after cycle (all_rows lefts.now)) }
+    ensures rising { IfOk result (λ parts. All IsRising parts.before.items
+        × All IsRising parts.behind.items) }
 {
     let mut before = Vec::with_capacity(alloc, lefts.len())?;
     let mut behind = Vec::with_capacity(alloc, lefts.len())?;
@@ -76,8 +68,8 @@ impl CommandTable {
         let mut pieces = Vec::new(alloc);
         while let Some(cycle) = cut_of(&lefts, count) {
             let Parts { before, behind } = parts_of(alloc, &lefts, cycle)?;
-            pieces.push(Rows::of(before))?;
             lefts = behind;
+            pieces.push(Rows::of(before))?;
         }
         pieces.push(Rows::of(lefts))?;
         Ok(pieces)

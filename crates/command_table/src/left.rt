@@ -1,12 +1,13 @@
 //! What is left to be read of a list of commands.
 
-ghost use Rattle.std.specs.Prelude.{◌≡◌, ◌≤◌, [], Some, None, IfSome, MatchBool, ◌+◌, unwrap_or, length, take, drop, slice_get};
+ghost use Rattle.std.specs.Prelude.{◌≡◌, ◌≤◌, ◌++◌, [], Some, None, All, IfSome, OnOk, MatchBool, ◌+◌, unwrap_or, length, take, drop, slice_get};
 ghost use Rattle.command_table.specs.Lefts.{first_cycle, AllUpTo, AllAfter};
-ghost use Rattle.command_table.specs.Tables.{IsRising, rows_up_to, rows_after};
+ghost use Rattle.command_table.specs.Tables.{IsRising, all_rows, rows_up_to, rows_after};
 
 use crate::list::CommandList;
 use sim_base::command::IssuedCommand;
 use sim_base::message::Cycle;
+use std::alloc::AllocError;
 use std::marker::Model;
 
 /// What is left of a list, at least one command: those from a place on and before an end, and the cycle of the first.
@@ -27,7 +28,8 @@ impl<'a> Model for Left<'a> {
 
     ghost view = { λ l. drop l.place (take l.end l.list.now) };
 
-    ghost invariant = { λ l. (first_cycle (drop l.place (take l.end l.list.now)) ≡ Some l.cycle) × (l.place < l.end) × (l.end ≤ length l.list.now) };
+    ghost invariant = { λ l. (first_cycle (drop l.place (take l.end l.list.now)) ≡ Some l.cycle)
+        × (l.place < l.end) × (l.end ≤ length l.list.now) };
 }
 
 impl<'a> Left<'a> {
@@ -50,13 +52,11 @@ impl<'a> Left<'a> {
         })
     }
 
-    /// A list from a place on, if it has a command there.
-    #[inline(always)]
-    pub(crate) fn of(list: &'a CommandList, place: usize) -> Option<Self>
-        ensures some { IfSome result (λ left. left ≡ drop place list.now) }
-        ensures none { result ≡ None → drop place list.now ≡ [] }
+    /// A list from which nothing was read, if it has a command.
+    pub(crate) fn of(list: &'a CommandList) -> Option<Self>
+        ensures { unwrap_or result [] ≡ list.now }
     {
-        Left::between(list, place, list.len())
+        Left::between(list, 0, list.len())
     }
 
     /// A copy of what is left.
@@ -118,7 +118,8 @@ impl<'a> Left<'a> {
     /// Whether the first `count` commands and the next one are up to a cycle. If not, none after the first `count` is.
     fn goes_up_to(&self, count: usize, cycle: Cycle) -> bool
         requires { IsRising self.now }
-        ensures { MatchBool result (AllUpTo cycle (take (count + 1) self.now)) (AllAfter cycle (drop count self.now)) }
+        ensures { MatchBool result
+            (AllUpTo cycle (take (count + 1) self.now)) (AllAfter cycle (drop count self.now)) }
     {
         match self.get(count) {
             Some(row) => row.cycle <= cycle,
@@ -164,5 +165,18 @@ impl<'a> Left<'a> {
     {
         let place = self.place + self.count_up_to(cycle);
         Left::between(self.list, place, self.end)
+    }
+}
+
+/// Adds what is left of a list, if anything is. The only error is out of memory.
+pub(crate) fn add<'a>(lefts: &mut Vec<Left<'a>>, left: Option<Left<'a>>) -> Result<(), AllocError>
+    ensures rows { OnOk result (all_rows lefts.new.items ≡ all_rows lefts.old.items
+        ++ unwrap_or left.entry []) }
+    ensures rising { OnOk result (IsRising (unwrap_or left.entry [])
+        → All IsRising lefts.old.items → All IsRising lefts.new.items) }
+{
+    match left {
+        Some(left) => Ok(lefts.push(left)?),
+        None => Ok(()),
     }
 }

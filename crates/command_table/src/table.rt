@@ -4,7 +4,7 @@ ghost use Rattle.std.specs.Prelude.{◌≡◌, ◌<◌, [], ◌∷◌, length, d
 ghost use Rattle.command_table.specs.Tables.{IsRising, table_of};
 ghost use Rattle.command_table.specs.Lefts.{IsNext};
 
-use crate::left::Left;
+use crate::left::{Left, add};
 use crate::list::CommandList;
 use sim_base::command::IssuedCommand;
 use sim_base::message::Cycle;
@@ -69,7 +69,9 @@ fn soonest(lefts: &[Left<'_>]) -> Option<usize>
 #[inline(always)]
 fn drop_first(lefts: &mut Vec<Left<'_>>, place: usize)
     requires place { place < length lefts.old.items }
-    ensures table { table_of lefts.new.items ≡ table_of (slice_set lefts.old.items place (drop 1 (slice_index_or lefts.old.items place []))) }
+    ensures table { table_of lefts.new.items
+        ≡ table_of (slice_set lefts.old.items place
+        (drop 1 (slice_index_or lefts.old.items place []))) }
     ensures rising { All IsRising lefts.old.items → All IsRising lefts.new.items }
 {
     match lefts[place].rest() {
@@ -124,9 +126,7 @@ fn lefts_of<'a>(alloc: Global, lists: &'a [CommandList]) -> Result<Vec<Left<'a>>
 {
     let mut lefts = Vec::with_capacity(alloc, lists.len())?;
     for list in lists {
-        if let Some(left) = Left::of(list, 0) {
-            lefts.push(left)?;
-        }
+        add(&mut lefts, Left::of(list))?;
     }
     Ok(lefts)
 }

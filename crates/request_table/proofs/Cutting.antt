@@ -1,8 +1,9 @@
 -- Requests by cycle, cut at a cycle: those that were served up to it, and those after it.
 use Rattle.std.proofs.Common.{◌≡◌, ℕ, zero, suc, ◌<◌, ◌≤◌, Bool, true, false, cond, leb, ltb, eqb, List, [], ◌∷◌, ◌++◌, length, get_or, map, take, drop, refl, sym, ap, ap₂, ◌∙◌, arith}
-use Rattle.std.specs.Prelude.{filter, All}
+use Rattle.std.specs.Prelude.{filter, flat_map, All}
 use Rattle.std.proofs.lemmas.Bool.{cond-true, cond-false, cond_both, ne_eqb, leb-true, leb-false, le-leb, lt-leb, lt-ltb, le-ltb}
-use Rattle.std.proofs.lemmas.List.{map-append}
+use Rattle.std.proofs.lemmas.List.{map-append, append-nil, append_assoc}
+use Rattle.std.proofs.lemmas.List.Concat.{flat_map-append}
 use Rattle.sim_base.specs.declared.config.Config.{Config}
 use Rattle.request_table.specs.declared.served_requests.ServedRequest.{ServedRequest}
 use Rattle.request_table.specs.Tables.{AreServed, IsInOrder, served_at, by_cycle, rows_up_to, rows_after, times_of, times_by_cycle}
@@ -125,3 +126,18 @@ pub all-served-filter : (p : ServedRequest → Bool) (until : ℕ) (lists : List
 all-served-filter p until [] h k d l = absurd (omega (arith, l))
 all-served-filter p until (rows ∷ lists) h zero d l = served-filter p 0 until rows (h 0 rows (omega arith))
 all-served-filter p until (rows ∷ lists) h (suc k) d l = all-served-filter p until lists (λ i e m. h (suc i) e (omega (arith, m))) k d (omega (arith, l))
+
+-- one piece more, and what is left behind it
+pub piece-more : {A : Type 0} (pieces new : List (List A)) (piece left rest table : List A) → new ≡ pieces ++ piece ∷ [] → left ≡ piece ++ rest → flat_map (λ piece. piece) pieces ++ left ≡ table
+    → flat_map (λ piece. piece) new ++ rest ≡ table
+piece-more pieces new piece left rest table pushed taken h =
+    ap (λ ls. flat_map (λ piece. piece) ls ++ rest) pushed
+    ∙ ap (λ rows. rows ++ rest) (flat_map-append (λ piece. piece) pieces (piece ∷ []) ∙ ap (λ rows. flat_map (λ piece. piece) pieces ++ rows) (append-nil piece))
+    ∙ append_assoc (flat_map (λ piece. piece) pieces) piece rest
+    ∙ ap (λ rows. flat_map (λ piece. piece) pieces ++ rows) (sym taken)
+    ∙ h
+
+-- what is left is the last piece
+pub piece-last : {A : Type 0} (pieces new : List (List A)) (left table : List A) → new ≡ pieces ++ left ∷ [] → flat_map (λ piece. piece) pieces ++ left ≡ table → flat_map (λ piece. piece) new ≡ table
+piece-last pieces new left table pushed h =
+    ap (flat_map (λ piece. piece)) pushed ∙ flat_map-append (λ piece. piece) pieces (left ∷ []) ∙ ap (λ rows. flat_map (λ piece. piece) pieces ++ rows) (append-nil left) ∙ h

@@ -2,8 +2,9 @@
 --     first_cycle rows      the cycle in which the first of the requests was served
 --     IsNextOf lists count place cycle      of the first `count` lists, the one at this place begins in this cycle, and none sooner
 --     IsNextAmong lists count next      the same, where none of them may have a request
+--     IsSooner found place cycle result      of the list that was found and the one at a place, the one that goes on sooner
 --     IsNext lists place      the one at this place goes on soonest of all lists
-use Rattle.std.specs.Prelude.{◌≡◌, ℕ, ◌<◌, ◌≤◌, List, [], ◌∷◌, length, slice_index_or, Option, Some, None, IfSome}
+use Rattle.std.specs.Prelude.{◌≡◌, ℕ, ◌+◌, ◌<◌, ◌≤◌, List, [], ◌∷◌, length, slice_index_or, Option, Some, None, IfSome}
 use Rattle.request_table.specs.declared.served_requests.ServedRequest.{ServedRequest}
 use Rattle.request_table.specs.declared.table.Next.{Next}
 
@@ -23,6 +24,12 @@ pub record IsNextOf (lists : List (List ServedRequest)) (count place cycle : ℕ
 abbrev pub IsNextAmong : List (List ServedRequest) → ℕ → Option Next → Type 0
 IsNextAmong lists count None = (k : ℕ) → k < count → slice_index_or lists k [] ≡ []
 IsNextAmong lists count (Some next) = IsNextOf lists count next.place next.cycle
+
+-- `found` is the next one of the lists before a place; if the list there begins in this cycle, where it has a request, `result` is the next one of
+-- those up to the place
+abbrev pub IsSooner : Option Next → ℕ → Option ℕ → Option Next → Type 0
+IsSooner found place cycle result =
+    (lists : List (List ServedRequest)) → IsNextAmong lists place found → first_cycle (slice_index_or lists place []) ≡ cycle → IsNextAmong lists (place + 1) result
 
 -- the one at this place goes on soonest of all lists
 pub record IsNext (lists : List (List ServedRequest)) (place : ℕ) : Type 0 where

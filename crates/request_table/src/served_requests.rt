@@ -4,7 +4,7 @@ use sim_base::message::{ChannelId, CoreId, Cycle};
 use std::mem::size_of;
 
 /// A request that a channel served: whose it is, when it came to the channel, and when and how its data was moved. It takes 32 bytes.
-#[derive(Clone, Copy, PartialEq, Eq, Debug)]
+#[derive(Clone, Copy)]
 pub struct ServedRequest {
     /// The entry of its core's trace.
     pub entry: u64,

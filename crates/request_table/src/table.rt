@@ -1,9 +1,8 @@
 //! The served requests of several lists as one table.
 
-ghost use Rattle.std.specs.Prelude.{◌≡◌, ◌+◌, List, [], ◌∷◌, slice_index_or, None, All, IfOk, IfSome, MatchOption};
-ghost use Rattle.request_table.specs.declared.served_requests.ServedRequest.{ServedRequest};
+ghost use Rattle.std.specs.Prelude.{◌≡◌, [], ◌∷◌, None, All, IfOk, IfSome, MatchOption};
 ghost use Rattle.request_table.specs.Tables.{AreServed, times_by_cycle};
-ghost use Rattle.request_table.specs.Lefts.{first_cycle, IsNext, IsNextAmong};
+ghost use Rattle.request_table.specs.Lefts.{IsNext, IsSooner};
 
 use crate::left::{Left, ServedList};
 use crate::times::RequestTimes;
@@ -64,7 +63,7 @@ struct Next {
 /// The sooner of the list that was found so far and the one behind it, which goes on in this cycle, if it does.
 #[inline(always)]
 fn sooner(found: Option<Next>, place: usize, cycle: Option<Cycle>) -> Option<Next>
-    ensures { (lists : List (List ServedRequest)) → IsNextAmong lists place found → first_cycle (slice_index_or lists place []) ≡ cycle → IsNextAmong lists (place + 1) result }
+    ensures { IsSooner found place cycle result }
 {
     match (found, cycle) {
         (Some(next), Some(cycle)) if cycle < next.cycle => Some(Next { place, cycle }),

@@ -25,7 +25,8 @@ fn later(from: Cycle, wait: u64, cycles: Cycle) -> Option<Cycle>
 
 /// When the reply to a served request comes to its core, if it has one and that is a cycle of a run of so many.
 fn replied(config: &Config, cycles: Cycle, request: &ServedRequest) -> Option<Cycle>
-    ensures { result ≡ replied_in config.now cycles (access_of request.now.write) request.now.core request.now.channel request.now.served }
+    ensures { result ≡ replied_in config.now cycles
+        (access_of request.now.write) request.now.core request.now.channel request.now.served }
 {
     if request.write {
         return None;

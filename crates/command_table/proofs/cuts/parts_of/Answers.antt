@@ -1,9 +1,36 @@
-use Rattle.std.proofs.Common.{◌≤◌, sym, subst, leb, ltb}
+use Rattle.std.proofs.Common.{◌≡◌, ◌≤◌, take, ap, ◌∙◌, sym, subst, leb, ltb, arith}
+use Rattle.std.specs.Prelude.{All}
+use Rattle.std.proofs.lemmas.List.{take_all}
+use Rattle.std.proofs.lemmas.List.Elements.{All-nil}
 use Rattle.std.proofs.lemmas.List.Kept.{AllPairs-filter}
 use Rattle.sim_base.specs.declared.command.IssuedCommand.{IssuedCommand}
-use Rattle.command_table.specs.Tables.{IsRising}
+use Rattle.command_table.specs.Tables.{IsRising, all_rows, rows_up_to, rows_after}
 use Rattle.command_table.proofs.Pieces.{up-to-more, after-more}
 use Rattle.command_table.proofs.cuts.parts_of.Goals as goal
+
+pub up_to-requires : goal.up_to-requires
+up_to-requires c = subst IsRising (sym c.left-item.is) (c.requires c.loop-left.left-index c.left-item.result c.loop-left-test.true)
+
+pub after-requires : goal.after-requires
+after-requires c = subst IsRising (sym c.left-item.is) (c.requires c.loop-left.left-index c.left-item.result c.loop-left-test.true)
+
+pub loop-left-init : goal.loop-left-init
+loop-left-init c =
+    record {
+      before = ap all_rows c.in_ok-before.ensures.items;
+      behind = ap all_rows c.in_ok-behind.ensures.items;
+      rising_before = subst (All IsRising) (sym c.in_ok-before.ensures.items) (All-nil IsRising);
+      rising_behind = subst (All IsRising) (sym c.in_ok-behind.ensures.items) (All-nil IsRising);
+    }
+
+pub returns : goal.returns
+returns c =
+    let whole : take c.loop-left.left-index c.args.lefts.now ≡ c.args.lefts.now = take_all c.loop-left.left-index c.args.lefts.now (omega arith) in
+    record {
+      before = c.loop-left.invariant.before ∙ ap (λ lists. rows_up_to c.args.cycle (all_rows lists)) whole;
+      behind = c.loop-left.invariant.behind ∙ ap (λ lists. rows_after c.args.cycle (all_rows lists)) whole;
+      rising = (c.loop-left.invariant.rising_before, c.loop-left.invariant.rising_behind);
+    }
 
 pub loop-left-preserved : goal.loop-left-preserved
 loop-left-preserved c =
