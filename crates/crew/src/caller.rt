@@ -10,6 +10,7 @@ use crate::shared::Shared;
 use crate::work::{DoneOf, Work};
 use std::alloc::{AllocError, Global};
 use std::sync::Wait;
+use std::sync::atomic::Ordering;
 
 /// Who runs the tasks of a phase.
 pub trait Phases<T, D: DoneOf<T>> {
@@ -166,12 +167,14 @@ fn run_phase<T: Drop, D: DoneOf<T> + Drop, W: Work<T, D>, B: BoardName, R: Wait>
     ensures each { IfOk result (λ results. IsPermutation tasks.items (map D.task results.items)) }
 {
     let count = tasks.len();
-    shared.begin();
+    shared.next_worker.store(0, Ordering::SeqCst);
     put_all(shared.context.rt, &shared.board, put, tasks);
     shared.tasks_ready.raise();
-    let mut results = Vec::new(shared.context.alloc);
-    let mine = shared.claim(0, take)?;
-    add_returned(&shared.board, put, &mut results, mine)?;
+    let Returned {
+        seat: mine,
+        mut results,
+    } = shared.claim(0, take)?;
+    shared.board.absorb(put, mine);
     gather(shared, put, &mut results, count)?;
     shared.board.clear(put);
     Ok(results)

@@ -37,7 +37,7 @@ pub(crate) struct Shared<'a, T: Drop, D: DoneOf<T> + Drop, W: Work<T, D>, B: Boa
     pub(crate) results_ready: Signal,
     pub(crate) over: AtomicBool,
     /// The number of the worker that is next to take its first task of this phase.
-    next_worker: AtomicUsize,
+    pub(crate) next_worker: AtomicUsize,
     pub(crate) limits: WaitLimits,
 }
 
@@ -70,11 +70,6 @@ impl<'a, T: Drop, D: DoneOf<T> + Drop, W: Work<T, D>, B: BoardName, R: Wait> Sha
             next_worker: AtomicUsize::new(0),
             limits,
         })
-    }
-
-    /// Begins a phase, in which the caller takes first.
-    pub(crate) fn begin(&self) {
-        self.next_worker.store(0, Ordering::SeqCst);
     }
 
     // Waits until the workers with lower numbers have taken, but not for long.
@@ -114,17 +109,16 @@ impl<'a, T: Drop, D: DoneOf<T> + Drop, W: Work<T, D>, B: BoardName, R: Wait> Sha
         let context = &self.context;
         let mut results = Vec::new(context.alloc);
         for _ in context.rt.forever() {
-            let is_first = results.is_empty();
-            let Some(task) = self.next_task(worker, seat, is_first) else {
-                let theirs = self.board.cut(seat);
-                return Ok(Returned {
-                    seat: theirs,
-                    results,
-                });
+            let Some(task) = self.next_task(worker, seat, results.is_empty()) else {
+                break;
             };
             results.push(context.work.run(context.alloc, worker, task)?)?;
         }
-        unreachable!()
+        let theirs = self.board.cut(seat);
+        Ok(Returned {
+            seat: theirs,
+            results,
+        })
     }
 
     // Returns to the caller what came of tasks. There is room for each, so it goes at once.
@@ -141,10 +135,6 @@ impl<'a, T: Drop, D: DoneOf<T> + Drop, W: Work<T, D>, B: BoardName, R: Wait> Sha
         self.results_ready.raise();
     }
 
-    fn is_over(&self) -> bool {
-        self.over.load(Ordering::SeqCst)
-    }
-
     /// What a thread does until it is told that the run is over: it runs tasks, returns what came of them, and waits
     /// for more. Where memory is refused, it says so and ends.
     pub(crate) fn serve(&self, worker: usize, seat: TakeSeat<T, B>)
@@ -158,17 +148,17 @@ impl<'a, T: Drop, D: DoneOf<T> + Drop, W: Work<T, D>, B: BoardName, R: Wait> Sha
                     if !returned.results.is_empty() {
                         self.send(Ok(returned));
                     }
-                    if self.is_over() {
-                        return;
-                    }
-                    self.tasks_ready
-                        .wait_past(self.context.rt, self.limits, seen);
                 }
                 Err(AllocError) => {
                     self.send(Err(AllocError));
-                    return;
+                    break;
                 }
             }
+            if self.over.load(Ordering::SeqCst) {
+                break;
+            }
+            self.tasks_ready
+                .wait_past(self.context.rt, self.limits, seen);
         }
     }
 
