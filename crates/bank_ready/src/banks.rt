@@ -3,8 +3,9 @@
 ghost use Rattle.std.specs.Prelude.{◌≡◌, ◌+◌, ◌*◌, ◌^◌, ◌<◌, ◌≤◌, length};
 
 use crate::words::{
-    DataCommand, RankState, bound_until, note_act_in_rank, own_number, raise_acts, raise_data,
-    raise_own, raise_rank, raise_rank_groups, raise_rank_words, unused_rank,
+    DataCommand, RankState, bank_and_group_words, bound_until, new_words, note_act_in_rank,
+    own_number, raise_acts, raise_data, raise_own, raise_rank, raise_rank_groups, raise_rank_words,
+    unused_ranks,
 };
 use sim_base::command::{Command, Kind, Relation};
 use sim_base::config::Config;
@@ -56,19 +57,25 @@ impl Banks {
         ensures stands { IfOk result (λ banks. StandsFor banks config.now []) }
         ensures ranks { IfOk result (λ banks. rank_count banks ≡ config.now.ranks) }
     {
-        let ranks = config.ranks as usize;
+        let count = config.ranks as usize;
+        let delays = Box::new(alloc, GapTable::of(config))?;
+        let ranks = unused_ranks(alloc, count)?;
+        let pre = new_words(alloc, 16 * count)?;
+        let (act, act_groups) = bank_and_group_words(alloc, count)?;
+        let (rd, rd_groups) = bank_and_group_words(alloc, count)?;
+        let (wr, wr_groups) = bank_and_group_words(alloc, count)?;
         Ok(Banks {
-            delays: Box::new(alloc, GapTable::of(config))?,
-            act: vec![in alloc; 0; 16 * ranks]?,
-            act_groups: vec![in alloc; 0; 4 * ranks]?,
-            rd: vec![in alloc; 0; 16 * ranks]?,
-            rd_groups: vec![in alloc; 0; 4 * ranks]?,
-            wr: vec![in alloc; 0; 16 * ranks]?,
-            wr_groups: vec![in alloc; 0; 4 * ranks]?,
-            pre: vec![in alloc; 0; 16 * ranks]?,
+            delays,
+            act,
+            act_groups,
+            rd,
+            rd_groups,
+            wr,
+            wr_groups,
+            pre,
             rd_floor: 0,
             wr_floor: 0,
-            ranks: vec![in alloc; unused_rank(); ranks]?,
+            ranks,
         })
     }
 

@@ -1,7 +1,7 @@
 //! What a channel keeps of the commands that were issued: columns with a word for each bank or for each group, and what it keeps
 //! of each rank.
 
-ghost use Rattle.std.specs.Prelude.{◌≡◌, ◌+◌, ◌*◌, ◌%◌, ◌^◌, ◌<◌, ◌≤◌, ℕ, IsTrue, IfSome, length};
+ghost use Rattle.std.specs.Prelude.{◌≡◌, ◌+◌, ◌*◌, ◌%◌, ◌^◌, ◌<◌, ◌≤◌, ℕ, IsTrue, IfSome, IfOk, length, replicate};
 ghost use Rattle.sim_base.specs.Places.{is_bank};
 ghost use Rattle.sim_base.specs.declared.command.Relation.{Relation};
 ghost use Rattle.sim_base.specs.Rules.{is_bound};
@@ -14,6 +14,7 @@ ghost use Rattle.bank_ready.specs.Raised.{data_until, act_until, IsRankChanged};
 use sim_base::command::{Kind, Relation};
 use sim_base::message::Cycle;
 use sim_base::place::BankId;
+use std::alloc::{AllocError, Global};
 use timing::gap_table::GapTable;
 
 /// The last four ACTs of a rank, by the cycle from which on each no longer counts for the four-activate window; 0 for each
@@ -35,7 +36,7 @@ pub(crate) struct RankState {
 }
 
 /// A rank that has had no command.
-pub(crate) fn unused_rank() -> RankState
+fn unused_rank() -> RankState
     ensures { result ≡ unused_rank }
 {
     RankState {
@@ -48,6 +49,34 @@ pub(crate) fn unused_rank() -> RankState
             last: 0,
         },
     }
+}
+
+/// Words that hold nothing back.
+pub(crate) fn new_words(alloc: Global, count: usize) -> Result<Vec<Cycle>, AllocError>
+    ensures { IfOk result (λ words. words.items ≡ replicate count 0) }
+{
+    vec![in alloc; 0; count]
+}
+
+/// The last commands of so many ranks, of which none has had one.
+pub(crate) fn unused_ranks(alloc: Global, count: usize) -> Result<Vec<RankState>, AllocError>
+    ensures { IfOk result (λ ranks. ranks.items ≡ replicate count unused_rank) }
+{
+    vec![in alloc; unused_rank(); count]
+}
+
+/// A word for each bank of so many ranks, and one for each group, that hold nothing back.
+pub(crate) fn bank_and_group_words(
+    alloc: Global,
+    ranks: usize,
+) -> Result<(Vec<Cycle>, Vec<Cycle>), AllocError>
+    requires { ranks ≤ 4 }
+    ensures banks { IfOk result (λ words. words.0.items ≡ replicate (16 * ranks) 0) }
+    ensures groups { IfOk result (λ words. words.1.items ≡ replicate (4 * ranks) 0) }
+{
+    let banks = new_words(alloc, 16 * ranks)?;
+    let groups = new_words(alloc, 4 * ranks)?;
+    Ok((banks, groups))
 }
 
 /// From which cycle on a command no longer holds back a later one that a rule binds to it.

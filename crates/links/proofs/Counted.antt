@@ -1,8 +1,8 @@
 -- Rings with room for those of some messages that go to them.
-use Rattle.std.proofs.Common.{ℕ, zero, suc, ◌+◌, ◌<◌, ◌≤◌, ◌≡◌, Bool, true, false, cond, eqb, List, [], ◌∷◌, length, get_or, set, drop, refl, sym, ap, ◌∙◌, subst, inl, inr, ◌⊎◌, arith}
+use Rattle.std.proofs.Common.{ℕ, zero, suc, ◌+◌, ◌<◌, ◌≤◌, ◌≡◌, Bool, true, false, cond, eqb, List, [], ◌∷◌, length, get_or, set, take, drop, add-zero, refl, sym, ap, ◌∙◌, subst, inl, inr, ◌⊎◌, arith}
 use Rattle.std.proofs.lemmas.Bool.{cases_lt, eqb-true, eq-eqb, false≢true}
 use Rattle.std.proofs.lemmas.List.{drop_more, get_or-set_same, get_or-set_other}
-use Rattle.std.proofs.lemmas.List.Sums.{sum_by-cons, count_by-le-length}
+use Rattle.std.proofs.lemmas.List.Sums.{sum_by-cons, count_by-le-length, count_by_more_yes, count_by_more_no}
 use Rattle.circular_buffer.specs.Buffer.{Buffer, buffer}
 use Rattle.sim_base.specs.declared.message.Message.{Message}
 use Rattle.links.specs.Rings.{ring_to, goes_to, count_to, HasRoom, HaveRoom, CanTakeUp, Grows}
@@ -100,6 +100,23 @@ one_more number n v xs l h = by (eqb number n) refl
         get_or-set_other xs number n v 0 (λ e. absurd (false≢true (sym f ∙ eq-eqb _ _ (sym e))))
         ∙ omega arith
         ∙ sym (ap (λ b. get_or xs n 0 + cond b 1 0) f)
+
+-- one message more is counted, at the ring that it goes to
+pub counts_more : (ch number i : ℕ) (d : Message) (old new : List ℕ) (ms : List Message) → i < length ms → number ≡ ring_to ch (get_or ms i d)
+    → ((n : ℕ) → get_or new n 0 ≡ get_or old n 0 + cond (eqb number n) 1 0) → ((n : ℕ) → get_or old n 0 ≡ count_to ch n (take i ms))
+    → (n : ℕ) → get_or new n 0 ≡ count_to ch n (take (i + 1) ms)
+counts_more ch number i d old new ms l is more before n = more n ∙ by (eqb number n) refl
+  where
+    by : (t : Bool) → eqb number n ≡ t → get_or old n 0 + cond (eqb number n) 1 0 ≡ count_to ch n (take (i + 1) ms)
+    by true e =
+        ap (λ b. get_or old n 0 + cond b 1 0) e
+        ∙ ap (λ k. k + 1) (before n)
+        ∙ sym (count_by_more_yes (goes_to ch n) ms i d l (ap (λ k. eqb k n) (sym is) ∙ e))
+    by false e =
+        ap (λ b. get_or old n 0 + cond b 1 0) e
+        ∙ add-zero (get_or old n 0)
+        ∙ before n
+        ∙ sym (count_by_more_no (goes_to ch n) ms i d l (ap (λ k. eqb k n) (sym is) ∙ e))
 
 -- one ring more has the room that is counted for it
 pub rooms_more : (number : ℕ) (counts : List ℕ) (a b : List (Buffer Message)) → Grows a b → ((n : ℕ) → n < number → HasRoom a n (get_or counts n 0)) → HasRoom b number (get_or counts number 0)

@@ -7,7 +7,7 @@ ghost use Rattle.queue.specs.Candidates.{number_of, access_number};
 use sim_base::place::BankId;
 
 /// The first requests of a bank that may be served, to read or to write: their places in the log.
-#[derive(Clone, Copy, PartialEq, Eq, Debug)]
+#[derive(Clone, Copy)]
 pub struct AccessCandidates {
     /// The first one.
     pub oldest: Option<usize>,
@@ -16,7 +16,7 @@ pub struct AccessCandidates {
 }
 
 /// The candidates of a bank, and the row that is open in it.
-#[derive(Clone, Copy, PartialEq, Eq, Debug)]
+#[derive(Clone, Copy)]
 pub struct CandidatesOfBank {
     pub row: Option<u32>,
     pub reads: AccessCandidates,

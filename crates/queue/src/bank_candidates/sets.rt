@@ -1,7 +1,7 @@
 //! Sets of banks.
 
 /// Some banks of a channel, by their numbers, which are below 64: bit k says whether bank k is one of them.
-#[derive(Clone, Copy, PartialEq, Eq, Debug)]
+#[derive(Clone, Copy)]
 pub struct BankSet {
     bits: u64,
 }
