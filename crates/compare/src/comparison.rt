@@ -65,7 +65,6 @@ fn heading_text(alloc: Global, layout: Layout, number: usize) -> Result<String, 
 }
 
 // The headings of so many runs behind the first.
-#[tactic(auto, using(crate::proofs::More::flat_map_below_more), unfolding(crate::specs::Comparison::headings_text))]
 fn headings_text(alloc: Global, layout: Layout, others: usize) -> Result<String, AllocError>
     requires { others < 2 ^ 63 }
     ensures { IfOk result (IsText (headings_text layout others)) }

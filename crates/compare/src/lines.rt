@@ -55,7 +55,6 @@ fn beginning_text(
 }
 
 // The line of a measure.
-#[tactic(auto, using(crate::proofs::More::flat_map_take_more), unfolding(crate::specs::Lines::line_text))]
 fn line_text(
     alloc: Global,
     layout: Layout,
@@ -75,7 +74,6 @@ fn line_text(
 }
 
 // A line for each of these measures.
-#[tactic(auto, using(crate::proofs::More::flat_map_take_more))]
 fn lines_of(
     alloc: Global,
     layout: Layout,

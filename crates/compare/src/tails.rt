@@ -48,7 +48,6 @@ fn tail_cells_text(
 }
 
 // The line of the first run and of others.
-#[tactic(auto, using(crate::proofs::More::flat_map_take_more), unfolding(crate::specs::Tails::tail_line_text))]
 fn tail_line_text(
     alloc: Global,
     layout: Layout,
