@@ -4,7 +4,6 @@ mod activity;
 mod cells;
 pub mod document;
 mod lanes;
-mod markup;
 mod overview;
 mod settings;
 mod stops;

@@ -1,6 +1,7 @@
 //! Where the time of the reads of each channel went, as bars. A bar's unit is a hundredth of a cycle.
 
-use crate::drawing::markup::{LegendEntry, Piece, put, put_legend};
+use crate::drawing::markup::{LegendEntry, Piece};
+use crate::drawing::page_text::Markup;
 use crate::drawing::scales::share_of;
 use request_table::times::RequestTimes;
 use std::alloc::{AllocError, Global};
@@ -127,82 +128,73 @@ fn all_parts(
 }
 
 // A part of a bar, after those before it.
-fn put_part(
-    class: &'static str,
-    before: u64,
-    hundredths: u64,
-    out: &mut String,
-) -> Result<(), AllocError> {
-    if hundredths == 0 {
-        return Ok(());
+fn put_part(class: &'static str, before: u64, hundredths: u64, out: &mut Markup) {
+    if hundredths > 0 {
+        out.fill(
+            "<rect class=\"{}\" x=\"{}\" width=\"{}\" height=\"1\"><title>{} cycles</title></rect>",
+            &[
+                Piece::Text(class),
+                Piece::Number(before),
+                Piece::Number(hundredths),
+                Piece::Hundredths(hundredths),
+            ],
+        );
     }
-    let pieces = [
-        Piece::Text("<rect class=\""),
-        Piece::Text(class),
-        Piece::Text("\" x=\""),
-        Piece::Number(before),
-        Piece::Text("\" width=\""),
-        Piece::Number(hundredths),
-        Piece::Text("\" height=\"1\"><title>"),
-        Piece::Hundredths(hundredths),
-        Piece::Text(" cycles</title></rect>"),
-    ];
-    put(&pieces, out)
 }
 
 // The bar of a channel, in a picture of so many hundredths of a cycle.
-fn put_bar(channel: u64, parts: Parts, width: u64, out: &mut String) -> Result<(), AllocError> {
-    let begin = [
-        Piece::Text("<div class=\"bar\"><b>channel "),
-        Piece::Number(channel),
-        Piece::Text(
-            "</b><svg preserveAspectRatio=\"none\" role=\"img\" aria-label=\"where the time of a read of channel ",
-        ),
-        Piece::Number(channel),
-        Piece::Text(" went: "),
-        Piece::Hundredths(parts.total()),
-        Piece::Text(" cycles\" viewBox=\"0 0 "),
-        Piece::Number(width),
-        Piece::Text(" 1\">"),
-    ];
-    put(&begin, out)?;
-    let mut before = 0u64;
-    for (class, hundredths) in [
-        ("end", parts.there),
-        ("window", parts.queue),
-        ("width", parts.data),
-        ("credit", parts.back),
-    ] {
-        put_part(class, before, hundredths, out)?;
-        before = before.saturating_add(hundredths);
-    }
-    out.push_str("</svg></div>\n")
+fn put_bar(channel: u64, parts: Parts, width: u64, out: &mut Markup) {
+    let id = Piece::Number(channel);
+    out.fill(
+        "<div class=\"bar\"><b>channel {}</b><svg preserveAspectRatio=\"none\" role=\"img\" aria-label=\"where the time of a read of channel {} went: {} cycles\" viewBox=\"0 0 {} 1\">",
+        &[
+            id,
+            id,
+            Piece::Hundredths(parts.total()),
+            Piece::Number(width),
+        ],
+    );
+    put_parts(parts, out);
+    out.push_str("</svg></div>\n");
+}
+
+// The parts of a bar, each after those before it.
+fn put_parts(parts: Parts, out: &mut Markup) {
+    let served = parts.there.saturating_add(parts.queue);
+    let moved = served.saturating_add(parts.data);
+    put_part("end", 0, parts.there, out);
+    put_part("window", parts.there, parts.queue, out);
+    put_part("width", served, parts.data, out);
+    put_part("credit", moved, parts.back, out);
 }
 
 // The scale below the bars: five labels, so many cycles apart.
-fn put_scale(apart: u64, out: &mut String) -> Result<(), AllocError> {
-    out.push_str("<div class=\"bar scale\"><b>cycles</b><p>")?;
+fn put_scale(apart: u64, out: &mut Markup) {
+    out.push_str("<div class=\"bar scale\"><b>cycles</b><p>");
     for place in 0..5u64 {
-        let pieces = [
-            Piece::Text("<i>"),
-            Piece::Grouped(apart.saturating_mul(place)),
-            Piece::Text("</i>"),
-        ];
-        put(&pieces, out)?;
+        out.fill("<i>{}</i>", &[Piece::Grouped(apart.saturating_mul(place))]);
     }
-    out.push_str("</p></div></div>\n")
+    out.push_str("</p></div></div>\n");
 }
 
 // The bars, all on one scale, whose end is a multiple of four cycles.
-fn put_bars(all: &[Parts], out: &mut String) -> Result<(), AllocError> {
-    let greatest = all.iter().map(|parts| parts.total()).max().unwrap_or(0);
-    let apart = greatest.div_ceil(400).max(1);
+fn put_bars(all: &[Parts], out: &mut Markup) {
+    let apart = greatest_of(all).div_ceil(400).max(1);
     let width = apart.saturating_mul(400);
-    out.push_str("<div class=\"bars\">\n")?;
+    out.push_str("<div class=\"bars\">\n");
     for (channel, parts) in all.iter().enumerate() {
-        put_bar(channel as u64, *parts, width, out)?;
+        put_bar(channel as u64, *parts, width, out);
     }
-    put_scale(apart, out)
+    put_scale(apart, out);
+}
+
+// The greatest time of a read.
+fn greatest_of(all: &[Parts]) -> u64 {
+    let mut greatest = 0;
+    for parts in all {
+        greatest = parts.total().max(greatest);
+    }
+    greatest
 }
 
 /// Appends a bar for each of so many channels, with a legend. `data` is how many cycles the data of a read take from the RD on, where that is known.
@@ -211,15 +203,17 @@ pub(crate) fn put_breakdown(
     channels: usize,
     data: Option<u64>,
     requests: &[RequestTimes],
-    out: &mut String,
-) -> Result<(), AllocError> {
+    out: &mut Markup,
+) {
     out.push_str(
         "<h3>Where the time of a read goes</h3><p>The mean over the reads of a channel whose reply came, in cycles.</p>",
-    )?;
+    );
     match data {
-        Some(_) => put_legend(&LEGEND, out)?,
-        None => put_legend(&SHORT_LEGEND, out)?,
+        Some(_) => out.put_legend(&LEGEND),
+        None => out.put_legend(&SHORT_LEGEND),
     }
-    let all = all_parts(alloc, channels, data, requests)?;
-    put_bars(&all, out)
+    match all_parts(alloc, channels, data, requests) {
+        Ok(all) => put_bars(&all, out),
+        Err(AllocError) => out.refuse(),
+    }
 }

@@ -2,4 +2,5 @@
 
 pub mod axes;
 pub mod markup;
+pub mod page_text;
 pub mod scales;

@@ -1,7 +1,8 @@
 //! A histogram of the read latency of each core, all on the same axes.
 
-use crate::drawing::axes::{Quantity, put_cycle_ticks, put_value_ticks};
-use crate::drawing::markup::{LegendEntry, Piece, put, put_legend};
+use crate::drawing::axes::Quantity;
+use crate::drawing::markup::{LegendEntry, Piece};
+use crate::drawing::page_text::Markup;
 use crate::drawing::scales::axis_end;
 use measures::request_measures::latency::{
     Latencies, core_latency_percentiles, of_core, read_latencies,
@@ -11,7 +12,7 @@ use sim_base::message::CoreId;
 use std::alloc::{AllocError, Global};
 
 /// How many bins a histogram has.
-const BINS: u64 = 50;
+const BINS: usize = 50;
 
 /// More cores than this are folded.
 const MOST_CORES: usize = 16;
@@ -32,9 +33,9 @@ static LEGEND: [LegendEntry; 3] = [
 ];
 
 /// How many reads of a core took how long, and their percentiles, if there are any.
-#[derive(Drop)]
+#[derive(Clone, Copy)]
 struct Histogram {
-    bins: Vec<u64>,
+    bins: [u64; BINS],
     found: Option<Latencies>,
 }
 
@@ -44,6 +45,13 @@ struct Axes {
     end: u64,
     bin: u64,
     top: u64,
+}
+
+/// The histograms of the cores, and their axes.
+#[derive(Drop)]
+struct Pictures {
+    axes: Axes,
+    histograms: Vec<Histogram>,
 }
 
 fn core_id(core: usize) -> CoreId {
@@ -74,38 +82,27 @@ fn greatest_p99(all: &[Option<Latencies>]) -> u64 {
     greatest
 }
 
-// A count of 0 for each bin.
-fn no_counts(alloc: Global) -> Result<Vec<u64>, AllocError> {
-    let mut bins = Vec::new(alloc);
-    for _ in 0..BINS {
-        bins.push(0u64)?;
-    }
-    Ok(bins)
-}
-
 // How many of the latencies are in each bin of so many cycles; those beyond the last are in none.
-fn bins_of(alloc: Global, latencies: &[u64], bin: u64) -> Result<Vec<u64>, AllocError> {
-    let mut bins = no_counts(alloc)?;
+fn bins_of(latencies: &[u64], bin: u64) -> [u64; BINS] {
+    let mut bins = [0u64; BINS];
     for latency in latencies {
         if let Some(count) = bins.get_mut((*latency / bin.max(1)) as usize) {
             *count = count.saturating_add(1);
         }
     }
-    Ok(bins)
+    bins
 }
 
-// The histogram of a core with these percentiles.
-fn histogram_of(
+// The bins of the read latencies of a core.
+fn bins_of_core(
     alloc: Global,
     core: CoreId,
     bin: u64,
-    found: Option<Latencies>,
     requests: &[RequestTimes],
-) -> Result<Histogram, AllocError> {
+) -> Result<[u64; BINS], AllocError> {
     let own = of_core(alloc, core, requests)?;
     let latencies = read_latencies(alloc, &own)?;
-    let bins = bins_of(alloc, &latencies, bin)?;
-    Ok(Histogram { bins, found })
+    Ok(bins_of(&latencies, bin))
 }
 
 // The histograms of the cores with these percentiles.
@@ -117,7 +114,9 @@ fn histograms_of(
 ) -> Result<Vec<Histogram>, AllocError> {
     let mut histograms = Vec::new(alloc);
     for (core, found) in all.iter().enumerate() {
-        histograms.push(histogram_of(alloc, core_id(core), bin, *found, requests)?)?;
+        let bins = bins_of_core(alloc, core_id(core), bin, requests)?;
+        let found = *found;
+        histograms.push(Histogram { bins, found })?;
     }
     Ok(histograms)
 }
@@ -126,159 +125,128 @@ fn histograms_of(
 fn greatest_of(histograms: &[Histogram]) -> u64 {
     let mut greatest = 1;
     for histogram in histograms {
-        greatest = histogram
-            .bins
-            .iter()
-            .copied()
-            .max()
-            .unwrap_or(0)
-            .max(greatest);
+        let own = histogram.bins.iter().copied().max();
+        greatest = own.unwrap_or(0).max(greatest);
     }
     greatest
 }
 
+// The histograms of so many cores.
+fn pictures_of(
+    alloc: Global,
+    cores: usize,
+    requests: &[RequestTimes],
+) -> Result<Pictures, AllocError> {
+    let found = all_percentiles(alloc, cores, requests)?;
+    let end = axis_end(greatest_p99(&found).saturating_add(1), 5).max(1);
+    let bin = end.div_ceil(BINS as u64);
+    let histograms = histograms_of(alloc, &found, bin, requests)?;
+    let top = axis_end(greatest_of(&histograms), 5).max(1);
+    let axes = Axes { end, bin, top };
+    Ok(Pictures { axes, histograms })
+}
+
 // A line at a latency.
-fn put_mark(
-    class: &'static str,
-    latency: u64,
-    top: u64,
-    out: &mut String,
-) -> Result<(), AllocError> {
-    put(
+fn put_mark(class: &'static str, latency: u64, top: u64, out: &mut Markup) {
+    out.fill(
+        "<path class=\"line {}\" d=\"M{} 0V{}\"/>",
         &[
-            Piece::Text("<path class=\"line "),
             Piece::Text(class),
-            Piece::Text("\" d=\"M"),
             Piece::Number(latency),
-            Piece::Text(" 0V"),
             Piece::Number(top),
-            Piece::Text("\"/>"),
         ],
-        out,
-    )
+    );
 }
 
 // The lines at the percentiles.
-fn put_marks(found: Option<Latencies>, top: u64, out: &mut String) -> Result<(), AllocError> {
-    let Some(found) = found else {
-        return Ok(());
-    };
-    put_mark("open", found.median, top, out)?;
-    put_mark("tail", found.p95, top, out)?;
-    put_mark("hits", found.p99, top, out)
+fn put_marks(found: Option<Latencies>, top: u64, out: &mut Markup) {
+    if let Some(found) = found {
+        put_mark("open", found.median, top, out);
+        put_mark("tail", found.p95, top, out);
+        put_mark("hits", found.p99, top, out);
+    }
 }
 
 // The counts, as steps.
-fn put_bins(axes: Axes, bins: &[u64], out: &mut String) -> Result<(), AllocError> {
-    put(
-        &[
-            Piece::Text("<path class=\"bus pale\" d=\"M0 "),
-            Piece::Number(axes.top),
-        ],
-        out,
-    )?;
+fn put_bins(axes: Axes, bins: &[u64], out: &mut Markup) {
+    let top = Piece::Number(axes.top);
+    out.fill("<path class=\"bus pale\" d=\"M0 {}", &[top]);
     for (place, count) in bins.iter().enumerate() {
         let end = axes.bin.saturating_mul((place as u64).saturating_add(1));
-        put(
-            &[
-                Piece::Text("V"),
-                Piece::Number(axes.top.saturating_sub(*count)),
-                Piece::Text("H"),
-                Piece::Number(end.min(axes.end)),
-            ],
-            out,
-        )?;
+        let y = axes.top.saturating_sub(*count);
+        let x = end.min(axes.end);
+        out.fill("V{}H{}", &[Piece::Number(y), Piece::Number(x)]);
     }
-    put(
-        &[
-            Piece::Text("V"),
-            Piece::Number(axes.top),
-            Piece::Text("Z\"/>"),
-        ],
-        out,
-    )
+    out.fill("V{}Z\"/>", &[top]);
 }
 
 // How many reads were answered, and their percentiles.
-fn put_percentiles(found: Latencies, out: &mut String) -> Result<(), AllocError> {
-    let pieces = [
-        Piece::Text("replies "),
-        Piece::Grouped(found.replies),
-        Piece::Text("; p50 "),
-        Piece::Grouped(found.median),
-        Piece::Text(", p95 "),
-        Piece::Grouped(found.p95),
-        Piece::Text(", p99 "),
-        Piece::Grouped(found.p99),
-        Piece::Text(", greatest "),
-        Piece::Grouped(found.greatest),
-        Piece::Text(" cycles"),
-    ];
-    put(&pieces, out)
+fn put_percentiles(found: Latencies, out: &mut Markup) {
+    out.fill(
+        "replies {}; p50 {}, p95 {}, p99 {}, greatest {} cycles",
+        &[
+            Piece::Grouped(found.replies),
+            Piece::Grouped(found.median),
+            Piece::Grouped(found.p95),
+            Piece::Grouped(found.p99),
+            Piece::Grouped(found.greatest),
+        ],
+    );
 }
 
 // What stands above the picture of a core.
-fn put_caption(core: u64, found: Option<Latencies>, out: &mut String) -> Result<(), AllocError> {
-    let begin = [
-        Piece::Text("<figure><figcaption><b>core "),
-        Piece::Number(core),
-        Piece::Text("</b> "),
-    ];
-    put(&begin, out)?;
+fn put_caption(core: u64, found: Option<Latencies>, out: &mut Markup) {
+    out.fill(
+        "<figure><figcaption><b>core {}</b> ",
+        &[Piece::Number(core)],
+    );
     match found {
-        Some(found) => put_percentiles(found, out)?,
-        None => out.push_str("no reply")?,
+        Some(found) => put_percentiles(found, out),
+        None => out.push_str("no reply"),
     }
-    out.push_str("</figcaption>")
+    out.push_str("</figcaption>");
 }
 
 // The picture of a core.
-fn put_histogram(
-    core: u64,
-    axes: Axes,
-    histogram: &Histogram,
-    out: &mut String,
-) -> Result<(), AllocError> {
-    put_caption(core, histogram.found, out)?;
-    put(
+fn put_histogram(core: u64, axes: Axes, histogram: &Histogram, out: &mut Markup) {
+    put_caption(core, histogram.found, out);
+    out.fill(
+        "<div class=\"plot\"><svg preserveAspectRatio=\"none\" role=\"img\" aria-label=\"read latency of core {}\" viewBox=\"0 0 {} {}\">",
         &[
-            Piece::Text(
-                "<div class=\"plot\"><svg preserveAspectRatio=\"none\" role=\"img\" aria-label=\"read latency of core ",
-            ),
             Piece::Number(core),
-            Piece::Text("\" viewBox=\"0 0 "),
             Piece::Number(axes.end),
-            Piece::Text(" "),
             Piece::Number(axes.top),
-            Piece::Text("\">"),
         ],
-        out,
-    )?;
-    put_bins(axes, &histogram.bins, out)?;
-    put_marks(histogram.found, axes.top, out)?;
-    out.push_str("</svg>")?;
-    put_value_ticks(Quantity::Count, axes.top, out)?;
-    put_cycle_ticks(0, axes.end, out)?;
-    out.push_str("</div></figure>\n")
+    );
+    put_bins(axes, &histogram.bins, out);
+    put_marks(histogram.found, axes.top, out);
+    out.push_str("</svg>");
+    out.put_value_ticks(Quantity::Count, axes.top);
+    out.put_cycle_ticks(0, axes.end);
+    out.push_str("</div></figure>\n");
 }
 
 // The pictures of all cores.
-fn put_each(axes: Axes, histograms: &[Histogram], out: &mut String) -> Result<(), AllocError> {
-    out.push_str("<div class=\"grid\">\n")?;
-    for (core, histogram) in histograms.iter().enumerate() {
-        put_histogram(core as u64, axes, histogram, out)?;
+fn put_each(pictures: &Pictures, out: &mut Markup) {
+    out.push_str("<div class=\"grid\">\n");
+    for (core, histogram) in pictures.histograms.iter().enumerate() {
+        put_histogram(core as u64, pictures.axes, histogram, out);
     }
-    out.push_str("</div>\n")
+    out.push_str("</div>\n");
 }
 
-// The same, folded where there are many.
-fn put_folded(axes: Axes, histograms: &[Histogram], out: &mut String) -> Result<(), AllocError> {
-    if histograms.len() <= MOST_CORES {
-        return put_each(axes, histograms, out);
+// The same with a head and a legend, folded where there are many.
+fn put_pictures(all: Latencies, pictures: &Pictures, out: &mut Markup) {
+    out.push_str(HEAD);
+    put_percentiles(all, out);
+    out.push_str(".</p>\n");
+    out.put_legend(&LEGEND);
+    if pictures.histograms.len() <= MOST_CORES {
+        return put_each(pictures, out);
     }
-    out.push_str("<details><summary>each core</summary>\n")?;
-    put_each(axes, histograms, out)?;
-    out.push_str("</details>\n")
+    out.push_str("<details><summary>each core</summary>\n");
+    put_each(pictures, out);
+    out.push_str("</details>\n");
 }
 
 /// Appends the histograms of so many cores, whose percentiles together are `all`; those of many are folded.
@@ -287,18 +255,12 @@ pub(crate) fn put_histograms(
     cores: usize,
     all: Latencies,
     requests: &[RequestTimes],
-    out: &mut String,
-) -> Result<(), AllocError> {
-    let found = all_percentiles(alloc, cores, requests)?;
-    let end = axis_end(greatest_p99(&found).saturating_add(1), 5).max(1);
-    let bin = end.div_ceil(BINS);
-    let histograms = histograms_of(alloc, &found, bin, requests)?;
-    let top = axis_end(greatest_of(&histograms), 5).max(1);
-    out.push_str(HEAD)?;
-    put_percentiles(all, out)?;
-    out.push_str(".</p>\n")?;
-    put_legend(&LEGEND, out)?;
-    put_folded(Axes { end, bin, top }, &histograms, out)
+    out: &mut Markup,
+) {
+    match pictures_of(alloc, cores, requests) {
+        Ok(pictures) => put_pictures(all, &pictures, out),
+        Err(AllocError) => out.refuse(),
+    }
 }
 
 const HEAD: &str =

@@ -1,6 +1,7 @@
 //! What a page shows of requests.
 
 use crate::breakdown::put_breakdown;
+use crate::drawing::page_text::Markup;
 use crate::histograms::put_histograms;
 use crate::trend::put_trend;
 use measures::request_measures::latency::latency_percentiles;
@@ -11,22 +12,37 @@ use std::alloc::{AllocError, Global};
 /// How many cycles the data of a RD take; they begin nCL cycles after it.
 const BURST: u64 = 4;
 
+// How many cycles pass from the RD to the end of the data, where that is known.
+fn data_cycles(n_cl: Option<u32>) -> Option<u64> {
+    match n_cl {
+        Some(n_cl) => Some(u64::from(n_cl) + BURST),
+        None => None,
+    }
+}
+
 /// Appends what the requests of a run tell: how long the reads of each core took, how that changed over the run, and for each channel where
 /// the time of its reads went, of which the time from the RD to the end of the data is apart from the way back only where nCL is given. Where
-/// no reply came it says so. The only error is out of memory.
+/// no reply came it says so.
 pub fn put_requests(
     alloc: Global,
     stats: &Stats,
     n_cl: Option<u32>,
     requests: &[RequestTimes],
-    out: &mut String,
-) -> Result<(), AllocError> {
-    out.push_str("<h2 id=\"latency\">Read latency</h2>\n")?;
-    let Some(all) = latency_percentiles(alloc, requests)? else {
-        return out.push_str("<p>No reply came in the run.</p>\n");
+    out: &mut Markup,
+) {
+    out.push_str("<h2 id=\"latency\">Read latency</h2>\n");
+    let all = match latency_percentiles(alloc, requests) {
+        Ok(Some(all)) => all,
+        Ok(None) => return out.push_str("<p>No reply came in the run.</p>\n"),
+        Err(AllocError) => return out.refuse(),
     };
-    put_histograms(alloc, stats.cores.len(), all, requests, out)?;
-    put_trend(alloc, stats.cycles, requests, out)?;
-    let data = n_cl.map(|n_cl| u64::from(n_cl) + BURST);
-    put_breakdown(alloc, stats.channels.len(), data, requests, out)
+    put_histograms(alloc, stats.cores.len(), all, requests, out);
+    put_trend(alloc, stats.cycles, requests, out);
+    put_breakdown(
+        alloc,
+        stats.channels.len(),
+        data_cycles(n_cl),
+        requests,
+        out,
+    );
 }

@@ -1,7 +1,8 @@
 //! The median and the 99th percentile of read latency over the run, in steps of equal length, the last of which may be shorter.
 
-use crate::drawing::axes::{Quantity, put_cycle_ticks, put_value_ticks};
-use crate::drawing::markup::{LegendEntry, Piece, put, put_legend};
+use crate::drawing::axes::Quantity;
+use crate::drawing::markup::{LegendEntry, Piece};
+use crate::drawing::page_text::Markup;
 use crate::drawing::scales::axis_end;
 use measures::percentiles::SortedValues;
 use request_table::times::RequestTimes;
@@ -26,6 +27,31 @@ static LEGEND: [LegendEntry; 2] = [
 struct Step {
     median: Option<u64>,
     p99: Option<u64>,
+}
+
+/// A line through percentiles.
+#[derive(Clone, Copy)]
+enum Line {
+    Median,
+    Tail,
+}
+
+impl Line {
+    fn class(self) -> &'static str {
+        match self {
+            Line::Median => "open",
+            Line::Tail => "hits",
+        }
+    }
+}
+
+impl Step {
+    fn value(&self, line: Line) -> Option<u64> {
+        match line {
+            Line::Median => self.median,
+            Line::Tail => self.p99,
+        }
+    }
 }
 
 /// The axes: the cycles of the run and of a step, and the latency at the upper end, above 0.
@@ -75,97 +101,76 @@ fn steps_of(alloc: Global, latencies: Vec<Vec<u64>>) -> Result<Vec<Step>, AllocE
     Ok(steps)
 }
 
+// The percentiles of the replies of a run, by the step in which they came.
+fn trend_of(alloc: Global, step: u64, requests: &[RequestTimes]) -> Result<Vec<Step>, AllocError> {
+    let latencies = latencies_by_step(alloc, step, requests)?;
+    steps_of(alloc, latencies)
+}
+
+// The greatest 99th percentile of a step.
+fn greatest_of(steps: &[Step]) -> u64 {
+    let mut greatest = 0;
+    for step in steps {
+        greatest = step.p99.unwrap_or(0).max(greatest);
+    }
+    greatest
+}
+
 // The value of a step, after that of the step before it or, where that has none, from a new beginning.
-fn put_step(
-    axes: Axes,
-    place: u64,
-    value: u64,
-    joined: bool,
-    out: &mut String,
-) -> Result<(), AllocError> {
+fn put_step(axes: Axes, place: u64, value: u64, joined: bool, out: &mut Markup) {
     let start = axes.step.saturating_mul(place);
     let end = start.saturating_add(axes.step).min(axes.cycles);
     let y = axes.top.saturating_sub(value);
     if !joined {
-        let begin = [
-            Piece::Text("M"),
-            Piece::Number(start),
-            Piece::Text(" "),
-            Piece::Number(y),
-        ];
-        put(&begin, out)?;
+        out.fill("M{} {}", &[Piece::Number(start), Piece::Number(y)]);
     }
-    let line = [
-        Piece::Text("V"),
-        Piece::Number(y),
-        Piece::Text("H"),
-        Piece::Number(end),
-    ];
-    put(&line, out)
+    out.fill("V{}H{}", &[Piece::Number(y), Piece::Number(end)]);
 }
 
 // A line through the values of the steps, with a gap at a step without one.
-fn put_line(
-    axes: Axes,
-    class: &'static str,
-    values: &[Option<u64>],
-    out: &mut String,
-) -> Result<(), AllocError> {
-    let begin = [
-        Piece::Text("<path class=\"line "),
-        Piece::Text(class),
-        Piece::Text("\" d=\""),
-    ];
-    put(&begin, out)?;
+fn put_line(axes: Axes, line: Line, steps: &[Step], out: &mut Markup) {
+    out.fill("<path class=\"line {}\" d=\"", &[Piece::Text(line.class())]);
     let mut joined = false;
-    for (place, value) in values.iter().enumerate() {
+    for (place, step) in steps.iter().enumerate() {
+        let value = step.value(line);
         if let Some(value) = value {
-            put_step(axes, place as u64, *value, joined, out)?;
+            put_step(axes, place as u64, value, joined, out);
         }
         joined = value.is_some();
     }
-    out.push_str("\"/>")
+    out.push_str("\"/>");
 }
 
 // The plot.
-fn put_plot(alloc: Global, axes: Axes, steps: &[Step], out: &mut String) -> Result<(), AllocError> {
-    let medians: Vec<Option<u64>> = steps.iter().map(|step| step.median).collect(alloc)?;
-    let tails: Vec<Option<u64>> = steps.iter().map(|step| step.p99).collect(alloc)?;
-    let begin = [
-        Piece::Text(
-            "<div class=\"grid\">\n<figure><figcaption><b>all cores</b> read latency (cycles)</figcaption><div class=\"plot\"><svg preserveAspectRatio=\"none\" role=\"img\" aria-label=\"median and p99 of read latency over the run\" viewBox=\"0 0 ",
-        ),
-        Piece::Number(axes.cycles),
-        Piece::Text(" "),
-        Piece::Number(axes.top),
-        Piece::Text("\">"),
-    ];
-    put(&begin, out)?;
-    put_line(axes, "open", &medians, out)?;
-    put_line(axes, "hits", &tails, out)?;
-    out.push_str("</svg>")?;
-    put_value_ticks(Quantity::Count, axes.top, out)?;
-    put_cycle_ticks(0, axes.cycles, out)?;
-    out.push_str("</div></figure>\n</div>\n")
+fn put_plot(axes: Axes, steps: &[Step], out: &mut Markup) {
+    out.fill(
+        "<div class=\"grid\">\n<figure><figcaption><b>all cores</b> read latency (cycles)</figcaption><div class=\"plot\"><svg preserveAspectRatio=\"none\" role=\"img\" aria-label=\"median and p99 of read latency over the run\" viewBox=\"0 0 {} {}\">",
+        &[Piece::Number(axes.cycles), Piece::Number(axes.top)],
+    );
+    put_line(axes, Line::Median, steps, out);
+    put_line(axes, Line::Tail, steps, out);
+    out.push_str("</svg>");
+    out.put_value_ticks(Quantity::Count, axes.top);
+    out.put_cycle_ticks(0, axes.cycles);
+    out.push_str("</div></figure>\n</div>\n");
+}
+
+// What there is to say of these steps of so many cycles, and their plot.
+fn put_steps(cycles: u64, step: u64, steps: &[Step], out: &mut Markup) {
+    let top = axis_end(greatest_of(steps), 5).max(1);
+    out.fill(
+        "<h3>Over the run</h3><p>Of the reads whose reply came in a step of {} cycles. Where none came the lines have a gap.</p>",
+        &[Piece::Grouped(step)],
+    );
+    out.put_legend(&LEGEND);
+    put_plot(Axes { cycles, step, top }, steps, out);
 }
 
 /// Appends the median and the 99th percentile over a run of so many cycles.
-pub(crate) fn put_trend(
-    alloc: Global,
-    cycles: u64,
-    requests: &[RequestTimes],
-    out: &mut String,
-) -> Result<(), AllocError> {
+pub(crate) fn put_trend(alloc: Global, cycles: u64, requests: &[RequestTimes], out: &mut Markup) {
     let step = cycles.div_ceil(STEPS);
-    let steps = steps_of(alloc, latencies_by_step(alloc, step, requests)?)?;
-    let greatest = steps.iter().filter_map(|step| step.p99).max().unwrap_or(0);
-    let top = axis_end(greatest, 5).max(1);
-    let head = [
-        Piece::Text("<h3>Over the run</h3><p>Of the reads whose reply came in a step of "),
-        Piece::Grouped(step),
-        Piece::Text(" cycles. Where none came the lines have a gap.</p>"),
-    ];
-    put(&head, out)?;
-    put_legend(&LEGEND, out)?;
-    put_plot(alloc, Axes { cycles, step, top }, &steps, out)
+    match trend_of(alloc, step, requests) {
+        Ok(steps) => put_steps(cycles, step, &steps, out),
+        Err(AllocError) => out.refuse(),
+    }
 }

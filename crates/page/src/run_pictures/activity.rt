@@ -126,13 +126,20 @@ impl Channel {
         })
     }
 
-    // Whether a command is a row hit: a RD or a WR of a row that was opened in another's name. A bank that is new joins the lanes, as
-    // the first one of a rank does of whose banks there is none.
-    fn is_hit(&mut self, command: Command) -> Result<bool, AllocError> {
+    // Whether a command of a bank that has a lane is a row hit: a RD or a WR of a row that was opened in another's name.
+    fn hit_in_lane(&self, command: Command) -> Option<bool> {
         for lane in &self.lanes {
             if lane.is_named_by(command) {
-                return Ok(command.is_column() && lane.opened_by != command.source());
+                return Some(command.is_column() && lane.opened_by != command.source());
             }
+        }
+        None
+    }
+
+    // Whether a command is a row hit. A bank that is new joins the lanes, as the first one of a rank does of whose banks there is none.
+    fn is_hit(&mut self, command: Command) -> Result<bool, AllocError> {
+        if let Some(hit) = self.hit_in_lane(command) {
+            return Ok(hit);
         }
         let first = BankId {
             rank: command.rank(),

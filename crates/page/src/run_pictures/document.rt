@@ -2,7 +2,6 @@
 
 use crate::run_pictures::activity::{Activity, Channel, Span};
 use crate::run_pictures::cells::Measures;
-use crate::run_pictures::markup::Markup;
 use crate::run_pictures::overview::put_overview;
 use crate::run_pictures::settings::put_settings;
 use crate::run_pictures::stops::put_stops;
@@ -11,6 +10,7 @@ use crate::run_pictures::style::STYLE;
 use crate::run_pictures::tables::{put_channels, put_core_summary, put_cores};
 use command_table::list::CommandList;
 use request_pictures::drawing::markup::Piece;
+use request_pictures::drawing::page_text::Markup;
 use request_pictures::drawing::scales::share_of;
 use request_pictures::section::put_requests;
 use request_table::times::RequestTimes;
@@ -36,14 +36,6 @@ pub struct Run<'a> {
     pub end: u64,
 }
 
-/// What the head counts, and the markup before it.
-static COUNTED: [(&str, &str); 4] = [
-    ("<b>", "</b> cycle"),
-    (", <b>", "</b> core"),
-    (", <b>", "</b> channel"),
-    (", <b>", "</b> command"),
-];
-
 fn plural_of(count: u64) -> &'static str {
     match count {
         1 => "",
@@ -51,19 +43,24 @@ fn plural_of(count: u64) -> &'static str {
     }
 }
 
+// A count, and what it counts.
+fn put_count(form: &'static str, count: u64, out: &mut Markup) {
+    out.fill(
+        form,
+        &[Piece::Grouped(count), Piece::Text(plural_of(count))],
+    );
+}
+
 // The head, with what was run: how many cycles, cores, channels and commands.
-fn put_head(counts: [u64; 4], out: &mut Markup) {
-    let pieces = [Piece::Text(HEAD), Piece::Text(STYLE), Piece::Text(BODY)];
-    out.put(&pieces);
-    for (count, (before, word)) in counts.iter().zip(&COUNTED) {
-        let pieces = [
-            Piece::Text(*before),
-            Piece::Grouped(*count),
-            Piece::Text(*word),
-            Piece::Text(plural_of(*count)),
-        ];
-        out.put(&pieces);
-    }
+fn put_head(run: &Run<'_>, out: &mut Markup) {
+    let stats = run.stats;
+    out.push_str(HEAD);
+    out.push_str(STYLE);
+    out.push_str(BODY);
+    put_count("<b>{}</b> cycle{}", stats.cycles, out);
+    put_count(", <b>{}</b> core{}", stats.cores.len() as u64, out);
+    put_count(", <b>{}</b> channel{}", stats.channels.len() as u64, out);
+    put_count(", <b>{}</b> command{}", run.commands.len() as u64, out);
 }
 
 // How many ns the cycles take, where the clock is given.
@@ -71,14 +68,13 @@ fn put_time(cycles: u64, khz: Option<u64>, out: &mut Markup) {
     let Some(khz) = khz else {
         return;
     };
-    let pieces = [
-        Piece::Text(", <b>"),
-        Piece::Grouped(share_of(u128::from(cycles), khz, 1_000_000)),
-        Piece::Text("</b> ns with a clock of <b>"),
-        Piece::Grouped(khz),
-        Piece::Text("</b> kHz"),
-    ];
-    out.put(&pieces);
+    out.fill(
+        ", <b>{}</b> ns with a clock of <b>{}</b> kHz",
+        &[
+            Piece::Grouped(share_of(u128::from(cycles), khz, 1_000_000)),
+            Piece::Grouped(khz),
+        ],
+    );
 }
 
 // The cores: where there are many, a summary with all else folded.
@@ -100,23 +96,16 @@ fn put_all_cores(alloc: Global, measures: Measures, cores: &[CoreStats], out: &m
 fn put_window_head(span: Span, out: &mut Markup) {
     let first = Piece::Grouped(span.from);
     if span.end <= span.from {
-        let pieces = [
-            Piece::Text("<h2 id=\"timeline\">Timeline</h2><p>The run has no cycle from "),
-            first,
-            Piece::Text(" on in the window.</p>\n"),
-        ];
-        out.put(&pieces);
+        out.fill(
+            "<h2 id=\"timeline\">Timeline</h2><p>The run has no cycle from {} on in the window.</p>\n",
+            &[first],
+        );
         return;
     }
-    let pieces = [
-        Piece::Text("<h2 id=\"timeline\">Timeline from cycle "),
-        first,
-        Piece::Text(" to before "),
-        Piece::Grouped(span.end),
-        Piece::Text("</h2>\n"),
-        Piece::Text(TIMELINE),
-    ];
-    out.put(&pieces);
+    out.fill(
+        "<h2 id=\"timeline\">Timeline from cycle {} to before {}</h2>\n{}",
+        &[first, Piece::Grouped(span.end), Piece::Text(TIMELINE)],
+    );
     out.put_legend(&LEGEND);
 }
 
@@ -168,8 +157,7 @@ fn put_latency(alloc: Global, run: &Run<'_>, out: &mut Markup) {
         Some(config) => Some(config.timing.n_cl),
         None => None,
     };
-    let answer = put_requests(alloc, run.stats, n_cl, requests, &mut out.text);
-    out.note(answer);
+    put_requests(alloc, run.stats, n_cl, requests, out);
 }
 
 // The tables, and what the channels did if there are commands. A REF is drawn for as long as it takes, or for a cycle if that is not known.
@@ -210,10 +198,7 @@ fn put_config(config: Option<&Config>, out: &mut Markup) {
 // All of the document.
 fn put_document(alloc: Global, run: &Run<'_>, out: &mut Markup) {
     let stats = run.stats;
-    let cores = stats.cores.len() as u64;
-    let channels = stats.channels.len() as u64;
-    let counts = [stats.cycles, cores, channels, run.commands.len() as u64];
-    put_head(counts, out);
+    put_head(run, out);
     put_time(stats.cycles, run.khz, out);
     out.push_str("</p>\n");
     put_config(run.config, out);

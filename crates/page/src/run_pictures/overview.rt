@@ -1,9 +1,9 @@
 //! The whole run in steps: a plot of each measure for each channel. A picture's units are the run's cycles and the values of its axis.
 
 use crate::run_pictures::activity::{Activity, Channel, Step, Value};
-use crate::run_pictures::markup::Markup;
 use request_pictures::drawing::axes::Quantity;
 use request_pictures::drawing::markup::{LegendEntry, Piece};
+use request_pictures::drawing::page_text::Markup;
 use request_pictures::drawing::scales::axis_end;
 
 /// How values are drawn.
@@ -158,19 +158,9 @@ fn put_step(axes: Axes, place: usize, value: u64, joined: bool, out: &mut Markup
     let end = start.saturating_add(axes.step).min(axes.cycles);
     let y = axes.top.saturating_sub(value);
     if !joined {
-        out.put(&[
-            Piece::Text("M"),
-            Piece::Number(start),
-            Piece::Text(" "),
-            Piece::Number(y),
-        ]);
+        out.fill("M{} {}", &[Piece::Number(start), Piece::Number(y)]);
     }
-    out.put(&[
-        Piece::Text("V"),
-        Piece::Number(y),
-        Piece::Text("H"),
-        Piece::Number(end),
-    ]);
+    out.fill("V{}H{}", &[Piece::Number(y), Piece::Number(end)]);
 }
 
 fn put_steps(axes: Axes, value: Value, steps: &[Step], mut joined: bool, out: &mut Markup) {
@@ -184,16 +174,12 @@ fn put_steps(axes: Axes, value: Value, steps: &[Step], mut joined: bool, out: &m
 }
 
 fn put_series(axes: Axes, series: &Series, steps: &[Step], out: &mut Markup) {
-    out.put(&[
-        Piece::Text("<path class=\""),
-        Piece::Text(series.class),
-        Piece::Text("\" d=\""),
-    ]);
+    out.fill("<path class=\"{}\" d=\"", &[Piece::Text(series.class)]);
     match series.form {
         Form::Area => {
-            out.put(&[Piece::Text("M0 "), Piece::Number(axes.top)]);
+            out.fill("M0 {}", &[Piece::Number(axes.top)]);
             put_steps(axes, series.value, steps, true, out);
-            out.put(&[Piece::Text("V"), Piece::Number(axes.top), Piece::Text("Z")]);
+            out.fill("V{}Z", &[Piece::Number(axes.top)]);
         }
         Form::Line => put_steps(axes, series.value, steps, false, out),
     }
@@ -202,23 +188,17 @@ fn put_series(axes: Axes, series: &Series, steps: &[Step], out: &mut Markup) {
 
 // The plot of a measure for the channel `id`.
 fn put_plot(measure: &Measure, axes: Axes, id: u64, steps: &[Step], out: &mut Markup) {
-    out.put(&[
-        Piece::Text("<figure><figcaption><b>channel "),
-        Piece::Number(id),
-        Piece::Text("</b> "),
-        Piece::Text(measure.name),
-        Piece::Text(
-            "</figcaption><div class=\"plot\"><svg preserveAspectRatio=\"none\" role=\"img\" aria-label=\"channel ",
-        ),
-        Piece::Number(id),
-        Piece::Text(": "),
-        Piece::Text(measure.name),
-        Piece::Text("\" viewBox=\"0 0 "),
-        Piece::Number(axes.cycles),
-        Piece::Text(" "),
-        Piece::Number(axes.top),
-        Piece::Text("\">"),
-    ]);
+    out.fill(
+        "<figure><figcaption><b>channel {}</b> {}</figcaption><div class=\"plot\"><svg preserveAspectRatio=\"none\" role=\"img\" aria-label=\"channel {}: {}\" viewBox=\"0 0 {} {}\">",
+        &[
+            Piece::Number(id),
+            Piece::Text(measure.name),
+            Piece::Number(id),
+            Piece::Text(measure.name),
+            Piece::Number(axes.cycles),
+            Piece::Number(axes.top),
+        ],
+    );
     for series in measure.series {
         put_series(axes, series, steps, out);
     }
@@ -273,11 +253,10 @@ fn put_measure(measure: &Measure, activity: &Activity, out: &mut Markup) {
 
 /// Appends the plots of the whole run.
 pub(crate) fn put_overview(activity: &Activity, out: &mut Markup) {
-    out.put(&[
-        Piece::Text("<h2 id=\"steps\">The run in steps of "),
-        Piece::Grouped(activity.step),
-        Piece::Text(" cycles</h2>\n"),
-    ]);
+    out.fill(
+        "<h2 id=\"steps\">The run in steps of {} cycles</h2>\n",
+        &[Piece::Grouped(activity.step)],
+    );
     for measure in &MEASURES {
         put_measure(measure, activity, out);
     }

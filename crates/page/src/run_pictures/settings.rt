@@ -1,20 +1,15 @@
 //! The configuration of a run: its keys by name, with their values.
 
-use crate::run_pictures::markup::Markup;
 use request_pictures::drawing::markup::Piece;
+use request_pictures::drawing::page_text::Markup;
 use sim_base::config::Config;
 use sim_base::key::Key;
 use sim_base::place::Field;
+use sim_base::timing::Timing;
 
 // A key with its value.
 fn put_key(key: Key, value: Piece, out: &mut Markup) {
-    out.put(&[
-        Piece::Text("<li><b>"),
-        Piece::Text(key.name()),
-        Piece::Text("</b> "),
-        value,
-        Piece::Text("</li>"),
-    ]);
+    out.fill("<li><b>{}</b> {}</li>", &[Piece::Text(key.name()), value]);
 }
 
 fn put_numbers(numbers: &[(Key, u32)], out: &mut Markup) {
@@ -42,9 +37,8 @@ fn put_fields(fields: &[Field], out: &mut Markup) {
     out.push_str("</li>");
 }
 
-// The keys of a configuration whose values are numbers, but for `link`.
-fn numbers_of(config: &Config) -> [(Key, u32); 34] {
-    let timing = config.timing;
+// The keys of a configuration whose values are numbers, but for `link`: those before its timing, and those of its timing.
+fn numbers_of(config: &Config) -> [(Key, u32); 13] {
     [
         (Key::Cores, u32::from(config.cores)),
         (Key::Channels, u32::from(config.channels)),
@@ -59,6 +53,11 @@ fn numbers_of(config: &Config) -> [(Key, u32); 34] {
         (Key::RequestLatency, config.request_latency),
         (Key::ReplyLatency, config.reply_latency),
         (Key::CreditLatency, config.credit_latency),
+    ]
+}
+
+fn timing_of(timing: &Timing) -> [(Key, u32); 19] {
+    [
         (Key::NRcd, timing.n_rcd),
         (Key::NRp, timing.n_rp),
         (Key::NRas, timing.n_ras),
@@ -78,8 +77,6 @@ fn numbers_of(config: &Config) -> [(Key, u32); 34] {
         (Key::NRfc, timing.n_rfc),
         (Key::NRtrs, timing.n_rtrs),
         (Key::NRefi, timing.n_refi),
-        (Key::WriteHigh, config.write_high),
-        (Key::WriteLow, config.write_low),
     ]
 }
 
@@ -98,5 +95,16 @@ pub(crate) fn put_settings(config: &Config, out: &mut Markup) {
     let links = config.overrides.as_slice().len() as u64;
     out.push_str("<h2 id=\"configuration\">Configuration</h2><ul class=\"keys\">");
     put_numbers(&numbers_of(config), out);
+    put_numbers(&timing_of(&config.timing), out);
+    put_key(
+        Key::WriteHigh,
+        Piece::Number(u64::from(config.write_high)),
+        out,
+    );
+    put_key(
+        Key::WriteLow,
+        Piece::Number(u64::from(config.write_low)),
+        out,
+    );
     put_others(fields, config.ends_drained, links, out);
 }

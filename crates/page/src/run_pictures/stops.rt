@@ -1,7 +1,7 @@
 //! Why each core stopped issuing, as bars. A bar's unit is a cycle.
 
-use crate::run_pictures::markup::Markup;
 use request_pictures::drawing::markup::{LegendEntry, Piece};
+use request_pictures::drawing::page_text::Markup;
 use request_pictures::drawing::scales::share_of;
 use statistics::cores::CoreStats;
 
@@ -34,43 +34,38 @@ fn put_part(reason: &'static str, before: u64, cycles: u64, run: u64, out: &mut 
     if cycles == 0 {
         return;
     }
-    out.put(&[
-        Piece::Text("<rect class=\""),
-        Piece::Text(reason),
-        Piece::Text("\" x=\""),
-        Piece::Number(before),
-        Piece::Text("\" width=\""),
-        Piece::Number(cycles),
-        Piece::Text("\" height=\"1\"><title>"),
-        Piece::Text(reason),
-        Piece::Text(": "),
-        Piece::Tenths(share_of(u128::from(cycles), run, 1_000)),
-        Piece::Text(" %</title></rect>"),
-    ]);
+    out.fill(
+        "<rect class=\"{}\" x=\"{}\" width=\"{}\" height=\"1\"><title>{}: {} %</title></rect>",
+        &[
+            Piece::Text(reason),
+            Piece::Number(before),
+            Piece::Number(cycles),
+            Piece::Text(reason),
+            Piece::Tenths(share_of(u128::from(cycles), run, 1_000)),
+        ],
+    );
 }
 
 fn put_bar(id: u64, run: u64, core: &CoreStats, out: &mut Markup) {
-    out.put(&[
-        Piece::Text("<div class=\"bar\"><b>core "),
-        Piece::Number(id),
-        Piece::Text("</b><svg preserveAspectRatio=\"none\" role=\"img\" aria-label=\"why core "),
-        Piece::Number(id),
-        Piece::Text(" stopped issuing\" viewBox=\"0 0 "),
-        Piece::Number(run),
-        Piece::Text(" 1\">"),
-    ]);
-    let mut before = 0u64;
-    for (reason, cycles) in [
-        ("credit", core.stop_credit),
-        ("window", core.stop_window),
-        ("memory", core.stop_memory),
-        ("width", core.stop_width),
-        ("end", core.stop_end),
-    ] {
-        put_part(reason, before, cycles, run, out);
-        before = before.saturating_add(cycles);
-    }
+    out.fill(
+        "<div class=\"bar\"><b>core {}</b><svg preserveAspectRatio=\"none\" role=\"img\" aria-label=\"why core {} stopped issuing\" viewBox=\"0 0 {} 1\">",
+        &[Piece::Number(id), Piece::Number(id), Piece::Number(run)],
+    );
+    put_parts(run, core, out);
     out.push_str("</svg></div>\n");
+}
+
+// The parts of a core's bar.
+fn put_parts(run: u64, core: &CoreStats, out: &mut Markup) {
+    let window = core.stop_credit;
+    let memory = window.saturating_add(core.stop_window);
+    let width = memory.saturating_add(core.stop_memory);
+    let end = width.saturating_add(core.stop_width);
+    put_part("credit", 0, core.stop_credit, run, out);
+    put_part("window", window, core.stop_window, run, out);
+    put_part("memory", memory, core.stop_memory, run, out);
+    put_part("width", width, core.stop_width, run, out);
+    put_part("end", end, core.stop_end, run, out);
 }
 
 /// Appends a bar for each core, with a legend.

@@ -2,8 +2,8 @@
 
 use crate::run_pictures::activity::{BURST, Channel, Span};
 use crate::run_pictures::lanes::{Lane, OpenRow};
-use crate::run_pictures::markup::Markup;
 use request_pictures::drawing::markup::{LegendEntry, Piece};
+use request_pictures::drawing::page_text::Markup;
 use sim_base::command::{Command, IssuedCommand, Kind};
 use sim_base::place::BankId;
 
@@ -82,17 +82,15 @@ struct Mark {
 fn put_rect(strip: Strip, mark: Mark, class: &'static str, out: &mut Markup) {
     let from = mark.from.max(strip.span.from);
     let end = mark.end.min(strip.span.end);
-    out.put(&[
-        Piece::Text("<rect class=\""),
-        Piece::Text(class),
-        Piece::Text("\" x=\""),
-        Piece::Number(from.saturating_sub(strip.span.from)),
-        Piece::Text("\" y=\""),
-        Piece::Number(PITCH.saturating_mul(mark.lane as u64)),
-        Piece::Text("\" width=\""),
-        Piece::Number(end.saturating_sub(from)),
-        Piece::Text("\" height=\"12\"><title>"),
-    ]);
+    out.fill(
+        "<rect class=\"{}\" x=\"{}\" y=\"{}\" width=\"{}\" height=\"12\"><title>",
+        &[
+            Piece::Text(class),
+            Piece::Number(from.saturating_sub(strip.span.from)),
+            Piece::Number(PITCH.saturating_mul(mark.lane as u64)),
+            Piece::Number(end.saturating_sub(from)),
+        ],
+    );
 }
 
 // What a command names, but for its request.
@@ -100,7 +98,7 @@ fn put_operands(command: Command, out: &mut Markup) {
     match command {
         Command::Act { bank, row, .. } => {
             put_bank(bank, out);
-            out.put(&[Piece::Text(", row "), Piece::Number(row.into())])
+            out.fill(", row {}", &[Piece::Number(row.into())])
         }
         Command::Rd {
             bank,
@@ -115,51 +113,47 @@ fn put_operands(command: Command, out: &mut Markup) {
             ..
         } => {
             put_bank(bank, out);
-            out.put(&[
-                Piece::Text(", row "),
-                Piece::Number(row.into()),
-                Piece::Text(", column "),
-                Piece::Number(column.into()),
-            ])
+            out.fill(
+                ", row {}, column {}",
+                &[Piece::Number(row.into()), Piece::Number(column.into())],
+            )
         }
         Command::Pre { bank, .. } => put_bank(bank, out),
-        Command::Prea { rank } | Command::Ref { rank } => out.put(&[
-            Piece::Text("rank "),
-            Piece::Number(rank.into()),
-            Piece::Text(", all banks"),
-        ]),
+        Command::Prea { rank } | Command::Ref { rank } => out.fill(
+            "rank {}, all banks",
+            &[Piece::Number(rank.into())],
+        ),
     }
 }
 
 fn put_bank(bank: BankId, out: &mut Markup) {
-    out.put(&[
-        Piece::Text("rank "),
-        Piece::Number(bank.rank.into()),
-        Piece::Text(", group "),
-        Piece::Number(bank.group.into()),
-        Piece::Text(", bank "),
-        Piece::Number(bank.bank.into()),
-    ]);
+    out.fill(
+        "rank {}, group {}, bank {}",
+        &[
+            Piece::Number(bank.rank.into()),
+            Piece::Number(bank.group.into()),
+            Piece::Number(bank.bank.into()),
+        ],
+    );
 }
 
 // A box for a command, which says all of it.
 fn put_box(strip: Strip, mark: Mark, row: &IssuedCommand, out: &mut Markup) {
     let (name, class) = name_of(row.command.kind());
     put_rect(strip, mark, class, out);
-    out.put(&[
-        Piece::Text(name),
-        Piece::Text(" in cycle "),
-        Piece::Number(row.cycle),
-        Piece::Text(": "),
-    ]);
+    out.fill(
+        "{} in cycle {}: ",
+        &[Piece::Text(name), Piece::Number(row.cycle)],
+    );
     put_operands(row.command, out);
     if let Some(source) = row.command.source() {
-        out.put(&[
-            Piece::Text(", core "),
-            Piece::Number(source.core.into()),
-            Piece::Text(", entry "),
-            Piece::Number(source.entry),
-        ]);
+        out.fill(
+            ", core {}, entry {}",
+            &[
+                Piece::Number(source.core.into()),
+                Piece::Number(source.entry),
+            ],
+        );
     }
     out.push_str("</title></rect>\n");
 }
@@ -172,13 +166,10 @@ fn put_band(strip: Strip, lane: usize, open: OpenRow, end: u64, out: &mut Markup
         end,
     };
     put_rect(strip, mark, "band", out);
-    out.put(&[
-        Piece::Text("row "),
-        Piece::Number(open.row.into()),
-        Piece::Text(" open, since cycle "),
-        Piece::Number(open.since),
-        Piece::Text("</title></rect>\n"),
-    ]);
+    out.fill(
+        "row {} open, since cycle {}</title></rect>\n",
+        &[Piece::Number(open.row.into()), Piece::Number(open.since)],
+    );
 }
 
 // The bands of a lane, which follows the commands of the strip.
@@ -263,48 +254,38 @@ fn put_data(strip: Strip, lane: usize, commands: &[IssuedCommand], out: &mut Mar
 // The label of a lane, and its ground.
 fn put_label(place: usize, lane: &Lane, out: &mut Markup) {
     let class = if lane.id.group % 2 == 0 { "" } else { " odd" };
-    out.put(&[
-        Piece::Text("<i class=\"lane"),
-        Piece::Text(class),
-        Piece::Text("\" style=\"top:"),
-        Piece::Number(PITCH.saturating_mul(place as u64)),
-        Piece::Text("px\"><b>r"),
-        Piece::Number(lane.id.rank.into()),
-        Piece::Text(" g"),
-        Piece::Number(lane.id.group.into()),
-        Piece::Text(" b"),
-        Piece::Number(lane.id.bank.into()),
-        Piece::Text("</b></i>"),
-    ]);
+    out.fill(
+        "<i class=\"lane{}\" style=\"top:{}px\"><b>r{} g{} b{}</b></i>",
+        &[
+            Piece::Text(class),
+            Piece::Number(PITCH.saturating_mul(place as u64)),
+            Piece::Number(lane.id.rank.into()),
+            Piece::Number(lane.id.group.into()),
+            Piece::Number(lane.id.bank.into()),
+        ],
+    );
 }
 
 // The grounds and labels of the lanes, the last of which is the data bus, and the ticks.
 fn put_ground(strip: Strip, lanes: &[Lane], out: &mut Markup) {
     let bus = PITCH.saturating_mul(lanes.len() as u64);
-    out.put(&[
-        Piece::Text("<div class=\"strip\" style=\"height:"),
-        Piece::Number(bus.saturating_add(PITCH)),
-        Piece::Text("px\"><i class=\"lane\" style=\"top:"),
-        Piece::Number(bus),
-        Piece::Text("px\"><b>data bus</b></i>"),
-    ]);
+    out.fill(
+        "<div class=\"strip\" style=\"height:{}px\"><i class=\"lane\" style=\"top:{}px\"><b>data bus</b></i>",
+        &[Piece::Number(bus.saturating_add(PITCH)), Piece::Number(bus)],
+    );
     for (place, lane) in lanes.iter().enumerate() {
         put_label(place, lane, out);
     }
     out.put_cycle_ticks(strip.span.from, strip.room);
-    out.put(&[
-        Piece::Text(
-            "<svg preserveAspectRatio=\"none\" role=\"img\" aria-label=\"commands from cycle ",
-        ),
-        Piece::Grouped(strip.span.from),
-        Piece::Text(" to before "),
-        Piece::Grouped(strip.span.end),
-        Piece::Text("\" viewBox=\"0 0 "),
-        Piece::Number(strip.room),
-        Piece::Text(" "),
-        Piece::Number(bus.saturating_add(PITCH)),
-        Piece::Text("\">\n"),
-    ]);
+    out.fill(
+        "<svg preserveAspectRatio=\"none\" role=\"img\" aria-label=\"commands from cycle {} to before {}\" viewBox=\"0 0 {} {}\">\n",
+        &[
+            Piece::Grouped(strip.span.from),
+            Piece::Grouped(strip.span.end),
+            Piece::Number(strip.room),
+            Piece::Number(bus.saturating_add(PITCH)),
+        ],
+    );
 }
 
 // Where the commands from a cycle on begin.
@@ -370,11 +351,10 @@ pub(crate) fn put_timeline(
     for lane in channel.lanes.iter_mut() {
         lane.state = lane.before;
     }
-    out.put(&[
-        Piece::Text("<details open><summary>channel "),
-        Piece::Number(id),
-        Piece::Text("</summary><div class=\"strips\">\n"),
-    ]);
+    out.fill(
+        "<details open><summary>channel {}</summary><div class=\"strips\">\n",
+        &[Piece::Number(id)],
+    );
     put_strips(span, refresh, &mut channel.lanes, &channel.shown, out);
     out.push_str("</div></details>\n");
 }

@@ -3,30 +3,21 @@
 use crate::run_pictures::cells::{
     Cell, Form, Measures, channel_cells, core_cells, core_times, data_rate,
 };
-use crate::run_pictures::markup::Markup;
 use request_pictures::drawing::markup::Piece;
+use request_pictures::drawing::page_text::Markup;
 use statistics::channels::ChannelStats;
 use statistics::cores::CoreStats;
 use std::alloc::{AllocError, Global};
 
 fn put_cells(cells: &[Cell], out: &mut Markup) {
     for (form, number) in cells {
-        out.put(&[
-            Piece::Text("<td>"),
-            form.piece_of(*number),
-            Piece::Text("</td>"),
-        ]);
+        out.fill("<td>{}</td>", &[form.piece_of(*number)]);
     }
 }
 
 // The begin of a row.
 fn put_label(label: Piece, out: &mut Markup) {
-    let pieces = [
-        Piece::Text("<tr><th scope=\"row\">"),
-        label,
-        Piece::Text("</th>"),
-    ];
-    out.put(&pieces);
+    out.fill("<tr><th scope=\"row\">{}</th>", &[label]);
 }
 
 // The heading of columns that are left out where a number is not given.

@@ -2,7 +2,7 @@
 
 ghost use Rattle.std.specs.Prelude.{◌<◌};
 
-use crate::drawing::markup::{Piece, put};
+use crate::drawing::markup::{Piece, fill};
 use crate::drawing::scales::{share_of, tick_step};
 use std::alloc::AllocError;
 
@@ -55,16 +55,9 @@ fn put_tick(
     out: &mut String,
 ) -> Result<(), AllocError> {
     let [number, unit] = label;
-    put(
-        &[
-            Piece::Text("<i class=\""),
-            Piece::Text(side),
-            Piece::Hundredths(offset),
-            Piece::Text("%\"><b>"),
-            number,
-            unit,
-            Piece::Text("</b></i>"),
-        ],
+    fill(
+        "<i class=\"{}{}%\"><b>{}{}</b></i>",
+        &[Piece::Text(side), Piece::Hundredths(offset), number, unit],
         out,
     )
 }

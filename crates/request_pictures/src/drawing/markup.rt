@@ -60,6 +60,27 @@ pub fn put(pieces: &[Piece], out: &mut String) -> Result<(), AllocError> {
     Ok(())
 }
 
+/// Appends a form to a text, with pieces in place of its `{}`, in turn.
+pub(crate) fn fill(form: &str, pieces: &[Piece], out: &mut String) -> Result<(), AllocError> {
+    let mut pieces = pieces.iter();
+    for words in form.split_inclusive("{}") {
+        match words.strip_suffix("{}") {
+            Some(words) => put_with(words, pieces.next(), out)?,
+            None => out.push_str(words)?,
+        }
+    }
+    Ok(())
+}
+
+// Appends words, and a piece if there is one.
+fn put_with(words: &str, piece: Option<&Piece>, out: &mut String) -> Result<(), AllocError> {
+    out.push_str(words)?;
+    match piece {
+        Some(piece) => put_piece(*piece, out),
+        None => Ok(()),
+    }
+}
+
 /// An entry of a legend: a patch in the colour of a class of the style sheet, and what it stands for.
 #[derive(Clone, Copy)]
 pub struct LegendEntry {
@@ -67,18 +88,19 @@ pub struct LegendEntry {
     pub text: &'static str,
 }
 
+fn put_entry(entry: &LegendEntry, out: &mut String) -> Result<(), AllocError> {
+    fill(
+        "<li><svg class=\"patch\" viewBox=\"0 0 10 10\"><rect class=\"{}\" width=\"10\" height=\"10\"/></svg>{}</li>",
+        &[Piece::Text(entry.class), Piece::Text(entry.text)],
+        out,
+    )
+}
+
 /// Appends a legend as a list.
 pub fn put_legend(entries: &[LegendEntry], out: &mut String) -> Result<(), AllocError> {
     out.push_str("<ul class=\"legend\">")?;
     for entry in entries {
-        let pieces = [
-            Piece::Text("<li><svg class=\"patch\" viewBox=\"0 0 10 10\"><rect class=\""),
-            Piece::Text(entry.class),
-            Piece::Text("\" width=\"10\" height=\"10\"/></svg>"),
-            Piece::Text(entry.text),
-            Piece::Text("</li>"),
-        ];
-        put(&pieces, out)?;
+        put_entry(entry, out)?;
     }
     out.push_str("</ul>\n")
 }
