@@ -1,5 +1,5 @@
 -- With one step more, what was sent grows by what is sent in that cycle, wherever in the list of all messages it stands.
-use Rattle.std.proofs.Common.{ℕ, zero, suc, ◌+◌, ◌*◌, ◌/◌, ◌%◌, ◌<◌, ◌≡◌, Bool, true, false, eqb, List, [], ◌∷◌, ◌++◌, length, take, drop, ◌-◌, Option, Some, None, refl, sym, ap, ap₂, subst, ◌∙◌, add-one, add-zero, arith}
+use Rattle.std.proofs.Common.{ℕ, zero, suc, ◌+◌, ◌*◌, ◌/◌, ◌%◌, ◌<◌, ◌≡◌, Bool, true, false, eqb, List, [], ◌∷◌, ◌++◌, length, take, drop, ◌-◌, Option, Some, None, refl, sym, ap, ap₂, ◌∙◌, add-zero, arith}
 use Rattle.std.specs.Prelude.{filter, flat_map, fold, sum_by}
 use Rattle.std.specs.Option.{IfSome}
 use Rattle.std.specs.List.{AllByRecursion as Each, enumerate_from}
@@ -24,7 +24,7 @@ use Rattle.sim_base.specs.declared.message.Unit.TheVariants.{Core, Channel}
 use Rattle.sim_base.specs.declared.trace.Entry.{Entry}
 use Rattle.sim_base.specs.declared.trace.Entry.TheVariants.{Plain, Read, Write}
 use Rattle.sim_base.proofs.Below.{flat_map_below_more, flat_map_below_same}
-use Rattle.sim_base.proofs.Each.{Each-all, Each-append, Each-filter, Each-filter_map, Each-flat_map_below}
+use Rattle.sim_base.proofs.Each.{Each-all, Each-filter_map, Each-flat_map_below}
 use Rattle.sim_base.proofs.Arrived.{puts, by_age-puts, fold-puts}
 use Rattle.sim_base.proofs.Ordered.{Apart, Each-weaker, puts-swap, puts-append, Sorted-puts, filter-puts}
 use Rattle.sim_base.proofs.Added.{core_messages-push, channel_messages-push, digit_below}

@@ -11,3 +11,4 @@ pub mod Spans
 pub mod Ordered
 pub mod Grows
 pub mod SameValues
+pub mod KeyLaws

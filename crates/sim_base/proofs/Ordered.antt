@@ -1,14 +1,14 @@
 -- Messages by arrival and then by link: the order stays where some are left out, and does not depend on the order in which
 -- messages of different links are put in.
-use Rattle.std.proofs.Common.{ℕ, Bool, true, false, cond, eqb, ◌≡◌, List, [], ◌∷◌, ◌++◌, refl, sym, ap, ◌∙◌, arith}
-use Rattle.std.specs.Prelude.{filter, fold}
+use Rattle.std.proofs.Common.{Bool, true, false, cond, eqb, ◌≡◌, List, [], ◌∷◌, ◌++◌, refl, sym, ap, ◌∙◌, arith}
+use Rattle.std.specs.Prelude.{filter}
 use Rattle.std.specs.List.{AllByRecursion as Each}
 use Rattle.std.proofs.lemmas.Bool.{cond_both, cond-true, cond-false}
 use Rattle.std.proofs.lemmas.Bool.Decides.{nat_tests}
-use Rattle.sim_base.specs.History.{is_before, insert_by_age, by_age}
+use Rattle.sim_base.specs.History.{is_before, by_age}
 use Rattle.sim_base.specs.declared.message.Message.{Message}
 use Rattle.sim_base.proofs.Each.{Each-filter}
-use Rattle.sim_base.proofs.Arrived.{put, puts, by_age-puts, fold-puts, Each-put}
+use Rattle.sim_base.proofs.Arrived.{put, puts, by_age-puts, Each-put}
 
 before_trans : (a b c : Message) → is_before a b ≡ true → is_before b c ≡ true → is_before a c ≡ true
 before_trans a b c h k = grind (arith, nat_tests)

@@ -4,6 +4,7 @@ pub mod Fields
 pub mod Relations
 pub mod Config
 pub mod Values
+pub mod KeyRanges
 pub mod Places
 pub mod MachineStep
 pub mod History

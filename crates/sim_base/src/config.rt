@@ -98,7 +98,8 @@ impl Config {
     #[tactic(auto, using(crate::proofs::LinkNumbers::link_below, crate::proofs::LinkNumbers::link_fits))]
     pub fn request_link(&self, core: CoreId, channel: ChannelId) -> LinkId
         ensures value { result ≡ request_link self.now core channel }
-        ensures exists { core < self.now.cores → channel < self.now.channels → result + 2 < 3 * self.now.cores * self.now.channels }
+        ensures exists { core < self.now.cores → channel < self.now.channels
+            → result + 2 < 3 * self.now.cores * self.now.channels }
         ensures fits { result + 2 < 2 ^ 64 }
     {
         3 * (u64::from(core) * u64::from(self.channels) + u64::from(channel))
@@ -107,7 +108,8 @@ impl Config {
     /// The link that carries the data of reads back from a channel to a core.
     pub fn reply_link(&self, core: CoreId, channel: ChannelId) -> LinkId
         ensures value { result ≡ reply_link self.now core channel }
-        ensures exists { core < self.now.cores → channel < self.now.channels → result < 3 * self.now.cores * self.now.channels }
+        ensures exists { core < self.now.cores → channel < self.now.channels
+            → result < 3 * self.now.cores * self.now.channels }
     {
         self.request_link(core, channel) + 1
     }
@@ -115,7 +117,8 @@ impl Config {
     /// The link that carries credits back from a channel to a core.
     pub fn credit_link(&self, core: CoreId, channel: ChannelId) -> LinkId
         ensures value { result ≡ credit_link self.now core channel }
-        ensures exists { core < self.now.cores → channel < self.now.channels → result < 3 * self.now.cores * self.now.channels }
+        ensures exists { core < self.now.cores → channel < self.now.channels
+            → result < 3 * self.now.cores * self.now.channels }
     {
         self.request_link(core, channel) + 2
     }

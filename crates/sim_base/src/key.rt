@@ -1,12 +1,15 @@
 //! The keys of a configuration.
 
 ghost use Rattle.std.specs.Prelude.{◌≡◌, Some};
+ghost use Rattle.sim_base.specs.KeyRanges.{KeysAccept, ValuesInRange};
+ghost use Rattle.sim_base.specs.Values.{Values};
 
+use crate::key_table::{Accepts, KEYS, WhereAbsent};
 use std::fmt;
 
 /// A key of a configuration, in the order in which keys are tested; `id` and `latency` are those of an item of `link`.
 /// `Unknown` stands for a key that no configuration has.
-#[derive(Clone, Copy, PartialEq, Eq, Debug)]
+#[derive(Clone, Copy, PartialEq, Eq)]
 pub enum Key {
     Cores,
     Channels,
@@ -93,55 +96,41 @@ pub static DOCUMENT_KEYS: [Key; 37] = [
 
 impl Key {
     ghost use Rattle.sim_base.specs.Keys.{key_name};
+    ghost use Rattle.std.specs.Prelude.{IfSome};
+    ghost use Rattle.sim_base.specs.KeyRanges.{key_accepts, key_default, IsAccepted};
 
     /// The key's name in a document.
     pub fn name(self) -> &'static str
         ensures { result.now ≡ key_name self }
     {
-        match self {
-            Key::Cores => "cores",
-            Key::Channels => "channels",
-            Key::Groups => "groups",
-            Key::Ranks => "ranks",
-            Key::Columns => "columns",
-            Key::Rows => "rows",
-            Key::Fields => "fields",
-            Key::Window => "window",
-            Key::Width => "width",
-            Key::ReadCredits => "read_credits",
-            Key::WriteCredits => "write_credits",
-            Key::RequestLatency => "request_latency",
-            Key::ReplyLatency => "reply_latency",
-            Key::CreditLatency => "credit_latency",
-            Key::NRcd => "nRCD",
-            Key::NRp => "nRP",
-            Key::NRas => "nRAS",
-            Key::NRc => "nRC",
-            Key::NCl => "nCL",
-            Key::NCwl => "nCWL",
-            Key::NCcdS => "nCCD_S",
-            Key::NCcdL => "nCCD_L",
-            Key::NRrdS => "nRRD_S",
-            Key::NRrdL => "nRRD_L",
-            Key::NFaw => "nFAW",
-            Key::NRtp => "nRTP",
-            Key::NWr => "nWR",
-            Key::NWtrS => "nWTR_S",
-            Key::NWtrL => "nWTR_L",
-            Key::NRtw => "nRTW",
-            Key::NRfc => "nRFC",
-            Key::NRtrs => "nRTRS",
-            Key::NRefi => "nREFI",
-            Key::WriteHigh => "write_high",
-            Key::WriteLow => "write_low",
-            Key::End => "end",
-            Key::Link => "link",
-            Key::Id => "id",
-            Key::Latency => "latency",
-            Key::Unknown => "unknown",
+        KEYS[self as usize].name
+    }
+
+    /// What may stand at the key.
+    pub fn accepts(self) -> Accepts
+        ensures { result ≡ key_accepts self }
+    {
+        KEYS[self as usize].accepts
+    }
+
+    /// The number that stands for the key where it is absent, if it may be and means one.
+    pub fn default_number(self) -> Option<u32>
+        ensures value { result ≡ key_default self }
+        ensures accepted { IfSome result (IsAccepted (key_accepts self)) }
+    {
+        match KEYS[self as usize].absent {
+            WhereAbsent::Number(number) => Some(number),
+            WhereAbsent::Refused | WhereAbsent::Usual => None,
         }
     }
 }
+
+/// A law: a configuration's numbers are in the ranges that the definition states exactly where each is one that its key
+/// accepts.
+pub fn keys_accept_the_ranges()
+    ensures in_range { (v : Values) → KeysAccept v → ValuesInRange v }
+    ensures accepted { (v : Values) → ValuesInRange v → KeysAccept v }
+{}
 
 impl fmt::Display for Key {
     ghost use Rattle.sim_base.specs.Keys.{key_name};
@@ -150,5 +139,11 @@ impl fmt::Display for Key {
 
     fn fmt<W: fmt::Write>(&self, f: &mut fmt::Formatter<W>) -> fmt::Result {
         f.write_str(self.name())
+    }
+}
+
+impl fmt::Debug for Key {
+    fn fmt<W: fmt::Write>(&self, f: &mut fmt::Formatter<W>) -> fmt::Result {
+        fmt::Display::fmt(self, f)
     }
 }

@@ -21,7 +21,7 @@ pub type Cycle = u64;
 pub type Inbox = Vec<Message>;
 
 /// A core or a channel.
-#[derive(Clone, Copy, PartialEq, Eq, Debug)]
+#[derive(Clone, Copy, PartialEq, Eq)]
 pub enum Unit {
     Core(CoreId),
     Channel(ChannelId),
@@ -33,6 +33,12 @@ impl fmt::Display for Unit {
             Unit::Core(core) => write!(f, "core {core}"),
             Unit::Channel(channel) => write!(f, "channel {channel}"),
         }
+    }
+}
+
+impl fmt::Debug for Unit {
+    fn fmt<W: fmt::Write>(&self, f: &mut fmt::Formatter<W>) -> fmt::Result {
+        fmt::Display::fmt(self, f)
     }
 }
 
