@@ -1,15 +1,18 @@
 //! One key of a document's table.
 
-ghost use Rattle.std.specs.Prelude.{◌≡◌, ◌≤◌, IfOk, IsTrue, option_map, string_bytes};
+ghost use Rattle.std.specs.Prelude.{◌≡◌, IfOk, IsTrue, option_map, string_bytes};
 ghost use Rattle.std.specs.BTreeMap.{keys};
 ghost use Rattle.std.specs.Int.{is_power_of_two};
+ghost use Rattle.std.specs.Option.{ForSome};
 ghost use Rattle.std.specs.List.{list_all};
 ghost use Rattle.toml.specs.View.{view, table_view};
+ghost use Rattle.sim_base.specs.KeyRanges.{key_accepts, IsAccepted};
 ghost use Rattle.sim_base.specs.Ranges.{Within};
-ghost use Rattle.config_reader.specs.Document.Keys.{data_at, integer_at, in_range, number_of, number_or, as_power, power_of, power_or, is_known, keys_are_known, known_of, count_of};
+ghost use Rattle.config_reader.specs.Document.Keys.{data_at, integer_at, in_range, number_in, as_power, number_wanted, is_known, keys_are_known, known_of, count_of};
 
 use sim_base::fault::Fault;
 use sim_base::key::{DOCUMENT_KEYS, Key};
+use sim_base::key_table::Accepts;
 use toml::{Table, Value};
 
 /// What stands at a key.
@@ -43,32 +46,25 @@ pub(super) fn in_range(key: Key, low: u32, high: u32, value: Option<i64>) -> Res
     }
 }
 
-/// The number at a key that must be present.
-#[tactic(auto, unfolding(crate::specs::Document::Keys::number_of))]
-pub(super) fn number_at(table: &Table, key: Key, low: u32, high: u32) -> Result<u32, Fault>
-    ensures value { result ≡ number_of (table_view table.now) key low high }
-    ensures range { IfOk result (Within low high) }
-{
-    in_range(key, low, high, integer_at(table, key))
-}
-
-/// The number at a key that may be left out.
-#[tactic(auto, unfolding(crate::specs::Document::Keys::number_or))]
-pub(super) fn number_or(
-    default: u32,
+/// The number at a key, which may be left out where there is a default.
+#[tactic(auto, unfolding(crate::specs::Document::Keys::number_of, crate::specs::Document::Keys::number_or))]
+fn number_or(
+    default: Option<u32>,
     table: &Table,
     key: Key,
     low: u32,
     high: u32,
 ) -> Result<u32, Fault>
-    requires low { low ≤ default }
-    requires high { default ≤ high }
-    ensures value { result ≡ number_or default (table_view table.now) key low high }
+    requires { ForSome default (Within low high) }
+    ensures value { result ≡ number_in default (table_view table.now) key low high }
     ensures range { IfOk result (Within low high) }
 {
     match value_at(table, key) {
         Some(value) => in_range(key, low, high, value.as_integer()),
-        None => Ok(default),
+        None => match default {
+            Some(number) => Ok(number),
+            None => Err(Fault::ConfigKey(key)),
+        },
     }
 }
 
@@ -85,32 +81,19 @@ fn as_power(key: Key, n: u32) -> Result<u32, Fault>
     }
 }
 
-/// The power of two at a key that must be present.
-#[tactic(auto, unfolding(crate::specs::Document::Keys::power_of))]
-pub(super) fn power_at(table: &Table, key: Key, low: u32, high: u32) -> Result<u32, Fault>
-    ensures value { result ≡ power_of (table_view table.now) key low high }
-    ensures range { IfOk result (Within low high) }
-    ensures power { IfOk result (λ n. IsTrue (is_power_of_two n)) }
+/// The number at a key, by what the key accepts.
+pub(super) fn number_at(table: &Table, key: Key) -> Result<u32, Fault>
+    ensures value { result ≡ number_wanted (table_view table.now) key }
+    ensures accepted { IfOk result (IsAccepted (key_accepts key)) }
 {
-    as_power(key, number_at(table, key, low, high)?)
-}
-
-/// The power of two at a key that may be left out.
-#[tactic(auto, unfolding(crate::specs::Document::Keys::power_or))]
-pub(super) fn power_or(
-    default: u32,
-    table: &Table,
-    key: Key,
-    low: u32,
-    high: u32,
-) -> Result<u32, Fault>
-    requires low { low ≤ default }
-    requires high { default ≤ high }
-    ensures value { result ≡ power_or default (table_view table.now) key low high }
-    ensures range { IfOk result (Within low high) }
-    ensures power { IfOk result (λ n. IsTrue (is_power_of_two n)) }
-{
-    as_power(key, number_or(default, table, key, low, high)?)
+    let default = key.default_number();
+    match key.accepts() {
+        Accepts::Integer(low, high) => number_or(default, table, key, low, high),
+        Accepts::PowerOfTwo(low, high) => {
+            as_power(key, number_or(default, table, key, low, high)?)
+        }
+        _ => Err(Fault::ConfigKey(key)),
+    }
 }
 
 /// Whether a document may have a key of this name.

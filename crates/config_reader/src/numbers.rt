@@ -3,7 +3,7 @@
 ghost use Rattle.std.specs.Prelude.{◌≡◌, IfOk};
 ghost use Rattle.toml.specs.View.{table_view};
 
-use crate::keys::{number_at, number_or, power_at, power_or};
+use crate::keys::number_at;
 use sim_base::fault::Fault;
 use sim_base::key::Key;
 use toml::Table;
@@ -52,13 +52,13 @@ impl MachineSize {
     ghost use Rattle.sim_base.specs.Ranges.{MachineInRange};
     ghost use Rattle.config_reader.specs.Document.Numbers.{machine_of};
 
-    #[tactic(auto, unfolding(crate::specs::Document::Numbers::machine_of))]
+    #[tactic(auto, unfolding(crate::specs::Document::Numbers::machine_of, crate::specs::Document::Keys::power_of))]
     pub(super) fn read(table: &Table) -> Result<MachineSize, Fault>
         ensures value { result ≡ machine_of (table_view table.now) }
         ensures range { IfOk result (λ m. MachineInRange m.cores m.channels) }
     {
-        let cores = number_at(table, Key::Cores, 1, 256)?;
-        let channels = power_at(table, Key::Channels, 1, 16)?;
+        let cores = number_at(table, Key::Cores)?;
+        let channels = number_at(table, Key::Channels)?;
         Ok(MachineSize {
             cores: cores as u16,
             channels: channels as u16,
@@ -70,15 +70,15 @@ impl MemoryShape {
     ghost use Rattle.sim_base.specs.Ranges.{MemoryInRange};
     ghost use Rattle.config_reader.specs.Document.Numbers.{memory_of};
 
-    #[tactic(auto, unfolding(crate::specs::Document::Numbers::memory_of))]
+    #[tactic(auto, unfolding(crate::specs::Document::Numbers::memory_of, crate::specs::Document::Keys::power_of, crate::specs::Document::Keys::power_or))]
     pub(super) fn read(table: &Table) -> Result<MemoryShape, Fault>
         ensures value { result ≡ memory_of (table_view table.now) }
         ensures range { IfOk result (λ m. MemoryInRange m.ranks m.groups m.columns m.rows) }
     {
-        let groups = power_at(table, Key::Groups, 2, 4)?;
-        let ranks = power_or(1, table, Key::Ranks, 1, 4)?;
-        let columns = power_at(table, Key::Columns, 1, 1024)?;
-        let rows = power_at(table, Key::Rows, 1, 262_144)?;
+        let groups = number_at(table, Key::Groups)?;
+        let ranks = number_at(table, Key::Ranks)?;
+        let columns = number_at(table, Key::Columns)?;
+        let rows = number_at(table, Key::Rows)?;
         Ok(MemoryShape {
             ranks,
             groups,
@@ -96,10 +96,10 @@ impl CoreLimits {
         ensures value { result ≡ core_of (table_view table.now) }
         ensures range { IfOk result LimitsInRange }
     {
-        let window = number_at(table, Key::Window, 1, 4096)?;
-        let width = number_at(table, Key::Width, 1, 16)?;
-        let read_credits = number_at(table, Key::ReadCredits, 1, 64)?;
-        let write_credits = number_at(table, Key::WriteCredits, 1, 64)?;
+        let window = number_at(table, Key::Window)?;
+        let width = number_at(table, Key::Width)?;
+        let read_credits = number_at(table, Key::ReadCredits)?;
+        let write_credits = number_at(table, Key::WriteCredits)?;
         Ok(CoreLimits {
             window,
             width: width as u16,
@@ -119,9 +119,9 @@ impl Latencies {
         ensures range { IfOk result (λ l. LatenciesInRange l.request l.reply l.credit) }
     {
         Ok(Latencies {
-            request: number_at(table, Key::RequestLatency, 1, 1_000_000)?,
-            reply: number_at(table, Key::ReplyLatency, 1, 1_000_000)?,
-            credit: number_at(table, Key::CreditLatency, 1, 1_000_000)?,
+            request: number_at(table, Key::RequestLatency)?,
+            reply: number_at(table, Key::ReplyLatency)?,
+            credit: number_at(table, Key::CreditLatency)?,
         })
     }
 }
@@ -136,8 +136,8 @@ impl Drain {
         ensures range { IfOk result (λ d. DrainInRange d.write_high d.write_low) }
     {
         Ok(Drain {
-            write_high: number_or(0, table, Key::WriteHigh, 0, 8192)?,
-            write_low: number_or(0, table, Key::WriteLow, 0, 8192)?,
+            write_high: number_at(table, Key::WriteHigh)?,
+            write_low: number_at(table, Key::WriteLow)?,
         })
     }
 }

@@ -2,14 +2,24 @@
 
 ghost use Rattle.std.specs.Prelude.{◌≡◌, IfOk};
 ghost use Rattle.toml.specs.View.{table_view};
-ghost use Rattle.sim_base.specs.Ranges.{TimingInRange};
+ghost use Rattle.sim_base.specs.Ranges.{DistanceInRange, TimingInRange};
+ghost use Rattle.config_reader.specs.Document.Keys.{number_of, IsDistanceKey};
 ghost use Rattle.config_reader.specs.Document.Numbers.{DistancesInRange, distances_at, timing_of};
 
-use crate::keys::{number_at, number_or};
+use crate::keys::number_at;
 use sim_base::fault::Fault;
 use sim_base::key::Key;
 use sim_base::timing::Timing;
 use toml::Table;
+
+/// The distance at a key that must be present.
+fn distance_at(table: &Table, key: Key) -> Result<u32, Fault>
+    requires { IsDistanceKey key }
+    ensures value { result ≡ number_of (table_view table.now) key 1 100000 }
+    ensures range { IfOk result DistanceInRange }
+{
+    number_at(table, key)
+}
 
 /// The distances at four keys, one after the other.
 #[tactic(auto, unfolding(crate::specs::Document::Numbers::distances_at))]
@@ -20,13 +30,17 @@ fn distances_at(
     c: Key,
     d: Key,
 ) -> Result<(u32, u32, u32, u32), Fault>
+    requires a { IsDistanceKey a }
+    requires b { IsDistanceKey b }
+    requires c { IsDistanceKey c }
+    requires d { IsDistanceKey d }
     ensures value { result ≡ distances_at (table_view table.now) a b c d }
     ensures range { IfOk result DistancesInRange }
 {
-    let first = number_at(table, a, 1, 100_000)?;
-    let second = number_at(table, b, 1, 100_000)?;
-    let third = number_at(table, c, 1, 100_000)?;
-    let fourth = number_at(table, d, 1, 100_000)?;
+    let first = distance_at(table, a)?;
+    let second = distance_at(table, b)?;
+    let third = distance_at(table, c)?;
+    let fourth = distance_at(table, d)?;
     Ok((first, second, third, fourth))
 }
 
@@ -44,9 +58,9 @@ pub(super) fn read_timing(table: &Table) -> Result<Timing, Fault>
     let (n_cl, n_cwl, n_ccd_s, n_ccd_l) = distances_at(table, NCl, NCwl, NCcdS, NCcdL)?;
     let (n_rrd_s, n_rrd_l, n_faw, n_rtp) = distances_at(table, NRrdS, NRrdL, NFaw, NRtp)?;
     let (n_wr, n_wtr_s, n_wtr_l, n_rtw) = distances_at(table, NWr, NWtrS, NWtrL, NRtw)?;
-    let n_rfc = number_at(table, Key::NRfc, 1, 100_000)?;
-    let n_rtrs = number_or(0, table, Key::NRtrs, 0, 100_000)?;
-    let n_refi = number_at(table, Key::NRefi, 0, 100_000)?;
+    let n_rfc = number_at(table, Key::NRfc)?;
+    let n_rtrs = number_at(table, Key::NRtrs)?;
+    let n_refi = number_at(table, Key::NRefi)?;
     Ok(Timing {
         n_rcd,
         n_rp,

@@ -3,17 +3,21 @@
 --     data_at, integer_at      what stands at a key
 --     number_of, power_of      a number at a key that must be present
 --     number_or, power_or      a number at a key that may be left out
+--     number_wanted      a number at a key, by what the key accepts
 --     known_of      refuses a key that no configuration has
-use Rattle.std.specs.Prelude.{ℕ, suc, ℤ, pos, negsuc, List, [], ◌∷◌, Bool, true, nat_le, ◌&&◌, if◌then◌else◌, Option, Some, None, option_and_then, Result, Ok, Err}
+use Rattle.std.specs.Prelude.{◌≡◌, ℕ, suc, ℤ, pos, negsuc, List, [], ◌∷◌, Bool, true, nat_le, ◌&&◌, if◌then◌else◌, Option, Some, None, option_and_then, Result, Ok, Err}
 use Rattle.std.specs.Int.{is_power_of_two}
 use Rattle.std.specs.List.{list_any}
 use Rattle.std.specs.Str.{bytes_eq}
 use Rattle.toml.specs.Data.{Data, Members, no_members, member, get_member, as_integer}
+use Rattle.sim_base.specs.KeyRanges.{key_accepts, key_default}
 use Rattle.sim_base.specs.Keys.{key_name}
 use Rattle.sim_base.specs.declared.fault.Fault.{Fault}
 use Rattle.sim_base.specs.declared.fault.Fault.TheVariants.{ConfigKey, ConfigRange}
 use Rattle.sim_base.specs.declared.key.Key.{Key}
 use Rattle.sim_base.specs.declared.key.Key.TheVariants as key
+use Rattle.sim_base.specs.declared.key_table.Accepts.{Accepts}
+use Rattle.sim_base.specs.declared.key_table.Accepts.TheVariants.{Integer, PowerOfTwo}
 
 -- what is made of a value that may have been refused: the first fault stays
 infixl 10 ◌>>=◌
@@ -59,6 +63,26 @@ power_of ms k low high = number_of ms k low high >>= as_power k
 -- the power of two at a key, from low up to high, or the default where the key is left out
 unfoldable pub power_or : ℕ → Members → Key → ℕ → ℕ → Result ℕ Fault
 power_or default ms k low high = number_or default ms k low high >>= as_power k
+
+-- the number at a key, from low up to high, which may be left out where there is a default
+abbrev pub number_in : Option ℕ → Members → Key → ℕ → ℕ → Result ℕ Fault
+number_in None ms k low high = number_of ms k low high
+number_in (Some default) ms k low high = number_or default ms k low high
+
+-- a number that may stand at a key
+abbrev pub number_accepted : Accepts → Option ℕ → Members → Key → Result ℕ Fault
+number_accepted (Integer low high) default ms k = number_in default ms k low high
+number_accepted (PowerOfTwo low high) default ms k = number_in default ms k low high >>= as_power k
+number_accepted _ default ms k = Err (ConfigKey k)
+
+-- the number at a key, by what the key accepts
+abbrev pub number_wanted : Members → Key → Result ℕ Fault
+number_wanted ms k = number_accepted (key_accepts k) (key_default k) ms k
+
+-- a key that has to be present, at which a distance between commands stands
+pub record IsDistanceKey (k : Key) : Type 0 where
+  pub accepts : key_accepts k ≡ Integer 1 100000
+  pub default : key_default k ≡ None
 
 -- the keys that a document may have
 abbrev pub known_keys : List Key
