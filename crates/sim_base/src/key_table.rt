@@ -38,6 +38,8 @@ pub struct KeyRow {
     /// Its name in a document.
     pub name: &'static str,
     pub accepts: Accepts,
+    /// What it accepts, in words.
+    pub words: &'static str,
     pub absent: WhereAbsent,
     /// What it speaks of.
     pub group: &'static str,
@@ -49,6 +51,7 @@ pub static KEYS: [KeyRow; 40] = [
     KeyRow {
         name: "cores",
         accepts: Integer(1, 256),
+        words: "1 to 256",
         absent: Refused,
         group: "machine",
         meaning: "how many cores there are",
@@ -56,6 +59,7 @@ pub static KEYS: [KeyRow; 40] = [
     KeyRow {
         name: "channels",
         accepts: PowerOfTwo(1, 16),
+        words: "1, 2, 4, 8 or 16",
         absent: Refused,
         group: "machine",
         meaning: "how many channels there are",
@@ -63,6 +67,7 @@ pub static KEYS: [KeyRow; 40] = [
     KeyRow {
         name: "groups",
         accepts: PowerOfTwo(2, 4),
+        words: "2 or 4",
         absent: Refused,
         group: "memory",
         meaning: "bank groups of four banks each in a rank",
@@ -70,6 +75,7 @@ pub static KEYS: [KeyRow; 40] = [
     KeyRow {
         name: "ranks",
         accepts: PowerOfTwo(1, 4),
+        words: "1, 2 or 4",
         absent: Number(1),
         group: "memory",
         meaning: "ranks of a channel",
@@ -77,6 +83,7 @@ pub static KEYS: [KeyRow; 40] = [
     KeyRow {
         name: "columns",
         accepts: PowerOfTwo(1, 1024),
+        words: "a power of two from 1 to 1024",
         absent: Refused,
         group: "memory",
         meaning: "lines of 64 bytes in a row",
@@ -84,6 +91,7 @@ pub static KEYS: [KeyRow; 40] = [
     KeyRow {
         name: "rows",
         accepts: PowerOfTwo(1, 262_144),
+        words: "a power of two from 1 to 262144",
         absent: Refused,
         group: "memory",
         meaning: "rows in a bank",
@@ -91,6 +99,7 @@ pub static KEYS: [KeyRow; 40] = [
     KeyRow {
         name: "fields",
         accepts: Fields,
+        words: "an array of \"channel\", \"column\", \"group\", \"bank\" and \"row\", each once, and \"rank\" where a channel has several",
         absent: Refused,
         group: "memory",
         meaning: "the fields of an address, low end first; `rank` may be left out where a channel has one",
@@ -98,6 +107,7 @@ pub static KEYS: [KeyRow; 40] = [
     KeyRow {
         name: "window",
         accepts: Integer(1, 4096),
+        words: "1 to 4096",
         absent: Refused,
         group: "core",
         meaning: "entries in flight",
@@ -105,6 +115,7 @@ pub static KEYS: [KeyRow; 40] = [
     KeyRow {
         name: "width",
         accepts: Integer(1, 16),
+        words: "1 to 16",
         absent: Refused,
         group: "core",
         meaning: "entries that are issued in a cycle, and that are retired in one",
@@ -112,6 +123,7 @@ pub static KEYS: [KeyRow; 40] = [
     KeyRow {
         name: "read_credits",
         accepts: Integer(1, 64),
+        words: "1 to 64",
         absent: Refused,
         group: "core",
         meaning: "reads in flight from a core to a channel",
@@ -119,6 +131,7 @@ pub static KEYS: [KeyRow; 40] = [
     KeyRow {
         name: "write_credits",
         accepts: Integer(1, 64),
+        words: "1 to 64",
         absent: Refused,
         group: "core",
         meaning: "writes in flight from a core to a channel",
@@ -126,6 +139,7 @@ pub static KEYS: [KeyRow; 40] = [
     KeyRow {
         name: "request_latency",
         accepts: Integer(1, 1_000_000),
+        words: "1 to 1000000",
         absent: Refused,
         group: "links",
         meaning: "from a core to a channel",
@@ -133,6 +147,7 @@ pub static KEYS: [KeyRow; 40] = [
     KeyRow {
         name: "reply_latency",
         accepts: Integer(1, 1_000_000),
+        words: "1 to 1000000",
         absent: Refused,
         group: "links",
         meaning: "of the data of a read, back to its core",
@@ -140,6 +155,7 @@ pub static KEYS: [KeyRow; 40] = [
     KeyRow {
         name: "credit_latency",
         accepts: Integer(1, 1_000_000),
+        words: "1 to 1000000",
         absent: Refused,
         group: "links",
         meaning: "of a credit, back to its core",
@@ -147,6 +163,7 @@ pub static KEYS: [KeyRow; 40] = [
     KeyRow {
         name: "nRCD",
         accepts: Integer(1, 100_000),
+        words: "1 to 100000",
         absent: Refused,
         group: "timing",
         meaning: "ACT to RD or WR of the bank",
@@ -154,6 +171,7 @@ pub static KEYS: [KeyRow; 40] = [
     KeyRow {
         name: "nRP",
         accepts: Integer(1, 100_000),
+        words: "1 to 100000",
         absent: Refused,
         group: "timing",
         meaning: "PRE to ACT of the bank",
@@ -161,6 +179,7 @@ pub static KEYS: [KeyRow; 40] = [
     KeyRow {
         name: "nRAS",
         accepts: Integer(1, 100_000),
+        words: "1 to 100000",
         absent: Refused,
         group: "timing",
         meaning: "ACT to PRE of the bank",
@@ -168,6 +187,7 @@ pub static KEYS: [KeyRow; 40] = [
     KeyRow {
         name: "nRC",
         accepts: Integer(1, 100_000),
+        words: "1 to 100000",
         absent: Refused,
         group: "timing",
         meaning: "ACT to ACT of the bank",
@@ -175,6 +195,7 @@ pub static KEYS: [KeyRow; 40] = [
     KeyRow {
         name: "nCL",
         accepts: Integer(1, 100_000),
+        words: "1 to 100000",
         absent: Refused,
         group: "timing",
         meaning: "RD to its data",
@@ -182,6 +203,7 @@ pub static KEYS: [KeyRow; 40] = [
     KeyRow {
         name: "nCWL",
         accepts: Integer(1, 100_000),
+        words: "1 to 100000",
         absent: Refused,
         group: "timing",
         meaning: "WR to its data",
@@ -189,6 +211,7 @@ pub static KEYS: [KeyRow; 40] = [
     KeyRow {
         name: "nCCD_S",
         accepts: Integer(1, 100_000),
+        words: "1 to 100000",
         absent: Refused,
         group: "timing",
         meaning: "RD to RD and WR to WR of another bank group",
@@ -196,6 +219,7 @@ pub static KEYS: [KeyRow; 40] = [
     KeyRow {
         name: "nCCD_L",
         accepts: Integer(1, 100_000),
+        words: "1 to 100000",
         absent: Refused,
         group: "timing",
         meaning: "RD to RD and WR to WR of the bank group",
@@ -203,6 +227,7 @@ pub static KEYS: [KeyRow; 40] = [
     KeyRow {
         name: "nRRD_S",
         accepts: Integer(1, 100_000),
+        words: "1 to 100000",
         absent: Refused,
         group: "timing",
         meaning: "ACT to ACT of another bank group",
@@ -210,6 +235,7 @@ pub static KEYS: [KeyRow; 40] = [
     KeyRow {
         name: "nRRD_L",
         accepts: Integer(1, 100_000),
+        words: "1 to 100000",
         absent: Refused,
         group: "timing",
         meaning: "ACT to ACT of the bank group",
@@ -217,6 +243,7 @@ pub static KEYS: [KeyRow; 40] = [
     KeyRow {
         name: "nFAW",
         accepts: Integer(1, 100_000),
+        words: "1 to 100000",
         absent: Refused,
         group: "timing",
         meaning: "ACT to the fourth ACT after it in the rank",
@@ -224,6 +251,7 @@ pub static KEYS: [KeyRow; 40] = [
     KeyRow {
         name: "nRTP",
         accepts: Integer(1, 100_000),
+        words: "1 to 100000",
         absent: Refused,
         group: "timing",
         meaning: "RD to PRE of the bank",
@@ -231,6 +259,7 @@ pub static KEYS: [KeyRow; 40] = [
     KeyRow {
         name: "nWR",
         accepts: Integer(1, 100_000),
+        words: "1 to 100000",
         absent: Refused,
         group: "timing",
         meaning: "end of a WR's data to PRE of the bank",
@@ -238,6 +267,7 @@ pub static KEYS: [KeyRow; 40] = [
     KeyRow {
         name: "nWTR_S",
         accepts: Integer(1, 100_000),
+        words: "1 to 100000",
         absent: Refused,
         group: "timing",
         meaning: "end of a WR's data to RD of another bank group",
@@ -245,6 +275,7 @@ pub static KEYS: [KeyRow; 40] = [
     KeyRow {
         name: "nWTR_L",
         accepts: Integer(1, 100_000),
+        words: "1 to 100000",
         absent: Refused,
         group: "timing",
         meaning: "end of a WR's data to RD of the bank group",
@@ -252,6 +283,7 @@ pub static KEYS: [KeyRow; 40] = [
     KeyRow {
         name: "nRTW",
         accepts: Integer(1, 100_000),
+        words: "1 to 100000",
         absent: Refused,
         group: "timing",
         meaning: "RD to WR of the rank",
@@ -259,6 +291,7 @@ pub static KEYS: [KeyRow; 40] = [
     KeyRow {
         name: "nRFC",
         accepts: Integer(1, 100_000),
+        words: "1 to 100000",
         absent: Refused,
         group: "timing",
         meaning: "REF to ACT of the rank",
@@ -266,6 +299,7 @@ pub static KEYS: [KeyRow; 40] = [
     KeyRow {
         name: "nRTRS",
         accepts: Integer(0, 100_000),
+        words: "0 to 100000",
         absent: Number(0),
         group: "timing",
         meaning: "from one rank's data to another's",
@@ -273,6 +307,7 @@ pub static KEYS: [KeyRow; 40] = [
     KeyRow {
         name: "nREFI",
         accepts: Integer(0, 100_000),
+        words: "0 to 100000",
         absent: Refused,
         group: "timing",
         meaning: "from one refresh of a rank to the next; 0 means none",
@@ -280,6 +315,7 @@ pub static KEYS: [KeyRow; 40] = [
     KeyRow {
         name: "write_high",
         accepts: Integer(0, 8192),
+        words: "0 to 8192",
         absent: Number(0),
         group: "drain",
         meaning: "writes in the queue at which a channel begins to drain them; 0 means never",
@@ -287,6 +323,7 @@ pub static KEYS: [KeyRow; 40] = [
     KeyRow {
         name: "write_low",
         accepts: Integer(0, 8192),
+        words: "0 to 8192",
         absent: Number(0),
         group: "drain",
         meaning: "writes in the queue at which it ends",
@@ -294,6 +331,7 @@ pub static KEYS: [KeyRow; 40] = [
     KeyRow {
         name: "end",
         accepts: End,
+        words: "\"limit\" or \"drained\"",
         absent: Usual,
         group: "run",
         meaning: "`limit`, also where it is absent, or `drained`: as soon as all is retired, served and delivered",
@@ -301,6 +339,7 @@ pub static KEYS: [KeyRow; 40] = [
     KeyRow {
         name: "link",
         accepts: Links,
+        words: "tables [[link]] of an id and a latency",
         absent: Usual,
         group: "links",
         meaning: "the latency of one link, a table for each; none where it is absent",
@@ -308,6 +347,7 @@ pub static KEYS: [KeyRow; 40] = [
     KeyRow {
         name: "id",
         accepts: Integer(0, 12_287),
+        words: "0 to 12287",
         absent: Refused,
         group: "item of link",
         meaning: "the number of the link",
@@ -315,6 +355,7 @@ pub static KEYS: [KeyRow; 40] = [
     KeyRow {
         name: "latency",
         accepts: Integer(1, 1_000_000),
+        words: "1 to 1000000",
         absent: Refused,
         group: "item of link",
         meaning: "how long a message travels on it",
@@ -322,6 +363,7 @@ pub static KEYS: [KeyRow; 40] = [
     KeyRow {
         name: "unknown",
         accepts: Nothing,
+        words: "no value",
         absent: Refused,
         group: "none",
         meaning: "any other name",

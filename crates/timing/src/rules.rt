@@ -1,7 +1,7 @@
 //! The rules between two commands, as a table.
 
 ghost use Rattle.std.specs.Prelude.{◌≡◌, ◌+◌, ◌==◌, ◌&&◌};
-ghost use Rattle.sim_base.specs.Rules.{rules, covers, binds, is_bound, gap};
+ghost use Rattle.sim_base.specs.Rules.{rule, rules, covers, binds, is_bound, gap};
 ghost use Rattle.sim_base.specs.Rules.{relation_in_rank, relation_of};
 ghost use Rattle.timing.specs.Relation.{relation_to};
 
@@ -46,8 +46,15 @@ pub fn relation(earlier: Command, later: Command) -> Relation
     relation_to(earlier, later.rank(), later.bank())
 }
 
-fn make_rule(number: u32, earlier: Kind, later: Kind, scope: Scope, cycles: u64) -> Rule
-    ensures { result ≡ record { number = number; earlier = earlier; later = later; scope = scope; cycles = cycles } }
+fn make_rule(number: u32, earlier: Kind, later: Kind, scope: Scope, cycles: u32) -> Rule
+    ensures { result ≡ rule number earlier later scope cycles }
+{
+    make_sum(number, earlier, later, scope, u64::from(cycles))
+}
+
+/// A rule whose distance is a sum.
+fn make_sum(number: u32, earlier: Kind, later: Kind, scope: Scope, cycles: u64) -> Rule
+    ensures { result ≡ rule number earlier later scope cycles }
 {
     Rule {
         number,
@@ -68,48 +75,48 @@ pub fn rules(timing: &Timing) -> [Rule; 30]
     let write_end = u64::from(timing.n_cwl) + 4;
     let ranks = 4 + u64::from(timing.n_rtrs);
     [
-        make_rule(3, Act, Rd, InBank, u64::from(timing.n_rcd)),
-        make_rule(3, Act, Wr, InBank, u64::from(timing.n_rcd)),
-        make_rule(4, Act, Pre, InBank, u64::from(timing.n_ras)),
-        make_rule(4, Act, Prea, InRank, u64::from(timing.n_ras)),
-        make_rule(5, Act, Act, InBank, u64::from(timing.n_rc)),
-        make_rule(6, Pre, Act, InBank, u64::from(timing.n_rp)),
-        make_rule(6, Prea, Act, InRank, u64::from(timing.n_rp)),
-        make_rule(6, Pre, Ref, InRank, u64::from(timing.n_rp)),
-        make_rule(6, Prea, Ref, InRank, u64::from(timing.n_rp)),
-        make_rule(7, Rd, Pre, InBank, u64::from(timing.n_rtp)),
-        make_rule(7, Rd, Prea, InRank, u64::from(timing.n_rtp)),
-        make_rule(8, Wr, Pre, InBank, write_end + u64::from(timing.n_wr)),
-        make_rule(8, Wr, Prea, InRank, write_end + u64::from(timing.n_wr)),
-        make_rule(9, Act, Act, InGroup, u64::from(timing.n_rrd_l)),
-        make_rule(10, Act, Act, AcrossGroups, u64::from(timing.n_rrd_s)),
-        make_rule(11, Rd, Rd, InGroup, u64::from(timing.n_ccd_l)),
-        make_rule(11, Wr, Wr, InGroup, u64::from(timing.n_ccd_l)),
-        make_rule(12, Rd, Rd, AcrossGroups, u64::from(timing.n_ccd_s)),
-        make_rule(12, Wr, Wr, AcrossGroups, u64::from(timing.n_ccd_s)),
-        make_rule(13, Wr, Rd, InGroup, write_end + u64::from(timing.n_wtr_l)),
-        make_rule(
+        make_rule(3, Act, Rd, InBank, timing.n_rcd),
+        make_rule(3, Act, Wr, InBank, timing.n_rcd),
+        make_rule(4, Act, Pre, InBank, timing.n_ras),
+        make_rule(4, Act, Prea, InRank, timing.n_ras),
+        make_rule(5, Act, Act, InBank, timing.n_rc),
+        make_rule(6, Pre, Act, InBank, timing.n_rp),
+        make_rule(6, Prea, Act, InRank, timing.n_rp),
+        make_rule(6, Pre, Ref, InRank, timing.n_rp),
+        make_rule(6, Prea, Ref, InRank, timing.n_rp),
+        make_rule(7, Rd, Pre, InBank, timing.n_rtp),
+        make_rule(7, Rd, Prea, InRank, timing.n_rtp),
+        make_sum(8, Wr, Pre, InBank, write_end + u64::from(timing.n_wr)),
+        make_sum(8, Wr, Prea, InRank, write_end + u64::from(timing.n_wr)),
+        make_rule(9, Act, Act, InGroup, timing.n_rrd_l),
+        make_rule(10, Act, Act, AcrossGroups, timing.n_rrd_s),
+        make_rule(11, Rd, Rd, InGroup, timing.n_ccd_l),
+        make_rule(11, Wr, Wr, InGroup, timing.n_ccd_l),
+        make_rule(12, Rd, Rd, AcrossGroups, timing.n_ccd_s),
+        make_rule(12, Wr, Wr, AcrossGroups, timing.n_ccd_s),
+        make_sum(13, Wr, Rd, InGroup, write_end + u64::from(timing.n_wtr_l)),
+        make_sum(
             14,
             Wr,
             Rd,
             AcrossGroups,
             write_end + u64::from(timing.n_wtr_s),
         ),
-        make_rule(15, Rd, Wr, InRank, u64::from(timing.n_rtw)),
-        make_rule(17, Ref, Act, InRank, u64::from(timing.n_rfc)),
-        make_rule(17, Ref, Pre, InRank, u64::from(timing.n_rfc)),
-        make_rule(17, Ref, Prea, InRank, u64::from(timing.n_rfc)),
-        make_rule(17, Ref, Ref, InRank, u64::from(timing.n_rfc)),
-        make_rule(19, Rd, Rd, AcrossRanks, ranks),
-        make_rule(19, Wr, Wr, AcrossRanks, ranks),
-        make_rule(
+        make_rule(15, Rd, Wr, InRank, timing.n_rtw),
+        make_rule(17, Ref, Act, InRank, timing.n_rfc),
+        make_rule(17, Ref, Pre, InRank, timing.n_rfc),
+        make_rule(17, Ref, Prea, InRank, timing.n_rfc),
+        make_rule(17, Ref, Ref, InRank, timing.n_rfc),
+        make_sum(19, Rd, Rd, AcrossRanks, ranks),
+        make_sum(19, Wr, Wr, AcrossRanks, ranks),
+        make_sum(
             20,
             Rd,
             Wr,
             AcrossRanks,
             (u64::from(timing.n_cl) + ranks).saturating_sub(u64::from(timing.n_cwl)),
         ),
-        make_rule(
+        make_sum(
             21,
             Wr,
             Rd,
