@@ -1,6 +1,6 @@
 //! A core.
 
-ghost use Rattle.std.specs.Prelude.{[], IsTrue, ◌↔◌, ◌/◌, ◌%◌, ◌≡◌, ◌^◌, ◌+◌, ◌*◌, ◌-◌, ◌≤◌, ◌<◌, ℕ, Some, List, length, slice_get, min, OnOk, IfOk};
+ghost use Rattle.std.specs.Prelude.{[], IsTrue, ◌↔◌, ◌/◌, ◌%◌, ◌≡◌, ◌^◌, ◌+◌, ◌*◌, ◌-◌, ◌≤◌, ◌<◌, ℕ, Some, List, length, slice_get, min, replicate, OnOk, IfOk};
 ghost use Rattle.std.specs.Option.{IfSome};
 ghost use Rattle.sim_base.specs.declared.history.CoreStep.{CoreStep};
 ghost use Rattle.sim_base.specs.declared.message.Message.{Message};
@@ -85,6 +85,18 @@ fn memory_issued(stats: &CoreStats) -> u64
     ensures { result ≡ min (stats.now.reads + stats.now.writes) (2 ^ 64 - 1) }
 {
     stats.reads.saturating_add(stats.writes)
+}
+
+/// The credits of a core for each channel, of which it has spent none.
+fn all_credits(alloc: Global, config: &Config) -> Result<Vec<Credits>, AllocError>
+    ensures { IfOk result (λ all. all.items ≡ replicate config.now.channels
+        (record { read = config.now.read_credits; write = config.now.write_credits })) }
+{
+    let credits = Credits {
+        read: u64::from(config.read_credits),
+        write: u64::from(config.write_credits),
+    };
+    vec![in alloc; credits; usize::from(config.channels)]
 }
 
 impl Core {
@@ -397,20 +409,18 @@ impl Core {
         ensures { IfOk result (λ core. StandsFor config.now id trace [] [] (view_of core)) }
     {
         prove!(trace.len() <= 1 << 62);
-        let credits = Credits {
-            read: u64::from(config.read_credits),
-            write: u64::from(config.write_credits),
-        };
         let digits = Digits::of_config(config);
         let found = next_two(&digits, &trace, 0, 0);
+        let outstanding = OutstandingReads::with_room(alloc, config.window as usize)?;
+        let credits = all_credits(alloc, config)?;
         Ok(Core {
             config: config.copy(alloc)?,
             digits,
             id,
             trace,
             cycle: 0,
-            outstanding: OutstandingReads::with_room(alloc, config.window as usize)?,
-            credits: vec![in alloc; credits; usize::from(config.channels)]?,
+            outstanding,
+            credits,
             stats: CoreStats::new(),
             found,
         })

@@ -10,7 +10,7 @@ returns c =
     refl
     (search rules)
     refl
-    (c.in_ok-with_room.ensures {u = tt})
-    (search rules)
+    (c.in_ok-outstanding.ensures {u = tt})
+    (c.in_ok-credits.ensures {u = tt})
     c.new.ensures
     (omega (arith, c.len.ensures.value))
