@@ -1,5 +1,5 @@
 -- Texts that begin with a line of the usual form.
-use Rattle.std.proofs.Common.{Option, Bor, ◌≡◌, ℕ, ◌+◌, ◌*◌, ◌^◌, ◌<◌, ◌≤◌, List, [], ◌∷◌, ◌++◌, length, get_or, take, Some, None, refl, sym, ap, ◌∙◌, arith, append_assoc, inl, inr, codes}
+use Rattle.std.proofs.Common.{Option, Bor, ◌≡◌, ℕ, ◌+◌, ◌*◌, ◌^◌, ◌<◌, ◌≤◌, List, [], ◌∷◌, ◌++◌, length, length-append, get_or, take, Some, None, refl, sym, ap, ◌∙◌, arith, append_assoc, inl, inr, codes}
 use Rattle.std.proofs.lemmas.List.{append-nil, length-take-le}
 use Rattle.std.proofs.lemmas.List.Splits.{slice_split_at}
 use Rattle.std.proofs.lemmas.Int.Digits.{digits_more, digits_value_more, digits_value-lt}
@@ -87,3 +87,20 @@ three-usual text r s u v w x plain read write a e b f d g =
       has_numbers = line_entries-meant line _ (record { numbers = plain ∷ read ∷ write ∷ []; joined = joined; are_entries = refl });
       parts = ap lines_of whole ∙ lines-joined line x (plain ∷ read ∷ write ∷ []) joined;
     }
+
+-- what follows a token is no longer than the text
+token-no_longer : (text : List ℕ) (number : ℕ) (rest : List ℕ) → BeginsWithToken text number rest → length rest ≤ length text
+token-no_longer text number rest h = omega (arith, ap length h.parts, length-append h.token rest)
+
+-- what follows two tokens, or three, and a line feed is shorter
+pub two-shorter : (text r s u v : List ℕ) (plain read : ℕ) → BeginsWithToken text plain r → r ≡ 32 ∷ s → BeginsWithToken s read u → u ≡ 10 ∷ v → length v < length text
+two-shorter text r s u v plain read a e b f =
+    let first = token-no_longer text plain r a in
+    let second = token-no_longer s read u b in
+    omega (arith, first, second, ap length e, ap length f)
+
+pub three-shorter : (text r s u v w x : List ℕ) (plain read write : ℕ) → BeginsWithToken text plain r → r ≡ 32 ∷ s → BeginsWithToken s read u → u ≡ 32 ∷ v → BeginsWithToken v write w → w ≡ 10 ∷ x → length x < length text
+three-shorter text r s u v w x plain read write a e b f d g =
+    let first = token-no_longer text plain r a in
+    let second = two-shorter s u v w x read write b f d g in
+    omega (arith, first, second, ap length e)

@@ -72,7 +72,8 @@ impl Entries {
     pub(crate) fn add(&mut self, plain: u64, entry: Entry) -> Result<(), AllocError>
         requires memory { is_memory entry ≡ true }
         requires room { length self.old + plain < 2 ^ 62 }
-        ensures ok { OnOk result (self.new ≡ self.old ++ (replicate plain Entry.Plain ++ entry ∷ [])) }
+        ensures ok { OnOk result (self.new ≡ self.old
+            ++ (replicate plain Entry.Plain ++ entry ∷ [])) }
         ensures err { OnErr result (self.new ≡ self.old) }
     {
         let number = self.len + plain;

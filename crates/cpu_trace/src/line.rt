@@ -3,14 +3,14 @@
 ghost use Rattle.std.specs.Prelude.{◌≡◌, ◌<◌, ◌≤◌, false, [], ◌∷◌, length, slice_index, Ok, Err, MatchOption, MatchResult, not};
 ghost use Rattle.std.specs.List.{prefix_len};
 ghost use Rattle.std.specs.Option.{option_copied};
-ghost use Rattle.sim_base.specs.TraceText.{is_separator, tokens_of, entries_of_tokens, line_entries};
-ghost use Rattle.cpu_trace.specs.Lines.{tokens_with, entries_of, entries_in};
+ghost use Rattle.sim_base.specs.TraceText.{is_separator, tokens_of, line_entries};
+ghost use Rattle.cpu_trace.specs.Lines.{ReadsTokens, tokens_with, entries_in};
 
 use crate::number::read_number;
 use sim_base::fault::LineCause;
 
 /// The numbers of a line: how many Plain entries there are, and then the addresses of a Read and of a Write.
-#[derive(Clone, Copy, PartialEq, Eq, Debug)]
+#[derive(Clone, Copy)]
 pub(crate) struct Line {
     pub plain: u64,
     pub read: u64,
@@ -50,7 +50,8 @@ fn skip_separators(line: &[u8]) -> &[u8]
 
 // The first token of a line, and what follows it.
 fn split_token(line: &[u8]) -> Option<(&[u8], &[u8])>
-    ensures { MatchOption result (tokens_of line.now ≡ []) (λ parts. tokens_of line.now ≡ parts.0.now ∷ tokens_of parts.1.now) }
+    ensures { MatchOption result (tokens_of line.now ≡ [])
+        (λ parts. tokens_of line.now ≡ parts.0.now ∷ tokens_of parts.1.now) }
 {
     let rest = skip_separators(line);
     if rest.is_empty() {
@@ -62,7 +63,7 @@ fn split_token(line: &[u8]) -> Option<(&[u8], &[u8])>
 // The numbers of a line with these tokens.
 #[tactic(auto, unfolding(sim_base::specs::TraceText::entries_of_tokens))]
 fn read_tokens(plain: &[u8], read: &[u8], write: Option<&[u8]>) -> Result<Line, LineCause>
-    ensures { MatchResult result (λ line. entries_of_tokens (tokens_with plain.now read.now (option_copied write.entry)) ≡ Ok (entries_of line)) (λ cause. entries_of_tokens (tokens_with plain.now read.now (option_copied write.entry)) ≡ Err cause) }
+    ensures { ReadsTokens (tokens_with plain.now read.now (option_copied write.entry)) result }
 {
     let plain = read_number(plain)?;
     let read = read_number(read)?;
@@ -78,7 +79,8 @@ fn read_tokens(plain: &[u8], read: &[u8], write: Option<&[u8]>) -> Result<Line, 
 /// The number of tokens is tested first, and then each token from the left.
 #[tactic(auto, unfolding(sim_base::specs::TraceText::line_entries, sim_base::specs::TraceText::entries_of_tokens))]
 pub(crate) fn read_line(line: &[u8]) -> Result<Option<Line>, LineCause>
-    ensures { MatchResult result (λ numbers. line_entries line.now ≡ Ok (entries_in numbers)) (λ cause. line_entries line.now ≡ Err cause) }
+    ensures { MatchResult result (λ numbers. line_entries line.now ≡ Ok (entries_in numbers))
+        (λ cause. line_entries line.now ≡ Err cause) }
 {
     let Some((plain, rest)) = split_token(line) else {
         return Ok(None);

@@ -21,7 +21,8 @@ fn line_len(text: &[u8]) -> usize
 
 // The first line of a text, and what follows its line feed, if it has one.
 fn split_line(text: &[u8]) -> (&[u8], Option<&[u8]>)
-    ensures lines { MatchOption result.1 (lines_of text.now ≡ result.0.now ∷ []) (λ behind. lines_of text.now ≡ result.0.now ∷ lines_of behind.now) }
+    ensures lines { MatchOption result.1 (lines_of text.now ≡ result.0.now ∷ [])
+        (λ behind. lines_of text.now ≡ result.0.now ∷ lines_of behind.now) }
     ensures shorter { IfSome result.1 (λ behind. length behind.now < length text.now) }
 {
     let (line, behind) = text.split_at(line_len(text));
@@ -35,7 +36,8 @@ fn split_line(text: &[u8]) -> (&[u8], Option<&[u8]>)
 // Adds the entries of the lines at the start of a text, up to the first that does not have the usual form or that there is
 // no room for. Gives the number of these lines, and what follows them.
 fn add_usual_lines<'a>(entries: &mut Entries, text: &'a [u8]) -> Result<(u64, &'a [u8]), AllocError>
-    ensures { IfOk result (λ read. IsReadUpTo text.now (Some entries.old) read.0 read.1.now (Some entries.new)) }
+    ensures { IfOk result (λ read. IsReadUpTo text.now (Some entries.old) read.0 read.1.now
+        (Some entries.new)) }
 {
     let mut lines = 0;
     let mut rest = text;

@@ -51,7 +51,8 @@ fn read_pieces<R: Threads + Sync>(
     alloc: Global,
     pieces: &[&[u8]],
 ) -> Result<Vec<Result<Reading, Unread>>, AllocError>
-    ensures { IfOk result (λ readings. AllZip (λ piece reading. IsRead (lines_of piece.now) reading) pieces.now readings.items) }
+    ensures { IfOk result (λ readings. AllZip (λ piece reading. IsRead (lines_of piece.now) reading)
+        pieces.now readings.items) }
 {
     pieces
         .par_iter()

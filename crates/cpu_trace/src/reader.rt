@@ -45,7 +45,8 @@ pub fn read_trace_in_pieces<R: Threads + Sync>(
     ensures meaning { IfOk result (StandsForTrace text.now) }
     ensures entries { IfOk result (λ trace. trace_entries text.now ≡ Ok trace) }
     ensures answer { IfOk result (λ trace. trace_answer core text.now ≡ Ok trace) }
-    ensures refused { IfErr result (λ fault. fault ≢ Fault.Memory → trace_answer core text.now ≡ Err fault) }
+    ensures refused { IfErr result (λ fault. fault ≢ Fault.Memory
+        → trace_answer core text.now ≡ Err fault) }
     ensures no_meaning { IfErr result (IsRefusedBy text.now) }
 {
     match read_text(rt, alloc, text, size) {
@@ -70,7 +71,8 @@ pub fn read_trace<R: Threads + Sync>(
     ensures meaning { IfOk result (StandsForTrace text.now) }
     ensures entries { IfOk result (λ trace. trace_entries text.now ≡ Ok trace) }
     ensures answer { IfOk result (λ trace. trace_answer core text.now ≡ Ok trace) }
-    ensures refused { IfErr result (λ fault. fault ≢ Fault.Memory → trace_answer core text.now ≡ Err fault) }
+    ensures refused { IfErr result (λ fault. fault ≢ Fault.Memory
+        → trace_answer core text.now ≡ Err fault) }
     ensures no_meaning { IfErr result (IsRefusedBy text.now) }
 {
     read_trace_in_pieces(rt, alloc, core, text, PIECE_SIZE)

@@ -19,7 +19,7 @@ pub(crate) struct Reading {
 }
 
 /// Why lines are not read.
-#[derive(Clone, Copy, PartialEq, Eq, Debug)]
+#[derive(Clone, Copy)]
 pub(crate) enum Unread {
     /// The first bad line, counted from 1.
     BadLine { line: u64, cause: LineCause },
@@ -134,7 +134,8 @@ impl Reading {
     /// What these lines and those after them have together. If the latter were not read, the result says why.
     pub(crate) fn followed_by(self, next: Result<Reading, Unread>) -> Result<Reading, Unread>
         requires { self.lines + lines_told next < 2 ^ 64 }
-        ensures { (lines behind : List (List ℕ)) → IsReadingOf lines self → IsRead behind next → IsRead (lines ++ behind) result }
+        ensures { (lines behind : List (List ℕ)) → IsReadingOf lines self → IsRead behind next
+            → IsRead (lines ++ behind) result }
     {
         match next {
             Ok(more) => Ok(Reading {

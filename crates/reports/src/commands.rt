@@ -251,8 +251,5 @@ pub fn write_commands_by<R: Threads + Sync, W: Write>(
         return write_commands(threads.alloc, ranks, commands, writer);
     }
     let pieces = commands.pieces(threads.alloc, MOST)?;
-    if pieces.len() < 2 {
-        return write_commands(threads.alloc, ranks, commands, writer);
-    }
     write_pieces(threads, &CommandLines { ranks }, &pieces, writer)
 }

@@ -170,7 +170,7 @@ fn write_rounds<R: Threads + Sync, P: Sync, T: TableLines<P> + Sync, W: Write>(
     Ok(())
 }
 
-/// Writes a table: the header, and then the rows of the pieces, whose texts these threads put together.
+/// Writes a table: the header, and then the rows of the pieces, whose texts these threads put together if there are several.
 pub(crate) fn write_pieces<R: Threads + Sync, P: Sync, T: TableLines<P> + Sync, W: Write>(
     threads: &TableThreads<'_, R>,
     of: &T,
@@ -182,6 +182,9 @@ pub(crate) fn write_pieces<R: Threads + Sync, P: Sync, T: TableLines<P> + Sync, 
         (T.header_line of.now ++ flat_map (T.lines of.now) pieces.now) }
     ensures refused { IfErr result (λ e. IsReportFault e) }
 {
+    if let [rows] = pieces {
+        return write_whole(threads.alloc, of, rows, writer);
+    }
     write_header(threads.alloc, of, writer)?;
     write_rounds(threads, of, pieces, writer)
 }

@@ -146,8 +146,5 @@ pub fn write_requests_by<R: Threads + Sync, W: Write>(
         return write_requests(threads.alloc, requests, writer);
     }
     let pieces = requests.pieces(threads.alloc, MOST)?;
-    if pieces.len() < 2 {
-        return write_requests(threads.alloc, requests, writer);
-    }
     write_pieces(threads, &RequestLines, &pieces, writer)
 }

@@ -33,7 +33,8 @@ fn judge(
     requires table { table.now ≡ rules config.now.timing }
     requires stands { (rows : List IssuedCommand) × IsPast past.old config.now rows }
     ensures decided { IfSome result (Decides config.now past.old number (fields_of fields.now)) }
-    ensures kept { result ≡ None → KeepsRow config.now past.old past.new number (fields_of fields.now) }
+    ensures kept { result ≡ None → KeepsRow config.now past.old past.new number
+        (fields_of fields.now) }
     ensures fault { IfSome result (λ answer. IfErr answer IsCheckFault) }
 {
     let Some(row) = row_in(Limits::of(config), fields) else {
@@ -57,7 +58,8 @@ fn check_rows(
     requires reading { IsReading reader.old }
     requires few { length (left_of reader.old) + 2 ≤ most_reads }
     ensures ok { IfOk result (λ v. verdict_after config.now [] 1 (left_of reader.old) ≡ Ok v) }
-    ensures refused { IfErr result (IsFaultOf (verdict_after config.now [] 1 (left_of reader.old))) }
+    ensures refused { IfErr result (IsFaultOf (verdict_after config.now [] 1
+        (left_of reader.old))) }
     ensures fault { IfErr result IsCheckFault }
 {
     let table = rules(&config.timing);
@@ -124,7 +126,8 @@ fn check_records(alloc: Global, config: &Config, table: &[u8]) -> Result<Verdict
 pub fn check(alloc: Global, config: &Config, table: &[u8]) -> Result<Verdict, Fault>
     ensures ok { IfOk result (λ v. verdict config.now (records_of table.now) ≡ Ok v) }
     ensures refused { IfErr result (IsFaultOf (verdict config.now (records_of table.now))) }
-    ensures legal { IfOk result (λ v. (v ≡ Verdict.Legal) ↔ IsLegalTable config.now (records_of table.now)) }
+    ensures legal { IfOk result (λ v. (v ≡ Verdict.Legal)
+        ↔ IsLegalTable config.now (records_of table.now)) }
     ensures fault { IfErr result IsCheckFault }
 {
     check_records(alloc, config, table)

@@ -1,7 +1,7 @@
 //! The verdict on a table of commands.
 
 /// What a table is found to be.
-#[derive(Clone, Copy, PartialEq, Eq, Debug)]
+#[derive(Clone, Copy)]
 pub enum Verdict {
     /// Each row is well-formed and keeps every rule.
     Legal,

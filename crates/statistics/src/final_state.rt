@@ -5,14 +5,14 @@ use sim_base::place::BankId;
 use std::marker::Model;
 
 /// Credits that a core holds for a channel.
-#[derive(Clone, Copy, PartialEq, Eq, Debug)]
+#[derive(Clone, Copy)]
 pub struct Credits {
     pub read: u64,
     pub write: u64,
 }
 
 /// The row that is open in a bank.
-#[derive(Clone, Copy, PartialEq, Eq, Debug)]
+#[derive(Clone, Copy)]
 pub struct OpenRow {
     pub bank: BankId,
     pub row: u32,
@@ -34,7 +34,12 @@ impl Model for CoreState {
 
     ghost Value = { LastCore };
 
-    ghost view = { λ c. record { issued = c.issued; retired = c.retired; credits = c.credits.items } };
+    ghost view = { λ c. record {
+      issued = c.issued;
+      retired = c.retired;
+      credits =
+          c.credits.items;
+    } };
 }
 
 /// The state in which a channel is left.
@@ -53,7 +58,12 @@ impl Model for ChannelState {
 
     ghost Value = { LastChannel };
 
-    ghost view = { λ c. record { due = c.due.items; open_rows = c.open_rows.items; queue = c.queue.items } };
+    ghost view = { λ c. record {
+      due = c.due.items;
+      open_rows = c.open_rows.items;
+      queue =
+          c.queue.items;
+    } };
 }
 
 /// The state in which a run ends, before the cycle that would be its next.
@@ -72,5 +82,10 @@ impl Model for FinalState {
 
     ghost Value = { LastState };
 
-    ghost view = { λ f. record { cores = f.cores.items; channels = f.channels.items; in_flight = f.in_flight.items } };
+    ghost view = { λ f. record {
+      cores = f.cores.items;
+      channels = f.channels.items;
+      in_flight =
+          f.in_flight.items;
+    } };
 }

@@ -22,5 +22,11 @@ impl Model for Outcome {
 
     ghost Value = { RunOutcome };
 
-    ghost view = { λ o. record { commands = o.commands; stats = o.stats; last = o.last; ranks = o.ranks } };
+    ghost view = { λ o. record {
+      commands = o.commands;
+      stats = o.stats;
+      last = o.last;
+      ranks =
+          o.ranks;
+    } };
 }

@@ -18,7 +18,12 @@ impl Model for Stats {
 
     ghost Value = { RunStats };
 
-    ghost view = { λ s. record { cycles = s.cycles; cores = s.cores.items; channels = s.channels.items } };
+    ghost view = { λ s. record {
+      cycles = s.cycles;
+      cores = s.cores.items;
+      channels =
+          s.channels.items;
+    } };
 }
 
 impl Stats {
@@ -31,7 +36,12 @@ impl Stats {
         cores: &[CoreStats],
         channels: &[ChannelStats],
     ) -> Result<Stats, AllocError>
-        ensures { IfOk result (λ s. s ≡ record { cycles = cycles; cores = cores.now; channels = channels.now }) }
+        ensures { IfOk result (λ s. s ≡ record {
+          cycles = cycles;
+          cores = cores.now;
+          channels =
+              channels.now;
+        }) }
     {
         Ok(Stats {
             cycles,

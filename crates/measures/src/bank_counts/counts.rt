@@ -3,7 +3,7 @@
 use sim_base::place::BankId;
 
 /// A bank, and its commands in a run.
-#[derive(Clone, Copy, PartialEq, Eq, Debug)]
+#[derive(Clone, Copy)]
 pub struct BankCounts {
     pub bank: BankId,
     pub acts: u64,

@@ -15,7 +15,8 @@ type Entries = HashSet<(CoreId, u64)>;
 
 // Takes in one more command: if it is an ACT, the entry on whose behalf it was issued.
 fn take_in(entries: &mut Entries, command: Command) -> Result<(), AllocError>
-    ensures { OnOk result ((q : ℕ × ℕ) → contains same_entry entries.new q ≡ with_entry command q (contains same_entry entries.old q)) }
+    ensures { OnOk result ((q : ℕ × ℕ) → contains same_entry entries.new q
+        ≡ with_entry command q (contains same_entry entries.old q)) }
 {
     if let Command::Act { source, .. } = command {
         entries.insert((source.core, source.entry))?;
@@ -26,7 +27,8 @@ fn take_in(entries: &mut Entries, command: Command) -> Result<(), AllocError>
 // The entries on whose behalf an ACT was issued.
 #[tactic(auto, using(crate::proofs::Acts::one_more))]
 fn with_acts(alloc: Global, commands: &[IssuedCommand]) -> Result<Entries, AllocError>
-    ensures { IfOk result (λ entries. (q : ℕ × ℕ) → contains same_entry entries q ≡ has_act commands.now q) }
+    ensures { IfOk result (λ entries. (q : ℕ × ℕ)
+        → contains same_entry entries q ≡ has_act commands.now q) }
 {
     let mut entries = HashSet::new(alloc);
     for issued in commands {
@@ -49,7 +51,8 @@ fn is_hit(entries: &Entries, issued: IssuedCommand) -> bool
 
 // How many commands move data for a request that has no ACT among these.
 fn count_hits(entries: &Entries, commands: &[IssuedCommand]) -> u64
-    ensures { result ≡ count_by (λ i. is_hit_without (contains same_entry entries.now) i.command) commands.now }
+    ensures { result ≡ count_by (λ i. is_hit_without (contains same_entry entries.now) i.command)
+        commands.now }
 {
     commands
         .iter()

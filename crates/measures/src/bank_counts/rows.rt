@@ -21,7 +21,6 @@ fn is_of_channel(channel: usize, issued: IssuedCommand) -> bool
 }
 
 /// The commands of a channel.
-#[tactic(auto, unfolding(crate::specs::Banks::of_channel), using(crate::proofs::Kept::filter_kept, crate::proofs::Kept::filter_left, crate::proofs::Kept::filter_done))]
 pub(crate) fn of_channel(
     alloc: Global,
     channel: usize,

@@ -90,7 +90,8 @@ fn check_channel(channel: usize, stats: &Stats, requests: &[RequestTimes]) -> Re
 }
 
 fn check_cores(stats: &Stats, requests: &[RequestTimes]) -> Result<(), Mismatch>
-    ensures same { OnOk result ((core : ℕ) → core < length stats.now.cores → IsCoreOfRun stats.now requests.now core) }
+    ensures same { OnOk result ((core : ℕ) → core < length stats.now.cores
+        → IsCoreOfRun stats.now requests.now core) }
     ensures other { IfErr result (IsMismatch stats.now requests.now) }
 {
     for core in 0..stats.cores.len() {
@@ -100,7 +101,8 @@ fn check_cores(stats: &Stats, requests: &[RequestTimes]) -> Result<(), Mismatch>
 }
 
 fn check_channels(stats: &Stats, requests: &[RequestTimes]) -> Result<(), Mismatch>
-    ensures same { OnOk result ((channel : ℕ) → channel < length stats.now.channels → IsChannelOfRun stats.now requests.now channel) }
+    ensures same { OnOk result ((channel : ℕ) → channel < length stats.now.channels
+        → IsChannelOfRun stats.now requests.now channel) }
     ensures other { IfErr result (IsMismatch stats.now requests.now) }
 {
     for channel in 0..stats.channels.len() {

@@ -9,7 +9,7 @@ use sim_base::message::CoreId;
 use std::alloc::{AllocError, Global};
 
 /// The latencies of reads whose reply came, in cycles: how many there are, and percentiles by the nearest rank.
-#[derive(Clone, Copy, PartialEq, Eq, Debug)]
+#[derive(Clone, Copy)]
 pub struct Latencies {
     pub replies: u64,
     pub median: u64,

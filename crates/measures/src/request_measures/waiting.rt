@@ -7,7 +7,7 @@ use request_table::times::{Access, RequestTimes};
 use sim_base::message::ChannelId;
 
 /// Some of the requests of a channel.
-#[derive(Clone, Copy, PartialEq, Eq, Debug)]
+#[derive(Clone, Copy)]
 pub enum Class {
     Reads,
     Writes,
@@ -16,7 +16,7 @@ pub enum Class {
 }
 
 /// How many requests there are, and the sum of the cycles that they waited.
-#[derive(Clone, Copy, PartialEq, Eq, Debug)]
+#[derive(Clone, Copy)]
 pub struct Waits {
     pub requests: u64,
     pub cycles: u128,
