@@ -44,7 +44,12 @@ pub fn does_serve(r: Request, command: Command) -> bool
 fn is_request_served(history: &[IssuedCommand], r: Request) -> bool
     ensures { result ≡ is_served history.now r }
 {
-    history.iter().any(|i| does_serve(r, i.command))
+    for i in history {
+        if does_serve(r, i.command) {
+            return true;
+        }
+    }
+    false
 }
 
 fn is_request_unserved(history: &[IssuedCommand], request: Option<Request>) -> bool
@@ -92,7 +97,13 @@ pub fn queue(alloc: Global, pending: &[Message], until: u64) -> Result<Vec<Reque
 fn write_count(queue: &[Request]) -> usize
     ensures { result ≡ count_by (λ r. r.write) queue.now }
 {
-    queue.iter().filter(|r| r.write).count()
+    let mut count = 0;
+    for r in queue {
+        if r.write {
+            count += 1;
+        }
+    }
+    count
 }
 
 fn drains_at(s: &Config, draining: bool, writes: usize) -> bool
@@ -180,7 +191,12 @@ fn is_hit_in(history: &[IssuedCommand], requests: &[Request], bank: BankId) -> b
     ensures { result ≡ has_hit history.now requests.now bank }
 {
     let open_row = rules::row_of_bank(bank, history);
-    requests.iter().any(|r| hits_row(*r, bank, open_row))
+    for r in requests {
+        if hits_row(*r, bank, open_row) {
+            return true;
+        }
+    }
+    false
 }
 
 /// Whether a row hit among the requests keeps the command's bank from being closed.
@@ -203,10 +219,13 @@ fn is_refresh_of(rank: u32, command: Command) -> bool
 fn refresh_count(rank: u32, history: &[IssuedCommand]) -> usize
     ensures { result ≡ count_by (λ i. refreshes rank i.command) history.now }
 {
-    history
-        .iter()
-        .filter(|i| is_refresh_of(rank, i.command))
-        .count()
+    let mut count = 0;
+    for i in history {
+        if is_refresh_of(rank, i.command) {
+            count += 1;
+        }
+    }
+    count
 }
 
 /// How many refreshes of a rank are due.
