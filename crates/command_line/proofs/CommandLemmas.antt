@@ -1,6 +1,5 @@
 -- What a command is, whose settings are plain.
-use Rattle.std.proofs.Common.{◌≡◌, ◌&&◌, Bool, true, false, not, Result, Ok, Err, refl, ap, ap₂, ◌∙◌}
-use Rattle.std.specs.Prelude.{IfOk, IsOkAnd}
+use Rattle.std.proofs.Common.{◌≡◌, ◌&&◌, Bool, true, false, not, refl, ap, ap₂, ◌∙◌}
 use Rattle.clap.specs.Words.{AddsSubcommand, App, app_of, with_subcommand}
 use Rattle.clap.specs.declared.builder.command.Command.{Command}
 
@@ -18,7 +17,7 @@ no_global a b x y z rest same plain tests =
     third_false x y z rest is_plain
 
 -- a command with a plain one below it
-pub added : {E : Type 0} (below : Result Command E) (old new : Command) (x y : App) → app_of old ≡ x → y.top.is_plain ≡ true → IfOk below (λ s. app_of s ≡ y)
-    → IsOkAnd below (λ s. AddsSubcommand old s new) → app_of new ≡ with_subcommand x y.top
-added (Ok s) old new x y above plain is adds = adds.shape (no_global _ _ _ _ _ _ is plain refl) ∙ ap₂ with_subcommand above (ap (λ (a : App). a.top) is)
-added (Err e) old new x y above plain is adds = absurd adds
+pub added : (below old new : Command) (x y : App) → app_of old ≡ x → y.top.is_plain ≡ true → app_of below ≡ y
+    → AddsSubcommand old below new → app_of new ≡ with_subcommand x y.top
+added below old new x y above plain is adds =
+    adds.shape (no_global _ _ _ _ _ _ is plain refl) ∙ ap₂ with_subcommand above (ap (λ (a : App). a.top) is)

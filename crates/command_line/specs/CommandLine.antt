@@ -2,9 +2,11 @@
 --     text_rule id, texts_rule id, option_rule id, number_rule id, word_rule id, count_rule id, flag_rule id      one argument
 --     rule_in argument, with_argument app argument      an argument, by its form, and a command with it
 --     run_app, check_app, map_app, show_app, page_app, compare_app      one command
+--     IsApp app command      a command whose settings are these
 --     program_app      the whole
-use Rattle.std.specs.Prelude.{true, codes, Some, List, [], ◌∷◌, fold}
-use Rattle.clap.specs.Words.{App, Rule, Text, new_app, new_rule, with_rule, with_subcommand}
+use Rattle.std.specs.Prelude.{◌≡◌, true, codes, Some, List, [], ◌∷◌, fold}
+use Rattle.clap.specs.Words.{App, Rule, Text, app_of, new_app, new_rule, with_rule, with_subcommand}
+use Rattle.clap.specs.declared.builder.command.Command.{Command}
 use Rattle.clap.specs.declared.builder.action.ArgAction.TheVariants.{Append, SetTrue}
 use Rattle.command_line.specs.declared.command_line.Argument.{Argument}
 use Rattle.command_line.specs.declared.command_line.Form.{Form}
@@ -64,6 +66,10 @@ config_rule = text_rule (codes "config")
 -- a command of these arguments
 abbrev pub command_app : Text → List Rule → App
 command_app name rules = fold with_rule (new_app name) rules
+
+-- a command whose settings are these
+abbrev pub IsApp : App → Command → Type 0
+IsApp app command = app_of command ≡ app
 
 -- `run CONFIG --cycles N --workers N [--share WHEN] [--tables LIST] --out DIR TRACE...`
 abbrev pub run_app : App

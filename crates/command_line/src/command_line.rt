@@ -1,8 +1,8 @@
 //! The command line, as `clap` reads it.
 
-ghost use Rattle.std.specs.Prelude.{◌≡◌, fold, IfOk, IsOkAnd, false};
-ghost use Rattle.clap.specs.Words.{AddsSubcommand, app_of, new_app, rule_of};
-ghost use Rattle.command_line.specs.CommandLine.{text_rule, rule_in, with_argument, option_rule, number_rule, word_rule, count_rule, texts_rule, flag_rule, run_app, check_app, map_app, show_app, page_app, compare_app, program_app};
+ghost use Rattle.std.specs.Prelude.{◌≡◌, fold, IfOk, true, false};
+ghost use Rattle.clap.specs.Words.{App, app_of, new_app, rule_of, with_subcommand};
+ghost use Rattle.command_line.specs.CommandLine.{IsApp, text_rule, rule_in, with_argument, option_rule, number_rule, word_rule, count_rule, texts_rule, flag_rule, run_app, check_app, map_app, show_app, page_app, compare_app, program_app};
 
 use clap::{Arg, ArgAction, Command, value_parser};
 use std::alloc::{AllocError, Global};
@@ -384,14 +384,16 @@ fn compare_command<'a>(alloc: Global) -> Result<Command<'a>, AllocError>
     )
 }
 
-// A command with one more below it, unless that was refused memory.
+// A command with one more below it, unless one of them was refused memory.
 fn with_command<'a>(
-    above: Command<'a>,
+    above: Result<Command<'a>, AllocError>,
     below: Result<Command<'a>, AllocError>,
 ) -> Result<Command<'a>, AllocError>
-    ensures { IfOk result (λ c. IsOkAnd below.entry (λ s. AddsSubcommand above.entry s c)) }
+    ensures { (x y : App) → IfOk above.entry (IsApp x) → IfOk below.entry (IsApp y)
+        → y.top.is_plain ≡ true → IfOk result (IsApp (with_subcommand x y.top)) }
 {
-    above.subcommand(below?)
+    let below = below?;
+    above?.subcommand(below)
 }
 
 /// The program's command line.
@@ -401,10 +403,10 @@ pub fn program<'a>(alloc: Global) -> Result<Command<'a>, AllocError>
     let bare = command(alloc, "dramsim", "Simulates DDR4 main memory", RUN_EXAMPLE)
         .version(VERSION)
         .subcommand_required(true);
-    let one = with_command(bare, run_command(alloc))?;
-    let two = with_command(one, check_command(alloc))?;
-    let three = with_command(two, map_command(alloc))?;
-    let four = with_command(three, show_command(alloc))?;
-    let five = with_command(four, page_command(alloc))?;
+    let one = with_command(Ok(bare), run_command(alloc));
+    let two = with_command(one, check_command(alloc));
+    let three = with_command(two, map_command(alloc));
+    let four = with_command(three, show_command(alloc));
+    let five = with_command(four, page_command(alloc));
     with_command(five, compare_command(alloc))
 }

@@ -318,6 +318,24 @@ fn compare_ask<'a>(alloc: Global, found: &ArgMatches<'a>) -> Result<Ask<'a>, Fau
     })
 }
 
+// What the command of this name asks for.
+fn ask_named<'a>(alloc: Global, name: &str, found: &ArgMatches<'a>) -> Result<Ask<'a>, Fault>
+    ensures asked { IfOk result (IsCommand name.now (rows_in found.now)) }
+    ensures refused { let command = Some (name.now, rows_in found.now) in
+        GivesAll command → IfErr result (IsCommandFault command) }
+    ensures fault { IfErr result (λ e. IsWordsFault e) }
+{
+    match name {
+        "run" => run_ask(alloc, found),
+        "check" => check_ask(found),
+        "map" => map_ask(found),
+        "show" => show_ask(found),
+        "page" => page_ask(found),
+        "compare" => compare_ask(alloc, found),
+        _ => Err(Fault::CommandLine),
+    }
+}
+
 // What the matches of a command line ask for.
 fn ask_of<'a>(alloc: Global, matches: &ArgMatches<'a>) -> Result<Ask<'a>, Fault>
     ensures asked { IfOk result (IsCommandOf (subcommand_rows_of matches.now)) }
@@ -326,13 +344,8 @@ fn ask_of<'a>(alloc: Global, matches: &ArgMatches<'a>) -> Result<Ask<'a>, Fault>
     ensures fault { IfErr result (λ e. IsWordsFault e) }
 {
     match matches.subcommand() {
-        Some(("run", found)) => run_ask(alloc, found),
-        Some(("check", found)) => check_ask(found),
-        Some(("map", found)) => map_ask(found),
-        Some(("show", found)) => show_ask(found),
-        Some(("page", found)) => page_ask(found),
-        Some(("compare", found)) => compare_ask(alloc, found),
-        _ => Err(Fault::CommandLine),
+        Some((name, found)) => ask_named(alloc, name, found),
+        None => Err(Fault::CommandLine),
     }
 }
 

@@ -3,7 +3,7 @@
 use crate::explain_text::lines::{Position, line_at};
 use crate::explain_text::links::link_text;
 use crate::explain_text::pieces::Piece::{Foreign, Number, Words};
-use crate::explain_text::pieces::joined;
+use crate::explain_text::pieces::filled;
 use crate::explain_text::relations::broken_text;
 use crate::explain_text::section::Section;
 use sim_base::fault::Fault;
@@ -20,20 +20,13 @@ fn place_text<'a>(
 ) -> Result<String, AllocError> {
     let Position { line, column } = Position::behind(document.get(..offset).unwrap_or(document));
     let text = line_at(document, line).unwrap_or(b"").trim_ascii();
-    joined(
-        alloc,
-        &[
-            Words(" line "),
-            Number(line),
-            Words(", column "),
-            Number(column),
-            Words(": "),
-            Words(flaw),
-            Words("\n"),
-            Foreign(text),
-            Words(if text.is_empty() { "" } else { "\n" }),
-        ],
-    )
+    let form = if text.is_empty() {
+        " line {}, column {}: {}\n"
+    } else {
+        " line {}, column {}: {}\n{}\n"
+    };
+    let pieces = [Number(line), Number(column), Words(flaw), Foreign(text)];
+    filled(alloc, form, &pieces)
 }
 
 // Why a document is not TOML in UTF-8.

@@ -2,7 +2,7 @@
 
 use crate::explain_text::keys::ITEM_KEYS;
 use crate::explain_text::pieces::Piece::{Number, Words};
-use crate::explain_text::pieces::joined;
+use crate::explain_text::pieces::filled;
 use crate::explain_text::section::Section;
 use sim_base::key::Key;
 use std::alloc::{AllocError, Global};
@@ -54,13 +54,7 @@ fn table_text(alloc: Global, item: &Section<'_>) -> Result<String, AllocError> {
 
 // The number of an item, and what comes after it.
 fn item_head(alloc: Global, item: u64, rest: &str) -> Result<String, AllocError> {
-    let pieces = [
-        Words(" item "),
-        Number(item),
-        Words(" of link"),
-        Words(rest),
-    ];
-    joined(alloc, &pieces)
+    filled(alloc, " item {} of link{}", &[Number(item), Words(rest)])
 }
 
 fn item_text<'a>(

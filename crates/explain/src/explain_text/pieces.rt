@@ -19,13 +19,35 @@ pub(crate) enum Piece<'a> {
     Foreign(&'a [u8]),
 }
 
-/// The text of these pieces.
-pub(crate) fn joined(alloc: Global, pieces: &[Piece<'_>]) -> Result<String, AllocError> {
+/// The text of a form, with pieces in place of its `{}`, in turn; those that are left over are left out.
+pub(crate) fn filled(
+    alloc: Global,
+    form: &str,
+    pieces: &[Piece<'_>],
+) -> Result<String, AllocError> {
     let mut text = String::new(alloc);
-    for piece in pieces {
-        push(alloc, &mut text, *piece)?;
-    }
+    fill(alloc, &mut text, form, pieces)?;
     Ok(text)
+}
+
+fn fill(
+    alloc: Global,
+    text: &mut String,
+    form: &str,
+    pieces: &[Piece<'_>],
+) -> Result<(), AllocError> {
+    let mut pieces = pieces.iter();
+    for words in form.split_inclusive("{}") {
+        let (words, piece) = match words.strip_suffix("{}") {
+            Some(words) => (words, pieces.next()),
+            None => (words, None),
+        };
+        text.push_str(words)?;
+        if let Some(piece) = piece {
+            push(alloc, text, *piece)?;
+        }
+    }
+    Ok(())
 }
 
 /// Adds a piece to a text.

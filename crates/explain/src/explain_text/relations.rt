@@ -2,7 +2,7 @@
 
 use crate::explain_text::links::{id_of, integer_at, items_of};
 use crate::explain_text::pieces::Piece::{Foreign, Number, Words};
-use crate::explain_text::pieces::{joined, push};
+use crate::explain_text::pieces::{filled, push};
 use crate::explain_text::section::entry_text;
 use sim_base::key::Key;
 use std::alloc::{AllocError, Global};
@@ -13,99 +13,67 @@ use toml::value::Array;
 #[derive(Clone, Copy)]
 struct Relation {
     rule: &'static str,
-    /// How the sides compare where it does not hold, in words that are keys, or stand between them.
-    broken: &'static [&'static str],
+    /// How the sides compare where it does not hold: what stands between two `%` is a key, or words.
+    broken: &'static str,
 }
 
 static READ_TO_WRITE: Relation = Relation {
     rule: " nRTW + nCWL >= nCL + 4",
-    broken: &["nRTW", " + ", "nCWL", " is less than ", "nCL", " + 4"],
+    broken: "nRTW% + %nCWL% is less than %nCL% + 4",
 };
 
 static COLUMNS_APART: Relation = Relation {
     rule: " nCCD_S >= 4",
-    broken: &["nCCD_S", " is less than 4"],
+    broken: "nCCD_S% is less than 4",
 };
 
 static COLUMNS: Relation = Relation {
     rule: " nCCD_L >= nCCD_S",
-    broken: &["nCCD_L", " is less than ", "nCCD_S"],
+    broken: "nCCD_L% is less than %nCCD_S",
 };
 
 static ACTIVATES: Relation = Relation {
     rule: " nRRD_L >= nRRD_S",
-    broken: &["nRRD_L", " is less than ", "nRRD_S"],
+    broken: "nRRD_L% is less than %nRRD_S",
 };
 
 static WRITE_TO_READ: Relation = Relation {
     rule: " nWTR_L >= nWTR_S",
-    broken: &["nWTR_L", " is less than ", "nWTR_S"],
+    broken: "nWTR_L% is less than %nWTR_S",
 };
 
 static REFRESH: Relation = Relation {
     rule: " nREFI = 0 or nREFI >= max(nRAS, nRTP, nCWL + 4 + nWR) + nRP + (ranks - 1)(nRP + 1) + nRFC + 1",
-    broken: &[
-        "nREFI",
-        " is less than max(",
-        "nRAS",
-        ", ",
-        "nRTP",
-        ", ",
-        "nCWL",
-        " + 4 + ",
-        "nWR",
-        ") + ",
-        "nRP",
-        " + (",
-        "ranks",
-        " - 1)(",
-        "nRP",
-        " + 1) + ",
-        "nRFC",
-        " + 1",
-    ],
+    broken: "nREFI% is less than max(%nRAS%, %nRTP%, %nCWL% + 4 + %nWR%) + %nRP% + (%ranks% - 1)(%nRP% + 1) + %nRFC% + 1",
 };
 
 static CREDITS: Relation = Relation {
     rule: " cores * (read_credits + write_credits) <= 8192",
-    broken: &[
-        "cores",
-        " * (",
-        "read_credits",
-        " + ",
-        "write_credits",
-        ") is greater than 8192",
-    ],
+    broken: "cores% * (%read_credits% + %write_credits%) is greater than 8192",
 };
 
 static DRAIN: Relation = Relation {
     rule: " write_high = write_low = 0 or write_low < write_high",
-    broken: &["write_low", " is not less than ", "write_high"],
+    broken: "write_low% is not less than %write_high",
 };
 
 static WRITES: Relation = Relation {
     rule: " write_high <= cores * write_credits",
-    broken: &[
-        "write_high",
-        " is greater than ",
-        "cores",
-        " * ",
-        "write_credits",
-    ],
+    broken: "write_high% is greater than %cores% * %write_credits",
 };
 
 // A relation between two sides, by its number.
-fn relation_of(number: u8) -> Option<Relation> {
+fn relation_of(number: u8) -> Option<&'static Relation> {
     Some(match number {
-        1 => READ_TO_WRITE,
-        2 => COLUMNS_APART,
-        3 => COLUMNS,
-        4 => ACTIVATES,
-        5 => WRITE_TO_READ,
-        6 => REFRESH,
-        7 => CREDITS,
-        11 => DRAIN,
-        12 => WRITES,
+        1 => &READ_TO_WRITE,
+        2 => &COLUMNS_APART,
+        3 => &COLUMNS,
+        4 => &ACTIVATES,
+        5 => &WRITE_TO_READ,
+        6 => &REFRESH,
+        7 => &CREDITS,
+        11 => &DRAIN,
+        12 => &WRITES,
         _ => return None,
     })
 }
@@ -184,10 +152,10 @@ fn is_broken(number: u8, left: u64, right: u64) -> bool {
     }
 }
 
-// Words with numbers in place of the keys among them.
-fn filled_text(alloc: Global, words: &[&str], table: &Table) -> Result<String, AllocError> {
+// How the sides of a relation compare, with numbers in place of the keys.
+fn compared_text(alloc: Global, broken: &str, table: &Table) -> Result<String, AllocError> {
     let mut text = String::new(alloc);
-    for word in words {
+    for word in broken.split('%') {
         let piece = match number_at(table, word) {
             Some(number) => Number(number),
             None => Words(word),
@@ -199,44 +167,32 @@ fn filled_text(alloc: Global, words: &[&str], table: &Table) -> Result<String, A
 
 // A relation between two sides.
 fn sides_text(alloc: Global, number: u8, table: &Table) -> Result<String, AllocError> {
-    let Some(Relation { rule, broken }) = relation_of(number) else {
-        let pieces = [
-            Words(" relation "),
-            Number(u64::from(number)),
-            Words(" does not hold\n"),
-        ];
-        return joined(alloc, &pieces);
+    let Some(relation) = relation_of(number) else {
+        let number = Number(u64::from(number));
+        return filled(alloc, " relation {} does not hold\n", &[number]);
     };
     let right = right_at(table, number);
     if !is_broken(number, left_at(table, number), right) {
-        return joined(alloc, &[Words(rule), Words(" must hold\n")]);
+        return filled(alloc, "{} must hold\n", &[Words(relation.rule)]);
     }
-    let numbers = filled_text(alloc, broken, table)?;
-    let least = (number == 6).then_some(right);
-    broken_sides(alloc, rule, numbers.as_str(), least)
+    let compared = compared_text(alloc, relation.broken, table)?;
+    broken_sides(alloc, number, relation.rule, compared.as_str(), right)
 }
 
-// A relation that does not hold, with numbers in place of the keys, and what its right side comes to where the numbers
-// do not show that.
+// A relation that does not hold: how its sides compare, and what the right one comes to where that does not show it.
 fn broken_sides<'a>(
     alloc: Global,
+    number: u8,
     rule: &'a str,
-    numbers: &'a str,
-    least: Option<u64>,
+    compared: &'a str,
+    right: u64,
 ) -> Result<String, AllocError> {
-    let (which, least) = match least {
-        Some(least) => (", which is ", Number(least)),
-        None => ("", Words("")),
+    let form = match number {
+        6 => "{} does not hold: {}, which is {}\n",
+        _ => "{} does not hold: {}\n",
     };
-    let pieces = [
-        Words(rule),
-        Words(" does not hold: "),
-        Words(numbers),
-        Words(which),
-        least,
-        Words("\n"),
-    ];
-    joined(alloc, &pieces)
+    let pieces = [Words(rule), Words(compared), Number(right)];
+    filled(alloc, form, &pieces)
 }
 
 // The first id of a link that is not there.
@@ -255,15 +211,10 @@ fn absent_link(items: Option<&Array>, links: u64) -> Option<u64> {
 fn absent_link_text(alloc: Global, table: &Table) -> Result<String, AllocError> {
     let links = times_cores(table, value_at(table, "channels")).saturating_mul(3);
     match absent_link(items_of(table), links) {
-        Some(id) => joined(
+        Some(id) => filled(
             alloc,
-            &[
-                Words(" link has the id "),
-                Number(id),
-                Words(", and there are the links 0 to "),
-                Number(links.saturating_sub(1)),
-                Words(": 3 for each pair of a core and a channel\n"),
-            ],
+            " link has the id {}, and there are the links 0 to {}: 3 for each pair of a core and a channel\n",
+            &[Number(id), Number(links.saturating_sub(1))],
         ),
         None => String::from_str(
             alloc,
@@ -293,35 +244,21 @@ fn repeated_link_text(alloc: Global, table: &Table) -> Result<String, AllocError
         None => None,
     };
     match repeated {
-        Some(id) => joined(
-            alloc,
-            &[
-                Words(" two items of link have the id "),
-                Number(id),
-                Words("\n"),
-            ],
-        ),
+        Some(id) => filled(alloc, " two items of link have the id {}\n", &[Number(id)]),
         None => String::from_str(alloc, " no two items of link may have the same id\n"),
     }
 }
 
 // Relation 10: if there are several ranks, an address has a field for the rank.
 fn rank_text(alloc: Global, table: &Table) -> Result<String, AllocError> {
-    const RULE: &str = " where ranks is above 1 fields must have \"rank\"";
     let Some(fields) = table.get("fields") else {
-        return joined(alloc, &[Words(RULE), Words("\n")]);
+        return String::from_str(alloc, " where ranks is above 1 fields must have \"rank\"\n");
     };
     let entry = entry_text(alloc, Key::Fields, fields)?;
-    joined(
+    filled(
         alloc,
-        &[
-            Words(RULE),
-            Words(": ranks = "),
-            Number(value_at(table, "ranks")),
-            Words(", "),
-            Foreign(entry.as_bytes()),
-            Words("\n"),
-        ],
+        " where ranks is above 1 fields must have \"rank\": ranks = {}, {}\n",
+        &[Number(value_at(table, "ranks")), Foreign(entry.as_bytes())],
     )
 }
 

@@ -3,7 +3,7 @@
 use crate::explain_text::keys::{is_known, range_of, type_of};
 use crate::explain_text::nearest::nearest;
 use crate::explain_text::pieces::Piece::{Foreign, Words};
-use crate::explain_text::pieces::joined;
+use crate::explain_text::pieces::filled;
 use sim_base::key::Key;
 use std::alloc::{AllocError, Global};
 use toml::{Table, Value};
@@ -49,38 +49,27 @@ impl<'a> Section<'a> {
 
     // What may stand at a key that is not there.
     fn absent_text(&self, alloc: Global, key: Key) -> Result<String, AllocError> {
-        let pieces = [
-            Words(self.place),
-            Words(" at "),
-            Words(key.name()),
-            Words(" "),
-            Words(range_of(key)),
-            Words(" may stand\n"),
-        ];
-        joined(alloc, &pieces)
+        let pieces = [Words(self.place), Words(key.name()), Words(range_of(key))];
+        filled(alloc, "{} at {} {} may stand\n", &pieces)
     }
 
     fn missing_text(&self, alloc: Global, key: Key) -> Result<String, AllocError> {
         let instead = self.instead_text(alloc, key)?;
-        let (path, colon, place) = if instead.is_empty() {
-            ("", "", "")
+        let form = if instead.is_empty() {
+            "{} the key {} is missing; {}{} may stand there\n"
         } else {
-            (self.path, ":", self.place)
+            "{} the key {} is missing; {}{} may stand there\n{}:{}{}"
         };
         let pieces = [
             Words(self.place),
-            Words(" the key "),
             Words(key.name()),
-            Words(" is missing; "),
             Words(type_of(key)),
             Words(range_of(key)),
-            Words(" may stand there\n"),
-            Words(path),
-            Words(colon),
-            Words(place),
+            Words(self.path),
+            Words(self.place),
             Words(instead.as_str()),
         ];
-        joined(alloc, &pieces)
+        filled(alloc, form, &pieces)
     }
 
     // What stands in the document and may have been meant as the missing key, as the rest of a line after the place.
@@ -132,7 +121,7 @@ impl<'a> Section<'a> {
     /// Says which name is not known, and which may be meant, after the path.
     pub(crate) fn unknown_text(&self, alloc: Global) -> Result<String, AllocError> {
         let Some(name) = self.unknown() else {
-            return joined(alloc, &[Words(self.place), Words(" a key is not known\n")]);
+            return filled(alloc, "{} a key is not known\n", &[Words(self.place)]);
         };
         let meant = match nearest(alloc, self.keys, self.table, name)? {
             Some(key) => key.name(),
@@ -149,21 +138,13 @@ fn unknown_line<'a>(
     name: &'a str,
     meant: &'a str,
 ) -> Result<String, AllocError> {
-    let (before, after) = if meant.is_empty() {
-        ("", "\n")
+    let form = if meant.is_empty() {
+        "{} the key {} is not known\n"
     } else {
-        (": did you mean ", "?\n")
+        "{} the key {} is not known: did you mean {}?\n"
     };
-    let pieces = [
-        Words(place),
-        Words(" the key "),
-        Foreign(name.as_bytes()),
-        Words(" is not known"),
-        Words(before),
-        Words(meant),
-        Words(after),
-    ];
-    joined(alloc, &pieces)
+    let pieces = [Words(place), Foreign(name.as_bytes()), Words(meant)];
+    filled(alloc, form, &pieces)
 }
 
 // What stands at a key, and what may stand there: what is of this type and in this range.
@@ -176,24 +157,20 @@ fn value_line<'a>(
 ) -> Result<String, AllocError> {
     let pieces = [
         Words(place),
-        Words(" "),
         Foreign(entry.as_bytes()),
-        Words(", where "),
         Words(of_type),
         Words(range),
-        Words(" may stand\n"),
     ];
-    joined(alloc, &pieces)
+    filled(alloc, "{} {}, where {}{} may stand\n", &pieces)
 }
 
 // Says in which table a key stands that must stand in none, after the place.
 fn held_line(alloc: Global, holder: &str) -> Result<String, AllocError> {
-    let pieces = [
-        Words(" it stands in the table "),
-        Foreign(holder.as_bytes()),
-        Words(", and must stand in none, so before the first line in brackets\n"),
-    ];
-    joined(alloc, &pieces)
+    filled(
+        alloc,
+        " it stands in the table {}, and must stand in none, so before the first line in brackets\n",
+        &[Foreign(holder.as_bytes())],
+    )
 }
 
 // Whether a value is a table with a key, or an array with such a table.
@@ -219,7 +196,7 @@ fn has_table_with(items: &[Value], key: Key) -> bool {
 /// A key and its value as a document writes them.
 pub(crate) fn entry_text(alloc: Global, key: Key, value: &Value) -> Result<String, AllocError> {
     match value {
-        Value::Table(_) => joined(alloc, &[Words(key.name()), Words(" is a table")]),
+        Value::Table(_) => filled(alloc, "{} is a table", &[Words(key.name())]),
         value => format!(in alloc; "{key} = {value}"),
     }
 }

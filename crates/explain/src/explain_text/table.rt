@@ -1,7 +1,7 @@
 //! What is said of a table that is refused.
 
 use crate::explain_text::pieces::Piece::{Foreign, Number, Words};
-use crate::explain_text::pieces::joined;
+use crate::explain_text::pieces::filled;
 use csv::{ByteRecord, Reader, ReaderBuilder};
 use std::alloc::{AllocError, Global};
 
@@ -111,34 +111,31 @@ fn header_words(kind: TableKind) -> &'static str {
 // What is wrong with a row of commands that has as many fields as the header.
 fn command_text(alloc: Global, record: &ByteRecord) -> Result<String, AllocError> {
     let command = record.get(COMMAND).unwrap_or(b"");
-    let (word, flaw) = if !is_command(command) {
+    let (word, form) = if !is_command(command) {
         (
             command,
-            "' is no command: ACT, RD, WR, PRE, PREA or REF may stand there\n",
+            "'{}' is no command: ACT, RD, WR, PRE, PREA or REF may stand there\n",
         )
     } else if let Some(field) = first_that_is_no_number(record) {
-        (field, "' is no number: decimal digits may stand there\n")
+        (field, "'{}' is no number: decimal digits may stand there\n")
     } else {
-        return String::from_str(
-            alloc,
+        (
+            command,
             "a field is missing that the command has, or stands there that it has not, or is out of its range in the configuration\n",
-        );
+        )
     };
-    joined(alloc, &[Words("'"), Foreign(word), Words(flaw)])
+    filled(alloc, form, &[Foreign(word)])
 }
 
 // What is wrong with a row below the header.
 fn flaw_text(alloc: Global, kind: TableKind, found: &Row) -> Result<String, AllocError> {
     let fields = found.record.len();
     if fields != found.columns {
-        let pieces = [
-            Words("it has "),
-            Number(fields as u64),
-            Words(" fields, and the header has "),
-            Number(found.columns as u64),
-            Words("\n"),
-        ];
-        return joined(alloc, &pieces);
+        return filled(
+            alloc,
+            "it has {} fields, and the header has {}\n",
+            &[Number(fields as u64), Number(found.columns as u64)],
+        );
     }
     match kind {
         TableKind::Commands => command_text(alloc, &found.record),
@@ -154,12 +151,10 @@ fn found_text(alloc: Global, kind: TableKind, row: u64, found: &Row) -> Result<S
         _ => flaw_text(alloc, kind, found)?,
     };
     let pieces = [
-        Words(": "),
         Foreign(fields.get(1..).unwrap_or(b"")),
-        Words("\n"),
         Words(flaw.as_str()),
     ];
-    joined(alloc, &pieces)
+    filled(alloc, ": {}\n{}", &pieces)
 }
 
 /// Says what stands in a row of a table, and what is wrong with it, after the path and the row's number; row 0 is the
@@ -174,7 +169,7 @@ pub fn row_text(
         Some(found) => found_text(alloc, kind, row, &found),
         None => {
             let wanted = if row == 0 { header_words(kind) } else { "" };
-            joined(alloc, &[Words(" is missing\n"), Words(wanted)])
+            filled(alloc, " is missing\n{}", &[Words(wanted)])
         }
     }
 }
