@@ -158,12 +158,9 @@ fn is_reply(entry: u64, load: Load) -> bool
 fn has_reply(inbox: &[Message], now: usize, entry: u64) -> bool
     ensures { result ≡ is_replied inbox.now now entry }
 {
-    for m in inbox {
-        if is_reply(entry, m.load) && m.arrival <= now as u64 {
-            return true;
-        }
-    }
-    false
+    inbox
+        .iter()
+        .any(|m| is_reply(entry, m.load) && m.arrival <= now as u64)
 }
 
 #[tactic(auto, unfolding(sim_base::specs::Windows::is_done))]
@@ -238,25 +235,18 @@ fn credits_received(inbox: &[Message], link: u64, write: bool, until: usize) -> 
     ensures value { result ≡ count_by (is_credit_on link write until) inbox.now }
     ensures small { result < 2 ^ 63 }
 {
-    let mut count = 0;
-    for m in inbox {
-        if is_link_credit(link, write, until, *m) {
-            count += 1;
-        }
-    }
-    count
+    inbox
+        .iter()
+        .filter(|m| is_link_credit(link, write, until, **m))
+        .count()
 }
 
 fn request_count(sent: &[Message], channel: u32, write: bool) -> usize
     ensures { result ≡ count_by (λ m. is_request_for channel write m.load) sent.now }
 {
-    let mut count = 0;
-    for m in sent {
-        if is_request(channel, write, m.load) {
-            count += 1;
-        }
-    }
-    count
+    sent.iter()
+        .filter(|m| is_request(channel, write, m.load))
+        .count()
 }
 
 /// The credits that a core holds for a channel, to read or to write, those counted that arrived before a cycle.

@@ -17,11 +17,9 @@ use timing::rules::relation;
 pub fn row_of_bank(bank: BankId, history: &[IssuedCommand]) -> Option<u32>
     ensures { result ≡ open_row bank history.now }
 {
-    let mut row = None;
-    for i in history {
-        row = i.command.row_after(bank, row);
-    }
-    row
+    history
+        .iter()
+        .fold(None, |row, i| i.command.row_after(bank, row))
 }
 
 fn has_passed(cycle: u64, distance: u64, now: u64) -> bool
@@ -48,13 +46,10 @@ fn is_recent_act(t: Timing, of_rank: u32, now: u64, i: IssuedCommand) -> bool
 pub fn recent_act_count(t: Timing, of_rank: u32, now: u64, history: &[IssuedCommand]) -> usize
     ensures { result ≡ recent_acts t of_rank now history.now }
 {
-    let mut count = 0;
-    for i in history {
-        if is_recent_act(t, of_rank, now, *i) {
-            count += 1;
-        }
-    }
-    count
+    history
+        .iter()
+        .filter(|i| is_recent_act(t, of_rank, now, **i))
+        .count()
 }
 
 /// Whether an earlier command no longer holds this one back.
@@ -78,12 +73,9 @@ fn keeps_all_distances(
 ) -> bool
     ensures { result ≡ keeps_distances gaps.now history.now now command }
 {
-    for i in history {
-        if !has_passed_gap(gaps, now, command, *i) {
-            return false;
-        }
-    }
-    true
+    history
+        .iter()
+        .all(|i| has_passed_gap(gaps, now, command, *i))
 }
 
 /// Whether the distances and the four-activate window allow the command now.

@@ -44,12 +44,7 @@ pub fn does_serve(r: Request, command: Command) -> bool
 fn is_request_served(history: &[IssuedCommand], r: Request) -> bool
     ensures { result ≡ is_served history.now r }
 {
-    for i in history {
-        if does_serve(r, i.command) {
-            return true;
-        }
-    }
-    false
+    history.iter().any(|i| does_serve(r, i.command))
 }
 
 fn is_request_unserved(history: &[IssuedCommand], request: Option<Request>) -> bool
@@ -99,13 +94,7 @@ pub fn queue(alloc: Global, pending: &[Message], until: u64) -> Result<Vec<Reque
 fn write_count(queue: &[Request]) -> usize
     ensures { result ≡ count_by (λ r. r.write) queue.now }
 {
-    let mut count = 0;
-    for r in queue {
-        if r.write {
-            count += 1;
-        }
-    }
-    count
+    queue.iter().filter(|r| r.write).count()
 }
 
 fn drains_at(s: &Config, draining: bool, writes: usize) -> bool
@@ -195,12 +184,7 @@ fn is_hit_in(history: &[IssuedCommand], requests: &[Request], bank: BankId) -> b
     ensures { result ≡ has_hit history.now requests.now bank }
 {
     let open_row = rules::row_of_bank(bank, history);
-    for r in requests {
-        if hits_row(*r, bank, open_row) {
-            return true;
-        }
-    }
-    false
+    requests.iter().any(|r| hits_row(*r, bank, open_row))
 }
 
 /// Whether a row hit among the requests keeps the command's bank from being closed.
@@ -223,13 +207,10 @@ fn is_refresh_of(rank: u32, command: Command) -> bool
 fn refresh_count(rank: u32, history: &[IssuedCommand]) -> usize
     ensures { result ≡ count_by (λ i. refreshes rank i.command) history.now }
 {
-    let mut count = 0;
-    for i in history {
-        if is_refresh_of(rank, i.command) {
-            count += 1;
-        }
-    }
-    count
+    history
+        .iter()
+        .filter(|i| is_refresh_of(rank, i.command))
+        .count()
 }
 
 /// How many refreshes of a rank are due.
