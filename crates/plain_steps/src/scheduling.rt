@@ -70,13 +70,11 @@ pub fn unserved(
 ) -> Result<Vec<Message>, AllocError>
     ensures { IfOk result (λ v. v.items ≡ filter (is_left history.now) messages.now) }
 {
-    let mut left = Vec::new(alloc);
-    for m in messages {
-        if is_unserved(history, *m) {
-            left.push(*m)?;
-        }
-    }
-    Ok(left)
+    messages
+        .iter()
+        .copied()
+        .filter(|m| is_unserved(history, *m))
+        .collect(alloc)
 }
 
 /// The requests among these messages that arrived before a cycle.
@@ -138,13 +136,11 @@ fn favoured_requests(
 ) -> Result<Vec<Request>, AllocError>
     ensures { IfOk result (λ v. v.items ≡ filter (is_favoured draining) eligible.now) }
 {
-    let mut favoured = Vec::new(alloc);
-    for r in eligible {
-        if is_favoured_request(draining, *r) {
-            favoured.push(*r)?;
-        }
-    }
-    Ok(favoured)
+    eligible
+        .iter()
+        .copied()
+        .filter(|r| is_favoured_request(draining, *r))
+        .collect(alloc)
 }
 
 /// The requests that may be served next, by age.
@@ -278,28 +274,19 @@ impl ChannelCycle<'_> {
             && !is_command_withheld(self.history, requests, command)
     }
 
-    #[tactic(auto, using(crate::proofs::Finding::find_at, crate::proofs::Finding::find_more))]
     fn first_hit(&self, requests: &[Request]) -> Option<Request>
         ensures { result ≡ find (ready_hit_in self.now) requests.now }
     {
-        for r in requests {
-            if self.is_ready_hit(*r) {
-                return Some(*r);
-            }
-        }
-        None
+        requests.iter().copied().find(|r| self.is_ready_hit(*r))
     }
 
-    #[tactic(auto, using(crate::proofs::Finding::find_at, crate::proofs::Finding::find_more))]
     fn first_row(&self, requests: &[Request]) -> Option<Request>
         ensures { result ≡ find (ready_row_in self.now requests.now) requests.now }
     {
-        for r in requests {
-            if self.is_ready_row(requests, *r) {
-                return Some(*r);
-            }
-        }
-        None
+        requests
+            .iter()
+            .copied()
+            .find(|r| self.is_ready_row(requests, *r))
     }
 
     /// The command of the first request that is ready: row hits first.
