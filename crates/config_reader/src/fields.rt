@@ -49,7 +49,9 @@ fn fields_named(alloc: Global, array: &Array) -> Result<Vec<Field>, Fault>
     let mut fields = Vec::new(alloc);
     for value in array {
         let field = field_named(value)?;
-        fields.push(field).map_err(|_| Fault::Memory)?;
+        if fields.push(field).is_err() {
+            return Err(Fault::Memory);
+        }
     }
     Ok(fields)
 }

@@ -55,7 +55,9 @@ fn overrides_in(alloc: Global, array: &Array) -> Result<Vec<Override>, Fault>
     let mut overrides = Vec::new(alloc);
     for value in array {
         let link = override_in(value)?;
-        overrides.push(link).map_err(|_| Fault::Memory)?;
+        if overrides.push(link).is_err() {
+            return Err(Fault::Memory);
+        }
     }
     Ok(overrides)
 }
