@@ -36,7 +36,7 @@ impl UnitState {
     {
         match self {
             UnitState::Core(core) => core.run(inbox, from, until, sent),
-            UnitState::Channel(channel, issued) => channel.run(inbox, from, until, issued, sent),
+            UnitState::Channel(channel, issued) => channel.run(inbox, from..until, issued, sent),
         }
     }
 }
