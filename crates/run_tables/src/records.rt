@@ -1,13 +1,13 @@
 //! The records of a table, read one after the other, or all at once.
 
-ghost use Rattle.std.specs.Prelude.{◌≡◌, ◌+◌, ◌<◌, ◌^◌, ◌↔◌, [], ◌∷◌, length, map, slice_get, option_map, drop, IsTrue, IfOk, IfErr, OnOk};
+ghost use Rattle.std.specs.Prelude.{◌≡◌, ◌+◌, ◌++◌, ◌<◌, ◌^◌, ◌↔◌, [], ◌∷◌, length, map, slice_get, option_map, drop, IsTrue, IfOk, IfErr, OnOk};
 ghost use Rattle.csv.specs.Records.{fields_of};
 ghost use Rattle.rule_check.specs.Verdict.{records_of};
 
 use csv::{ByteRecord, Reader};
 use rule_check::reading::{open, read_next};
 use sim_base::fault::Fault;
-use std::alloc::Global;
+use std::alloc::{AllocError, Global};
 use std::marker::Model;
 
 /// The records of a table that are left, the first of which can be looked at, and the number of that one; the header
@@ -103,6 +103,27 @@ impl Model for Table {
     ghost view = { λ t. map fields_of t.records.items };
 }
 
+// Adds a record to others.
+fn push_record(records: &mut Vec<ByteRecord>, fields: ByteRecord) -> Result<(), AllocError>
+    ensures { OnOk result (records.new.items ≡ records.old.items ++ fields ∷ []) }
+{
+    Ok(records.push(fields)?)
+}
+
+// Adds copies of the records that are left to others. The only error is out of memory.
+fn add_left(left: &mut Records<'_>, records: &mut Vec<ByteRecord>) -> Result<(), Fault>
+    ensures all { OnOk result (map fields_of records.new.items
+        ≡ map fields_of records.old.items ++ left.old.records) }
+    ensures fault { IfErr result (λ e. e ≡ Fault.Memory) }
+{
+    while !left.is_empty() {
+        let record = left.first().clone().map_err(|_| Fault::Memory)?;
+        push_record(records, record)?;
+        left.drop_first()?;
+    }
+    Ok(())
+}
+
 impl Table {
     /// Reads a table. The only error is out of memory.
     pub(crate) fn read(alloc: Global, table: &[u8]) -> Result<Table, Fault>
@@ -111,11 +132,7 @@ impl Table {
     {
         let mut left = Records::of(alloc, table)?;
         let mut records = Vec::new(alloc);
-        while !left.is_empty() {
-            let record = left.first().clone().map_err(|_| Fault::Memory)?;
-            records.push(record).map_err(|_| Fault::Memory)?;
-            left.drop_first()?;
-        }
+        add_left(&mut left, &mut records)?;
         Ok(Table { records })
     }
 
