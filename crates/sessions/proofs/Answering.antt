@@ -1,6 +1,6 @@
 -- What a session answers, by what it keeps.
 use Rattle.std.proofs.Common.{◌≡◌, ℕ, ◌+◌, ◌≤◌, Bool, true, false, cond, List, [], ◌∷◌, ◌++◌, length, take, drop, Option, Some, None, refl, sym, ap, ap₂, subst, ◌∙◌, arith}
-use Rattle.std.specs.Prelude.{not, take_while, nat_lt, Result, Ok, Err, IfErr, IfSome, OnOk, OnErr}
+use Rattle.std.specs.Prelude.{not, take_while, nat_lt, option_to_list, slice_get, Result, Ok, Err, IfErr, IfSome, OnOk, OnErr}
 use Rattle.std.proofs.lemmas.Bool.{and_parts, ltb-false, leb-true, leb-false, eqb-true}
 use Rattle.std.proofs.lemmas.List.{append_assoc, length-append, take-append-drop, drop-append-le}
 use Rattle.std.proofs.lemmas.List.Folds.{length-prefix_len}
@@ -22,7 +22,7 @@ use Rattle.channel_step.proofs.Requests.{carries-stamped}
 use Rattle.sessions.specs.Held.{commands_left, replies_left, HasCommands, HasReplies}
 use Rattle.sessions.specs.Keeps.{steps_of, waiting, Keeps}
 use Rattle.sessions.specs.Sent.{message_of, firsts_with}
-use Rattle.sessions.specs.Sessions.{Past, IsSession, IsOpen, no_past, with_sent, refusal, IsAnswer, HasTaken}
+use Rattle.sessions.specs.Sessions.{Past, IsSession, IsOpen, next_command_of, next_reply_of, no_past, with_sent, with_command, with_reply, refusal, IsAnswer, HasTaken}
 use Rattle.sessions.specs.declared.channel_session.fault.SessionFault.{SessionFault}
 use Rattle.sessions.specs.declared.channel_session.fault.SessionFault.TheVariants.{Memory}
 use Rattle.sessions.specs.declared.channel_session.held.HeldCommands.{HeldCommands}
@@ -226,3 +226,62 @@ first-session a s channel h =
       keeps = subst (λ n. Keeps a.channel s channel n a.firsts.items [] a.coming.items) (sym h.cycle_is)
           (subst (λ x. Keeps a.channel s channel 0 a.firsts.items [] x) (sym h.coming_are) (keeps-first a.channel s channel a.firsts.items h.stands h.cores));
     }
+
+-- what stands behind a list is the first of the rest
+get-behind : {X : Type 0} (front left : List X) → slice_get (front ++ left) (length front) ≡ slice_get left 0
+get-behind [] left = refl
+get-behind (x ∷ front) left = get-behind front left
+
+-- the first command that a session holds is the next one that was not taken
+pub held-command : (a : Session) (p : Past) (o : Option IssuedCommand) → IsSession a p → o ≡ slice_get (commands_left a.commands) 0 → o ≡ next_command_of p a.cycle
+held-command a p o h first =
+    first ∙ sym (get-behind p.commands (commands_left a.commands)) ∙ ap (λ (cs : List IssuedCommand). slice_get cs (length p.commands)) (sym h.commands_are)
+
+-- the same of a reply
+pub held-reply : (a : Session) (p : Past) (o : Option Message) → IsSession a p → o ≡ slice_get (replies_left a.replies) 0 → o ≡ next_reply_of p a.cycle
+held-reply a p o h first =
+    first ∙ sym (get-behind p.replies (replies_left a.replies)) ∙ ap (λ (ms : List Message). slice_get ms (length p.replies)) (sym h.replies_are)
+
+-- a command was taken from those that a session holds, if it is one
+pub command-gone : (a : Session) (left : HeldCommands) (p : Past) (o : Option IssuedCommand) → IsSession a p → commands_left a.commands ≡ option_to_list o ++ commands_left left
+    → HasCommands left → IsSession (record a { commands = left }) (with_command p o)
+command-gone a left p (Some command) h front has = record {
+  config_is = h.config_is;
+  number_is = h.number_is;
+  commands_are = h.commands_are ∙ ap (λ cs. p.commands ++ cs) front ∙ sym (append_assoc p.commands (command ∷ []) (commands_left left));
+  replies_are = h.replies_are;
+  has_commands = has;
+  has_replies = h.has_replies;
+  keeps = h.keeps;
+}
+command-gone a left p None h front has = record {
+  config_is = h.config_is;
+  number_is = h.number_is;
+  commands_are = h.commands_are ∙ ap (λ cs. p.commands ++ cs) front;
+  replies_are = h.replies_are;
+  has_commands = has;
+  has_replies = h.has_replies;
+  keeps = h.keeps;
+}
+
+-- the same of a reply
+pub reply-gone : (a : Session) (left : HeldReplies) (p : Past) (o : Option Message) → IsSession a p → replies_left a.replies ≡ option_to_list o ++ replies_left left
+    → HasReplies left → IsSession (record a { replies = left }) (with_reply p o)
+reply-gone a left p (Some reply) h front has = record {
+  config_is = h.config_is;
+  number_is = h.number_is;
+  commands_are = h.commands_are;
+  replies_are = h.replies_are ∙ ap (λ ms. p.replies ++ ms) front ∙ sym (append_assoc p.replies (reply ∷ []) (replies_left left));
+  has_commands = h.has_commands;
+  has_replies = has;
+  keeps = h.keeps;
+}
+reply-gone a left p None h front has = record {
+  config_is = h.config_is;
+  number_is = h.number_is;
+  commands_are = h.commands_are;
+  replies_are = h.replies_are ∙ ap (λ ms. p.replies ++ ms) front;
+  has_commands = h.has_commands;
+  has_replies = has;
+  keeps = h.keeps;
+}

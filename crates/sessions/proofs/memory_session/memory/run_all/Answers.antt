@@ -29,3 +29,12 @@ loop-session-preserved c =
           (λ other. subst (λ x. HasRunTo c.args.until x c.run.new.self) (was ∙ get_or_default before index session other inside) one);
       left = left-more before now index c.run.new.self c.loop-session.invariant.left;
     }
+
+pub loop-session-init : goal.loop-session-init
+loop-session-init c = record { ran = λ k other below. absurd (omega arith); left = λ k other _. refl }
+
+pub returns-clause-count : goal.returns-clause-count
+returns-clause-count c = c.loop-session.auto.sessions
+
+pub returns-clause-done : goal.returns-clause-done
+returns-clause-done c = λ k other inside. c.loop-session.invariant.ran k other (omega arith)

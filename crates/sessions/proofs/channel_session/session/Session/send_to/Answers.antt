@@ -1,3 +1,4 @@
+use Rattle.std.proofs.lemmas.Result.{IfErr-weaker}
 use Rattle.sessions.specs.Keeps.{steps_of}
 use Rattle.sessions.proofs.Answering.{waits-are, answer-refused, answer-taken, taken-session, taken-open}
 use Rattle.sessions.proofs.channel_session.session.Session.send_to.Goals as goal
@@ -26,3 +27,9 @@ returns-in-None-clause-open c h =
     let p = h.past in
     let waits = waits-are session p h.is_session c.waiting-waits.result (c.waiting-waits.ensures p.s p.channel (steps_of p.s p.channel p.sent session.cycle) h.is_session.keeps.mail h.is_session.keeps.stands) in
     taken-open _ session c.take.new.self p c.waiting-waits.result c.args.request.now c.take.result h.is_session waits (c.in-None.ensures {u = tt}) c.take.ensures.taken (c.take.ensures.left p h.is_session)
+
+pub returns-in-None-clause-left : goal.returns-in-None-clause-left
+returns-in-None-clause-left c = c.take.ensures.left
+
+pub returns-in-None-clause-same : goal.returns-in-None-clause-same
+returns-in-None-clause-same c = IfErr-weaker c.take.result _ _ (λ fault memory other. absurd (other memory)) c.take.ensures.memory

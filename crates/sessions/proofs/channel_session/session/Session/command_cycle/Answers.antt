@@ -1,0 +1,10 @@
+use Rattle.std.proofs.Common.{ap, Some, None, option_map}
+use Rattle.sim_base.specs.declared.command.IssuedCommand.{IssuedCommand}
+use Rattle.sessions.proofs.Answering.{held-command}
+use Rattle.sessions.proofs.channel_session.session.Session.command_cycle.Goals as goal
+
+pub returns-in-Some : goal.returns-in-Some
+returns-in-Some c p h = ap (option_map (λ (x : IssuedCommand). x.cycle)) (held-command c.args.self.now p (Some c.in-Some.command) h (c.in-Some.ensures {u = tt}))
+
+pub returns-in-None : goal.returns-in-None
+returns-in-None c p h = ap (option_map (λ (x : IssuedCommand). x.cycle)) (held-command c.args.self.now p None h (c.in-None.ensures {u = tt}))
