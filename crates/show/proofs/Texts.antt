@@ -1,4 +1,5 @@
 -- Texts that grow.
+use Rattle.std.specs.Prelude.{Result, Ok, Err, OnOk, is_ok, if◌then◌else◌}
 use Rattle.std.proofs.Common.{◌≡◌, ℕ, ◌+◌, List, [], ◌++◌, Option, Some, None, length, sym, ap, ap₂, subst, ◌∙◌, add-one, append-nil, append_assoc}
 use Rattle.show.specs.Screen.{Extends, IsScreen, channels_head, cores_head}
 use Rattle.show.specs.Banks.{AreBanksOf, AreBanks}
@@ -19,6 +20,11 @@ extends_by old mid new more h e = (h.0 ++ more, e ∙ ap (λ t. t ++ more) h.1 �
 
 pub extends_more : (old mid new : List ℕ) → Extends old mid → Extends mid new → Extends old new
 extends_more old mid new h k = extends_by old mid new k.0 h k.1
+
+-- a text was pushed behind more, unless memory was refused
+pub pushed : {A E : Type 0} (r : Result A E) (old mid new more : List ℕ) → Extends old mid → new ≡ (if is_ok r then mid ++ more else mid) → OnOk r (Extends old new)
+pushed (Ok done) old mid new more h e = extends_by old mid new more h e
+pushed (Err fault) old mid new more h e = tt
 
 -- a screen, from its parts
 pub screen_of : (stats : RunStats) (above below screen : List ℕ) → Extends (channels_head stats.cycles (length stats.channels)) above → Extends (cores_head (length stats.cores)) below

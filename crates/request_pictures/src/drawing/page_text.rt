@@ -3,7 +3,7 @@
 ghost use Rattle.std.specs.Prelude.{◌≡◌, true, false, OnOk, OnErr};
 
 use crate::drawing::axes::{Quantity, put_cycle_ticks, put_value_ticks};
-use crate::drawing::markup::{LegendEntry, Piece, fill, put, put_legend};
+use crate::drawing::markup::{LegendEntry, Piece, fill, put_legend};
 use std::alloc::{AllocError, Global};
 
 /// The text of a page in the making. It keeps whether memory was refused for a part of it: then it comes to no end.
@@ -37,12 +37,6 @@ impl Markup {
         if answer.is_err() {
             self.refuse();
         }
-    }
-
-    /// Appends pieces.
-    pub fn put(&mut self, pieces: &[Piece]) {
-        let answer = put(pieces, &mut self.text);
-        self.note(answer);
     }
 
     /// Appends a form, with pieces in place of its `{}`, in turn.
