@@ -1,10 +1,8 @@
-//! What is read of a table of commands, and what is refused.
+//! What is read of a table of commands.
 
-use crate::expect::{expect, expect_at};
-use crate::stats_read::joined;
+use crate::expect::expect;
 use run_tables::read_commands;
 use sim_base::command::{Command, IssuedCommand, Source};
-use sim_base::fault::Fault;
 use sim_base::place::BankId;
 
 const WITH_RANK: &str = "cycle,channel,command,rank,group,bank,row,column,core,entry
@@ -125,59 +123,5 @@ fn each_kind_of_command(rt: HostRuntime) {
         let list = read_commands(rt.alloc(), table.as_bytes()).expect(&rt, "a table");
         let rows = list.to_vec(rt.alloc()).expect(&rt, "memory");
         expect(&rt, &rows.as_slice(), want);
-    }
-}
-
-// A header, and a first row in cycle 9.
-const HEAD: &str = "cycle,channel,command,rank,group,bank,row,column,core,entry\n9,0,REF,0,,,,,,\n";
-
-// What stands at the head of a table, a line behind it, and the row because of which the table is refused: the header,
-// or the second row, since no run writes such a row, or since it is in an earlier cycle than the first.
-static REFUSED: [(&str, &str, u64); 29] = [
-    ("", "", 0),
-    ("", "cycle,channel,command,group,bank,row,column,core\n", 0),
-    (
-        "",
-        "cycle,channel,command,group,rank,bank,row,column,core,entry\n",
-        0,
-    ),
-    (
-        "",
-        "cycle,channel,command,group,bank,row,column,core,entries\n",
-        0,
-    ),
-    ("", "0,0,REF,,,,,,\n", 0),
-    (HEAD, "8,0,REF,0,,,,,,\n", 2),
-    (HEAD, "9,16,REF,0,,,,,,\n", 2),
-    (HEAD, "9,0,REF,4,,,,,,\n", 2),
-    (HEAD, "9,0,REF,,,,,,,\n", 2),
-    (HEAD, "9,0,REF,0,,,,,\n", 2),
-    (HEAD, "9,0,REF,0,,,,,,,\n", 2),
-    (HEAD, "9,0,REF,0,,,,,0,\n", 2),
-    (HEAD, "9,0,PREA,0,1,,,,,\n", 2),
-    (HEAD, "9,0,ref,0,,,,,,\n", 2),
-    (HEAD, "4611686018427387904,0,REF,0,,,,,,\n", 2),
-    (HEAD, "9,0,ACT,0,4,0,0,,0,0\n", 2),
-    (HEAD, "9,0,ACT,0,0,4,0,,0,0\n", 2),
-    (HEAD, "9,0,ACT,0,0,0,262144,,0,0\n", 2),
-    (HEAD, "9,0,ACT,0,0,0,0,,256,0\n", 2),
-    (HEAD, "9,0,ACT,0,0,0,0,,0,4611686018427387904\n", 2),
-    (HEAD, "9,0,ACT,0,0,0,0,0,0,0\n", 2),
-    (HEAD, "9,0,ACT,0,0,0,,,0,0\n", 2),
-    (HEAD, "9,0,RD,0,0,0,0,1024,0,0\n", 2),
-    (HEAD, "9,0,RD,0,0,0,0,,0,0\n", 2),
-    (HEAD, "9,0,WR,0,0,0,,0,0,0\n", 2),
-    (HEAD, "9,0,WR,0,0,0,0,0,,0\n", 2),
-    (HEAD, "9,0,PRE,0,0,0,0,,0,0\n", 2),
-    (HEAD, "9,0,PRE,0,0,0,,0,0,0\n", 2),
-    (HEAD, "9x,0,REF,0,,,,,,\n", 2),
-];
-
-#[test]
-fn wrong_headers_and_rows(rt: HostRuntime) {
-    for (head, line, row) in &REFUSED {
-        let table = joined(&rt, rt.alloc(), &[*head, *line]);
-        let refused = read_commands(rt.alloc(), table.as_bytes()).err();
-        expect_at(&rt, line, &refused, &Some(Fault::CheckRow(*row)));
     }
 }

@@ -69,36 +69,32 @@ from the RD to the reply at the core"#;
 
 const NO_REPLY: &str = "<h2 id=\"latency\">Read latency</h2>\n<p>No reply came in the run.</p>";
 
-// Whether the configuration is known, which requests are, and what the page has and has not.
-type Case = (bool, Option<&'static [RequestTimes]>, Parts<'static>);
-
-static CASES: [Case; 6] = [
-    (
-        true,
-        Some(&TABLE),
-        (PICTURES, "each core</summary>\n\nno reply"),
-    ),
-    (true, Some(&TABLE), (PARTED, TOGETHER)),
-    (false, Some(&TABLE), (PICTURES, "nCL + 4")),
-    (false, Some(&TABLE), (TOGETHER, "class=\"width\" x")),
-    (false, None, ("", "id=\"latency\"\n\np99")),
-    (false, Some(&WRITTEN), (NO_REPLY, "p99")),
-];
-
-// The request of the three that has no reply.
-const WRITTEN: [RequestTimes; 1] = [SECOND];
-
 #[test]
 fn pictures_of_requests(rt: HostRuntime) {
-    let stats = run_of(&rt, rt.alloc(), 44, 1);
-    let config = small(rt.alloc(), &[], "").expect(&rt, "a machine");
-    for (is_known, requests, parts) in &CASES {
-        let known = if *is_known { Some(&config) } else { None };
-        assert_latency(&rt, rt.alloc(), &stats, (known, *requests), *parts);
-    }
+    let alloc = rt.alloc();
+    let stats = run_of(&rt, alloc, 44, 1);
+    let config = small(alloc, &[], "").expect(&rt, "a machine");
+    let table = Some(TABLE.as_slice());
+    let known = (Some(&config), table);
+    let absent = "each core</summary>\n\nno reply";
+    assert_latency(&rt, alloc, &stats, known, (PICTURES, absent));
+    assert_latency(&rt, alloc, &stats, known, (PARTED, TOGETHER));
+    assert_latency(&rt, alloc, &stats, (None, table), (PICTURES, "nCL + 4"));
+    let absent = "class=\"width\" x";
+    assert_latency(&rt, alloc, &stats, (None, table), (TOGETHER, absent));
 }
 
-const READ: [RequestTimes; 1] = [RequestTimes {
+#[test]
+fn pages_without_a_reply(rt: HostRuntime) {
+    let alloc = rt.alloc();
+    let stats = run_of(&rt, alloc, 44, 1);
+    let absent = "id=\"latency\"\n\np99";
+    assert_latency(&rt, alloc, &stats, (None, None), ("", absent));
+    let written = Some([SECOND].as_slice());
+    assert_latency(&rt, alloc, &stats, (None, written), (NO_REPLY, "p99"));
+}
+
+static READ: [RequestTimes; 1] = [RequestTimes {
     core: 16,
     entry: 0,
     access: Access::Read,

@@ -1,13 +1,10 @@
-//! Tests of what users see: what is read of a run's tables and how it is shown, the page of a run and its pictures, the
-//! line that tells how far a run is, and the texts that explain a refusal. The texts were written by hand.
+//! Tests of what users see: what is read of a run's tables, the page of a run and its pictures, the line that tells how
+//! far a run is, and the texts that explain a refusal. The texts were written by hand. Screens, comparisons and tables
+//! that are refused are tried on the built program.
 #![tactic(auto)]
 
 #[cfg(test)]
-mod banks;
-#[cfg(test)]
 mod command_lists;
-#[cfg(test)]
-mod compared;
 #[cfg(test)]
 mod drawn;
 #[cfg(test)]
@@ -32,7 +29,5 @@ mod progress_lines;
 mod ranks;
 #[cfg(test)]
 mod requests;
-#[cfg(test)]
-mod screens;
 #[cfg(test)]
 mod stats_read;

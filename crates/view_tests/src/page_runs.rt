@@ -72,7 +72,7 @@ pub(crate) const PRE: IssuedCommand = IssuedCommand {
 };
 
 /// The three of them.
-pub(crate) const ONE_READ: [IssuedCommand; 3] = [ACT, RD, PRE];
+pub(crate) static ONE_READ: [IssuedCommand; 3] = [ACT, RD, PRE];
 
 static CORE: [CoreStats; 1] = [CoreStats {
     retired: 1235,

@@ -17,14 +17,15 @@ use sim_base::place::BankId;
 use std::alloc::Global;
 use std::process::Abort;
 
-// The cycles of a run, its commands, what is shown of it, and what its page has and has not.
-type Case = (Cycle, &'static [IssuedCommand], View, Parts<'static>);
+// The cycles of a run, what is shown of it, and what its page has and has not.
+type Case = (Cycle, View, Parts<'static>);
 
-// Asserts the page of a run.
+// Asserts the page of a run with these commands.
 fn assert_case(
     rt: &impl Abort,
     alloc: Global,
-    (cycles, rows, view, parts): &Case,
+    rows: &[IssuedCommand],
+    (cycles, view, parts): &Case,
     config: Option<&Config>,
 ) {
     let stats = stats_of(rt, alloc, *cycles);
@@ -92,7 +93,7 @@ viewBox="0 0 100 28"
 );
 
 // A WR in cycle 248 has two cycles of data in its strip and two in the next.
-const WRITE: [IssuedCommand; 1] = [IssuedCommand {
+static WRITE: [IssuedCommand; 1] = [IssuedCommand {
     cycle: 248,
     channel: 0,
     command: Command::Wr {
@@ -103,11 +104,15 @@ const WRITE: [IssuedCommand; 1] = [IssuedCommand {
     },
 }];
 
-const WRITTEN: Parts<'static> = (
-    r#"<rect class="wr" x="248" y="14" width="2" height="12">
+const WRITTEN: Case = (
+    1000,
+    WHOLE,
+    (
+        r#"<rect class="wr" x="248" y="14" width="2" height="12">
 
 <rect class="wr" x="0" y="14" width="2" height="12">"#,
-    "",
+        "",
+    ),
 );
 
 // With a clock of 1,250 MHz a cycle takes 0.8 ns: 1,000 are 800 ns, the finish in cycle 799 is at 639.2 ns, and 50
@@ -131,48 +136,54 @@ const HUNDRED: View = View {
     khz: None,
 };
 
-static CASES: [Case; 8] = [
-    (1000, &ONE_READ, WHOLE, READ),
+// How many of the three commands of a read there are, and the page.
+static CASES: [(usize, Case); 7] = [
+    (3, (1000, WHOLE, READ)),
     (
-        1000,
-        &ONE_READ,
-        View {
-            window: Window {
-                from: 20,
-                cycles: 100,
-            },
-            khz: None,
-        },
-        OPEN,
-    ),
-    (1000, &WRITE, WHOLE, WRITTEN),
-    (0, &[], WHOLE, ("The run has no cycles.", "<h2")),
-    (1000, &[], WHOLE, ("No command was issued.", "Timeline")),
-    (
-        1000,
-        &ONE_READ,
-        View {
-            window: Window {
-                from: 1000,
-                cycles: 10,
-            },
-            khz: None,
-        },
+        3,
         (
-            "The run has no cycle from 1,000 on in the window.",
-            "lane\"",
+            1000,
+            View {
+                window: Window {
+                    from: 20,
+                    cycles: 100,
+                },
+                khz: None,
+            },
+            OPEN,
+        ),
+    ),
+    (0, (0, WHOLE, ("The run has no cycles.", "<h2"))),
+    (0, (1000, WHOLE, ("No command was issued.", "Timeline"))),
+    (
+        3,
+        (
+            1000,
+            View {
+                window: Window {
+                    from: 1000,
+                    cycles: 10,
+                },
+                khz: None,
+            },
+            (
+                "The run has no cycle from 1,000 on in the window.",
+                "lane\"",
+            ),
         ),
     ),
     (
-        1000,
-        &ONE_READ,
-        View {
-            khz: Some(1_250_000),
-            ..HUNDRED
-        },
-        (CLOCKED, ""),
+        3,
+        (
+            1000,
+            View {
+                khz: Some(1_250_000),
+                ..HUNDRED
+            },
+            (CLOCKED, ""),
+        ),
     ),
-    (1000, &ONE_READ, HUNDRED, ("", CLOCKED)),
+    (3, (1000, HUNDRED, ("", CLOCKED))),
 ];
 
 // The banks 0 and 2 of rank 0 are the first two lanes, whichever is used first, and that of rank 1 is the third. A REF
@@ -180,7 +191,6 @@ static CASES: [Case; 8] = [
 // to the end of the strip. One REF of 350 of 1,000 cycles.
 const OF_RANKS: Case = (
     1000,
-    &RANKS,
     WHOLE,
     (
         r#"<rect class="prea" x="50" y="0" width="1" height="12"><title>PREA in cycle 50: rank 0, all banks</title></rect>
@@ -208,7 +218,7 @@ const OF_RANKS: Case = (
     ),
 );
 
-const RANKS: [IssuedCommand; 5] = [
+static RANKS: [IssuedCommand; 5] = [
     IssuedCommand {
         cycle: 0,
         channel: 0,
@@ -262,29 +272,28 @@ const RANKS: [IssuedCommand; 5] = [
 
 #[test]
 fn pages_of_runs(rt: HostRuntime) {
-    for case in &CASES {
-        assert_case(&rt, rt.alloc(), case, None);
+    for (count, case) in &CASES {
+        let rows = ONE_READ.get(..*count).unwrap_or(&ONE_READ);
+        assert_case(&rt, rt.alloc(), rows, case, None);
     }
+    assert_case(&rt, rt.alloc(), &WRITE, &WRITTEN, None);
     let config = small(rt.alloc(), &["nRFC = 350"], "").expect(&rt, "a machine");
-    assert_case(&rt, rt.alloc(), &OF_RANKS, Some(&config));
+    assert_case(&rt, rt.alloc(), &RANKS, &OF_RANKS, Some(&config));
 }
 
-// The cycles of a run, its commands, and how the writing of its page ends.
-type Ended = (Cycle, &'static [IssuedCommand], Result<(), PageFault>);
+// The commands of a read, but for a RD in a channel that the run does not have.
+static OTHERS: [IssuedCommand; 3] = [ACT, IssuedCommand { channel: 1, ..RD }, PRE];
 
-static OTHERS: [Ended; 3] = [
-    (
-        1000,
-        &[ACT, IssuedCommand { channel: 1, ..RD }, PRE],
-        Err(PageFault::Command(1)),
-    ),
-    (60, &ONE_READ, Err(PageFault::Command(2))),
-    (61, &ONE_READ, Ok(())),
-];
-
-// Asserts how the writing of a page ends, and that nothing of it is there where it is refused.
-fn assert_ended(rt: &impl Abort, alloc: Global, (cycles, rows, want): &Ended) {
-    let stats = stats_of(rt, alloc, *cycles);
+// Asserts how the writing of a page of a run of these cycles and commands ends, and that nothing of it is there where it
+// is refused.
+fn assert_ended(
+    rt: &impl Abort,
+    alloc: Global,
+    cycles: Cycle,
+    rows: &[IssuedCommand],
+    want: Result<(), PageFault>,
+) {
+    let stats = stats_of(rt, alloc, cycles);
     let list = list_of(rt, alloc, rows);
     let run = RunCommands {
         stats: &stats,
@@ -293,16 +302,15 @@ fn assert_ended(rt: &impl Abort, alloc: Global, (cycles, rows, want): &Ended) {
     let mut page = Vec::new(alloc);
     let ended = write_page(alloc, &run, ALONE, WHOLE, &mut page);
     let found = (page.is_empty(), ended);
-    expect_at(rt, cycles, &found, &(want.is_err(), *want));
+    expect_at(rt, &cycles, &found, &(want.is_err(), want));
 }
 
 #[test]
 fn a_command_of_another_run_is_refused(rt: HostRuntime) {
-    for ended in &OTHERS {
-        assert_ended(&rt, rt.alloc(), ended);
-    }
-    let text = PageFault::Command(1)
-        .to_string(rt.alloc())
-        .expect(&rt, "memory");
+    let alloc = rt.alloc();
+    assert_ended(&rt, alloc, 1000, &OTHERS, Err(PageFault::Command(1)));
+    assert_ended(&rt, alloc, 60, &ONE_READ, Err(PageFault::Command(2)));
+    assert_ended(&rt, alloc, 61, &ONE_READ, Ok(()));
+    let text = PageFault::Command(1).to_string(alloc).expect(&rt, "memory");
     expect_at(&rt, &1, &text.as_str(), &"command 1 is none of the run");
 }

@@ -2,40 +2,47 @@
 
 use crate::expect::expect_at;
 use measures::percentiles::SortedValues;
+use std::alloc::Global;
+use std::process::Abort;
 
-// Five values and ten, in any order.
-const FIVE: &[u64] = &[40, 15, 50, 35, 20];
+// A share in percent, and the percentile.
+type Rank = (u64, Option<u64>);
 
-const TEN: &[u64] = &[8, 3, 20, 7, 13, 6, 16, 8, 15, 10];
-
-const NONE: &[u64] = &[];
-
-// Values, the share in percent, and the percentile.
-static PERCENTILES: [(&[u64], u64, Option<u64>); 13] = [
-    (FIVE, 5, Some(15)),
-    (FIVE, 20, Some(15)),
-    (FIVE, 21, Some(20)),
-    (FIVE, 30, Some(20)),
-    (FIVE, 40, Some(20)),
-    (FIVE, 50, Some(35)),
-    (FIVE, 100, Some(50)),
-    (TEN, 25, Some(7)),
-    (TEN, 50, Some(8)),
-    (TEN, 75, Some(15)),
-    (TEN, 99, Some(20)),
-    (TEN, 100, Some(20)),
-    (NONE, 50, None),
+static OF_FIVE: [Rank; 7] = [
+    (5, Some(15)),
+    (20, Some(15)),
+    (21, Some(20)),
+    (30, Some(20)),
+    (40, Some(20)),
+    (50, Some(35)),
+    (100, Some(50)),
 ];
+
+static OF_TEN: [Rank; 5] = [
+    (25, Some(7)),
+    (50, Some(8)),
+    (75, Some(15)),
+    (99, Some(20)),
+    (100, Some(20)),
+];
+
+// Asserts percentiles of some values, in any order.
+fn assert_ranks(rt: &impl Abort, alloc: Global, values: &[u64], ranks: &[Rank]) {
+    let values = Vec::from_slice(alloc, values).expect(rt, "memory");
+    let sorted = SortedValues::of(values);
+    for rank in ranks {
+        let found = match rank.0 {
+            1..=100 => sorted.percentile(rank.0),
+            _ => None,
+        };
+        expect_at(rt, rank, &found, &rank.1);
+    }
+}
 
 #[test]
 fn nearest_ranks(rt: HostRuntime) {
-    for (values, percent, want) in &PERCENTILES {
-        let values = Vec::from_slice(rt.alloc(), values).expect(&rt, "memory");
-        let sorted = SortedValues::of(values);
-        let found = match *percent {
-            1..=100 => sorted.percentile(*percent),
-            _ => None,
-        };
-        expect_at(&rt, &(percent, want), &found, want);
-    }
+    let alloc = rt.alloc();
+    assert_ranks(&rt, alloc, &[40, 15, 50, 35, 20], &OF_FIVE);
+    assert_ranks(&rt, alloc, &[8, 3, 20, 7, 13, 6, 16, 8, 15, 10], &OF_TEN);
+    assert_ranks(&rt, alloc, &[], &[(50, None)]);
 }
