@@ -14,6 +14,9 @@ use std::thread::Threads;
 /// How many rows of a channel a piece has at most. With 2 to 8 channels its text is some 256 KB to 1 MB.
 pub(crate) const MOST: usize = 4096;
 
+/// From how many pieces on threads put them together: fewer take the caller less time than threads take to start.
+const MANY: usize = 8;
+
 /// How the lines of a table are written whose rows come in pieces of a type.
 pub(crate) trait TableLines<P> {
     /// The line of the header.
@@ -149,28 +152,30 @@ pub struct TableThreads<'a, R> {
     pub count: usize,
 }
 
-// Writes the rows of all pieces, as many pieces at a time as there are threads.
+// Writes the rows of all pieces, as many pieces at a time as are wanted.
 fn write_rounds<R: Threads + Sync, P: Sync, T: TableLines<P> + Sync, W: Write>(
     threads: &TableThreads<'_, R>,
+    at_once: usize,
     of: &T,
     pieces: &[P],
     writer: &mut W,
 ) -> Result<(), Fault>
-    requires some { 0 < threads.now.count }
+    requires some { 0 < at_once }
     ensures written { WritesOnOk result W.contents writer.old writer.new
         (flat_map (T.lines of.now) pieces.now) }
     ensures refused { IfErr result (λ e. IsReportFault e) }
 {
     let mut done = 0;
     while done < pieces.len() {
-        let end = done + threads.count.min(pieces.len() - done);
+        let end = done + at_once.min(pieces.len() - done);
         write_round(threads.rt, threads.alloc, of, &pieces[done..end], writer)?;
         done = end;
     }
     Ok(())
 }
 
-/// Writes a table: the header, and then the rows of the pieces, whose texts these threads put together if there are several.
+/// Writes a table: the header, and then the rows of the pieces, whose texts these threads put together if there are
+/// many.
 pub(crate) fn write_pieces<R: Threads + Sync, P: Sync, T: TableLines<P> + Sync, W: Write>(
     threads: &TableThreads<'_, R>,
     of: &T,
@@ -186,5 +191,10 @@ pub(crate) fn write_pieces<R: Threads + Sync, P: Sync, T: TableLines<P> + Sync, 
         return write_whole(threads.alloc, of, rows, writer);
     }
     write_header(threads.alloc, of, writer)?;
-    write_rounds(threads, of, pieces, writer)
+    let at_once = if pieces.len() < MANY {
+        1
+    } else {
+        threads.count
+    };
+    write_rounds(threads, at_once, of, pieces, writer)
 }
