@@ -1,6 +1,7 @@
 -- What a run leaves, and why it is not brought to its end.
 --     outcome_in tables s traces limit      what the run of a machine up to a limit leaves
---     outcome_with options machine      the same of a machine that is run with these options
+--     outcome_of_machine options machine      the same of a machine that is run with these options
+--     outcome_with options input      the same of a configuration and traces
 --     IsOfHost fault      the host refused: memory, or a worker's start
 --     IsRefusedTo workers fault      the host refused this number of workers
 use Rattle.std.specs.Prelude.{◌≡◌, ◌⊎◌, ℕ, ◌≤◌, List}
@@ -11,6 +12,7 @@ use Rattle.run_outcome.specs.Outcomes.{outcome_of}
 use Rattle.run_outcome.specs.Values.{RunOutcome}
 use Rattle.run_outcome.specs.declared.tables.Tables.{Tables}
 use Rattle.sim_base.specs.declared.fault.Fault.{Fault}
+use Rattle.units.specs.declared.machine.Machine.{Machine}
 use Rattle.workers.specs.declared.input.MachineInput.{MachineInput}
 use Rattle.workers.specs.declared.input.RunOptions.{RunOptions}
 use Rattle.sim_base.specs.declared.fault.Fault.TheVariants.{Memory, WorkerStart}
@@ -21,8 +23,12 @@ abbrev pub outcome_in : Tables → Config → List (List Entry) → ℕ → RunO
 outcome_in tables s traces limit = outcome_of tables s traces (cycles_run s traces limit)
 
 -- the same of a machine that is run with these options
+abbrev pub outcome_of_machine : RunOptions → Machine → RunOutcome
+outcome_of_machine options machine = outcome_in options.tables machine.config machine.traces.items options.cycles
+
+-- the same of a configuration and a trace for each core
 abbrev pub outcome_with : RunOptions → MachineInput → RunOutcome
-outcome_with options machine = outcome_in options.tables machine.config.now machine.traces.items options.cycles
+outcome_with options input = outcome_in options.tables input.config.now input.traces.items options.cycles
 
 -- the host refused memory, or to start a worker
 abbrev pub IsOfHost : Fault → Type 0

@@ -1,11 +1,13 @@
 //! A whole machine, run by workers.
 
-ghost use Rattle.std.specs.Prelude.{◌≡◌, ◌<◌, ◌≤◌, ◌^◌, length, IfOk, IfErr};
+ghost use Rattle.std.specs.Prelude.{◌≡◌, ◌<◌, ◌≤◌, ◌^◌, length, IfOk, IfErr, IfSome};
 ghost use Rattle.shards.specs.Phases.{ended, jobs_of};
 ghost use Rattle.units.specs.Drained.{NotEnded};
 ghost use Rattle.units.specs.Stops.{stop_of};
-ghost use Rattle.units.specs.Views.{HasReached};
-ghost use Rattle.workers.specs.Runs.{IsRefusedTo, outcome_with};
+ghost use Rattle.units.specs.Views.{HasReached, first_view};
+ghost use Rattle.units.specs.Runs.{machine_with};
+ghost use Rattle.workers.specs.Runs.{IsRefusedTo, outcome_of_machine, outcome_with};
+ghost use Rattle.workers.specs.Stages.{IsExtentOf};
 
 use crate::gate::{AtGate, Gate};
 use crate::input::{Hooks, MachineInput, RunOptions};
@@ -197,67 +199,128 @@ impl<N: Runner + Drop> Mode for InShards<N> {
     }
 }
 
-/// Runs a machine to its end, in the stretches that the watcher wants. Only memory can be refused.
-fn run_by<W: Watch, M: Mode>(
-    alloc: Global,
-    watch: &mut W,
-    machine: MachineInput<'_>,
-    options: RunOptions,
-    mode: &mut M,
-) -> Result<Outcome, Fault>
+/// Where a run stands: its machine at a cycle before which the run does not end, and what it keeps for its watcher.
+#[derive(Drop)]
+struct Standing {
+    sim: Sim,
+    state: WatchState,
+    ghost goes_on: { NotEnded sim.machine 0 sim.now },
+    ghost extent: { IsExtentOf sim.machine state.extent },
+}
+
+/// A run before its first cycle. Only memory can be refused.
+fn begin(alloc: Global, machine: MachineInput<'_>, options: RunOptions) -> Result<Standing, Fault>
     requires one_trace_a_core { length machine.traces.items ≡ machine.config.now.cores }
-    requires limit { options.cycles ≤ 10 ^ 12 }
-    ensures outcome { IfOk result (λ o. o ≡ outcome_with options machine.entry) }
+    ensures first { IfOk result (λ run. run.sim ≡ first_view (machine_with machine.config.now machine.traces)) }
     ensures refused { IfErr result (λ fault. fault ≡ Fault.Memory) }
 {
     let MachineInput { config, traces } = machine;
-    let RunOptions { cycles, tables, .. } = options;
-    let mut state = WatchState {
+    let state = WatchState {
         extent: RunExtent {
-            limit: cycles,
+            limit: options.cycles,
             ends_drained: config.ends_drained,
             entries: entries_of(&traces),
         },
         look: 0,
     };
-    let mut sim = Sim::start(alloc, config, traces, tables)?;
-    while let Some(stop) = sim.next_stop(cycles) {
+    let sim = Sim::start(alloc, config, traces, options.tables)?;
+    Ok(Standing { sim, state })
+}
+
+/// A run from where it stands to its end, in the stretches that the watcher wants. Only memory can be refused.
+fn finish<W: Watch, M: Mode>(
+    alloc: Global,
+    watch: &mut W,
+    options: RunOptions,
+    run: Standing,
+    mode: &mut M,
+) -> Result<Outcome, Fault>
+    requires not_past { run.sim.now ≤ options.cycles }
+    requires limit { options.cycles ≤ 10 ^ 12 }
+    ensures outcome { IfOk result (λ o. o ≡ outcome_of_machine options run.sim.machine) }
+    ensures refused { IfErr result (λ fault. fault ≡ Fault.Memory) }
+{
+    let Standing { sim, state } = run;
+    let mut sim = sim;
+    let mut state = state;
+    while let Some(stop) = sim.next_stop(options.cycles) {
         let until = stretch_end(&sim, alloc, stop, watch, &mut state);
         sim = mode.run_to(sim, alloc, until)?;
     }
-    let outcome = sim.outcome(alloc, tables)?;
+    let outcome = sim.outcome(alloc, options.tables)?;
     Ok(outcome)
 }
 
-/// A run of a machine by a crew.
+/// A later cycle up to which the caller can run a machine alone. None where it is to be shared out now, since enough
+/// messages are in flight, and where the run has no more cycles. Only memory can be refused.
+fn quiet_stop(sim: &Sim, alloc: Global, options: RunOptions) -> Result<Option<Cycle>, AllocError>
+    ensures later { IfOk result (λ stop. IfSome stop (λ end. sim.entry.now.now < end)) }
+    ensures within { IfOk result (λ stop. IfSome stop (λ end. end ≤ options.cycles)) }
+    ensures goes_on { IfOk result (λ stop. IfSome stop (NotEnded sim.entry.now.machine sim.entry.now.now)) }
+{
+    let messages = options.workers.sharing.messages;
+    if messages == 0 || sim.in_flight(alloc)? >= messages {
+        return Ok(None);
+    }
+    Ok(sim.next_stop(options.cycles))
+}
+
+/// A run where it is first to be shared out, or else at its end: up to there the caller runs it alone, lap by lap, so
+/// that no thread is started for a run that is never shared out. Only memory can be refused.
+fn run_quiet<W: Watch>(
+    alloc: Global,
+    watch: &mut W,
+    options: RunOptions,
+    run: Standing,
+) -> Result<Standing, Fault>
+    requires not_past { run.sim.now ≤ options.cycles }
+    requires limit { options.cycles ≤ 10 ^ 12 }
+    ensures same { IfOk result (λ after. after.sim.machine ≡ run.sim.machine) }
+    ensures not_past { IfOk result (λ after. after.sim.now ≤ options.cycles) }
+    ensures refused { IfErr result (λ fault. fault ≡ Fault.Memory) }
+{
+    let Standing { sim, state } = run;
+    let mut sim = sim;
+    let mut state = state;
+    let mut lap = options.workers.sharing.first_lap.max(1);
+    while let Some(stop) = quiet_stop(&sim, alloc, options)? {
+        let end = stop.min(sim.now().saturating_add(lap.max(1)));
+        let until = stretch_end(&sim, alloc, end, watch, &mut state);
+        sim = run_alone(sim, alloc, until)?;
+        lap = lap.saturating_mul(2);
+    }
+    Ok(Standing { sim, state })
+}
+
+/// A run that a crew takes from where it stands to its end.
 #[derive(Drop)]
 struct CrewRun<'a, W: Watch> {
     watch: &'a mut W,
-    machine: MachineInput<'a>,
     options: RunOptions,
     split: Split,
-    ghost one_trace_a_core: { length machine.traces.items ≡ machine.config.now.cores },
+    run: Standing,
+    ghost not_past: { run.sim.now ≤ options.cycles },
     ghost limit: { options.cycles ≤ 10 ^ 12 },
 }
 
 impl<'a, W: Watch> PhasedRun<Job, Done, Outcome> for CrewRun<'a, W> {
     ghost use Rattle.std.specs.Prelude.{◌≡◌};
-    ghost use Rattle.workers.specs.Runs.{outcome_with};
+    ghost use Rattle.workers.specs.Runs.{outcome_of_machine};
 
-    ghost gives = { λ r o. o ≡ outcome_with r.options r.machine };
+    ghost gives = { λ r o. o ≡ outcome_of_machine r.options r.run.sim.machine };
 
     fn run<P: Phases<Job, Done>>(self, alloc: Global, crew: &mut P) -> Result<Outcome, AllocError> {
         let CrewRun {
             watch,
-            machine,
             options,
             split,
+            run,
         } = self;
         let mut mode = InShards {
             split,
             runner: Claims { crew },
         };
-        match run_by(alloc, watch, machine, options, &mut mode) {
+        match finish(alloc, watch, options, run, &mut mode) {
             Ok(outcome) => Ok(outcome),
             Err(_) => Err(AllocError),
         }
@@ -282,30 +345,30 @@ fn shards_for(workers: usize, sharing: Sharing, config: &Config) -> usize
         .min(units_of(config))
 }
 
-/// Runs a machine by several workers, which share it out.
+/// A run from where it stands to its end, by several workers, which share it out.
 fn run_together<R: Threads + Wait + Sync, G: Gate + Sync, W: Watch>(
     rt: &R,
     alloc: Global,
     hooks: Hooks<'_, G, W>,
-    machine: MachineInput<'_>,
     options: RunOptions,
+    run: Standing,
 ) -> Result<Outcome, Fault>
-    requires one_trace_a_core { length machine.traces.items ≡ machine.config.now.cores }
     requires some { 1 ≤ options.workers.count }
     requires few { options.workers.count ≤ 64 }
+    requires not_past { run.sim.now ≤ options.cycles }
     requires limit { options.cycles ≤ 10 ^ 12 }
-    ensures outcome { IfOk result (λ o. o ≡ outcome_with options machine.entry) }
+    ensures outcome { IfOk result (λ o. o ≡ outcome_of_machine options run.sim.machine) }
     ensures refused { IfErr result (IsRefusedTo options.workers.count) }
 {
     let Workers { count, sharing } = options.workers;
     let count = count as usize;
-    let shards = shards_for(count, sharing, machine.config);
+    let shards = shards_for(count, sharing, &run.sim.machine.config);
     let Hooks { gate, watch } = hooks;
-    let run = CrewRun {
+    let crew_run = CrewRun {
         watch,
-        machine,
         options,
         split: Split { shards, sharing },
+        run,
     };
     let work = AtGate { gate };
     let crew_options = CrewOptions {
@@ -313,7 +376,7 @@ fn run_together<R: Threads + Wait + Sync, G: Gate + Sync, W: Watch>(
         workers: count.min(shards),
         limits: WAIT_LIMITS,
     };
-    match with_crew(rt, alloc, &work, crew_options, run) {
+    match with_crew(rt, alloc, &work, crew_options, crew_run) {
         Ok(outcome) => Ok(outcome),
         Err(Refused::Memory) => Err(Fault::Memory),
         Err(Refused::Start) => Err(Fault::WorkerStart),
@@ -336,20 +399,27 @@ fn run_watched<R: Threads + Wait + Sync, G: Gate + Sync, W: Watch>(
     ensures refused { IfErr result (IsRefusedTo options.workers.count) }
 {
     let Workers { count, sharing } = options.workers;
-    if count > 1 && units_of(machine.config) >= sharing.units {
-        return run_together(rt, alloc, hooks, machine, options);
+    let may_share = count > 1 && units_of(machine.config) >= sharing.units;
+    let run = begin(alloc, machine, options)?;
+    if !may_share {
+        return finish(alloc, hooks.watch, options, run, &mut InPlace);
     }
-    run_by(alloc, hooks.watch, machine, options, &mut InPlace)
+    let Hooks { gate, watch } = hooks;
+    let run = run_quiet(alloc, &mut *watch, options, run)?;
+    if run.sim.next_stop(options.cycles).is_none() {
+        return finish(alloc, watch, options, run, &mut InPlace);
+    }
+    run_together(rt, alloc, Hooks { gate, watch }, options, run)
 }
 
 /// Runs a machine over one trace a core, up to a limit of at most 10^12 cycles or, where the configuration ends it
 /// drained, until all is done, and gives its commands, if their table is asked for, its statistics and the state in
 /// which it ends. It is run by at most as many workers as are named, 1 to 64: the caller, and threads that are
-/// started once, which share the machine out when `options.workers.sharing` says so. With one worker it is run in the
-/// thread of the caller, in place. The watcher is told how far the run is, and when it has ended. What comes out
-/// depends on neither it, nor the workers, nor how they share, nor the order in which they end: it is what the
-/// one-clock machine does. Only the host can refuse: memory (fault 10), or, where there are several workers, a
-/// worker's start (fault 11). All workers have ended when this returns.
+/// started once, where `options.workers.sharing` first says that they share the machine out. Up to there, and with one
+/// worker, it is run in the thread of the caller, in place. The watcher is told how far the run is, and when it has
+/// ended. What comes out depends on neither it, nor the workers, nor how they share, nor the order in which they end:
+/// it is what the one-clock machine does. Only the host can refuse: memory (fault 10), or, where there are several
+/// workers, a worker's start (fault 11). All workers have ended when this returns.
 pub fn run_machine<R: Threads + Wait + Sync, G: Gate + Sync, W: Watch>(
     rt: &R,
     alloc: Global,
