@@ -4,8 +4,7 @@ ghost use Rattle.std.specs.Prelude.{◌≡◌, ◌<◌, ◌≤◌, ◌^◌, leng
 ghost use Rattle.shards.specs.Phases.{ended, jobs_of};
 ghost use Rattle.units.specs.Drained.{NotEnded};
 ghost use Rattle.units.specs.Stops.{stop_of};
-ghost use Rattle.units.specs.Views.{HasReached, first_view};
-ghost use Rattle.units.specs.Runs.{machine_with};
+ghost use Rattle.units.specs.Views.{HasReached, first_view, machine_with};
 ghost use Rattle.workers.specs.Runs.{IsRefusedTo, outcome_of_machine, outcome_with};
 ghost use Rattle.workers.specs.Stages.{IsExtentOf};
 

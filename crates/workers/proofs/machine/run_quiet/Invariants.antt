@@ -5,10 +5,10 @@ use Rattle.units.specs.Drained.{NotEnded}
 use Rattle.workers.specs.Stages.{IsExtentOf}
 use Rattle.workers.proofs.machine.run_quiet.Given as goal
 
-abbrev pub invariant-loop-stop : goal.invariant-loop-stop
-invariant-loop-stop g l =
+abbrev pub invariant-loop-sim : goal.invariant-loop-sim
+invariant-loop-sim g l =
     (l.sim.machine ≡ l.fn.run.sim.machine) × (l.sim.now ≤ l.fn.options.cycles) × NotEnded l.fn.run.sim.machine 0 l.sim.now
     × IsExtentOf l.fn.run.sim.machine l.state.extent
 
-abbrev pub decreases-loop-stop : goal.decreases-loop-stop
-decreases-loop-stop g l = l.fn.options.cycles - l.sim.now
+abbrev pub decreases-loop-sim : goal.decreases-loop-sim
+decreases-loop-sim g l = l.fn.options.cycles - l.sim.now
