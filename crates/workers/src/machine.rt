@@ -210,7 +210,8 @@ struct Standing {
 /// A run before its first cycle. Only memory can be refused.
 fn begin(alloc: Global, machine: MachineInput<'_>, options: RunOptions) -> Result<Standing, Fault>
     requires one_trace_a_core { length machine.traces.items ≡ machine.config.now.cores }
-    ensures first { IfOk result (λ run. run.sim ≡ first_view (machine_with machine.config.now machine.traces)) }
+    ensures first { IfOk result (λ run.
+        run.sim ≡ first_view (machine_with machine.entry.config.now machine.entry.traces)) }
     ensures refused { IfErr result (λ fault. fault ≡ Fault.Memory) }
 {
     let MachineInput { config, traces } = machine;
