@@ -4,6 +4,7 @@ use Rattle.std.proofs.lemmas.List.{length-map}
 use Rattle.request_table.specs.declared.times.RequestTimes.{RequestTimes}
 use Rattle.sim_base.specs.declared.fault.Fault.{Fault}
 use Rattle.sim_base.specs.declared.fault.Fault.TheVariants.{Memory, CheckRow}
+use Rattle.sim_base.proofs.Lists.{get-push}
 use Rattle.statistics.specs.Values.{RunStats}
 use Rattle.whole_files.specs.Files.{Held, SameFiles}
 use Rattle.answers.specs.Refused.{IsReady, IsAnswerFault, IsRowRefusal, IsShowFault, IsRightShow, IsPageFault, IsRightPage, IsCompareFault, IsRightCompare}
@@ -76,16 +77,6 @@ there f [] k d within = absurd (omega (arith, within))
 there f (x ∷ xs) zero d within = refl
 there f (x ∷ xs) (suc k) d within = there f xs k d (omega (arith, within))
 
-pushed_at : {A : Type 0} (xs : List A) (x : A) (k : ℕ) (v : A) → slice_get (xs ++ x ∷ []) k ≡ Some v → (slice_get xs k ≡ Some v) ⊎ ((k ≡ length xs) × (x ≡ v))
-pushed_at [] x zero v at = inr (refl, cc at)
-pushed_at [] x (suc k) v at = absurd cc
-pushed_at (y ∷ ys) x zero v at = inl at
-pushed_at (y ∷ ys) x (suc k) v at =
-    elim (pushed_at ys x k v at) [
-      | inl before ↦ inl before
-      | inr last ↦ let n = last.0 in inr (omega (arith, n), last.1)
-    ]
-
 -- the percentiles so far are those of the first folders
 abbrev pub TailsSoFar : {A : Type 0} → (A → List ℕ) → Held → List A → List RunStats → List (Option ℕ) → Type 0
 TailsSoFar now held dirs runs tails = (k : ℕ) (dir : List ℕ) (run : RunStats) (tail : Option ℕ) → slice_get (map now dirs) k ≡ Some dir → slice_get runs k ≡ Some run → slice_get tails k ≡ Some tail
@@ -97,7 +88,7 @@ no_tails now held dirs runs k dir run tail d r t = absurd cc
 pub tails_more : {A : Type 0} (now : A → List ℕ) (held : Held) (dirs : List A) (runs : List RunStats) (tails more : List (Option ℕ)) (place : ℕ) (tail : Option ℕ) (d : A) (r : RunStats) → length tails ≡ place
     → TailsSoFar now held dirs runs tails → more ≡ tails ++ tail ∷ [] → IsTailAt (held (requests_path (now (get_or dirs place d)))) (get_or runs place r) tail → TailsSoFar now held dirs runs more
 tails_more now held dirs runs tails more place tail d r count so_far pushed is k dir run other at_dir at_run at_tail =
-    elim (pushed_at tails tail k other (ap (λ list. slice_get list k) (sym pushed) ∙ at_tail)) [
+    elim (get-push tails tail k other (ap (λ list. slice_get list k) (sym pushed) ∙ at_tail)) [
       | inl before ↦ so_far k dir run other at_dir at_run before
       | inr last ↦
           let here : k ≡ place = last.0 ∙ count in

@@ -1,7 +1,6 @@
 -- What is due by the counts is what is due by the commands that they stand for.
 use Rattle.std.proofs.Common.{◌≡◌, ℕ, zero, suc, ◌+◌, ◌-◌, ◌*◌, ◌/◌, ◌^◌, ◌<◌, ◌≤◌, Bool, true, false, cond, eqb, ltb, max, eq-eqb, ne_eqb, rules, List, [], ◌∷◌, ◌++◌, length, take, Option, Some, None, refl, sym, ap, subst, ◌∙◌, inl, inr, arith}
 use Rattle.std.proofs.lemmas.Bool.{cond-true, cond-false, cases_lt, cases_eq, false≢true, lt-ltb, le-ltb, lt-leb, le-leb}
-use Rattle.std.proofs.lemmas.List.Sums.{sum_by_push}
 use Rattle.std.proofs.lemmas.List.{get_or-set_same, get_or-set_other, get_or-take, length-take-le}
 use Rattle.std.proofs.Math.ListN.{length-set}
 use Rattle.std.proofs.Math.Nat.{div-lt_iff_lt-mul}
@@ -12,6 +11,7 @@ use Rattle.sim_base.specs.declared.command.IssuedCommand.{IssuedCommand}
 use Rattle.sim_base.specs.declared.command.Command.TheVariants.{Ref}
 use Rattle.sim_base.specs.History.{below}
 use Rattle.sim_base.specs.Scheduling.{due, lowest_due, refreshes}
+use Rattle.sim_base.proofs.Lists.{find-none, count-push}
 use Rattle.bank_ready.specs.Refreshes.{RefreshCounts, owed, lowest_owed, IsFirstDue, IsDueFrom, IsFewest, IsCountable, IsQuietTo, IsCounted, IsNoRefresh, StandsFor, refreshed}
 
 -- what is due to a rank
@@ -34,11 +34,6 @@ lowest_due_from_owed counts s history now stands =
     find_same (λ rank. ltb 0 (due s rank history now)) (λ rank. ltb 0 (owed counts rank now)) 0 s.ranks
     (λ rank l. ap (ltb 0) (due_from_owed counts s rank history now stands (omega (arith, stands.ranks_are))))
     ∙ ap (λ n. find (λ rank. ltb 0 (owed counts rank now)) (below n)) (sym stands.ranks_are)
-
-find_none : (p : ℕ → Bool) (a n : ℕ) → ((k : ℕ) → k < a + n → p k ≡ false) → find p (range_with_len a n) ≡ None
-find_none p a zero none = refl
-find_none p a (suc n) none =
-    cond-false (p a) (Some a) (find p (range_with_len (a + 1) n)) (none a (omega arith)) ∙ find_none p (a + 1) n (λ k l. none k (omega arith))
 
 some_first : (b : Bool) (a : ℕ) (rest : Option ℕ) → ((b ≡ false) → IsSome rest) → IsSome (cond b (Some a) rest)
 some_first true a rest later = search rules
@@ -76,7 +71,7 @@ first_due counts now fewest next some least is =
       none_before = λ cycle from before.
           let early : cycle < (fewest + 1) * interval = omega arith in
           let few : cycle / interval < fewest + 1 = (div-lt_iff_lt-mul some).1 early in
-          find_none (λ rank. ltb 0 (owed counts rank cycle)) 0 counts.ranks
+          find-none (λ rank. ltb 0 (owed counts rank cycle)) 0 counts.ranks
           (λ rank l. le-ltb 0 _ (omega (arith, owed_is counts rank cycle some, few, least.at_most rank (omega arith))));
     }
 
@@ -126,9 +121,6 @@ rank_due_from_owed counts s history rank now first stands exists is = record {
   due_at = λ cycle from. ap (ltb 0) (due_from_owed counts s rank history cycle stands exists) ∙ is.due_at cycle from;
 }
 
-one_more : {X : Type 0} (p : X → Bool) (xs : List X) (x : X) → count_by p (xs ++ x ∷ []) ≡ count_by p xs + cond (p x) 1 0
-one_more p xs x = sum_by_push (λ y. cond (p y) 1 0) xs x
-
 -- A refresh is counted to its rank.
 pub stands_with_refresh : (counts : RefreshCounts) (s : Config) (history : List IssuedCommand) (i : IssuedCommand) (rank : ℕ) → rank < length counts.issued → i.command ≡ Ref rank
     → StandsFor counts s history
@@ -138,7 +130,7 @@ stands_with_refresh counts s history i rank exists is stands = record {
   ranks_are = stands.ranks_are;
   issued_are = λ other below.
       let before = stands.issued_are other below in
-      let more = one_more (λ r. refreshes other r.command) history i ∙ ap (λ command. count_by (λ r. refreshes other r.command) history + cond (refreshes other command) 1 0) is in
+      let more = count-push (λ r. refreshes other r.command) history i ∙ ap (λ command. count_by (λ r. refreshes other r.command) history + cond (refreshes other command) 1 0) is in
       elim (cases_eq rank other) [
         | inl same ↦
             let one = cond-true {A = ℕ} (eqb rank other) 1 0 (eq-eqb rank other same) in
@@ -161,7 +153,7 @@ stands_without_refresh counts s history i other stands = record {
   ranks_are = stands.ranks_are;
   issued_are = λ rank below.
       let none = cond-false {A = ℕ} (refreshes rank i.command) 1 0 (other rank below) in
-      omega (arith, one_more (λ r. refreshes rank r.command) history i, none, stands.issued_are rank below);
+      omega (arith, count-push (λ r. refreshes rank r.command) history i, none, stands.issued_are rank below);
 }
 
 -- Some refresh is due from the cycle on that follows the last with none.
@@ -170,7 +162,7 @@ next_is_first counts now quiet next some is latest =
     let ends = is.ends some in
     first_due counts now ends.0 next some ends.1 (latest ∙ ap (max now) ends.2)
 
-some_is : (o : Option ℕ) → IsSome o → is_some o ≡ true
+pub some_is : (o : Option ℕ) → IsSome o → is_some o ≡ true
 some_is None never = cc
 some_is (Some k) some = refl
 
@@ -184,7 +176,7 @@ due_by_is counts quiet cycle fits is = elim (cases_lt 0 counts.interval) [
   ]
   | inr none ↦
       let never : counts.interval ≡ 0 = omega arith in
-      ap is_some (find_none (λ rank. ltb 0 (owed counts rank cycle)) 0 counts.ranks (λ rank l. ap (ltb 0) (cond-true (eqb counts.interval 0) 0 _ (eq-eqb counts.interval 0 never))))
+      ap is_some (find-none (λ rank. ltb 0 (owed counts rank cycle)) 0 counts.ranks (λ rank l. ap (ltb 0) (cond-true (eqb counts.interval 0) 0 _ (eq-eqb counts.interval 0 never))))
       ∙ sym (le-ltb quiet cycle (omega (arith, is.never never)))
 ]
 
@@ -255,7 +247,7 @@ counted_more counts rank now fewest quiet before exists four fits due least reac
 
 -- where none is due in a cycle, none is in an earlier one
 pub none_owed_before : (counts : RefreshCounts) (cycle now : ℕ) → cycle ≤ now → is_some (lowest_owed counts now) ≡ false → lowest_owed counts cycle ≡ None
-none_owed_before counts cycle now before none = find_none (λ rank. ltb 0 (owed counts rank cycle)) 0 counts.ranks (λ rank l. elim (cases_lt 0 (owed counts rank cycle)) [
+none_owed_before counts cycle now before none = find-none (λ rank. ltb 0 (owed counts rank cycle)) 0 counts.ranks (λ rank l. elim (cases_lt 0 (owed counts rank cycle)) [
   | inl due_then ↦
       let some = owed_some counts rank cycle due_then in
       let over : (slice_index counts.issued rank + 1) * counts.interval ≤ now = omega (arith, owed_over counts rank cycle due_then) in

@@ -5,6 +5,7 @@ use Rattle.sim_base.specs.declared.place.BankId.{BankId}
 use Rattle.sim_base.specs.declared.command.Relation.{Relation}
 use Rattle.sim_base.specs.declared.command.Relation.TheVariants.{SameBank, SameGroup, OtherGroup, OtherRank}
 use Rattle.sim_base.specs.Places.{is_bank}
+use Rattle.sim_base.proofs.Lists.{eqb-swap}
 use Rattle.bank_ready.specs.Words.{bank_at, number_of, relation_from, group_relation_from}
 
 pub bank_at_number : (bank : BankId) → bank.group < 4 → bank.bank < 4 → bank_at (number_of bank) ≡ bank
@@ -13,14 +14,6 @@ bank_at_number bank g b =
     let group : number_of bank / 4 % 4 ≡ bank.group = omega arith in
     let last : number_of bank % 4 ≡ bank.bank = omega arith in
     λ i. record { rank = rank i; group = group i; bank = last i }
-
--- the same number, the other way round
-turned : (a b : ℕ) → eqb a b ≡ eqb b a
-turned a b =
-    elim (cases_eq a b) [
-      | inl e ↦ eq-eqb a b e ∙ sym (eq-eqb b a (sym e))
-      | inr n ↦ ne_eqb a b n ∙ sym (ne_eqb b a (λ e. n (sym e)))
-    ]
 
 -- a bank with a number is in the rank, the group and the place that its number says
 pub is_bank_parts : (bank : BankId) (k : ℕ) → is_bank (bank_at k) bank ≡ true → (k / 16 ≡ bank.rank) × (k / 4 % 4 ≡ bank.group) × (k % 4 ≡ bank.bank)
@@ -76,9 +69,9 @@ act_tests f true true x end r = refl
 act_tests f true false x end r = refl
 act_tests f false B x end r = omega arith
 
--- the tests of `is_bank`, turned round
+-- the tests of `is_bank`, eqb-swap round
 is_bank_turned : (bank : BankId) (k : ℕ) → is_bank (bank_at k) bank ≡ ((eqb bank.rank (k / 16) && eqb bank.group (k / 4 % 4)) && eqb bank.bank (k % 4))
-is_bank_turned bank k = λ i. (turned (k / 16) bank.rank i && turned (k / 4 % 4) bank.group i) && turned (k % 4) bank.bank i
+is_bank_turned bank k = λ i. (eqb-swap (k / 16) bank.rank i && eqb-swap (k / 4 % 4) bank.group i) && eqb-swap (k % 4) bank.bank i
 
 -- A word is raised by the bank's own command alone.
 pub own_raised : (f : Relation → ℕ) (bank : BankId) (k : ℕ) → f SameGroup ≡ 0 → f OtherGroup ≡ 0 → f OtherRank ≡ 0

@@ -1,4 +1,5 @@
 -- What a program in C hands in and gets back.
+--     sent_access is_write      what a row asks for
 --     sent_request row      the request of a row
 --     kind_number kind      the number of a kind of commands
 --     command_row issued      the row of a command
@@ -6,7 +7,7 @@
 --     place_row place      the row of a place
 --     place_in row      the place that a row states
 --     stats_row stats      the row of a channel's statistics
-use Rattle.std.specs.Prelude.{ℕ, ◌/◌, ◌%◌, ◌^◌, true, false, Option, Some, None}
+use Rattle.std.specs.Prelude.{ℕ, ◌/◌, ◌%◌, ◌^◌, Bool, true, false, Option, Some, None}
 use Rattle.sessions.specs.Sessions.{core_of}
 use Rattle.sessions.specs.declared.channel_session.requests.SentRequest.{SentRequest}
 use Rattle.sim_base.specs.Counts.{source_in}
@@ -23,6 +24,8 @@ use Rattle.sim_base.specs.declared.message.Load.TheVariants as load
 use Rattle.sim_base.specs.declared.message.Message.{Message}
 use Rattle.sim_base.specs.declared.place.BankId.{BankId}
 use Rattle.sim_base.specs.declared.place.Place.{Place}
+use Rattle.sim_base.specs.declared.message.Access.{Access}
+use Rattle.sim_base.specs.declared.message.Access.TheVariants as access
 use Rattle.statistics.specs.declared.channels.ChannelStats.{ChannelStats}
 use Rattle.c_interface.specs.declared.rows.CommandRow.{CommandRow}
 use Rattle.c_interface.specs.declared.rows.PlaceRow.{PlaceRow}
@@ -30,10 +33,15 @@ use Rattle.c_interface.specs.declared.rows.ReplyRow.{ReplyRow}
 use Rattle.c_interface.specs.declared.rows.RequestRow.{RequestRow}
 use Rattle.c_interface.specs.declared.rows.StatsRow.{StatsRow}
 
+-- what a row asks for
+abbrev pub sent_access : Bool → Access
+sent_access true = access.Write
+sent_access false = access.Read
+
 -- the request that a row states
 abbrev pub sent_request : RequestRow → SentRequest
 sent_request row =
-    record { core = row.core; entry = row.entry; write = row.is_write; address = row.address; arrival = row.arrival }
+    record { core = row.core; entry = row.entry; access = sent_access row.is_write; address = row.address; arrival = row.arrival }
 
 -- the number of a kind of commands
 abbrev pub kind_number : Kind → ℕ
@@ -89,14 +97,14 @@ command_row issued =
 abbrev pub entry_in : Load → ℕ
 entry_in (load.Request request) = request.entry
 entry_in (load.Reply entry) = entry
-entry_in (load.Credit write entry) = entry
+entry_in (load.Credit access entry) = entry
 
 -- 0 for the data of a Read, 1 for the credit of a Read, 2 for that of a Write
 abbrev pub reply_kind : Load → ℕ
 reply_kind (load.Request request) = 0
 reply_kind (load.Reply entry) = 0
-reply_kind (load.Credit false entry) = 1
-reply_kind (load.Credit true entry) = 2
+reply_kind (load.Credit access.Read entry) = 1
+reply_kind (load.Credit access.Write entry) = 2
 
 -- the row of a message to the core with a number
 abbrev pub message_row : ℕ → Message → ReplyRow

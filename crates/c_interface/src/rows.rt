@@ -1,11 +1,11 @@
 //! What C hands in and gets back, row by row.
 
 ghost use Rattle.std.specs.Prelude.{◌≡◌};
-ghost use Rattle.c_interface.specs.Rows.{sent_request, kind_number, row_in, column_in, bank_or_0, source_or_0, command_row, entry_in, reply_kind, message_row, place_row, place_in, count_or_0, stats_row};
+ghost use Rattle.c_interface.specs.Rows.{sent_access, sent_request, kind_number, row_in, column_in, bank_or_0, source_or_0, command_row, entry_in, reply_kind, message_row, place_row, place_in, count_or_0, stats_row};
 
 use sessions::channel_session::requests::SentRequest;
 use sim_base::command::{Command, IssuedCommand, Kind, Source};
-use sim_base::message::{Load, Message};
+use sim_base::message::{Access, Load, Message};
 use sim_base::place::{BankId, Place};
 use statistics::channels::ChannelStats;
 
@@ -21,6 +21,17 @@ pub struct RequestRow {
     pub is_write: bool,
 }
 
+/// What a row asks for.
+fn sent_access(is_write: bool) -> Access
+    ensures { result ≡ sent_access is_write }
+{
+    if is_write {
+        Access::Write
+    } else {
+        Access::Read
+    }
+}
+
 impl RequestRow {
     /// The request of a row.
     pub fn to_request(self) -> SentRequest
@@ -29,7 +40,7 @@ impl RequestRow {
         SentRequest {
             core: self.core,
             entry: self.entry,
-            write: self.is_write,
+            access: sent_access(self.is_write),
             address: self.address,
             arrival: self.arrival,
         }
@@ -160,8 +171,14 @@ fn reply_kind(load: Load) -> u8
 {
     match load {
         Load::Request(_) | Load::Reply(_) => 0,
-        Load::Credit { write: false, .. } => 1,
-        Load::Credit { write: true, .. } => 2,
+        Load::Credit {
+            access: Access::Read,
+            ..
+        } => 1,
+        Load::Credit {
+            access: Access::Write,
+            ..
+        } => 2,
     }
 }
 

@@ -19,6 +19,7 @@ use Rattle.sim_base.specs.declared.command.IssuedCommand.{IssuedCommand}
 use Rattle.sim_base.specs.declared.command.Source.{Source}
 use Rattle.sim_base.specs.declared.message.Request.{Request}
 use Rattle.bank_ready.specs.Refreshes.{IsNoRefresh}
+use Rattle.channel_step.proofs.Marks.{column_either}
 
 -- what holds of all that is needed holds of what is chosen
 ready-each : (P : Command → Type 0) (history : List IssuedCommand) (o : Option Request) → IfSome o (λ r. P (needed history r)) → IfSome (option_map (needed history) o) P
@@ -48,8 +49,7 @@ needed-cases : (P : Command → Type 0) (r : Request) → ((row : ℕ) → P (Ac
 needed-cases P r a b c d None = a r.place.row
 needed-cases P r a b c d (Some row) =
     cond_both (eqb row r.place.row) (column_command r) (Pre (bank_in r.place) (source_of r)) P
-    (λ e. cond_both r.write (Wr (bank_in r.place) r.place.row r.place.column (source_of r)) (Rd (bank_in r.place) r.place.row r.place.column (source_of r)) P
-    (λ f. c r.place.row r.place.column) (λ f. b r.place.row r.place.column))
+    (λ e. column_either P r (b r.place.row r.place.column) (c r.place.row r.place.column))
     (λ e. d)
 
 pub refresh-cases : (P : Command → Type 0) (s : Config) (history : List IssuedCommand) (rank : ℕ) → P (Prea rank) → P (Ref rank) → P (refresh_command s history rank)

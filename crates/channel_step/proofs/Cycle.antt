@@ -9,10 +9,12 @@ use Rattle.sim_base.proofs.Each.{Each-append, Each-filter}
 use Rattle.sim_base.proofs.Ordered.{Each-weaker}
 use Rattle.sim_base.proofs.Same.{drains-same}
 use Rattle.sim_base.specs.declared.config.Config.{Config}
+use Rattle.sim_base.specs.Access.{is_access}
 use Rattle.sim_base.specs.Counts.{has_refresh_due, queue_length}
 use Rattle.sim_base.specs.History.{issued_commands}
 use Rattle.sim_base.specs.Scheduling.{queued_requests, is_queued, drains_with, drains, lowest_due, candidates, choice_between, choice}
 use Rattle.sim_base.specs.declared.command.Command.{Command}
+use Rattle.sim_base.specs.declared.message.Access.TheVariants as access
 use Rattle.sim_base.specs.declared.message.Message.{Message}
 use Rattle.sim_base.specs.declared.message.Request.{Request}
 use Rattle.statistics.specs.Channels.{channel_cycle_with, channel_cycle}
@@ -38,7 +40,7 @@ not_before now new h = Each-weaker (λ (m : Message). m.arrival ≡ now) (λ (m 
 -- when the requests of a cycle have joined
 pub joined : (queue : List Request) (drained : Bool) (marks : List Bool) (stats : ChannelStats) (s : Config) (channel : ℕ) (steps : List (Option Command)) (mail new : List Message)
     → Recalls queue drained marks stats s channel steps mail → Arrives s channel steps mail new
-    → HasJoined (queue ++ requests_of new) (drains_with s drained (count_by (λ r. r.write) (queue ++ requests_of new))) (marks ++ map (λ r. false) (requests_of new)) stats
+    → HasJoined (queue ++ requests_of new) (drains_with s drained (count_by (λ r. is_access access.Write r.access) (queue ++ requests_of new))) (marks ++ map (λ r. false) (requests_of new)) stats
     s channel steps (mail ++ new)
 joined queue drained marks stats s channel steps mail new h a =
     let now = length steps in
@@ -56,7 +58,7 @@ joined queue drained marks stats s channel steps mail new h a =
       differ = a.differ;
       queue_is = same;
       drained_is =
-          ap₂ (λ d q. drains_with s d (count_by (λ r. r.write) q))
+          ap₂ (λ d q. drains_with s d (count_by (λ r. is_access access.Write r.access) q))
           (h.drained_is ∙ sym (drains-same s channel steps (mail ++ new) mail now (AgreeUpTo-later now mail new stamped later (not_before now new a.now)))) same
           ∙ sym (drains-next s channel steps (mail ++ new));
       marks_are =

@@ -1,13 +1,13 @@
 -- From which cycle on a refresh is due.
-use Rattle.std.proofs.Common.{◌≡◌, ℕ, ◌-◌, ◌/◌, ◌<◌, ◌≤◌, Bool, true, false, eqb, ltb, List, [], ◌∷◌, Option, Some, refl, sym, ap, ◌∙◌, eq-eqb, inl, inr, arith}
+use Rattle.std.proofs.Common.{◌≡◌, ℕ, ◌-◌, ◌/◌, ◌<◌, ◌≤◌, Bool, true, false, eqb, ltb, List, [], ◌∷◌, Some, refl, sym, ap, ◌∙◌, eq-eqb, inl, inr, arith}
 use Rattle.std.specs.Prelude.{find, is_some, slice_index, nat_le, min}
-use Rattle.std.specs.Option.{IsSome}
 use Rattle.std.proofs.lemmas.Bool.{cond_both, cond-true, cond-false, cases_lt, lt-ltb, ltb-true, lt-leb, le-leb}
 use Rattle.std.proofs.lemmas.Bool.Decides.{nat_tests}
 use Rattle.std.proofs.lemmas.Nat.{le-div}
 use Rattle.std.proofs.Math.Nat.{div-mul-le_self}
 use Rattle.sim_base.specs.History.{below}
 use Rattle.bank_ready.specs.Refreshes.{RefreshCounts, owed, lowest_owed, IsFirstDue}
+use Rattle.bank_ready.proofs.Due.{some_is}
 
 -- what passes one test passes the other, so some item does
 find-more : (p q : ℕ → Bool) → ((x : ℕ) → p x ≡ true → q x ≡ true) → (xs : List ℕ) → is_some (find p xs) ≡ true → is_some (find q xs) ≡ true
@@ -36,16 +36,13 @@ owed-more counts a b l rank e =
 pub due-stays : (counts : RefreshCounts) (a b : ℕ) → a ≤ b → is_some (lowest_owed counts a) ≡ true → is_some (lowest_owed counts b) ≡ true
 due-stays counts a b l e = find-more (λ rank. ltb 0 (owed counts rank a)) (λ rank. ltb 0 (owed counts rank b)) (owed-more counts a b l) (below counts.ranks) e
 
-some-is : (o : Option ℕ) → IsSome o → is_some o ≡ true
-some-is o h = h
-
 -- from the first cycle with a refresh that is due on, one is due
 pub due_from_next : (counts : RefreshCounts) (now until due cycle : ℕ) → IsFirstDue (lowest_owed counts) now due → now ≤ cycle → cycle < until
     → is_some (lowest_owed counts cycle) ≡ nat_le (min due until) cycle
 due_from_next counts now until due cycle h from before =
     elim (cases_lt cycle due) [
       | inl early ↦ ap is_some (h.none_before cycle from early) ∙ sym (lt-leb (min due until) cycle (omega arith))
-      | inr late ↦ due-stays counts due cycle (omega arith) (some-is _ h.due) ∙ sym (le-leb (min due until) cycle (omega arith))
+      | inr late ↦ due-stays counts due cycle (omega arith) (some_is _ h.due) ∙ sym (le-leb (min due until) cycle (omega arith))
     ]
 
 find-none : (p : ℕ → Bool) → ((x : ℕ) → p x ≡ false) → (xs : List ℕ) → is_some (find p xs) ≡ false

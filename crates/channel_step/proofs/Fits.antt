@@ -5,7 +5,7 @@ use Rattle.std.specs.List.{AllByRecursion as Each, prefix_len}
 use Rattle.std.proofs.lemmas.Bool.{cond-false}
 use Rattle.std.proofs.lemmas.Bool.Decides.{nat_tests}
 use Rattle.std.proofs.lemmas.List.{append-nil, append_assoc, take-append-drop}
-use Rattle.sim_base.proofs.Arrived.{NotBefore}
+use Rattle.sim_base.proofs.Arrived.{NotBefore, before_le}
 use Rattle.sim_base.proofs.Each.{Each-all, Each-append, Each-filter}
 use Rattle.sim_base.proofs.Ordered.{Each-weaker}
 use Rattle.sim_base.proofs.Same.{choice-same}
@@ -53,10 +53,6 @@ arrived-first now (m ∷ ms) = by (eqb m.arrival now) refl (arrived-first now ms
         subst (λ k. Each (λ (n : Message). n.arrival ≡ now) (take k (m ∷ ms))) (sym (next (due_count ms now))) (same, rest)
     by false e rest = tt
 
--- the younger of two messages does not arrive sooner
-pub no_sooner : (m n : Message) → is_before m n ≡ true → m.arrival ≤ n.arrival
-no_sooner m n h = grind (arith, nat_tests)
-
 arrive-later : (now : ℕ) (inbox : List Message) → ComeByAge inbox → Each (λ (m : Message). now ≤ m.arrival) inbox
     → Each (λ (m : Message). now + 1 ≤ m.arrival) (drop (due_count inbox now) inbox)
 arrive-later now [] o h = tt
@@ -67,7 +63,7 @@ arrive-later now (m ∷ ms) o h = by (eqb m.arrival now) refl (arrive-later now 
     by true e rest = subst (λ k. Each (λ (n : Message). now + 1 ≤ n.arrival) (drop k (m ∷ ms))) (sym (next (due_count ms now))) rest
     by false e rest =
         let past : now + 1 ≤ m.arrival = let least : now ≤ m.arrival = h.0 in grind (arith, nat_tests) in
-        (past, Each-weaker (λ (n : Message). is_before m n ≡ true) (λ (n : Message). now + 1 ≤ n.arrival) (λ n k. omega (arith, no_sooner m n k)) ms o.0)
+        (past, Each-weaker (λ (n : Message). is_before m n ≡ true) (λ (n : Message). now + 1 ≤ n.arrival) (λ n k. omega (arith, before_le m n k)) ms o.0)
 
 split-age : (n : ℕ) (inbox : List Message) → ComeByAge inbox → ComeByAge (drop n inbox)
 split-age zero inbox h = h

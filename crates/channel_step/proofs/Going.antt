@@ -13,6 +13,7 @@ use Rattle.sim_base.specs.Machine.{channel_run}
 use Rattle.sim_base.specs.Scheduling.{choice}
 use Rattle.sim_base.specs.declared.command.Command.{Command}
 use Rattle.sim_base.specs.declared.message.Message.{Message}
+use Rattle.sim_base.proofs.Arrived.{before_le}
 use Rattle.statistics.proofs.ChannelMail.{AgreeUpTo-later}
 use Rattle.statistics.proofs.ChannelSteps.{issued_commands-push}
 use Rattle.channel_step.specs.Past.{requests_of, CarriesRequest}
@@ -28,13 +29,13 @@ use Rattle.channel_step.proofs.Running.{rest_of}
 use Rattle.channel_step.proofs.Stepping.{due_count-is}
 use Rattle.channel_step.proofs.Spans.{channel_run-one, channel_run-more, channel_run-same}
 use Rattle.channel_step.proofs.Stretches.{length-idle, idle-issued, idle-messages, idle-run}
-use Rattle.channel_step.proofs.Fits.{due_count, no_sooner, fit-later, fit-rest, fit-taken, none-due}
+use Rattle.channel_step.proofs.Fits.{due_count, fit-later, fit-rest, fit-taken, none-due}
 
 -- no message arrives before the first
 arrive-from : (next until : ℕ) (inbox : List Message) → ComeByAge inbox → next ≤ first_arrival inbox until → Each (λ (m : Message). next ≤ m.arrival) inbox
 arrive-from next until [] h l = tt
 arrive-from next until (m ∷ ms) h l =
-    (l, Each-weaker (λ (n : Message). is_before m n ≡ true) (λ (n : Message). next ≤ n.arrival) (λ n k. omega (arith, no_sooner m n k)) ms h.0)
+    (l, Each-weaker (λ (n : Message). is_before m n ≡ true) (λ (n : Message). next ≤ n.arrival) (λ n k. omega (arith, before_le m n k)) ms h.0)
 
 -- and that arrives within the span
 arrival-within : (now until : ℕ) (inbox : List Message) → now ≤ until → Each (λ (m : Message). (now ≤ m.arrival) × (m.arrival < until)) inbox

@@ -1,11 +1,10 @@
 -- What a command that a channel issues leaves.
-use Rattle.std.proofs.Common.{◌≡◌, ℕ, suc, ◌+◌, ◌<◌, ◌≤◌, ◌^◌, Bool, true, false, cond, List, [], ◌∷◌, ◌++◌, length, Option, Some, None, refl, sym, ap, ap₂, subst, ◌∙◌, add-one, arith}
-use Rattle.std.specs.Prelude.{is_some, not, filter, filter_map, max, Vec}
+use Rattle.std.proofs.Common.{◌≡◌, ℕ, suc, ◌+◌, ◌<◌, ◌≤◌, ◌^◌, Bool, false, List, [], ◌∷◌, ◌++◌, length, Option, Some, None, refl, sym, ap, ap₂, subst, ◌∙◌, add-one, arith}
+use Rattle.std.specs.Prelude.{is_some, not, filter_map, max, Vec}
 use Rattle.std.specs.declared.alloc.Global.{Global}
 use Rattle.std.specs.Option.{IfSome}
 use Rattle.std.specs.List.{All, AllByRecursion as Each, cons_option, enumerate_from}
 use Rattle.std.proofs.lemmas.List.Elements.{All-from_recursion}
-use Rattle.std.proofs.lemmas.List.Sums.{fold-append}
 use Rattle.sim_base.proofs.Ordered.{Each-weaker}
 use Rattle.sim_base.specs.declared.config.Config.{Config}
 use Rattle.sim_base.specs.Counts.{queued_max}
@@ -18,6 +17,9 @@ use Rattle.sim_base.specs.declared.command.IssuedCommand.{IssuedCommand}
 use Rattle.sim_base.specs.declared.command.Source.{Source}
 use Rattle.sim_base.specs.declared.message.Message.{Message}
 use Rattle.sim_base.specs.declared.place.BankId.{BankId}
+use Rattle.sim_base.proofs.Added.{length-push_suc}
+use Rattle.sim_base.proofs.Lists.{length-filter-le}
+use Rattle.sim_base.proofs.OpenRows.{open_row-push}
 use Rattle.bank_ready.specs.Stands.{rank_count, StandsFor as BanksStandFor}
 use Rattle.bank_ready.specs.declared.banks.Banks.{Banks}
 use Rattle.bank_ready.specs.Refreshes.{RefreshCounts, owed, lowest_owed, StandsFor as RefreshesStandFor}
@@ -27,7 +29,6 @@ use Rattle.statistics.specs.declared.channels.ChannelStats.{ChannelStats}
 use Rattle.statistics.proofs.ChannelBounds.{channel_stats-fit}
 use Rattle.statistics.proofs.ChannelChoices.{choice-not_late}
 use Rattle.statistics.proofs.ChannelSteps.{issued_commands-push, channel_stats-push}
-use Rattle.statistics.proofs.Lists.{length-push_suc}
 use Rattle.queue.specs.declared.request_log.Arrived.{Arrived}
 use Rattle.queue.specs.Log.{waiting_requests, all_requests}
 use Rattle.queue.specs.View.{is_draining}
@@ -57,18 +58,6 @@ use Rattle.channel_step.proofs.Spans.{drains_before-row, choice-next}
 use Rattle.channel_step.proofs.Cycle.{cycle-with}
 use Rattle.channel_step.proofs.Chosen.{chosen-rank, chosen-ref_is_due, RefIsDue, refresh-cases}
 use Rattle.channel_step.proofs.Places.{queue-ranks}
-
-length-filter-le : {X : Type 0} (p : X → Bool) (xs : List X) → length (filter p xs) ≤ length xs
-length-filter-le p [] = omega arith
-length-filter-le {X} p (x ∷ xs) = by (p x) (length-filter-le p xs)
-  where
-    by : (b : Bool) → length (filter p xs) ≤ length xs → length (cond b (x ∷ filter p xs) (filter p xs)) ≤ suc (length xs)
-    by true h = omega arith
-    by false h = omega arith
-
-open_row-more : (bank : BankId) (history : List IssuedCommand) (i : IssuedCommand) → open_row bank (history ++ i ∷ []) ≡ row_after bank (open_row bank history) i.command
-unfolding open_row
-open_row-more bank history i = fold-append (λ row (j : IssuedCommand). row_after bank row j.command) None history (i ∷ [])
 
 -- what a channel is readied by: a log of which one more or none is served, with its marks, and the candidates for it
 pub readied : (c : Channel) (s : Config) (channel : ℕ) (steps : List (Option Command)) (mail : List Message) (command : Command) (hit : Bool) (log : List Arrived) (bank_candidates : BankCandidates) (served : Option (Vec ServedRequest Global))
@@ -111,7 +100,7 @@ readied c s channel steps mail command hit log bank_candidates served h chosen h
       candidates_stand =
           same_rows bank_candidates log (λ bank. row_after (bank_at bank) (open_row (bank_at bank) history) command)
           (λ bank. open_row (bank_at bank) (history ++ row ∷ [])) stands
-          (λ bank there. sym (open_row-more (bank_at bank) history row));
+          (λ bank there. sym (open_row-push (bank_at bank) history row));
       banks_stand = h.banks_stand;
       refreshes_stand = h.refreshes_stand;
       keeps_served = keeps;

@@ -5,6 +5,7 @@ use Rattle.std.specs.List.{All, AllByRecursion as Each}
 use Rattle.std.proofs.lemmas.Bool.{true≢false}
 use Rattle.std.proofs.lemmas.Option.{slice_get-get_or}
 use Rattle.std.proofs.lemmas.List.Elements.{All-from_recursion, recursion_from_All}
+use Rattle.std.proofs.Math.Bool.{or-false, or-true}
 use Rattle.sim_base.proofs.Ordered.{Each-weaker}
 use Rattle.sim_base.specs.Scheduling.{is_source, source_of, column_command}
 use Rattle.sim_base.specs.declared.message.Request.{Request}
@@ -14,7 +15,7 @@ use Rattle.queue.proofs.Places.{waiting_at, waiting_within, waiting_served}
 use Rattle.channel_step.specs.Past.{IsOther, Differ}
 use Rattle.channel_step.specs.Queued.{marks_in, request_at}
 use Rattle.channel_step.proofs.Requests.{unserved_by, same_source, own_source}
-use Rattle.channel_step.proofs.Marks.{map-agree, served-remove, or-false, or-true}
+use Rattle.channel_step.proofs.Marks.{map-agree, served-remove}
 
 -- the request at a place is one of those that wait
 pub request-waits : (log : List Arrived) (slot : ℕ) → slot < length log → waits_at log slot ≡ true

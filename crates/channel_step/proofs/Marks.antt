@@ -2,21 +2,25 @@
 use Rattle.std.proofs.Common.{◌≡◌, ℕ, Bool, true, false, ◌||◌, List, [], ◌∷◌, ◌++◌, map, Some, refl, ap, ap₂, ◌∙◌}
 use Rattle.std.specs.Prelude.{not, remove, slice_get}
 use Rattle.std.specs.List.{AllByRecursion as Each}
-use Rattle.std.proofs.lemmas.Bool.{cond_both}
 use Rattle.std.proofs.lemmas.List.Folds.{list_any-append}
+use Rattle.std.proofs.Math.Bool.{or-false}
 use Rattle.sim_base.proofs.Ordered.{Each-weaker}
 use Rattle.sim_base.specs.Counts.{is_act_for, is_hit}
 use Rattle.sim_base.specs.Places.{bank_in}
-use Rattle.sim_base.specs.Scheduling.{is_source, source_of, serves, column_command}
+use Rattle.sim_base.specs.Scheduling.{is_source, source_of, serves, column_command_to, column_command}
 use Rattle.sim_base.specs.declared.command.Command.{Command}
 use Rattle.sim_base.specs.declared.command.Command.TheVariants.{Act, Rd, Wr, Pre, Prea, Ref}
 use Rattle.sim_base.specs.declared.command.IssuedCommand.{IssuedCommand}
 use Rattle.sim_base.specs.declared.command.Source.{Source}
+use Rattle.sim_base.specs.declared.message.Access.{Access}
+use Rattle.sim_base.specs.declared.message.Access.TheVariants as access
 use Rattle.sim_base.specs.declared.message.Request.{Request}
 use Rattle.sim_base.specs.declared.place.BankId.{BankId}
+use Rattle.sim_base.proofs.Each.{Each-all}
+use Rattle.sim_base.proofs.Lists.{filter-each, filter-agree}
 use Rattle.channel_step.specs.Past.{Differ, is_named}
 use Rattle.channel_step.specs.Fit.{is_named_by, IsUnnamed}
-use Rattle.channel_step.proofs.Requests.{unserved_by, filter-each, filter-agree, unserved-remove}
+use Rattle.channel_step.proofs.Requests.{unserved_by, unserved-remove}
 
 -- the marks of some requests
 abbrev pub marks : List IssuedCommand → List Request → List Bool
@@ -42,14 +46,6 @@ unnamed-no_mark (i ∷ history) r h = ap₂ (λ a b. a || b) (act-named r i.comm
 pub unnamed-marks : (history : List IssuedCommand) (rs : List Request) → Each (IsUnnamed history) rs → marks history rs ≡ map (λ r. false) rs
 unnamed-marks history rs h = map-agree (is_named history) (λ r. false) rs (Each-weaker (IsUnnamed history) _ (unnamed-no_mark history) rs h)
 
-pub or-false : (x : Bool) → (x || false) ≡ x
-or-false true = refl
-or-false false = refl
-
-pub or-true : (x : Bool) → (x || true) ≡ true
-or-true true = refl
-or-true false = refl
-
 -- one command more may name it
 pub named-command : (history : List IssuedCommand) (i : IssuedCommand) (r : Request) → is_named (history ++ i ∷ []) r ≡ (is_named history r || is_act_for (source_of r) i.command)
 named-command history i r =
@@ -73,33 +69,36 @@ no_act source (Pre bank other) h = refl
 no_act source (Prea rank) h = refl
 no_act source (Ref rank) h = refl
 
-each-all : {X : Type 0} (P : X → Type 0) → ((x : X) → P x) → (xs : List X) → Each P xs
-each-all P h [] = tt
-each-all P h (x ∷ xs) = (h x, each-all P h xs)
-
 -- it leaves the marks as they are
 pub marks-no_act : (history : List IssuedCommand) (i : IssuedCommand) (rs : List Request) → opens_none i.command ≡ true → marks (history ++ i ∷ []) rs ≡ marks history rs
 marks-no_act history i rs h =
     map-agree (is_named (history ++ i ∷ [])) (is_named history) rs
-    (each-all _ (λ r. named-command history i r ∙ ap (λ b. is_named history r || b) (no_act (source_of r) i.command h) ∙ or-false (is_named history r)) rs)
+    (Each-all _ (λ r. named-command history i r ∙ ap (λ b. is_named history r || b) (no_act (source_of r) i.command h) ∙ or-false (is_named history r)) rs)
 
 -- an ACT adds the mark of the request of its entry
 pub marks-act : (history : List IssuedCommand) (i : IssuedCommand) (rs : List Request) (bank : BankId) (row : ℕ) (source : Source) → i.command ≡ Act bank row source
     → marks (history ++ i ∷ []) rs ≡ map (λ r. is_named history r || is_source r source) rs
 marks-act history i rs bank row source e =
     map-agree (is_named (history ++ i ∷ [])) (λ r. is_named history r || is_source r source) rs
-    (each-all _ (λ r. named-command history i r ∙ ap (λ c. is_named history r || is_act_for (source_of r) c) e) rs)
+    (Each-all _ (λ r. named-command history i r ∙ ap (λ c. is_named history r || is_act_for (source_of r) c) e) rs)
+
+-- what holds of its RD and of its WR holds of the command that moves the data of a request
+pub column_either : (P : Command → Type 0) (r : Request) → P (Rd (bank_in r.place) r.place.row r.place.column (source_of r)) → P (Wr (bank_in r.place) r.place.row r.place.column (source_of r))
+    → P (column_command r)
+column_either P r rd wr = of r.access
+  where
+    of : (access : Access) → P (column_command_to access (bank_in r.place) r.place.row r.place.column (source_of r))
+    of access.Read = rd
+    of access.Write = wr
 
 -- a command that moves the data of a request serves the requests of its entry
 pub serves-column : (q r : Request) → serves q (column_command r) ≡ is_source q (source_of r)
-serves-column q r =
-    cond_both r.write (Wr (bank_in r.place) r.place.row r.place.column (source_of r)) (Rd (bank_in r.place) r.place.row r.place.column (source_of r))
-    (λ c. serves q c ≡ is_source q (source_of r)) (λ e. refl) (λ e. refl)
+serves-column q r = column_either (λ c. serves q c ≡ is_source q (source_of r)) r refl refl
 
 -- so it takes just one out of the queue
 pub served-remove : (rs : List Request) (i : ℕ) (r : Request) → Differ rs → slice_get rs i ≡ Some r → unserved_by (column_command r) rs ≡ remove rs i
 served-remove rs i r d e =
-    filter-agree (λ q. not (serves q (column_command r))) (λ q. not (is_source q (source_of r))) rs (each-all _ (λ q. ap not (serves-column q r)) rs)
+    filter-agree (λ q. not (serves q (column_command r))) (λ q. not (is_source q (source_of r))) rs (Each-all _ (λ q. ap not (serves-column q r)) rs)
     ∙ unserved-remove rs i r d e
 
 -- a command that moves no data
@@ -121,15 +120,11 @@ serves_none r (Ref rank) h = refl
 
 -- takes none out
 pub served-none : (rs : List Request) (command : Command) → moves_none command ≡ true → unserved_by command rs ≡ rs
-served-none rs command h = filter-each (λ q. not (serves q command)) rs (each-all _ (λ q. ap not (serves_none q command h)) rs)
+served-none rs command h = filter-each (λ q. not (serves q command)) rs (Each-all _ (λ q. ap not (serves_none q command h)) rs)
 
 -- data that is moved is a row hit where its request has no mark
 pub hit-mark : (history : List IssuedCommand) (r : Request) → is_hit history (column_command r) ≡ not (is_named history r)
-hit-mark history r =
-    cond_both r.write (Wr (bank_in r.place) r.place.row r.place.column (source_of r)) (Rd (bank_in r.place) r.place.row r.place.column (source_of r))
-    (λ c. is_hit history c ≡ not (is_named history r)) (λ e. refl) (λ e. refl)
+hit-mark history r = column_either (λ c. is_hit history c ≡ not (is_named history r)) r refl refl
 
 pub column-opens_none : (r : Request) → opens_none (column_command r) ≡ true
-column-opens_none r =
-    cond_both r.write (Wr (bank_in r.place) r.place.row r.place.column (source_of r)) (Rd (bank_in r.place) r.place.row r.place.column (source_of r))
-    (λ c. opens_none c ≡ true) (λ e. refl) (λ e. refl)
+column-opens_none r = column_either (λ c. opens_none c ≡ true) r refl refl

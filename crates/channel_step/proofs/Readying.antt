@@ -3,7 +3,7 @@ use Rattle.std.proofs.Common.{◌≡◌, ℕ, ◌+◌, ◌<◌, true, false, con
 use Rattle.std.specs.Prelude.{not, Vec}
 use Rattle.std.specs.declared.alloc.Global.{Global}
 use Rattle.std.specs.List.{AllByRecursion as Each}
-use Rattle.std.proofs.lemmas.Bool.{cond_both, cond-true, cond-false, eq-eqb, ne_eqb}
+use Rattle.std.proofs.lemmas.Bool.{cond-true, cond-false, eq-eqb, ne_eqb}
 use Rattle.sim_base.specs.declared.config.Config.{Config}
 use Rattle.sim_base.specs.Counts.{is_hit}
 use Rattle.sim_base.specs.History.{issued_commands}
@@ -11,7 +11,7 @@ use Rattle.sim_base.specs.Places.{bank_in}
 use Rattle.sim_base.specs.Rules.{row_after, open_row}
 use Rattle.sim_base.specs.Scheduling.{choice, source_of, column_command, is_column_command, needed, needed_at}
 use Rattle.sim_base.specs.declared.command.Command.{Command}
-use Rattle.sim_base.specs.declared.command.Command.TheVariants.{Rd, Wr, Pre, Prea, Ref}
+use Rattle.sim_base.specs.declared.command.Command.TheVariants.{Pre, Prea, Ref}
 use Rattle.sim_base.specs.declared.command.IssuedCommand.{IssuedCommand}
 use Rattle.sim_base.specs.declared.message.Message.{Message}
 use Rattle.sim_base.specs.declared.message.Request.{Request}
@@ -39,7 +39,7 @@ use Rattle.channel_step.proofs.Cycle.{joined-differ}
 use Rattle.channel_step.proofs.Foreseen.{request-needs}
 use Rattle.channel_step.proofs.Issuing.{readied, late-none}
 use Rattle.channel_step.proofs.Leaving.{at-waiting, served-waits, served-marks, mark-at, activated-marks}
-use Rattle.channel_step.proofs.Marks.{opens_none, moves_none, marks-act, marks-no_act, served-none, hit-mark, column-opens_none}
+use Rattle.channel_step.proofs.Marks.{column_either, opens_none, moves_none, marks-act, marks-no_act, served-none, hit-mark, column-opens_none}
 use Rattle.channel_step.proofs.Serving.{rows_in, kept-quiet, kept-served}
 
 -- the bank that the request at a place asks for is one that has candidates
@@ -113,9 +113,7 @@ opened-readied c s channel steps mail slot bank_candidates h l w chosen count st
     (kept-quiet c.served history row mail (late-none s channel steps mail act chosen) refl h.keeps_served)
 
 column-rows : (bank : BankId) (row : Option ℕ) (r : Request) → row ≡ row_after bank row (column_command r)
-column-rows bank row r =
-    cond_both r.write (Wr (bank_in r.place) r.place.row r.place.column (source_of r)) (Rd (bank_in r.place) r.place.row r.place.column (source_of r))
-    (λ command. row ≡ row_after bank row command) (λ e. refl) (λ e. refl)
+column-rows bank row r = column_either (λ command. row ≡ row_after bank row command) r refl refl
 
 -- an RD or WR serves the request
 pub served-readied : (c : Channel) (s : Config) (channel : ℕ) (steps : List (Option Command)) (mail : List Message) (slot : ℕ) (bank_candidates : BankCandidates) (served : Option (Vec ServedRequest Global))

@@ -1,9 +1,9 @@
 -- The requests that wait at a channel: what an arrival adds, and what a command takes away.
-use Rattle.std.proofs.Common.{◌≡◌, ℕ, zero, suc, ◌+◌, ◌<◌, ◌≤◌, Bool, true, false, cond, ltb, ◌&&◌, ◌||◌, List, [], ◌∷◌, ◌++◌, Option, Some, None, refl, sym, ap, ap₂, subst, ◌∙◌, arith}
+use Rattle.std.proofs.Common.{◌≡◌, ℕ, zero, suc, ◌+◌, ◌<◌, ◌≤◌, Bool, true, false, ltb, ◌&&◌, ◌||◌, List, [], ◌∷◌, ◌++◌, Option, Some, None, refl, sym, ap, ap₂, subst, ◌∙◌, arith}
 use Rattle.std.specs.Prelude.{filter, not, remove, slice_get}
 use Rattle.std.specs.Option.{IfSome}
 use Rattle.std.specs.List.{AllByRecursion as Each, cons_option}
-use Rattle.std.proofs.lemmas.Bool.{cond_both, cond-true, cond-false, lt-ltb}
+use Rattle.std.proofs.lemmas.Bool.{cond-true, cond-false, lt-ltb}
 use Rattle.std.proofs.lemmas.Bool.Decides.{nat_tests}
 use Rattle.std.proofs.lemmas.List.Elements.{filter-append, filter_map-append}
 use Rattle.std.proofs.lemmas.List.Folds.{list_any-append}
@@ -17,27 +17,9 @@ use Rattle.sim_base.specs.declared.command.Command.TheVariants.{Act, Rd, Wr, Pre
 use Rattle.sim_base.specs.declared.command.IssuedCommand.{IssuedCommand}
 use Rattle.sim_base.specs.declared.message.Message.{Message}
 use Rattle.sim_base.specs.declared.message.Request.{Request}
+use Rattle.sim_base.proofs.Lists.{filter-both, filter-each, filter-agree}
 use Rattle.channel_step.specs.Past.{requests_of, IsRequestOf, IsRequestIn, CarriesRequest, IsOther, Differ}
 use Rattle.channel_step.specs.Fit.{is_named_by, IsUnnamed}
-
--- a test of both, in one pass or in two
-pub filter-both : {X : Type 0} (p q r : X → Bool) → ((x : X) → r x ≡ (q x && p x)) → (xs : List X) → filter r xs ≡ filter p (filter q xs)
-filter-both p q r h [] = refl
-filter-both p q r h (x ∷ xs) =
-    let rest = filter-both p q r h xs in
-    cond_both (q x) (x ∷ filter q xs) (filter q xs) (λ z. filter r (x ∷ xs) ≡ filter p z)
-    (λ e. ap₂ (λ b y. cond b (x ∷ y) y) (h x ∙ ap (λ b. b && p x) e) rest)
-    (λ e. ap (λ b. cond b (x ∷ filter r xs) (filter r xs)) (h x ∙ ap (λ b. b && p x) e) ∙ rest)
-
--- a test that each passes
-pub filter-each : {X : Type 0} (p : X → Bool) (xs : List X) → Each (λ x. p x ≡ true) xs → filter p xs ≡ xs
-filter-each p [] h = refl
-filter-each p (x ∷ xs) h = cond-true _ _ _ h.0 ∙ ap (λ y. x ∷ y) (filter-each p xs h.1)
-
--- tests that agree on each
-pub filter-agree : {X : Type 0} (p q : X → Bool) (xs : List X) → Each (λ x. p x ≡ q x) xs → filter p xs ≡ filter q xs
-filter-agree p q [] h = refl
-filter-agree p q (x ∷ xs) h = ap₂ (λ b y. cond b (x ∷ y) y) h.0 (filter-agree p q xs h.1)
 
 -- what holds of each request that messages carry
 pub carried : (s : Config) (channel : ℕ) (P : Request → Type 0) (mail : List Message) → Each (CarriesRequest s channel) mail

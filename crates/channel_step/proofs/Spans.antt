@@ -1,19 +1,21 @@
 -- What a channel does over some cycles: what comes after what it did before, and what arrives later does not count.
-use Rattle.std.proofs.Common.{◌≡◌, ℕ, zero, suc, ◌+◌, ◌≤◌, Bool, List, [], ◌∷◌, ◌++◌, length, Option, refl, sym, ap, ap₂, ◌∙◌, add-zero, add-suc, add-one, arith}
+use Rattle.std.proofs.Common.{◌≡◌, ℕ, zero, suc, ◌+◌, Bool, List, [], ◌∷◌, ◌++◌, length, Option, refl, sym, ap, ap₂, ◌∙◌, add-zero, add-suc, add-one, arith}
 use Rattle.std.specs.Prelude.{count_by}
 use Rattle.std.proofs.Math.Seq.{take-length}
 use Rattle.std.proofs.lemmas.List.{append_assoc}
 use Rattle.sim_base.proofs.Same.{AgreeUpTo, sooner, choice-same}
 use Rattle.sim_base.specs.declared.config.Config.{Config}
+use Rattle.sim_base.specs.Access.{is_access}
 use Rattle.sim_base.specs.History.{issued_commands}
 use Rattle.sim_base.specs.Machine.{channel_run}
 use Rattle.sim_base.specs.Scheduling.{queued_requests, queue_in, writes_in, drains_with, drains_before, drains, candidates, lowest_due, choice_between, choice}
 use Rattle.sim_base.specs.declared.command.Command.{Command}
 use Rattle.sim_base.specs.declared.command.IssuedCommand.{IssuedCommand}
+use Rattle.sim_base.specs.declared.message.Access.TheVariants as access
 use Rattle.sim_base.specs.declared.message.Message.{Message}
 use Rattle.sim_base.specs.declared.message.Request.{Request}
-use Rattle.statistics.proofs.Lists.{length-push_suc, take-push}
-use Rattle.statistics.proofs.ChannelSteps.{issued_now, issued_commands-push}
+use Rattle.sim_base.proofs.Added.{length-push_suc}
+use Rattle.statistics.proofs.ChannelSteps.{issued_now, issued_commands-push, drains_before-push}
 
 -- the queue of the next cycle
 pub queue-next : (channel : ℕ) (steps : List (Option Command)) (mail : List Message)
@@ -24,11 +26,11 @@ queue-next channel steps mail = ap (λ x. queued_requests (issued_commands chann
 -- whether the channel drains its writes in the next cycle
 pub drains-next : (s : Config) (channel : ℕ) (steps : List (Option Command)) (mail : List Message)
     → drains s channel steps mail (length steps)
-    ≡ drains_with s (drains_before s channel steps mail (length steps)) (count_by (λ r. r.write) (queued_requests (issued_commands channel steps) mail (length steps + 1)))
+    ≡ drains_with s (drains_before s channel steps mail (length steps)) (count_by (λ r. is_access access.Write r.access) (queued_requests (issued_commands channel steps) mail (length steps + 1)))
 unfolding drains_before writes_in
 drains-next s channel steps mail =
     ap (drains_before s channel steps mail) (add-one (length steps))
-    ∙ ap (λ q. drains_with s (drains_before s channel steps mail (length steps)) (count_by (λ r. r.write) q)) (queue-next channel steps mail)
+    ∙ ap (λ q. drains_with s (drains_before s channel steps mail (length steps)) (count_by (λ r. is_access access.Write r.access) q)) (queue-next channel steps mail)
 
 -- the command of the next cycle, by the queue and the drain in it
 pub choice-next : (s : Config) (channel : ℕ) (steps : List (Option Command)) (mail : List Message) (queue : List Request) (draining : Bool)
@@ -39,21 +41,6 @@ unfolding choice
 choice-next s channel steps mail queue draining e f =
     ap₂ (λ d q. choice_between s (issued_commands channel steps) (length steps) (candidates s d q) (lowest_due s (issued_commands channel steps) (length steps)))
     f (queue-next channel steps mail ∙ e)
-
-queue_in-push : (channel : ℕ) (steps : List (Option Command)) (o : Option Command) (mail : List Message) (cycle : ℕ) → cycle ≤ length steps
-    → queue_in channel (steps ++ o ∷ []) mail cycle ≡ queue_in channel steps mail cycle
-unfolding queue_in
-queue_in-push channel steps o mail cycle l = ap (λ x. queued_requests (issued_commands channel x) mail (cycle + 1)) (take-push steps o cycle l)
-
--- a row more does not change in which of the earlier cycles the channel drained its writes
-pub drains_before-push : (s : Config) (channel : ℕ) (steps : List (Option Command)) (o : Option Command) (mail : List Message) (n : ℕ) → n ≤ suc (length steps)
-    → drains_before s channel (steps ++ o ∷ []) mail n ≡ drains_before s channel steps mail n
-unfolding drains_before writes_in
-drains_before-push s channel steps o mail zero l = refl
-drains_before-push s channel steps o mail (suc n) l =
-    ap₂ (λ d q. drains_with s d (count_by (λ r. r.write) q))
-    (drains_before-push s channel steps o mail n (omega arith))
-    (queue_in-push channel steps o mail n (omega arith))
 
 -- after the row of a cycle, the channel drains as it did in that cycle
 pub drains_before-row : (s : Config) (channel : ℕ) (steps : List (Option Command)) (o : Option Command) (mail : List Message)

@@ -9,12 +9,14 @@ use Rattle.sim_base.proofs.Each.{Each-all}
 use Rattle.sim_base.proofs.Ordered.{Each-weaker}
 use Rattle.sim_base.proofs.Same.{queue-same}
 use Rattle.sim_base.specs.declared.config.Config.{Config}
+use Rattle.sim_base.specs.Access.{is_access}
 use Rattle.sim_base.specs.Counts.{queue_length}
 use Rattle.sim_base.specs.History.{issued_commands}
 use Rattle.sim_base.specs.Machine.{channel_run}
 use Rattle.sim_base.specs.Scheduling.{request_in, drains_with}
 use Rattle.sim_base.specs.declared.command.Command.{Command}
 use Rattle.sim_base.specs.declared.command.IssuedCommand.{IssuedCommand}
+use Rattle.sim_base.specs.declared.message.Access.TheVariants as access
 use Rattle.sim_base.specs.declared.message.Message.{Message}
 use Rattle.sim_base.specs.declared.message.Request.{Request}
 use Rattle.statistics.proofs.ChannelMail.{AgreeUpTo-later}
@@ -110,7 +112,7 @@ arrived-stands c s channel steps mail inbox now until q bank_candidates ahead h 
     let older = waiting_requests c.queue.log in
     let j = joined _ _ _ _ s channel steps mail new h.recalls (fit-arrives s channel steps mail inbox now until at f) in
     let wait : waiting_requests q.log ≡ older ++ requests = ap (λ (x : QueueView). waiting_requests x.log) e ∙ waiting-with c.queue.log requests in
-    let drains : q.drain_decided ≡ drains_with s c.queue.drain_decided (count_by (λ r. r.write) (older ++ requests)) =
+    let drains : q.drain_decided ≡ drains_with s c.queue.drain_decided (count_by (λ r. is_access access.Write r.access) (older ++ requests)) =
     ap (λ (x : QueueView). x.drain_decided) e
     ∙ ap (λ rs. drains_by c.queue.high c.queue.low c.queue.drain_decided (write_count rs)) (waiting-with c.queue.log requests)
     ∙ ap₂ (λ high low. drains_by high low c.queue.drain_decided (write_count (older ++ requests))) h.made_for.high_is h.made_for.low_is in

@@ -2,15 +2,16 @@
 use Rattle.std.proofs.Common.{◌≡◌, ℕ, zero, suc, ◌+◌, ◌<◌, ◌≤◌, Bool, true, false, ◌&&◌, ◌||◌, List, [], ◌∷◌, ◌++◌, length, Option, None, refl, sym, ap, ap₂, ◌∙◌, add-one, arith}
 use Rattle.std.specs.Prelude.{replicate, count_by, is_some}
 use Rattle.std.specs.List.{AllByRecursion as Each}
-use Rattle.std.proofs.Math.Seq.{take-length}
 use Rattle.std.proofs.lemmas.List.{append-nil, append_assoc, replicate_more, length-replicate, length-append}
 use Rattle.sim_base.proofs.Added.{channel_messages-push}
 use Rattle.sim_base.specs.declared.config.Config.{Config}
+use Rattle.sim_base.specs.Access.{is_access}
 use Rattle.sim_base.specs.Counts.{has_refresh_due, queue_length}
 use Rattle.sim_base.specs.History.{issued_commands, channel_messages}
 use Rattle.sim_base.specs.Machine.{channel_run}
 use Rattle.sim_base.specs.Scheduling.{queued_requests, drains_with, drains_before, drains, candidates, lowest_due, choice_between, choice}
 use Rattle.sim_base.specs.declared.command.Command.{Command}
+use Rattle.sim_base.specs.declared.message.Access.TheVariants as access
 use Rattle.sim_base.specs.declared.message.Message.{Message}
 use Rattle.statistics.proofs.ChannelSteps.{issued_commands-push}
 use Rattle.statistics.specs.Channels.{channel_cycle_with, channel_cycle}
@@ -18,6 +19,7 @@ use Rattle.channel_step.proofs.Requests.{ArrivedBefore, queued_requests-until}
 use Rattle.channel_step.proofs.Spans.{queue-next, drains-next, drains_before-row, choice-next}
 use Rattle.channel_step.specs.Past.{requests_of}
 use Rattle.channel_step.specs.Fit.{IsIdle}
+use Rattle.channel_step.proofs.Cycle.{has_due-next}
 
 -- the steps of some idle cycles, and one more
 pub idle-push : (steps : List (Option Command)) (n : ℕ) → steps ++ replicate (suc n) None ≡ (steps ++ replicate n None) ++ None ∷ []
@@ -76,7 +78,7 @@ idle-drains s channel steps mail h (suc n) =
     let drain_decided : drains_before s channel more mail (length more) ≡ drains s channel before mail (length before) =
     ap (λ x. drains_before s channel x mail (length x)) (idle-push steps n) ∙ drains_before-row s channel before None mail in
     drains-next s channel more mail
-    ∙ ap₂ (λ d q. drains_with s d (count_by (λ r. r.write) q)) (drain_decided ∙ drains-next s channel before mail) same
+    ∙ ap₂ (λ d q. drains_with s d (count_by (λ r. is_access access.Write r.access) q)) (drain_decided ∙ drains-next s channel before mail) same
     ∙ drains-twice s _ _
     ∙ sym (drains-next s channel before mail)
     ∙ idle-drains s channel steps mail h n
@@ -109,10 +111,6 @@ idle-run s channel steps mail (suc n) h =
 abbrev pub IsDueAlike : Config → ℕ → List (Option Command) → ℕ → Type 0
 IsDueAlike s channel steps n =
     (k : ℕ) → k < n → is_some (lowest_due s (issued_commands channel steps) (length steps + k)) ≡ is_some (lowest_due s (issued_commands channel steps) (length steps))
-
-has_due-next : (s : Config) (channel : ℕ) (steps : List (Option Command)) → has_refresh_due s channel steps (length steps) ≡ is_some (lowest_due s (issued_commands channel steps) (length steps))
-unfolding has_refresh_due
-has_due-next s channel steps = ap (λ x. is_some (lowest_due s (issued_commands channel x) (length steps))) (take-length steps)
 
 idle-has_due : (s : Config) (channel : ℕ) (steps : List (Option Command)) (n k : ℕ) → k < n → IsDueAlike s channel steps n
     → has_refresh_due s channel (steps ++ replicate k None) (length (steps ++ replicate k None)) ≡ has_refresh_due s channel steps (length steps)

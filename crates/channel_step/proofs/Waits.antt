@@ -27,7 +27,7 @@ joined_more q v ms i d l e =
     let f : requests_of (take (i + 1) ms) ≡ requests_of (take i ms) ++ requests_of (m ∷ []) = ap requests_of (take_more ms i d l) ∙ requests-append (take i ms) (m ∷ []) in
     ap (λ x. joined_with x (requests_of (m ∷ []))) e ∙ joined-twice q (requests_of (take i ms)) (requests_of (m ∷ [])) ∙ ap (joined_with q) (sym f)
 
-requests-few : (ms : List Message) → length (requests_of ms) ≤ length ms
+pub requests-few : (ms : List Message) → length (requests_of ms) ≤ length ms
 requests-few [] = omega arith
 requests-few (m ∷ ms) = by (request_in m.load) (requests-few ms)
   where

@@ -48,7 +48,7 @@ pub(crate) fn keep_served(
             served: now,
             channel,
             core: request.core,
-            write: request.write,
+            access: request.access,
             hit,
         })?;
     }

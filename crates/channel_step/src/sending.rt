@@ -9,7 +9,7 @@ ghost use Rattle.channel_step.specs.Runs.{with_command};
 use command_table::list::CommandList;
 use sim_base::command::{Command, IssuedCommand, Source};
 use sim_base::config::Config;
-use sim_base::message::{ChannelId, Cycle, LinkId, Load, Message, Request};
+use sim_base::message::{Access, ChannelId, Cycle, LinkId, Load, Message, Request};
 use std::alloc::AllocError;
 
 /// How long a message travels on a link, which is the usual time of its kind where no link has a latency of its own.
@@ -48,18 +48,18 @@ fn credit_for(
     config: &Config,
     channel: ChannelId,
     now: Cycle,
-    write: bool,
+    access: Access,
     source: Source,
 ) -> Message
     requires { now < 2 ^ 62 }
-    ensures { result ≡ credit config.now channel now write source }
+    ensures { result ≡ credit config.now channel now access source }
 {
     let link = config.credit_link(source.core, channel);
     Message {
         link,
         arrival: now + u64::from(latency_of(config, link, config.credit_latency)),
         load: Load::Credit {
-            write,
+            access,
             entry: source.entry,
         },
     }
@@ -80,11 +80,12 @@ pub(crate) fn send(
         ≡ messages.old.items ++ messages_of config.now channel now (column_command request.now)) }
 {
     let source = request.source();
-    if request.write {
-        messages.push(credit_for(config, channel, now, true, source))?;
-    } else {
-        messages.push(reply_to(config, channel, now, source))?;
-        messages.push(credit_for(config, channel, now, false, source))?;
+    match request.access {
+        Access::Read => {
+            messages.push(reply_to(config, channel, now, source))?;
+            messages.push(credit_for(config, channel, now, Access::Read, source))?;
+        }
+        Access::Write => messages.push(credit_for(config, channel, now, Access::Write, source))?,
     }
     Ok(())
 }

@@ -5,6 +5,7 @@ use Rattle.std.proofs.lemmas.List.Folds.{list_all-append}
 use Rattle.std.proofs.lemmas.Slice.Eq.{bytes_eq-Decides}
 use Rattle.std.specs.List.{find, list_all, list_any}
 use Rattle.std.specs.Str.{bytes_eq}
+use Rattle.std.proofs.Math.Bool.{or-true}
 use Rattle.clap.proofs.WalkLemmas.{both}
 use Rattle.clap.specs.Facts.{unwrap_or_range}
 use Rattle.clap.specs.Walk.{Row, Rule, Text, action_of, at_row, more_values, reading_by, used, used_as, values_or_missing, with_values, without}
@@ -96,10 +97,6 @@ pub record IsKnown (rules : List Rule) (a : Rule) : Type 0 where
   pub fit : IsFit a
   pub passes : (v : Text) → value_passes a v ≡ true → passes_for rules a.id v ≡ true
 
-or_true : (b : Bool) → (b || true) ≡ true
-or_true true = refl
-or_true false = refl
-
 pub found-IsKnown : (p : Rule → Bool) (rules : List Rule) (a : Rule) → AreFit rules → find p rules ≡ Some a → IsKnown rules a
 found-IsKnown p [] a fit found = cc
 found-IsKnown p (x ∷ rules) a fit found = go (p x) refl (λ later. found-IsKnown p rules a fit.1 later)
@@ -119,14 +116,14 @@ found-IsKnown p (x ∷ rules) a fit found = go (p x) refl (λ later. found-IsKno
         let rest = later (rw e at found) in
         record {
           fit = rest.fit;
-          passes = λ v pass. ap (λ b. (bytes_eq x.id a.id && value_passes x v) || b) (rest.passes v pass) ∙ or_true _;
+          passes = λ v pass. ap (λ b. (bytes_eq x.id a.id && value_passes x v) || b) (rest.passes v pass) ∙ or-true _;
         }
 
 -- an argument of a command is one of the command with an argument more
 known-later : (x : Rule) (rules : List Rule) (a : Rule) → IsKnown rules a → IsKnown (x ∷ rules) a
 known-later x rules a known = record {
   fit = known.fit;
-  passes = λ v pass. ap (λ b. (bytes_eq x.id a.id && value_passes x v) || b) (known.passes v pass) ∙ or_true _;
+  passes = λ v pass. ap (λ b. (bytes_eq x.id a.id && value_passes x v) || b) (known.passes v pass) ∙ or-true _;
 }
 
 known-first : (x : Rule) (rules : List Rule) → IsFit x → IsKnown (x ∷ rules) x

@@ -9,7 +9,7 @@ use Rattle.sim_base.specs.declared.command.IssuedCommand.{IssuedCommand}
 use Rattle.sim_base.proofs.Each.{Each-append}
 use Rattle.command_table.specs.Tables.{IsRising, rows_in, all_rows as all, HaveSameCycles, by_cycle, table_of}
 use Rattle.command_table.specs.Lefts.{first_cycle, IsNext}
-use Rattle.command_table.proofs.Rising.{Rising, rising-pairs, own-cycle, other-cycle, cons-same, by_cycle-is, by_cycle-rising, by_cycle-same, each-by_cycle}
+use Rattle.command_table.proofs.Rising.{weaker, Rising, rising-pairs, own-cycle, other-cycle, cons-same, by_cycle-is, by_cycle-rising, by_cycle-same, each-by_cycle}
 
 -- a list that begins no sooner than in a cycle
 abbrev pub From : ℕ → List IssuedCommand → Type 0
@@ -18,10 +18,6 @@ From cycle rows = IfSome (first_cycle rows) (λ first. cycle ≤ first)
 -- a list that begins later than a cycle
 abbrev pub After : ℕ → List IssuedCommand → Type 0
 After cycle rows = IfSome (first_cycle rows) (λ first. cycle < first)
-
-weaker : (a b : ℕ) → a ≤ b → (xs : List IssuedCommand) → Each (λ (y : IssuedCommand). b ≤ y.cycle) xs → Each (λ (y : IssuedCommand). a ≤ y.cycle) xs
-weaker a b l [] h = tt
-weaker a b l (x ∷ xs) h = (omega (arith, l, h.0), weaker a b l xs h.1)
 
 from-each : (cycle : ℕ) (rows : List IssuedCommand) → Rising rows → From cycle rows → Each (λ (y : IssuedCommand). cycle ≤ y.cycle) rows
 from-each cycle [] r h = tt

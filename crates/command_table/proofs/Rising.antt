@@ -94,7 +94,7 @@ unfolding by_cycle
 each-by_cycle P [] h = tt
 each-by_cycle P (x ∷ xs) h = each-put P x (by_cycle xs) h.0 (each-by_cycle P xs h.1)
 
-weaker : (a b : ℕ) → a ≤ b → (xs : List IssuedCommand) → Each (λ (y : IssuedCommand). b ≤ y.cycle) xs → Each (λ (y : IssuedCommand). a ≤ y.cycle) xs
+pub weaker : (a b : ℕ) → a ≤ b → (xs : List IssuedCommand) → Each (λ (y : IssuedCommand). b ≤ y.cycle) xs → Each (λ (y : IssuedCommand). a ≤ y.cycle) xs
 weaker a b l [] h = tt
 weaker a b l (x ∷ xs) h = (omega (arith, l, h.0), weaker a b l xs h.1)
 

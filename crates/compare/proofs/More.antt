@@ -5,21 +5,14 @@ use Rattle.std.proofs.Math.Nat.{div-le_self}
 use Rattle.std.proofs.lemmas.List.{append_assoc, flat_map_more, get_or-map, take_all, take_more}
 use Rattle.std.proofs.lemmas.List.Sums.{fold-append}
 use Rattle.sim_base.specs.History.{below}
-use Rattle.sim_base.proofs.Below.{below_more as below_suc, flat_map_below_more as flat_map_below_suc}
+use Rattle.sim_base.proofs.Below.{below_more as below_suc}
+use Rattle.sim_base.proofs.Lists.{flat_map_below-more}
 use Rattle.compare.specs.Comparison.{name_text}
-
--- a quotient is at most what is divided
-pub quotient_le : (n k : ℕ) → n / k ≤ n
-quotient_le n k = div-le_self n k
 
 -- one more of a list
 pub flat_map_take_more : {A B : Type 0} (f : A → List B) (xs : List A) (i : ℕ) (d : A) → i < length xs
     → flat_map f (take (i + 1) xs) ≡ flat_map f (take i xs) ++ f (get_or xs i d)
 flat_map_take_more f xs i d within = rw (take_more xs i d within) (sym (flat_map_more f [] (take i xs) (get_or xs i d)))
-
--- one more of the numbers below another
-pub flat_map_below_more : {A : Type 0} (f : ℕ → List A) (n : ℕ) → flat_map f (below (n + 1)) ≡ flat_map f (below n) ++ f n
-flat_map_below_more f n = ap (λ k. flat_map f (below k)) (add-one n) ∙ flat_map_below_suc f n
 
 pub fold_below_more : {A : Type 0} (f : A → ℕ → A) (start : A) (n : ℕ) → fold f start (below (n + 1)) ≡ f (fold f start (below n)) n
 fold_below_more f start n = ap (λ k. fold f start (below k)) (add-one n) ∙ ap (fold f start) (below_suc n) ∙ fold-append f start (below n) (n ∷ [])
@@ -29,7 +22,7 @@ pub names_more : (names : List (Bor (List ℕ))) (k : ℕ) (d : Bor (List ℕ)) 
     → flat_map (λ place. name_text (place + 1) (get_or (map (λ n. n.now) names) place [])) (below (k + 1))
     ≡ flat_map (λ place. name_text (place + 1) (get_or (map (λ n. n.now) names) place [])) (below k) ++ name_text (k + 1) (get_or names k d).now
 names_more names k d within =
-    flat_map_below_more (λ place. name_text (place + 1) (get_or (map (λ n. n.now) names) place [])) k
+    flat_map_below-more (λ place. name_text (place + 1) (get_or (map (λ n. n.now) names) place [])) k
     ∙ ap (λ name. flat_map (λ place. name_text (place + 1) (get_or (map (λ n. n.now) names) place [])) (below k) ++ name_text (k + 1) name) (get_or-map (λ n. n.now) names k d [] within)
 
 -- a text with one part more behind its head
@@ -54,4 +47,8 @@ part_below_more f n head text part new here same grown =
     grown
     ∙ ap₂ (λ x y. x ++ y) here same
     ∙ append_assoc head (flat_map f (below n)) (f n)
-    ∙ ap (λ y. head ++ y) (sym (flat_map_below_more f n))
+    ∙ ap (λ y. head ++ y) (sym (flat_map_below-more f n))
+
+-- a quotient is no more than what is divided (by a name that a tactic can be given)
+pub quotient_le : (n k : ℕ) → n / k ≤ n
+quotient_le n k = div-le_self n k

@@ -20,7 +20,8 @@ use Rattle.core_window.specs.Views.{CoreView}
 use Rattle.core_window.specs.Outstanding.{outstanding_reads}
 use Rattle.core_window.specs.declared.outstanding.OutstandingRead.{OutstandingRead}
 use Rattle.core_window.proofs.Stopping.{is_last}
-use Rattle.core_window.proofs.Working.{cycle_work-from, issued_of, retired_of}
+use Rattle.core_window.proofs.Working.{cycle_work-from, issued_of}
+use Rattle.core_window.proofs.Stepping.{retired_of}
 
 more_times : (k n w : ℕ) → k < n → k * w + w ≤ n * w
 more_times k n w l =

@@ -9,22 +9,26 @@ use Rattle.std.proofs.lemmas.List.Elements.{filter_map-append}
 use Rattle.std.proofs.lemmas.List.Sums.{sum_by-append}
 use Rattle.sim_base.specs.declared.config.Config.{Config}
 use Rattle.sim_base.specs.Counts.{is_read, replied_entry, is_unissued_after, issue_cycle}
+use Rattle.sim_base.specs.Access.{is_access}
 use Rattle.sim_base.specs.History.{below, request, request_of, issued_before, requests_between, requests_in, core_messages}
 use Rattle.sim_base.specs.Places.{place_of}
 use Rattle.sim_base.specs.Windows.{is_reply_to, is_request_for}
 use Rattle.sim_base.specs.declared.history.CoreStep.{CoreStep}
+use Rattle.sim_base.specs.declared.message.Access.{Access}
+use Rattle.sim_base.specs.declared.message.Access.TheVariants as access
 use Rattle.sim_base.specs.declared.message.Load.{Load}
 use Rattle.sim_base.specs.declared.message.Load.TheVariants as load
 use Rattle.sim_base.specs.declared.message.Message.{Message}
 use Rattle.sim_base.specs.declared.trace.Entry.{Entry}
 use Rattle.sim_base.specs.declared.trace.Entry.TheVariants.{Plain, Read, Write}
-use Rattle.sim_base.proofs.Added.{core_messages-push}
+use Rattle.sim_base.proofs.Added.{core_messages-push, length-push_suc}
+use Rattle.sim_base.proofs.Grows.{issued_before-push}
 use Rattle.cpu_trace.specs.NextMemory.{IsPlainBetween}
 use Rattle.cpu_trace.specs.declared.entries.MemoryEntry.{MemoryEntry}
 use Rattle.statistics.specs.Counts.{one_if}
 use Rattle.statistics.specs.declared.final_state.Credits.{Credits}
-use Rattle.statistics.proofs.CoreSteps.{issued_before-push, issued_before-take-le, issue_cycle-push}
-use Rattle.statistics.proofs.Lists.{length-push_suc, take-push}
+use Rattle.statistics.proofs.CoreSteps.{issued_before-take-le, issue_cycle-push, issue_cycle-prefix_len}
+use Rattle.statistics.proofs.Lists.{take-push}
 use Rattle.core_window.specs.declared.outstanding.OutstandingRead.{OutstandingRead}
 use Rattle.core_window.specs.Inside.{credits_now}
 use Rattle.core_window.specs.Stands.{FollowsItsEntry, credits_had, credits_spent}
@@ -32,7 +36,6 @@ use Rattle.core_window.specs.OneCycle.{IsAmong, IsIssued, reads_issued, requests
 use Rattle.core_window.specs.Outstanding.{is_read_in, is_read_at, is_answered, outstanding_read, outstanding_reads}
 use Rattle.core_window.proofs.Ranges.{range-add, filter_map_range-more, filter_map_range-same, filter_map_range-none, prefix_len_range}
 use Rattle.core_window.proofs.Segments.{request_at, requests_between_none, requests_between_more, one_of_segment}
-use Rattle.std.proofs.lemmas.List.Folds.{length-prefix_len}
 
 -- the other entries that issue are Plain
 pub plain_others : (trace : List Entry) (first m : ℕ) (e : MemoryEntry) → IsAmong trace first m e → (k : ℕ) → k < m → (first + k ≡ e.number → ⊥) → slice_get trace (first + k) ≡ Some Plain
@@ -49,10 +52,6 @@ unanswered steps (m ∷ mail) h entry l = ap₂ (λ a b. a || b) (by m.load h.0)
     by (load.Reply e) k = ne_eqb entry e (λ same. omega (arith, issued_before-take-le steps m.arrival))
     by (load.Request r) k = refl
     by (load.Credit w e) k = refl
-
-issue_cycle-prefix_len : (steps : List CoreStep) (entry : ℕ) → issue_cycle steps entry ≡ prefix_len (is_unissued_after steps entry) (below (length steps))
-unfolding issue_cycle
-issue_cycle-prefix_len steps entry = length-prefix_len (is_unissued_after steps entry) (below (length steps))
 
 -- an entry that issues in the last cycle
 issue_cycle-last : (steps : List CoreStep) (core_step : CoreStep) (entry : ℕ) → issued_before steps ≤ entry → entry < issued_before steps + core_step.issued → issue_cycle (steps ++ core_step ∷ []) entry ≡ length steps
@@ -160,43 +159,43 @@ messages-push s core trace steps core_step memory h =
     ∙ ap (λ x. core_messages s core trace steps ++ x) (requests-new s core trace (length steps) (issued_before steps) core_step.issued memory h)
 
 -- whether a memory entry that issues spends a credit for a channel
-abbrev pub is_spending_entry : Config → ℕ → Bool → Entry → Bool
-is_spending_entry s channel write Plain = false
-is_spending_entry s channel write (Read address) = eqb (place_of s address).channel channel && not write
-is_spending_entry s channel write (Write address) = eqb (place_of s address).channel channel && write
+abbrev pub is_spending_entry : Config → ℕ → Access → Entry → Bool
+is_spending_entry s channel kind Plain = false
+is_spending_entry s channel kind (Read address) = eqb (place_of s address).channel channel && is_access kind access.Read
+is_spending_entry s channel kind (Write address) = eqb (place_of s address).channel channel && is_access kind access.Write
 
-abbrev pub is_spending : Config → ℕ → Bool → Option MemoryEntry → Bool
-is_spending s channel write None = false
-is_spending s channel write (Some e) = is_spending_entry s channel write e.entry
+abbrev pub is_spending : Config → ℕ → Access → Option MemoryEntry → Bool
+is_spending s channel access None = false
+is_spending s channel access (Some e) = is_spending_entry s channel access e.entry
 
-spent-entry : (s : Config) (core cycle number channel : ℕ) (write : Bool) (entry : Entry)
-    → count_by (λ m. is_request_for channel write m.load) (option_to_list (request_of s core cycle number entry)) ≡ one_if (is_spending_entry s channel write entry)
+spent-entry : (s : Config) (core cycle number channel : ℕ) (access : Access) (entry : Entry)
+    → count_by (λ m. is_request_for channel access m.load) (option_to_list (request_of s core cycle number entry)) ≡ one_if (is_spending_entry s channel access entry)
 unfolding request
-spent-entry s core cycle number channel write Plain = refl
-spent-entry s core cycle number channel true (Read address) = omega arith
-spent-entry s core cycle number channel false (Read address) = omega arith
-spent-entry s core cycle number channel true (Write address) = omega arith
-spent-entry s core cycle number channel false (Write address) = omega arith
+spent-entry s core cycle number channel access Plain = refl
+spent-entry s core cycle number channel access.Read (Read address) = omega arith
+spent-entry s core cycle number channel access.Write (Read address) = omega arith
+spent-entry s core cycle number channel access.Read (Write address) = omega arith
+spent-entry s core cycle number channel access.Write (Write address) = omega arith
 
-spent-memory : (s : Config) (core cycle channel : ℕ) (write : Bool) (memory : Option MemoryEntry)
-    → count_by (λ m. is_request_for channel write m.load) (requests_issued s core cycle memory) ≡ one_if (is_spending s channel write memory)
-spent-memory s core cycle channel write None = refl
-spent-memory s core cycle channel write (Some e) = spent-entry s core cycle e.number channel write e.entry
+spent-memory : (s : Config) (core cycle channel : ℕ) (access : Access) (memory : Option MemoryEntry)
+    → count_by (λ m. is_request_for channel access m.load) (requests_issued s core cycle memory) ≡ one_if (is_spending s channel access memory)
+spent-memory s core cycle channel access None = refl
+spent-memory s core cycle channel access (Some e) = spent-entry s core cycle e.number channel access e.entry
 
 pub spent-push : (s : Config) (core : ℕ) (trace : List Entry) (steps : List CoreStep) (core_step : CoreStep) (memory : Option MemoryEntry)
-    → IsIssued trace (issued_before steps) core_step.issued memory → (channel : ℕ) (write : Bool)
-    → credits_spent s core trace (steps ++ core_step ∷ []) channel write ≡ credits_spent s core trace steps channel write + one_if (is_spending s channel write memory)
-spent-push s core trace steps core_step memory h channel write =
-    let p = λ (m : Message). is_request_for channel write m.load in
+    → IsIssued trace (issued_before steps) core_step.issued memory → (channel : ℕ) (access : Access)
+    → credits_spent s core trace (steps ++ core_step ∷ []) channel access ≡ credits_spent s core trace steps channel access + one_if (is_spending s channel access memory)
+spent-push s core trace steps core_step memory h channel access =
+    let p = λ (m : Message). is_request_for channel access m.load in
     ap (count_by p) (messages-push s core trace steps core_step memory h)
     ∙ sum_by-append (λ m. one_if (p m)) (core_messages s core trace steps) (requests_issued s core (length steps) memory)
-    ∙ ap (λ n. credits_spent s core trace steps channel write + n) (spent-memory s core (length steps) channel write memory)
+    ∙ ap (λ n. credits_spent s core trace steps channel access + n) (spent-memory s core (length steps) channel access memory)
 
-same_credits : (d c : Credits) → d.read ≡ c.read → d.write ≡ c.write → d ≡ c
+pub same_credits : (d c : Credits) → d.read ≡ c.read → d.write ≡ c.write → d ≡ c
 same_credits d c e f = let both : ℕ → ℕ → Credits = λ r w. record { read = r; write = w } in ap₂ both e f
 
 after-entry : (s : Config) (channel hr hw sr sw : ℕ) (entry : Entry) → (c : Credits) → c.read ≡ hr - sr → c.write ≡ hw - sw
-    → (d : Credits) → d.read ≡ hr - (sr + one_if (is_spending_entry s channel false entry)) → d.write ≡ hw - (sw + one_if (is_spending_entry s channel true entry))
+    → (d : Credits) → d.read ≡ hr - (sr + one_if (is_spending_entry s channel access.Read entry)) → d.write ≡ hw - (sw + one_if (is_spending_entry s channel access.Write entry))
     → d ≡ credit_after_entry s channel entry c
 after-entry s channel hr hw sr sw Plain c r w d r' w' =
     let e : d.read ≡ c.read = omega arith in
@@ -204,7 +203,7 @@ after-entry s channel hr hw sr sw Plain c r w d r' w' =
     same_credits _ _ e f
 after-entry s channel hr hw sr sw (Read address) c r w d r' w' = by (eqb (place_of s address).channel channel) r' w'
   where
-    by : (b : Bool) → d.read ≡ hr - (sr + one_if (b && true)) → d.write ≡ hw - (sw + one_if (b && false)) → d ≡ cond b (less_credit false c) c
+    by : (b : Bool) → d.read ≡ hr - (sr + one_if (b && true)) → d.write ≡ hw - (sw + one_if (b && false)) → d ≡ cond b (less_credit access.Read c) c
     by true x y =
         let e : d.read ≡ c.read - 1 = omega arith in
         let f : d.write ≡ c.write = omega arith in
@@ -215,7 +214,7 @@ after-entry s channel hr hw sr sw (Read address) c r w d r' w' = by (eqb (place_
         same_credits _ _ e f
 after-entry s channel hr hw sr sw (Write address) c r w d r' w' = by (eqb (place_of s address).channel channel) r' w'
   where
-    by : (b : Bool) → d.read ≡ hr - (sr + one_if (b && false)) → d.write ≡ hw - (sw + one_if (b && true)) → d ≡ cond b (less_credit true c) c
+    by : (b : Bool) → d.read ≡ hr - (sr + one_if (b && false)) → d.write ≡ hw - (sw + one_if (b && true)) → d ≡ cond b (less_credit access.Write c) c
     by true x y =
         let e : d.read ≡ c.read = omega arith in
         let f : d.write ≡ c.write - 1 = omega arith in
@@ -230,12 +229,12 @@ pub credits-push : (s : Config) (core : ℕ) (trace : List Entry) (steps : List 
     → IsIssued trace (issued_before steps) core_step.issued memory → (channel : ℕ)
     → credits_now s core trace (steps ++ core_step ∷ []) mail channel ≡ credit_after s channel memory (credits_now s core trace steps mail channel)
 credits-push s core trace steps core_step mail None h channel =
-    let a = spent-push s core trace steps core_step None h channel false in
-    let b = spent-push s core trace steps core_step None h channel true in
-    let e : credits_had s core mail channel false - credits_spent s core trace (steps ++ core_step ∷ []) channel false ≡ credits_had s core mail channel false - credits_spent s core trace steps channel false = omega arith in
-    let f : credits_had s core mail channel true - credits_spent s core trace (steps ++ core_step ∷ []) channel true ≡ credits_had s core mail channel true - credits_spent s core trace steps channel true = omega arith in
+    let a = spent-push s core trace steps core_step None h channel access.Read in
+    let b = spent-push s core trace steps core_step None h channel access.Write in
+    let e : credits_had s core mail channel access.Read - credits_spent s core trace (steps ++ core_step ∷ []) channel access.Read ≡ credits_had s core mail channel access.Read - credits_spent s core trace steps channel access.Read = omega arith in
+    let f : credits_had s core mail channel access.Write - credits_spent s core trace (steps ++ core_step ∷ []) channel access.Write ≡ credits_had s core mail channel access.Write - credits_spent s core trace steps channel access.Write = omega arith in
     same_credits _ _ e f
 credits-push s core trace steps core_step mail (Some m) h channel =
     after-entry s channel _ _ _ _ m.entry (credits_now s core trace steps mail channel) refl refl (credits_now s core trace (steps ++ core_step ∷ []) mail channel)
-    (ap (λ n. credits_had s core mail channel false - n) (spent-push s core trace steps core_step (Some m) h channel false))
-    (ap (λ n. credits_had s core mail channel true - n) (spent-push s core trace steps core_step (Some m) h channel true))
+    (ap (λ n. credits_had s core mail channel access.Read - n) (spent-push s core trace steps core_step (Some m) h channel access.Read))
+    (ap (λ n. credits_had s core mail channel access.Write - n) (spent-push s core trace steps core_step (Some m) h channel access.Write))

@@ -1,8 +1,10 @@
 -- Numbers in a core_step, and what is found among them.
-use Rattle.std.proofs.Common.{◌≡◌, ℕ, zero, suc, ◌+◌, ◌<◌, Bool, true, false, cond, [], ◌∷◌, ◌++◌, Option, Some, None, refl, sym, ap, ap₂, ◌∙◌, add-zero, zero-add, arith}
+use Rattle.std.proofs.Common.{◌≡◌, ℕ, zero, suc, ◌+◌, ◌<◌, Bool, true, false, cond, [], ◌∷◌, ◌++◌, Option, None, refl, sym, ap, ap₂, ◌∙◌, add-zero, zero-add, arith}
 use Rattle.std.specs.Option.{option_to_list}
-use Rattle.std.specs.List.{filter_map, prefix_len, range_with_len, cons_option}
+use Rattle.std.specs.List.{filter_map, prefix_len, range_with_len}
 use Rattle.std.proofs.lemmas.List.Elements.{filter_map-append}
+use Rattle.sim_base.proofs.Below.{range_more}
+use Rattle.sim_base.proofs.Lists.{cons_option-none}
 
 pub range-add : (a m n : ℕ) → range_with_len a (m + n) ≡ range_with_len a m ++ range_with_len (a + m) n
 range-add a zero n = ap₂ range_with_len (sym (add-zero a)) (zero-add n)
@@ -11,17 +13,10 @@ range-add a (suc m) n =
     let e2 : a + 1 + m ≡ a + suc m = omega arith in
     ap (range_with_len a) e1 ∙ ap (λ l. a ∷ l) (range-add (a + 1) m n ∙ ap (λ b. range_with_len (a + 1) m ++ range_with_len b n) e2)
 
-pub range-more : (a n : ℕ) → range_with_len a (suc n) ≡ range_with_len a n ++ (a + n) ∷ []
-range-more a n = let e : suc n ≡ n + 1 = omega arith in ap (range_with_len a) e ∙ range-add a n 1
-
-as_list : {X : Type 0} (o : Option X) → cons_option o [] ≡ option_to_list o
-as_list None = refl
-as_list (Some x) = refl
-
 pub filter_map_range-more : {X : Type 0} (f : ℕ → Option X) (a n : ℕ) → filter_map f (range_with_len a (suc n)) ≡ filter_map f (range_with_len a n) ++ option_to_list (f (a + n))
 filter_map_range-more f a n =
-    ap (filter_map f) (range-more a n) ∙ filter_map-append f (range_with_len a n) ((a + n) ∷ [])
-    ∙ ap (λ l. filter_map f (range_with_len a n) ++ l) (as_list (f (a + n)))
+    ap (filter_map f) (range_more a n) ∙ filter_map-append f (range_with_len a n) ((a + n) ∷ [])
+    ∙ ap (λ l. filter_map f (range_with_len a n) ++ l) (cons_option-none (f (a + n)))
 
 pub filter_map_range-same : {X : Type 0} (f g : ℕ → Option X) (a n : ℕ) → ((k : ℕ) → k < n → f (a + k) ≡ g (a + k)) → filter_map f (range_with_len a n) ≡ filter_map g (range_with_len a n)
 filter_map_range-same f g a zero h = refl

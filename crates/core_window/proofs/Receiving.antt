@@ -5,22 +5,28 @@ use Rattle.std.specs.Option.{IfSome}
 use Rattle.std.specs.List.{AllByRecursion as Each, filter_map, range_with_len, cons_option}
 use Rattle.std.proofs.Math.Seq.{take-length}
 use Rattle.std.proofs.lemmas.Nat.{mod-mul-add, mul-le}
-use Rattle.std.proofs.lemmas.Bool.{cases_lt, ne_eqb, eq-eqb, eqb-true, eqb-false, cond_both}
+use Rattle.std.proofs.lemmas.Bool.{cases_lt, ne_eqb, eq-eqb, eqb-true, eqb-false}
 use Rattle.std.proofs.lemmas.List.{append-nil}
 use Rattle.std.proofs.lemmas.List.Elements.{filter-append}
 use Rattle.std.proofs.lemmas.List.Folds.{list_any-append}
 use Rattle.std.proofs.lemmas.List.Sums.{sum_by_push}
+use Rattle.std.proofs.Math.Bool.{or-false}
 use Rattle.sim_base.specs.declared.config.Config.{Config}
 use Rattle.sim_base.specs.Config.{credit_link}
 use Rattle.sim_base.specs.Counts.{is_reply, replies, replied_entry, wait_of, issue_cycle}
 use Rattle.sim_base.specs.History.{below, issued_before}
+use Rattle.sim_base.specs.Access.{is_access}
 use Rattle.sim_base.specs.Windows.{is_reply_to, is_credit}
 use Rattle.sim_base.specs.declared.history.CoreStep.{CoreStep}
+use Rattle.sim_base.specs.declared.message.Access.{Access}
+use Rattle.sim_base.specs.declared.message.Access.TheVariants as access
 use Rattle.sim_base.specs.declared.message.Load.TheVariants as load
 use Rattle.sim_base.specs.declared.message.Message.{Message}
 use Rattle.sim_base.specs.declared.trace.Entry.{Entry}
 use Rattle.sim_base.proofs.Each.{Each-append}
 use Rattle.sim_base.proofs.Ordered.{Each-weaker}
+use Rattle.sim_base.proofs.Added.{length-push_suc}
+use Rattle.sim_base.proofs.Lists.{length-filter-le}
 use Rattle.statistics.specs.Counts.{one_if}
 use Rattle.statistics.specs.Cores.{core_stats, core_joined, replies_in, is_reply_in, waited}
 use Rattle.statistics.specs.declared.cores.CoreStats.{CoreStats}
@@ -28,7 +34,6 @@ use Rattle.statistics.specs.declared.final_state.Credits.{Credits}
 use Rattle.statistics.proofs.CoreBounds.{read_latency-le}
 use Rattle.statistics.proofs.CoreMail.{core_stats-later}
 use Rattle.statistics.proofs.CoreSteps.{replies-push, read_latency-push}
-use Rattle.statistics.proofs.Lists.{length-push_suc}
 use Rattle.core_window.specs.Fit.{IsAwaited, IsOwed}
 use Rattle.core_window.specs.Inside.{credits_now, core_arrived, StandsAt}
 use Rattle.core_window.specs.Replies.{MayTakeReply, after_reply}
@@ -39,6 +44,7 @@ use Rattle.core_window.specs.Outstanding.{is_read_at, is_answered, outstanding_r
 use Rattle.core_window.specs.declared.outstanding.OutstandingRead.{OutstandingRead}
 use Rattle.core_window.proofs.Ranges.{filter_map_range-same}
 use Rattle.core_window.proofs.Stepping.{follows-read, replies-le}
+use Rattle.core_window.proofs.Issuing.{same_credits}
 
 -- the room that the counts of replies have
 pub reply-room : (s : Config) (core : ℕ) (trace : List Entry) (steps : List CoreStep) (mail : List Message) (a : CoreView) (entry : ℕ) → StandsAt s core trace steps mail a → a.now < 2 ^ 62 → MayTakeReply a entry
@@ -62,10 +68,6 @@ reply-room s core trace steps mail a entry h l =
 answered-more : (mail : List Message) (m : Message) (entry : ℕ) → is_answered (mail ++ m ∷ []) entry ≡ (is_answered mail entry || (is_reply_to entry m.load || false))
 unfolding is_answered
 answered-more mail m entry = list_any-append (λ (x : Message). is_reply_to entry x.load) mail (m ∷ [])
-
-or-false : (b : Bool) → (b || false) ≡ b
-or-false true = refl
-or-false false = refl
 
 abbrev keep_if : {X : Type 0} → (X → Bool) → Option X → Option X
 keep_if q None = None
@@ -173,10 +175,6 @@ unfolding outstanding_reads
 awaited_found trace steps mail entry h =
     find_own (outstanding_read trace steps mail) (own trace steps mail) entry _ (awaited_waits trace steps mail entry h) refl (issued_before steps) 0 (omega arith) (omega (arith, h.is_issued))
 
-length-filter-le : {X : Type 0} (p : X → Bool) (xs : List X) → length (filter p xs) ≤ length xs
-length-filter-le p [] = omega arith
-length-filter-le p (x ∷ xs) = cond_both (p x) (x ∷ filter p xs) (filter p xs) (λ l. length l ≤ suc (length xs)) (λ e. omega (arith, length-filter-le p xs)) (λ e. omega (arith, length-filter-le p xs))
-
 -- one that is found is left out
 length-without : {X : Type 0} (p : X → Bool) (r : X) (xs : List X) → find p xs ≡ Some r → length (filter (λ x. not (p x)) xs) + 1 ≤ length xs
 length-without p r [] h = cc
@@ -188,10 +186,10 @@ length-without {X = X} p r (x ∷ xs) h = by (p x) (length-without p r xs) (leng
     by false i l h = let k = i h in omega arith
 
 -- a further message takes no credit away
-had-more : (s : Config) (core : ℕ) (mail : List Message) (m : Message) (channel : ℕ) (write : Bool)
-    → credits_had s core (mail ++ m ∷ []) channel write ≡ credits_had s core mail channel write + one_if (is_credit_from (credit_link s core channel) write m)
-had-more s core mail m channel write =
-    let e = sum_by_push (λ (x : Message). one_if (is_credit_from (credit_link s core channel) write x)) mail m in
+had-more : (s : Config) (core : ℕ) (mail : List Message) (m : Message) (channel : ℕ) (access : Access)
+    → credits_had s core (mail ++ m ∷ []) channel access ≡ credits_had s core mail channel access + one_if (is_credit_from (credit_link s core channel) access m)
+had-more s core mail m channel access =
+    let e = sum_by_push (λ (x : Message). one_if (is_credit_from (credit_link s core channel) access x)) mail m in
     omega arith
 
 answered-kept : (mail : List Message) (m : Message) (entry : ℕ) → is_answered mail entry ≡ true → is_answered (mail ++ m ∷ []) entry ≡ true
@@ -210,7 +208,7 @@ past-receives s core trace steps mail m past now follows answered =
       follows = Each-append (FollowsItsEntry steps) mail (m ∷ []) past.follows (follows, tt);
       done = λ entry l read. answered-kept mail m entry (past.done entry l read);
       answered = answered;
-      paid = λ channel write. omega (arith, past.paid channel write, had-more s core mail m channel write);
+      paid = λ channel access. omega (arith, past.paid channel access, had-more s core mail m channel access);
     }
 
 -- what comes in the cycle changes no statistics of those before it
@@ -258,21 +256,21 @@ reply-stands s core trace steps mail m a b entry h now is due e =
     is_a_reply : is_reply m ≡ true
     is_a_reply = ap (λ x. is_some (replied_entry x)) is
 
-    had-same : (channel : ℕ) (write : Bool) → credits_had s core mail channel write ≡ credits_had s core (mail ++ m ∷ []) channel write
-    had-same channel write =
-        let none : is_credit_from (credit_link s core channel) write m ≡ false = ap (λ x. eqb m.link (credit_link s core channel) && is_credit write x) is ∙ and_false (eqb m.link (credit_link s core channel)) in
-        let zero : one_if (is_credit_from (credit_link s core channel) write m) ≡ 0 = ap one_if none in
-        omega (arith, had-more s core mail m channel write)
+    had-same : (channel : ℕ) (access : Access) → credits_had s core mail channel access ≡ credits_had s core (mail ++ m ∷ []) channel access
+    had-same channel access =
+        let none : is_credit_from (credit_link s core channel) access m ≡ false = ap (λ x. eqb m.link (credit_link s core channel) && is_credit access x) is ∙ and_false (eqb m.link (credit_link s core channel)) in
+        let zero : one_if (is_credit_from (credit_link s core channel) access m) ≡ 0 = ap one_if none in
+        omega (arith, had-more s core mail m channel access)
       where
         and_false : (b : Bool) → (b && false) ≡ false
         and_false true = refl
         and_false false = refl
 
-    same_credits : (channel : ℕ) → ((write : Bool) → credits_had s core mail channel write ≡ credits_had s core (mail ++ m ∷ []) channel write)
+    same_credits : (channel : ℕ) → ((access : Access) → credits_had s core mail channel access ≡ credits_had s core (mail ++ m ∷ []) channel access)
         → credits_now s core trace steps mail channel ≡ credits_now s core trace steps (mail ++ m ∷ []) channel
     same_credits channel g =
-        let both : ℕ → ℕ → Credits = λ r w. record { read = r - credits_spent s core trace steps channel false; write = w - credits_spent s core trace steps channel true } in
-        ap₂ both (g false) (g true)
+        let both : ℕ → ℕ → Credits = λ r w. record { read = r - credits_spent s core trace steps channel access.Read; write = w - credits_spent s core trace steps channel access.Write } in
+        ap₂ both (g access.Read) (g access.Write)
 
     answered : length (filter is_reply (mail ++ m ∷ [])) + length (outstanding_reads trace steps (mail ++ m ∷ [])) ≤ issued_before steps
     answered =
@@ -317,28 +315,25 @@ same_waiting trace steps a b h =
     waits k b = cond b (Some (record { entry = k; issued = issue_cycle steps k })) None
 
 -- a credit that is owed has room
-owed_room : (s : Config) (core : ℕ) (trace : List Entry) (steps : List CoreStep) (mail : List Message) (link : ℕ) (write : Bool) (due : IsOwed s core trace steps mail link write)
-    → credits_of_kind write (credits_now s core trace steps mail due.channel) + 1 < 2 ^ 64
-owed_room s core trace steps mail link true due = omega (arith, due.has_room, s.core_in_range.write_credits_in.1)
-owed_room s core trace steps mail link false due = omega (arith, due.has_room, s.core_in_range.read_credits_in.1)
+owed_room : (s : Config) (core : ℕ) (trace : List Entry) (steps : List CoreStep) (mail : List Message) (link : ℕ) (access : Access) (due : IsOwed s core trace steps mail link access)
+    → credits_of_kind access (credits_now s core trace steps mail due.channel) + 1 < 2 ^ 64
+owed_room s core trace steps mail link access.Read due = omega (arith, due.has_room, s.core_in_range.read_credits_in.1)
+owed_room s core trace steps mail link access.Write due = omega (arith, due.has_room, s.core_in_range.write_credits_in.1)
 
-same_pair : (d c : Credits) → d.read ≡ c.read → d.write ≡ c.write → d ≡ c
-same_pair d c e f = let both : ℕ → ℕ → Credits = λ r w. record { read = r; write = w } in ap₂ both e f
-
-more-of : (write : Bool) (hr hw sr sw : ℕ) → sr ≤ hr → sw ≤ hw → (d : Credits) → d.read ≡ hr + one_if (not write) - sr → d.write ≡ hw + one_if write - sw
-    → d ≡ more_credit write (record { read = hr - sr; write = hw - sw })
-more-of true hr hw sr sw l k d e f = same_pair d _ (omega arith) (omega arith)
-more-of false hr hw sr sw l k d e f = same_pair d _ (omega arith) (omega arith)
+more-of : (kind : Access) (hr hw sr sw : ℕ) → sr ≤ hr → sw ≤ hw → (d : Credits) → d.read ≡ hr + one_if (is_access access.Read kind) - sr → d.write ≡ hw + one_if (is_access access.Write kind) - sw
+    → d ≡ more_credit kind (record { read = hr - sr; write = hw - sw })
+more-of access.Read hr hw sr sw l k d e f = same_credits d _ (omega arith) (omega arith)
+more-of access.Write hr hw sr sw l k d e f = same_credits d _ (omega arith) (omega arith)
 
 -- the core after a credit
-pub credit-stands : (s : Config) (core : ℕ) (trace : List Entry) (steps : List CoreStep) (mail : List Message) (m : Message) (a b : CoreView) (write : Bool) (entry : ℕ)
-    → StandsAt s core trace steps mail a → m.arrival ≡ length steps → m.load ≡ load.Credit write entry → IsOwed s core trace steps mail m.link write
+pub credit-stands : (s : Config) (core : ℕ) (trace : List Entry) (steps : List CoreStep) (mail : List Message) (m : Message) (a b : CoreView) (kind : Access) (entry : ℕ)
+    → StandsAt s core trace steps mail a → m.arrival ≡ length steps → m.load ≡ load.Credit kind entry → IsOwed s core trace steps mail m.link kind
     → b ≡ record a { credits = b.credits } → length b.credits ≡ length a.credits
-    → ((channel : ℕ) (c : Credits) → slice_get a.credits channel ≡ Some c → (m.link / 3 % a.config.channels ≡ channel → credits_of_kind write c + 1 < 2 ^ 64)
-    → slice_get b.credits channel ≡ Some (cond (eqb (m.link / 3 % a.config.channels) channel) (more_credit write c) c))
+    → ((channel : ℕ) (c : Credits) → slice_get a.credits channel ≡ Some c → (m.link / 3 % a.config.channels ≡ channel → credits_of_kind kind c + 1 < 2 ^ 64)
+    → slice_get b.credits channel ≡ Some (cond (eqb (m.link / 3 % a.config.channels) channel) (more_credit kind c) c))
     → StandsAt s core trace steps (mail ++ m ∷ []) b
 unfolding core_stats
-credit-stands s core trace steps mail m a b write entry h now is due rest len each =
+credit-stands s core trace steps mail m a b kind entry h now is due rest len each =
     record {
       config = ap (λ (x : CoreView). x.config) rest ∙ h.config;
       number = ap (λ (x : CoreView). x.core) rest ∙ h.number;
@@ -347,7 +342,7 @@ credit-stands s core trace steps mail m a b write entry h now is due rest len ea
       outstanding = ap (λ (x : CoreView). x.outstanding) rest ∙ h.outstanding ∙ sym waits;
       channels = len ∙ h.channels;
       credits = λ channel l. each channel (credits_now s core trace steps mail channel) (h.credits channel l) (λ e. room channel (sym at ∙ e))
-          ∙ ap Some (ap (λ n. cond (eqb n channel) (more_credit write (credits_now s core trace steps mail channel)) (credits_now s core trace steps mail channel)) at ∙ owed channel l);
+          ∙ ap Some (ap (λ n. cond (eqb n channel) (more_credit kind (credits_now s core trace steps mail channel)) (credits_now s core trace steps mail channel)) at ∙ owed channel l);
       stats = ap (λ (x : CoreView). x.stats) rest ∙ h.stats ∙ stats;
       past = past-receives s core trace steps mail m h.past now (subst (λ x. IfSome (replied_entry x) (λ k. k < issued_before (take m.arrival steps))) (sym is) tt) answered;
     }
@@ -355,38 +350,38 @@ credit-stands s core trace steps mail m a b write entry h now is due rest len ea
     at : m.link / 3 % a.config.channels ≡ due.channel
     at = ap₂ (λ x (y : Config). x / 3 % y.channels) due.on_its_link h.config ∙ channel_of_link s core due.channel due.exists
 
-    room : (channel : ℕ) → due.channel ≡ channel → credits_of_kind write (credits_now s core trace steps mail channel) + 1 < 2 ^ 64
-    room channel e = subst (λ k. credits_of_kind write (credits_now s core trace steps mail k) + 1 < 2 ^ 64) e (owed_room s core trace steps mail m.link write due)
+    room : (channel : ℕ) → due.channel ≡ channel → credits_of_kind kind (credits_now s core trace steps mail channel) + 1 < 2 ^ 64
+    room channel e = subst (λ k. credits_of_kind kind (credits_now s core trace steps mail k) + 1 < 2 ^ 64) e (owed_room s core trace steps mail m.link kind due)
 
-    owed : (channel : ℕ) → channel < s.channels → cond (eqb due.channel channel) (more_credit write (credits_now s core trace steps mail channel)) (credits_now s core trace steps mail channel) ≡ credits_now s core trace steps (mail ++ m ∷ []) channel
+    owed : (channel : ℕ) → channel < s.channels → cond (eqb due.channel channel) (more_credit kind (credits_now s core trace steps mail channel)) (credits_now s core trace steps mail channel) ≡ credits_now s core trace steps (mail ++ m ∷ []) channel
     owed channel l =
         ⊎_elim
-        (λ same. ap (λ b. cond b (more_credit write (credits_now s core trace steps mail channel)) (credits_now s core trace steps mail channel)) (eq-eqb due.channel channel same)
-        ∙ sym (more-of write (credits_had s core mail channel false) (credits_had s core mail channel true) (credits_spent s core trace steps channel false) (credits_spent s core trace steps channel true)
-        (h.past.paid channel false) (h.past.paid channel true) (credits_now s core trace steps (mail ++ m ∷ []) channel)
-        (ap (λ n. n - credits_spent s core trace steps channel false) (had-more s core mail m channel false ∙ ap (λ n. credits_had s core mail channel false + n) (here channel same false)))
-        (ap (λ n. n - credits_spent s core trace steps channel true) (had-more s core mail m channel true ∙ ap (λ n. credits_had s core mail channel true + n) (here channel same true)))))
-        (λ other. ap (λ b. cond b (more_credit write (credits_now s core trace steps mail channel)) (credits_now s core trace steps mail channel)) (ne_eqb due.channel channel other)
+        (λ same. ap (λ b. cond b (more_credit kind (credits_now s core trace steps mail channel)) (credits_now s core trace steps mail channel)) (eq-eqb due.channel channel same)
+        ∙ sym (more-of kind (credits_had s core mail channel access.Read) (credits_had s core mail channel access.Write) (credits_spent s core trace steps channel access.Read) (credits_spent s core trace steps channel access.Write)
+        (h.past.paid channel access.Read) (h.past.paid channel access.Write) (credits_now s core trace steps (mail ++ m ∷ []) channel)
+        (ap (λ n. n - credits_spent s core trace steps channel access.Read) (had-more s core mail m channel access.Read ∙ ap (λ n. credits_had s core mail channel access.Read + n) (here channel same access.Read)))
+        (ap (λ n. n - credits_spent s core trace steps channel access.Write) (had-more s core mail m channel access.Write ∙ ap (λ n. credits_had s core mail channel access.Write + n) (here channel same access.Write)))))
+        (λ other. ap (λ b. cond b (more_credit kind (credits_now s core trace steps mail channel)) (credits_now s core trace steps mail channel)) (ne_eqb due.channel channel other)
         ∙ keeps channel (elsewhere channel l other))
         (same_or_not due.channel channel)
       where
         same_or_not : (x y : ℕ) → (x ≡ y) ⊎ (x ≡ y → ⊥)
         same_or_not x y = elim (eqb x y) as (λ b. eqb x y ≡ b → (x ≡ y) ⊎ (x ≡ y → ⊥)) [ true ↦ λ e. inl (eqb-true x y e) | false ↦ λ e. inr (eqb-false x y e) ] refl
 
-        here : (channel : ℕ) → due.channel ≡ channel → (w : Bool) → one_if (is_credit_from (credit_link s core channel) w m) ≡ one_if (cond w write (not write))
+        here : (channel : ℕ) → due.channel ≡ channel → (w : Access) → one_if (is_credit_from (credit_link s core channel) w m) ≡ one_if (is_access w kind)
         here channel same w =
             ap₂ (λ b x. one_if (b && is_credit w x)) (eq-eqb m.link (credit_link s core channel) (due.on_its_link ∙ ap (credit_link s core) same)) is
 
-        elsewhere : (channel : ℕ) → channel < s.channels → (due.channel ≡ channel → ⊥) → (w : Bool) → one_if (is_credit_from (credit_link s core channel) w m) ≡ 0
+        elsewhere : (channel : ℕ) → channel < s.channels → (due.channel ≡ channel → ⊥) → (w : Access) → one_if (is_credit_from (credit_link s core channel) w m) ≡ 0
         elsewhere channel l other w =
             ap (λ b. one_if (b && is_credit w m.load)) (ne_eqb m.link (credit_link s core channel)
             (λ e. other (sym (channel_of_link s core due.channel due.exists) ∙ ap (λ n. n / 3 % s.channels) (sym due.on_its_link ∙ e) ∙ channel_of_link s core channel l)))
 
-        keeps : (channel : ℕ) → ((w : Bool) → one_if (is_credit_from (credit_link s core channel) w m) ≡ 0) → credits_now s core trace steps mail channel ≡ credits_now s core trace steps (mail ++ m ∷ []) channel
+        keeps : (channel : ℕ) → ((w : Access) → one_if (is_credit_from (credit_link s core channel) w m) ≡ 0) → credits_now s core trace steps mail channel ≡ credits_now s core trace steps (mail ++ m ∷ []) channel
         keeps channel g =
-            let both : ℕ → ℕ → Credits = λ r w. record { read = r - credits_spent s core trace steps channel false; write = w - credits_spent s core trace steps channel true } in
-            let e : credits_had s core mail channel false ≡ credits_had s core (mail ++ m ∷ []) channel false = omega (arith, had-more s core mail m channel false, g false) in
-            let f : credits_had s core mail channel true ≡ credits_had s core (mail ++ m ∷ []) channel true = omega (arith, had-more s core mail m channel true, g true) in
+            let both : ℕ → ℕ → Credits = λ r w. record { read = r - credits_spent s core trace steps channel access.Read; write = w - credits_spent s core trace steps channel access.Write } in
+            let e : credits_had s core mail channel access.Read ≡ credits_had s core (mail ++ m ∷ []) channel access.Read = omega (arith, had-more s core mail m channel access.Read, g access.Read) in
+            let f : credits_had s core mail channel access.Write ≡ credits_had s core (mail ++ m ∷ []) channel access.Write = omega (arith, had-more s core mail m channel access.Write, g access.Write) in
             ap₂ both e f
 
     not_a_reply : is_reply m ≡ false

@@ -16,7 +16,7 @@ use Rattle.statistics.specs.declared.cores.CoreStats.{CoreStats}
 use Rattle.core_window.specs.Inside.{StandsAt, IsStanding, IsLike, Does}
 use Rattle.core_window.specs.Rests.{idle_step, Rests, IsFirstAct, IsAtRest, MayRest}
 use Rattle.core_window.proofs.Stretching.{steady-none, steady-more, none_issues, idle-like}
-use Rattle.core_window.proofs.Working.{like-self, issued_of, retired_of}
+use Rattle.core_window.proofs.Working.{like-self, issued_of}
 use Rattle.core_window.proofs.Retiring.{retires-by}
 use Rattle.core_window.specs.Causes.{first_undone}
 use Rattle.core_window.specs.Outstanding.{outstanding_reads}
@@ -24,7 +24,7 @@ use Rattle.core_window.specs.declared.outstanding.OutstandingRead.{OutstandingRe
 use Rattle.core_window.specs.Stands.{StandsFor}
 use Rattle.core_window.specs.OneCycle.{IsWork, cycle_counts}
 use Rattle.core_window.specs.Views.{CoreView}
-use Rattle.core_window.proofs.Stepping.{step-stands}
+use Rattle.core_window.proofs.Stepping.{step-stands, retired_of}
 use Rattle.core_window.proofs.Running.{stands-at}
 
 -- what is counted in a cycle in which a core does nothing

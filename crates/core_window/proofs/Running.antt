@@ -13,18 +13,20 @@ use Rattle.sim_base.specs.Machine.{core_run}
 use Rattle.sim_base.specs.Windows.{is_credit, is_credit_on, is_request_for, credit_cap, held, step}
 use Rattle.sim_base.specs.Final.{credits_left}
 use Rattle.sim_base.specs.declared.history.CoreStep.{CoreStep}
+use Rattle.sim_base.specs.declared.message.Access.{Access}
+use Rattle.sim_base.specs.declared.message.Access.TheVariants as access
 use Rattle.sim_base.specs.declared.message.Message.{Message}
 use Rattle.sim_base.specs.declared.trace.Entry.{Entry}
-use Rattle.sim_base.proofs.Arrived.{NotBefore}
+use Rattle.sim_base.proofs.Arrived.{NotBefore, NotBefore-weaker}
 use Rattle.sim_base.proofs.Ordered.{Each-weaker}
 use Rattle.sim_base.proofs.Same.{step-same}
 use Rattle.statistics.specs.Counts.{one_if}
 use Rattle.sim_base.specs.Counts.{is_reply}
+use Rattle.sim_base.proofs.Kept.{arrived-added}
+use Rattle.sim_base.proofs.Added.{length-push_suc}
 use Rattle.statistics.specs.Cores.{core_stats, replies_in, is_reply_in}
 use Rattle.statistics.specs.Runs.{credits_of}
 use Rattle.statistics.specs.declared.final_state.Credits.{Credits}
-use Rattle.statistics.proofs.Lists.{length-push_suc}
-use Rattle.statistics.proofs.Messages.{arrived-later, NotBefore-sooner}
 use Rattle.core_window.specs.Fit.{IsDue, IsByArrival, Fit, MayRun, Runs, RunsOnto}
 use Rattle.core_window.specs.Inside.{credits_now, StandsAt, IsStanding, IsReceiving, IsMidway, Sends, Advances, GoesOn}
 use Rattle.core_window.specs.Stands.{StandsFor, is_credit_from, credits_had}
@@ -55,9 +57,9 @@ core_run-later s core trace steps mail later zero h = refl
 core_run-later s core trace steps mail later (suc n) h =
     let before = core_run s core trace steps mail n in
     let len : length before ≡ length steps + n = length-core_run s core trace steps mail n in
-    ap (λ r. r ++ (step s core trace r (mail ++ later)).0 ∷ []) (core_run-later s core trace steps mail later n (NotBefore-sooner (length steps + n) (length steps + suc n) (omega arith) later h))
+    ap (λ r. r ++ (step s core trace r (mail ++ later)).0 ∷ []) (core_run-later s core trace steps mail later n (NotBefore-weaker (length steps + n) (length steps + suc n) (omega arith) later h))
     ∙ ap (λ x. before ++ x.0 ∷ []) (step-same s core trace before (mail ++ later) mail
-    (arrived-later (length before + 1) mail later (NotBefore-sooner (length before + 1) (length steps + suc n) (omega arith) later h)))
+    (arrived-added (length before + 1) mail later (NotBefore-weaker (length before + 1) (length steps + suc n) (omega arith) later h)))
 
 -- a core that goes on
 pub record IsUnderway (until : ℕ) (a : CoreView) (before : List Message) (b : CoreView) (after : List Message) : Type 0 where
@@ -111,11 +113,11 @@ underway-standing until a b x y u h =
     record { s = h.s; core = h.core; trace = h.trace; steps = core_run h.s h.core h.trace h.steps h.mail (b.now - a.now); mail = h.mail; stands = (u.advances.sends h.s h.core h.trace h.steps h.mail h.stands).0 }
 
 -- all of the mail came before a cycle
-held-all : (s : Config) (core : ℕ) (mail sent : List Message) (channel : ℕ) (write : Bool) (until : ℕ) → Each (λ m. m.arrival < until) mail
-    → held s core mail sent channel write until ≡ credits_had s core mail channel write - count_by (λ m. is_request_for channel write m.load) sent
+held-all : (s : Config) (core : ℕ) (mail sent : List Message) (channel : ℕ) (access : Access) (until : ℕ) → Each (λ m. m.arrival < until) mail
+    → held s core mail sent channel access until ≡ credits_had s core mail channel access - count_by (λ m. is_request_for channel access m.load) sent
 unfolding held
-held-all s core mail sent channel write until h =
-    ap (λ n. credit_cap s write + n - count_by (λ (m : Message). is_request_for channel write m.load) sent) (same mail h)
+held-all s core mail sent channel access until h =
+    ap (λ n. credit_cap s access + n - count_by (λ (m : Message). is_request_for channel access m.load) sent) (same mail h)
   where
     link : ℕ
     link = credit_link s core channel
@@ -124,20 +126,20 @@ held-all s core mail sent channel write until h =
     and_true true = refl
     and_true false = refl
 
-    same : (ms : List Message) → Each (λ m. m.arrival < until) ms → count_by (is_credit_on link write until) ms ≡ count_by (is_credit_from link write) ms
+    same : (ms : List Message) → Each (λ m. m.arrival < until) ms → count_by (is_credit_on link access until) ms ≡ count_by (is_credit_from link access) ms
     same [] k = refl
     same (m ∷ ms) k =
-        sum_by-cons (λ (x : Message). one_if (is_credit_on link write until x)) m ms
-        ∙ ap₂ (λ b n. one_if (eqb m.link link && is_credit write m.load && b) + n) (lt-ltb m.arrival until k.0) (same ms k.1)
-        ∙ ap (λ b. one_if b + count_by (is_credit_from link write) ms) (and_true (eqb m.link link && is_credit write m.load))
-        ∙ sym (sum_by-cons (λ (x : Message). one_if (is_credit_from link write x)) m ms)
+        sum_by-cons (λ (x : Message). one_if (is_credit_on link access until x)) m ms
+        ∙ ap₂ (λ b n. one_if (eqb m.link link && is_credit access m.load && b) + n) (lt-ltb m.arrival until k.0) (same ms k.1)
+        ∙ ap (λ b. one_if b + count_by (is_credit_from link access) ms) (and_true (eqb m.link link && is_credit access m.load))
+        ∙ sym (sum_by-cons (λ (x : Message). one_if (is_credit_from link access x)) m ms)
 
 credits_of-now : (s : Config) (core : ℕ) (trace : List Entry) (steps : List CoreStep) (mail : List Message) (channel : ℕ) → Each (λ m. m.arrival < length steps) mail
     → credits_of s core trace steps mail channel ≡ credits_now s core trace steps mail channel
 unfolding credits_of credits_left
 credits_of-now s core trace steps mail channel h =
     let both : ℕ → ℕ → Credits = λ r w. record { read = r; write = w } in
-    ap₂ both (held-all s core mail (core_messages s core trace steps) channel false (length steps) h) (held-all s core mail (core_messages s core trace steps) channel true (length steps) h)
+    ap₂ both (held-all s core mail (core_messages s core trace steps) channel access.Read (length steps) h) (held-all s core mail (core_messages s core trace steps) channel access.Write (length steps) h)
 
 none_now : (n : ℕ) (mail : List Message) → Each (λ m. m.arrival < n) mail → replies_in n mail ≡ []
 unfolding replies_in

@@ -1,6 +1,5 @@
 -- The entries of a trace, one more at a time.
-use Rattle.std.proofs.Common.{◌≡◌, ℕ, zero, suc, ◌+◌, ◌-◌, ◌<◌, ◌≤◌, Bool, true, false, ◌||◌, List, [], ◌∷◌, ◌++◌, take, drop, Option, Some, None, refl, sym, ap, ap₂, ◌∙◌, add-zero, zero-add, ltb, cond, arith, ⊎_elim}
-use Rattle.std.proofs.Math.Nat.{suc-add}
+use Rattle.std.proofs.Common.{◌≡◌, ℕ, zero, suc, ◌+◌, ◌-◌, ◌<◌, ◌≤◌, Bool, true, false, ◌||◌, List, [], ◌++◌, take, drop, Option, Some, None, refl, sym, ap, ap₂, ◌∙◌, zero-add, ltb, cond, arith, ⊎_elim}
 use Rattle.std.specs.Prelude.{slice_get, option_map, option_and_then, count_by}
 use Rattle.std.specs.Option.{option_to_list}
 use Rattle.std.specs.List.{filter_map, list_any, enumerate_from, cons_option}
@@ -9,31 +8,14 @@ use Rattle.std.proofs.lemmas.List.Elements.{filter_map-append}
 use Rattle.std.proofs.lemmas.List.Folds.{list_any-append}
 use Rattle.std.proofs.lemmas.List.Sums.{sum_by-append}
 use Rattle.std.proofs.lemmas.List.{append-nil}
+use Rattle.std.proofs.Math.Bool.{or-true}
 use Rattle.sim_base.specs.declared.config.Config.{Config}
 use Rattle.sim_base.specs.declared.message.Message.{Message}
 use Rattle.sim_base.specs.declared.trace.Entry.{Entry}
 use Rattle.sim_base.specs.History.{request_of, requests_between}
 use Rattle.sim_base.specs.Windows.{is_memory, is_memory_in, has_memory}
+use Rattle.sim_base.proofs.Lists.{take_more, slice_get-drop, slice_get-enumerate}
 use Rattle.statistics.specs.Counts.{one_if}
-
-take_more : {X : Type 0} (xs : List X) (k : ℕ) → take (suc k) xs ≡ take k xs ++ option_to_list (slice_get xs k)
-take_more [] zero = refl
-take_more [] (suc k) = refl
-take_more (x ∷ xs) zero = refl
-take_more (x ∷ xs) (suc k) = ap (λ l. x ∷ l) (take_more xs k)
-
-slice_get-drop : {X : Type 0} (xs : List X) (n k : ℕ) → slice_get (drop n xs) k ≡ slice_get xs (n + k)
-slice_get-drop [] zero k = refl
-slice_get-drop [] (suc n) k = refl
-slice_get-drop (x ∷ xs) zero k = ap (slice_get (x ∷ xs)) (sym (zero-add k))
-slice_get-drop (x ∷ xs) (suc n) k = slice_get-drop xs n k ∙ ap (slice_get (x ∷ xs)) (sym (suc-add n k))
-
-slice_get-enumerate : {X : Type 0} (i : ℕ) (xs : List X) (k : ℕ) → slice_get (enumerate_from i xs) k ≡ option_map (λ x. (i + k, x)) (slice_get xs k)
-slice_get-enumerate i [] k = refl
-slice_get-enumerate i (x ∷ xs) zero = ap (λ n. Some (n, x)) (sym (add-zero i))
-slice_get-enumerate i (x ∷ xs) (suc k) =
-    let e : i + 1 + k ≡ i + suc k = omega arith in
-    slice_get-enumerate (i + 1) xs k ∙ ap (λ n. option_map (λ x. (n, x)) (slice_get xs k)) e
 
 -- the request of the entry of a number
 abbrev pub request_at : Config → ℕ → List Entry → ℕ → ℕ → List Message
@@ -86,10 +68,6 @@ has_memory-false trace first zero h = refl
 has_memory-false trace first (suc m) h =
     has_memory-more trace first m
     ∙ ap₂ (λ a b. a || (b || false)) (has_memory-false trace first m (λ k l. h k (omega arith))) (h m (omega arith))
-
-or-true : (b : Bool) → (b || true) ≡ true
-or-true true = refl
-or-true false = refl
 
 pub has_memory-true : (trace : List Entry) (first m k : ℕ) → k < m → is_memory_in (slice_get trace (first + k)) ≡ true → has_memory trace first m ≡ true
 has_memory-true trace first zero k l h = absurd (omega arith)

@@ -11,9 +11,9 @@ use Rattle.sim_base.specs.Windows.{step}
 use Rattle.sim_base.specs.declared.history.CoreStep.{CoreStep}
 use Rattle.sim_base.specs.declared.message.Message.{Message}
 use Rattle.sim_base.specs.declared.trace.Entry.{Entry}
+use Rattle.sim_base.proofs.Grows.{issued_before-push}
 use Rattle.cpu_trace.specs.NextMemory.{IsPlainBetween}
 use Rattle.statistics.proofs.CoreBounds.{first_stop-le_width, issues-le}
-use Rattle.statistics.proofs.CoreSteps.{issued_before-push}
 use Rattle.core_window.specs.Inside.{StandsAt}
 use Rattle.core_window.specs.Rests.{idle_step, IsAtRest}
 use Rattle.core_window.specs.Silence.{IsSilentUntil}

@@ -59,7 +59,7 @@ past-first s core trace l =
       follows = tt;
       done = λ entry b read. absurd (omega arith);
       answered = omega arith;
-      paid = λ channel write. omega arith;
+      paid = λ channel access. omega arith;
     }
 
 pub start-stands : (s : Config) (core : ℕ) (trace : List Entry) (v : CoreView) → v.config ≡ s → v.core ≡ core → v.trace ≡ trace → v.now ≡ 0 → v.outstanding ≡ []

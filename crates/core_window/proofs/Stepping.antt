@@ -1,5 +1,5 @@
 -- A core that stands for some steps stands, after what it does in a cycle, for one core_step more.
-use Rattle.std.proofs.Common.{get_or, ◌≡◌, ℕ, ◌+◌, ◌-◌, ◌^◌, ◌<◌, ◌≤◌, min, Bool, true, false, cond, not, ◌&&◌, eqb, ltb, leb, List, [], ◌∷◌, ◌++◌, length, take, drop, Option, Some, None, refl, sym, ap, ap₂, subst, ◌∙◌, add-zero, zero-add, arith, ⊎_elim}
+use Rattle.std.proofs.Common.{get_or, ◌≡◌, ℕ, ◌+◌, ◌-◌, ◌^◌, ◌<◌, ◌≤◌, min, Bool, true, false, cond, ◌&&◌, eqb, ltb, leb, List, [], ◌∷◌, ◌++◌, length, take, drop, Option, Some, None, refl, sym, ap, ap₂, subst, ◌∙◌, add-zero, zero-add, arith, ⊎_elim}
 use Rattle.std.specs.Prelude.{slice_get, count_by, filter}
 use Rattle.std.specs.Option.{IfSome, option_to_list}
 use Rattle.std.specs.List.{AllByRecursion as Each, prefix_len, range_with_len}
@@ -11,25 +11,30 @@ use Rattle.std.proofs.lemmas.List.FromFn.{length-range_with_len, get_or-range_wi
 use Rattle.sim_base.specs.declared.config.Config.{Config}
 use Rattle.sim_base.specs.Config.{credit_link}
 use Rattle.sim_base.specs.Counts.{is_read, is_write, is_reply, is_reply_before, replies, replied_entry}
+use Rattle.sim_base.specs.Access.{is_access}
 use Rattle.sim_base.specs.History.{retired_before, issued_before, core_messages}
 use Rattle.sim_base.specs.Places.{place_of}
 use Rattle.sim_base.specs.Windows.{is_credit, is_credit_on, is_request_for, credit_cap, held, lacks_credit, is_done, is_done_as, is_replied, done_from, retires, step}
 use Rattle.sim_base.specs.Machine.{core_run}
 use Rattle.sim_base.specs.declared.history.CoreStep.{CoreStep}
+use Rattle.sim_base.specs.declared.message.Access.{Access}
+use Rattle.sim_base.specs.declared.message.Access.TheVariants as access
 use Rattle.sim_base.specs.declared.message.Message.{Message}
 use Rattle.sim_base.specs.declared.trace.Entry.{Entry}
 use Rattle.sim_base.specs.declared.trace.Entry.TheVariants.{Plain, Read, Write}
 use Rattle.sim_base.specs.declared.trace.Stop.{Stop}
 use Rattle.sim_base.proofs.Ordered.{Each-weaker}
+use Rattle.sim_base.proofs.Added.{length-push_suc}
+use Rattle.sim_base.proofs.Grows.{issued_before-push}
 use Rattle.cpu_trace.specs.declared.entries.MemoryEntry.{MemoryEntry}
 use Rattle.statistics.specs.Counts.{one_if}
 use Rattle.statistics.specs.Cores.{core_stats, core_cycle, core_cycle_with, core_joined, issued_in, replies_in, finish_in, is_reply_in, waited, RepliesFollowReads, CoreFits}
 use Rattle.statistics.specs.declared.cores.CoreStats.{CoreStats}
 use Rattle.statistics.specs.declared.final_state.Credits.{Credits}
 use Rattle.statistics.proofs.CoreBounds.{retires-le, issues-le, core_stats-fit}
-use Rattle.statistics.proofs.CoreSteps.{core_stats-push, issued_before-push, retired_before-push}
+use Rattle.statistics.proofs.CoreSteps.{core_stats-push, retired_before-push}
 use Rattle.statistics.proofs.CoreStretches.{core_joined-assoc}
-use Rattle.statistics.proofs.Lists.{length-push_suc, take-push, option_or-none}
+use Rattle.statistics.proofs.Lists.{take-push, option_or-none}
 use Rattle.core_window.specs.Inside.{credits_now, core_arrived, StandsAt, Sends, Advances}
 use Rattle.core_window.specs.Stands.{IsPast, FollowsItsEntry, is_credit_from, credits_had, credits_spent}
 use Rattle.core_window.specs.OneCycle.{IsIssued, IsWork, reads_issued, requests_issued, credit_after, cycle_counts, is_read_among, is_write_among}
@@ -98,11 +103,11 @@ stats-push s core trace steps mail core_step why memory past cycle_work =
     ∙ sym (core_stats-push s core trace steps core_step mail (follows-read steps core_step mail past.arrived past.follows))
 
 -- all of the mail counts
-pub held-now : (s : Config) (core : ℕ) (mail sent : List Message) (channel : ℕ) (write : Bool) (now : ℕ) → Each (λ m. m.arrival ≤ now) mail
-    → held s core mail sent channel write (now + 1) ≡ credits_had s core mail channel write - count_by (λ m. is_request_for channel write m.load) sent
+pub held-now : (s : Config) (core : ℕ) (mail sent : List Message) (channel : ℕ) (access : Access) (now : ℕ) → Each (λ m. m.arrival ≤ now) mail
+    → held s core mail sent channel access (now + 1) ≡ credits_had s core mail channel access - count_by (λ m. is_request_for channel access m.load) sent
 unfolding held
-held-now s core mail sent channel write now h =
-    ap (λ n. credit_cap s write + n - count_by (λ (m : Message). is_request_for channel write m.load) sent) (same mail h)
+held-now s core mail sent channel access now h =
+    ap (λ n. credit_cap s access + n - count_by (λ (m : Message). is_request_for channel access m.load) sent) (same mail h)
   where
     link : ℕ
     link = credit_link s core channel
@@ -111,46 +116,46 @@ held-now s core mail sent channel write now h =
     and_true true = refl
     and_true false = refl
 
-    same : (ms : List Message) → Each (λ m. m.arrival ≤ now) ms → count_by (is_credit_on link write (now + 1)) ms ≡ count_by (is_credit_from link write) ms
+    same : (ms : List Message) → Each (λ m. m.arrival ≤ now) ms → count_by (is_credit_on link access (now + 1)) ms ≡ count_by (is_credit_from link access) ms
     same [] k = refl
     same (m ∷ ms) k =
-        sum_by-cons (λ (x : Message). one_if (is_credit_on link write (now + 1) x)) m ms
-        ∙ ap₂ (λ b n. one_if (eqb m.link link && is_credit write m.load && b) + n) (lt-ltb m.arrival (now + 1) (omega (arith, k.0))) (same ms k.1)
-        ∙ ap (λ b. one_if b + count_by (is_credit_from link write) ms) (and_true (eqb m.link link && is_credit write m.load))
-        ∙ sym (sum_by-cons (λ (x : Message). one_if (is_credit_from link write x)) m ms)
+        sum_by-cons (λ (x : Message). one_if (is_credit_on link access (now + 1) x)) m ms
+        ∙ ap₂ (λ b n. one_if (eqb m.link link && is_credit access m.load && b) + n) (lt-ltb m.arrival (now + 1) (omega (arith, k.0))) (same ms k.1)
+        ∙ ap (λ b. one_if b + count_by (is_credit_from link access) ms) (and_true (eqb m.link link && is_credit access m.load))
+        ∙ sym (sum_by-cons (λ (x : Message). one_if (is_credit_from link access x)) m ms)
 
 -- a memory entry issues only with a credit
-paid-entry : (s : Config) (core : ℕ) (trace : List Entry) (steps : List CoreStep) (mail : List Message) (channel : ℕ) (write : Bool) (entry : Entry)
-    → Each (λ m. m.arrival ≤ length steps) mail → credits_spent s core trace steps channel write ≤ credits_had s core mail channel write
+paid-entry : (s : Config) (core : ℕ) (trace : List Entry) (steps : List CoreStep) (mail : List Message) (channel : ℕ) (kind : Access) (entry : Entry)
+    → Each (λ m. m.arrival ≤ length steps) mail → credits_spent s core trace steps channel kind ≤ credits_had s core mail channel kind
     → lacks_credit s core mail (core_messages s core trace steps) (length steps) (Some entry) ≡ false
-    → credits_spent s core trace steps channel write + one_if (is_spending_entry s channel write entry) ≤ credits_had s core mail channel write
+    → credits_spent s core trace steps channel kind + one_if (is_spending_entry s channel kind entry) ≤ credits_had s core mail channel kind
 unfolding lacks_credit
-paid-entry s core trace steps mail channel write Plain a h l = omega arith
-paid-entry s core trace steps mail channel write (Read address) a h l = by (eqb (place_of s address).channel channel) write refl refl
+paid-entry s core trace steps mail channel kind Plain a h l = omega arith
+paid-entry s core trace steps mail channel kind (Read address) a h l = by (eqb (place_of s address).channel channel) kind refl refl
   where
-    by : (b w : Bool) → eqb (place_of s address).channel channel ≡ b → write ≡ w
-        → credits_spent s core trace steps channel write + one_if (b && not w) ≤ credits_had s core mail channel write
-    by true true e f = omega arith
+    by : (b : Bool) (w : Access) → eqb (place_of s address).channel channel ≡ b → kind ≡ w
+        → credits_spent s core trace steps channel kind + one_if (b && is_access w access.Read) ≤ credits_had s core mail channel kind
+    by true access.Write e f = omega arith
     by false w e f = omega arith
-    by true false e f =
+    by true access.Read e f =
         let same : (place_of s address).channel ≡ channel = eqb-true _ _ e in
-        let some : held s core mail (core_messages s core trace steps) (place_of s address).channel false (length steps + 1) ≡ 0 → ⊥ = eqb-false _ _ l in
-        let k : held s core mail (core_messages s core trace steps) channel write (length steps + 1) ≡ held s core mail (core_messages s core trace steps) (place_of s address).channel false (length steps + 1) =
+        let some : held s core mail (core_messages s core trace steps) (place_of s address).channel access.Read (length steps + 1) ≡ 0 → ⊥ = eqb-false _ _ l in
+        let k : held s core mail (core_messages s core trace steps) channel kind (length steps + 1) ≡ held s core mail (core_messages s core trace steps) (place_of s address).channel access.Read (length steps + 1) =
         ap₂ (λ c w. held s core mail (core_messages s core trace steps) c w (length steps + 1)) (sym same) f in
-        let n = held-now s core mail (core_messages s core trace steps) channel write (length steps) a in
+        let n = held-now s core mail (core_messages s core trace steps) channel kind (length steps) a in
         omega arith
-paid-entry s core trace steps mail channel write (Write address) a h l = by (eqb (place_of s address).channel channel) write refl refl
+paid-entry s core trace steps mail channel kind (Write address) a h l = by (eqb (place_of s address).channel channel) kind refl refl
   where
-    by : (b w : Bool) → eqb (place_of s address).channel channel ≡ b → write ≡ w
-        → credits_spent s core trace steps channel write + one_if (b && w) ≤ credits_had s core mail channel write
-    by true false e f = omega arith
+    by : (b : Bool) (w : Access) → eqb (place_of s address).channel channel ≡ b → kind ≡ w
+        → credits_spent s core trace steps channel kind + one_if (b && is_access w access.Write) ≤ credits_had s core mail channel kind
+    by true access.Read e f = omega arith
     by false w e f = omega arith
-    by true true e f =
+    by true access.Write e f =
         let same : (place_of s address).channel ≡ channel = eqb-true _ _ e in
-        let some : held s core mail (core_messages s core trace steps) (place_of s address).channel true (length steps + 1) ≡ 0 → ⊥ = eqb-false _ _ l in
-        let k : held s core mail (core_messages s core trace steps) channel write (length steps + 1) ≡ held s core mail (core_messages s core trace steps) (place_of s address).channel true (length steps + 1) =
+        let some : held s core mail (core_messages s core trace steps) (place_of s address).channel access.Write (length steps + 1) ≡ 0 → ⊥ = eqb-false _ _ l in
+        let k : held s core mail (core_messages s core trace steps) channel kind (length steps + 1) ≡ held s core mail (core_messages s core trace steps) (place_of s address).channel access.Write (length steps + 1) =
         ap₂ (λ c w. held s core mail (core_messages s core trace steps) c w (length steps + 1)) (sym same) f in
-        let n = held-now s core mail (core_messages s core trace steps) channel write (length steps) a in
+        let n = held-now s core mail (core_messages s core trace steps) channel kind (length steps) a in
         omega arith
 
 -- an entry that retires is done
@@ -205,16 +210,16 @@ past-push s core trace steps mail core_step why memory past cycle_work =
       follows = follows-entry steps core_step mail past.arrived past.follows;
       done = λ entry b read. ⊎_elim (λ l. past.done entry l read) (λ g. retired_done s trace steps mail past.arrived entry g (omega (arith, retired_is)) read) (cases_lt entry (retired_before steps));
       answered = omega (arith, past.answered, ap length (outstanding_reads-push trace steps core_step mail memory past.follows cycle_work.issues), length-append (outstanding_reads trace steps mail) (reads_issued memory (length steps)), reads_few memory (length steps) trace (issued_before steps) core_step.issued cycle_work.issues);
-      paid = λ channel write. subst (λ n. n ≤ credits_had s core mail channel write) (sym (spent-push s core trace steps core_step memory cycle_work.issues channel write)) (paid memory cycle_work.credit channel write);
+      paid = λ channel access. subst (λ n. n ≤ credits_had s core mail channel access) (sym (spent-push s core trace steps core_step memory cycle_work.issues channel access)) (paid memory cycle_work.credit channel access);
     }
   where
     retired_is : retires s trace steps mail ≡ core_step.retired
     retired_is = retired-step s core trace steps mail core_step why cycle_work.does
 
-    paid : (o : Option MemoryEntry) → IfSome o (λ e. lacks_credit s core mail (core_messages s core trace steps) (length steps) (Some e.entry) ≡ false) → (channel : ℕ) (write : Bool)
-        → credits_spent s core trace steps channel write + one_if (is_spending s channel write o) ≤ credits_had s core mail channel write
-    paid None h channel write = omega (arith, past.paid channel write)
-    paid (Some e) h channel write = paid-entry s core trace steps mail channel write e.entry past.arrived (past.paid channel write) h
+    paid : (o : Option MemoryEntry) → IfSome o (λ e. lacks_credit s core mail (core_messages s core trace steps) (length steps) (Some e.entry) ≡ false) → (channel : ℕ) (access : Access)
+        → credits_spent s core trace steps channel access + one_if (is_spending s channel access o) ≤ credits_had s core mail channel access
+    paid None h channel access = omega (arith, past.paid channel access)
+    paid (Some e) h channel access = paid-entry s core trace steps mail channel access e.entry past.arrived (past.paid channel access) h
 
 -- no message of the next cycle came yet
 none_arrived : (steps : List CoreStep) (core_step : CoreStep) (mail : List Message) → Each (λ m. m.arrival ≤ length steps) mail → replies_in (length (steps ++ core_step ∷ [])) mail ≡ []
@@ -245,7 +250,7 @@ pub record IsStep (a b : CoreView) (core_step : CoreStep) (why : Stop) (memory :
   pub credits : (channel : ℕ) (c : Credits) → slice_get a.credits channel ≡ Some c → slice_get b.credits channel ≡ Some (credit_after a.config channel memory c)
   pub stats : b.stats ≡ core_joined a.stats (cycle_counts core_step why memory a.stats.retired (length a.trace) a.now)
 
-retired_of : (s : Config) (core : ℕ) (trace : List Entry) (steps : List CoreStep) (mail : List Message) (a : CoreView) → StandsAt s core trace steps mail a → a.stats.retired ≡ retired_before steps
+pub retired_of : (s : Config) (core : ℕ) (trace : List Entry) (steps : List CoreStep) (mail : List Message) (a : CoreView) → StandsAt s core trace steps mail a → a.stats.retired ≡ retired_before steps
 unfolding core_stats
 retired_of s core trace steps mail a h = ap (λ (x : CoreStats). x.retired) h.stats ∙ add-zero (retired_before steps)
 

@@ -5,6 +5,7 @@ use Rattle.std.specs.Prelude.{Result, Ok, Err}
 use Rattle.std.specs.Prelude.{OnOk}
 use Rattle.std.proofs.lemmas.List.{append-nil}
 use Rattle.std.proofs.lemmas.Bool.{cases_lt, le-ltb, lt-leb}
+use Rattle.std.proofs.Math.Nat.{suc-mul}
 use Rattle.sim_base.specs.History.{issued_before}
 use Rattle.sim_base.specs.Machine.{core_run}
 use Rattle.sim_base.specs.Counts.{is_stop}
@@ -80,16 +81,13 @@ steady-none a core_step why =
     let with : ℕ → CoreStats → CoreView = λ n st. record a { now = n; stats = st } in
     ap₂ with (sym (add-zero a.now)) (sym (none_counted a.stats core_step why))
 
-times_suc : (n x : ℕ) → suc n * x ≡ n * x + x
-times_suc n x = grind arith
-
 -- a shorter stretch
 steady-fewer : (a : CoreView) (n : ℕ) (core_step : CoreStep) (why : Stop) → IsSteady a (suc n) core_step why → IsSteady a n core_step why
 steady-fewer a n core_step why h =
     record {
       works = λ k l. h.works k (omega arith);
       unfinished =
-          let e = times_suc n core_step.retired in
+          let e = suc-mul n core_step.retired in
           ⊎_elim (λ z. inl (omega arith)) (λ l. inr (omega arith)) h.unfinished;
     }
 
@@ -97,7 +95,7 @@ steady-fewer a n core_step why h =
 last-unfinished : (a : CoreView) (n : ℕ) (core_step : CoreStep) (why : Stop) → IsSteady a (suc n) core_step why
     → (core_step.retired ≡ 0) ⊎ (a.stats.retired + n * core_step.retired + core_step.retired < length a.trace)
 last-unfinished a n core_step why h =
-    let e = times_suc n core_step.retired in
+    let e = suc-mul n core_step.retired in
     ⊎_elim (λ z. inl (omega arith)) (λ l. inr (omega arith)) h.unfinished
 
 steady-step : (a : CoreView) (n : ℕ) (core_step : CoreStep) (why : Stop) → IsSteady a (suc n) core_step why → IsStep (steady_view a core_step why n) (steady_view a core_step why (suc n)) core_step why None

@@ -9,6 +9,7 @@ use Rattle.sim_base.specs.History.{retired_before, issued_before, core_messages}
 use Rattle.sim_base.specs.Places.{place_of}
 use Rattle.sim_base.specs.Windows.{is_memory_in, lacks_credit, first_stop, stop_after, step_with, step}
 use Rattle.sim_base.specs.declared.history.CoreStep.{CoreStep}
+use Rattle.sim_base.specs.declared.message.Access.TheVariants as access
 use Rattle.sim_base.specs.declared.message.Message.{Message}
 use Rattle.sim_base.specs.declared.trace.Entry.{Entry}
 use Rattle.sim_base.specs.declared.trace.Entry.TheVariants.{Plain, Read, Write}
@@ -26,7 +27,7 @@ use Rattle.core_window.specs.Views.{CoreView}
 use Rattle.core_window.specs.Outstanding.{outstanding_reads}
 use Rattle.core_window.specs.declared.outstanding.OutstandingRead.{OutstandingRead}
 use Rattle.core_window.proofs.Retiring.{retires-by}
-use Rattle.core_window.proofs.Stepping.{held-now}
+use Rattle.core_window.proofs.Stepping.{held-now, retired_of}
 
 -- what a core finds out for a cycle
 pub record Found (s : Config) (core : ℕ) (trace : List Entry) (mail sent : List Message) (now number before : ℕ) (outstanding : List OutstandingRead) (r one two : ℕ) (lacks : Bool) (m : ℕ) (why : Stop) (memory : Option MemoryEntry) : Type 0 where
@@ -41,10 +42,6 @@ pub record Found (s : Config) (core : ℕ) (trace : List Entry) (mail sent : Lis
 pub issued_of : (s : Config) (core : ℕ) (trace : List Entry) (steps : List CoreStep) (mail : List Message) (a : CoreView) → StandsAt s core trace steps mail a → a.stats.issued ≡ issued_before steps
 unfolding core_stats
 issued_of s core trace steps mail a h = ap (λ (x : CoreStats). x.issued) h.stats ∙ add-zero (issued_before steps)
-
-pub retired_of : (s : Config) (core : ℕ) (trace : List Entry) (steps : List CoreStep) (mail : List Message) (a : CoreView) → StandsAt s core trace steps mail a → a.stats.retired ≡ retired_before steps
-unfolding core_stats
-retired_of s core trace steps mail a h = ap (λ (x : CoreStats). x.retired) h.stats ∙ add-zero (retired_before steps)
 
 -- what holds of the numbers of a core
 pub record IsSound (a : CoreView) : Type 0 where
@@ -142,8 +139,8 @@ lacks_credit-by : (s : Config) (core : ℕ) (trace : List Entry) (steps : List C
     → lacks_credit s core mail (core_messages s core trace steps) (length steps) (Some entry) ≡ lacks_by s (credits_now s core trace steps mail) entry
 unfolding lacks_credit
 lacks_credit-by s core trace steps mail Plain h = refl
-lacks_credit-by s core trace steps mail (Read address) h = ap (λ n. eqb n 0) (held-now s core mail (core_messages s core trace steps) (place_of s address).channel false (length steps) h)
-lacks_credit-by s core trace steps mail (Write address) h = ap (λ n. eqb n 0) (held-now s core mail (core_messages s core trace steps) (place_of s address).channel true (length steps) h)
+lacks_credit-by s core trace steps mail (Read address) h = ap (λ n. eqb n 0) (held-now s core mail (core_messages s core trace steps) (place_of s address).channel access.Read (length steps) h)
+lacks_credit-by s core trace steps mail (Write address) h = ap (λ n. eqb n 0) (held-now s core mail (core_messages s core trace steps) (place_of s address).channel access.Write (length steps) h)
 
 -- what a core finds out of its credits
 pub lacks_here : (s : Config) (core : ℕ) (trace : List Entry) (steps : List CoreStep) (mail : List Message) (a v : CoreView) (entry : Entry) (result : Bool) → IsLike a v → StandsAt s core trace steps mail v

@@ -5,11 +5,12 @@
 --     SendsFor memory s core now before after      the request of the entry that issues is put behind what was sent
 --     read_of entry outstanding, without_read entry outstanding      the Read of a number among those that wait; the others
 --     IsTakenOut entry old taken new      the Read of a number is taken out of those that wait
---     HasRoom write credits      one credit more of this kind can be counted
---     IsCreditedAt place write old new      one credit more is held for one channel, and for the others what was
-use Rattle.std.specs.Prelude.{◌≡◌, ℕ, ◌+◌, ◌^◌, ◌<◌, ◌==◌, not, Bool, List, ◌++◌, find, filter, slice_get, Option, Some, if◌then◌else◌}
+--     HasRoom access credits      one credit more of this kind can be counted
+--     IsCreditedAt place access old new      one credit more is held for one channel, and for the others what was
+use Rattle.std.specs.Prelude.{◌≡◌, ℕ, ◌+◌, ◌^◌, ◌<◌, ◌==◌, not, List, ◌++◌, find, filter, slice_get, Option, Some, if◌then◌else◌}
 use Rattle.sim_base.specs.declared.config.Config.{Config}
 use Rattle.sim_base.specs.declared.history.CoreStep.{CoreStep}
+use Rattle.sim_base.specs.declared.message.Access.{Access}
 use Rattle.sim_base.specs.declared.message.Message.{Message}
 use Rattle.sim_base.specs.declared.trace.Stop.{Stop}
 use Rattle.cpu_trace.specs.declared.entries.MemoryEntry.{MemoryEntry}
@@ -55,12 +56,12 @@ abbrev pub counted_reply : CoreStats → ℕ → CoreStats
 counted_reply stats waited = record stats { replies = stats.replies + 1; read_latency = stats.read_latency + waited }
 
 -- one credit more of this kind can be counted
-abbrev pub HasRoom : Bool → Credits → Type 0
-HasRoom write credits = credits_of_kind write credits + 1 < 2 ^ 64
+abbrev pub HasRoom : Access → Credits → Type 0
+HasRoom access credits = credits_of_kind access credits + 1 < 2 ^ 64
 
 -- One credit more is held for the channel at a place, and for each other channel what was. It has to be counted only where there is room.
-abbrev pub IsCreditedAt : ℕ → Bool → List Credits → List Credits → Type 0
-IsCreditedAt place write old new =
+abbrev pub IsCreditedAt : ℕ → Access → List Credits → List Credits → Type 0
+IsCreditedAt place access old new =
     (channel : ℕ) (c : Credits) → slice_get old channel ≡ Some c
-    → (place ≡ channel → HasRoom write c)
-    → slice_get new channel ≡ Some (if place == channel then more_credit write c else c)
+    → (place ≡ channel → HasRoom access c)
+    → slice_get new channel ≡ Some (if place == channel then more_credit access c else c)

@@ -4,7 +4,7 @@
 --     MayRun view from until inbox      they may come to a core as it stands
 --     Runs before from until inbox after sent      what it then does and sends
 --     RunsOnto before from until inbox after held holds      the same, with a list behind which it puts what it sends
-use Rattle.std.specs.Prelude.{◌≡◌, ℕ, ◌+◌, ◌-◌, ◌<◌, ◌≤◌, Bool, true, false, List, [], ◌∷◌, ◌++◌}
+use Rattle.std.specs.Prelude.{◌≡◌, ℕ, ◌+◌, ◌-◌, ◌<◌, ◌≤◌, true, false, List, [], ◌∷◌, ◌++◌}
 use Rattle.std.specs.List.{AllByRecursion as Each}
 use Rattle.sim_base.specs.declared.config.Config.{Config}
 use Rattle.sim_base.specs.Config.{credit_link}
@@ -12,6 +12,7 @@ use Rattle.sim_base.specs.History.{issued_before, core_messages}
 use Rattle.sim_base.specs.Machine.{core_run}
 use Rattle.sim_base.specs.Windows.{credit_cap}
 use Rattle.sim_base.specs.declared.history.CoreStep.{CoreStep}
+use Rattle.sim_base.specs.declared.message.Access.{Access}
 use Rattle.sim_base.specs.declared.message.Load.{Load}
 use Rattle.sim_base.specs.declared.message.Load.TheVariants as load
 use Rattle.sim_base.specs.declared.message.Message.{Message}
@@ -27,16 +28,16 @@ pub record IsAwaited (trace : List Entry) (steps : List CoreStep) (mail : List M
   pub is_first : is_answered mail entry ≡ false
 
 -- a credit comes on the link of a channel, and the core does not hold all its credits for that channel
-pub record IsOwed (s : Config) (core : ℕ) (trace : List Entry) (steps : List CoreStep) (mail : List Message) (link : ℕ) (write : Bool) : Type 0 where
+pub record IsOwed (s : Config) (core : ℕ) (trace : List Entry) (steps : List CoreStep) (mail : List Message) (link : ℕ) (access : Access) : Type 0 where
   pub channel : ℕ
   pub exists : channel < s.channels
   pub on_its_link : link ≡ credit_link s core channel
-  pub has_room : credits_had s core mail channel write < credit_cap s write + credits_spent s core trace steps channel write
+  pub has_room : credits_had s core mail channel access < credit_cap s access + credits_spent s core trace steps channel access
 
 -- what a message may bring in the cycle after these steps, after this mail: a reply or a credit
 abbrev pub IsDueLoad : Config → ℕ → List Entry → List CoreStep → List Message → ℕ → Load → Type 0
 IsDueLoad s core trace steps mail link (load.Reply entry) = IsAwaited trace steps mail entry
-IsDueLoad s core trace steps mail link (load.Credit write entry) = IsOwed s core trace steps mail link write
+IsDueLoad s core trace steps mail link (load.Credit access entry) = IsOwed s core trace steps mail link access
 IsDueLoad s core trace steps mail link (load.Request r) = ⊥
 
 -- a message may come in the cycle after these steps, after this mail

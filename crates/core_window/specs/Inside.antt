@@ -5,12 +5,13 @@
 --     GoesOn until a b sent      a core goes some cycles, at most up to a cycle
 --     GoesQuietly until a b      a core goes zero or more cycles, and sends nothing
 --     Does view core_step why memory      what a core does in the next cycle
-use Rattle.std.specs.Prelude.{◌≡◌, ℕ, ◌-◌, ◌<◌, ◌≤◌, false, true, List, ◌++◌, length, take, drop, slice_get, Option, Some, None}
+use Rattle.std.specs.Prelude.{◌≡◌, ℕ, ◌-◌, ◌<◌, ◌≤◌, List, ◌++◌, length, take, drop, slice_get, Option, Some, None}
 use Rattle.std.specs.List.{AllByRecursion as Each}
 use Rattle.sim_base.specs.declared.config.Config.{Config}
 use Rattle.sim_base.specs.History.{core_messages}
 use Rattle.sim_base.specs.Machine.{core_run}
 use Rattle.sim_base.specs.declared.history.CoreStep.{CoreStep}
+use Rattle.sim_base.specs.declared.message.Access.TheVariants as access
 use Rattle.sim_base.specs.declared.message.Message.{Message}
 use Rattle.sim_base.specs.declared.trace.Entry.{Entry}
 use Rattle.sim_base.specs.declared.trace.Stop.{Stop}
@@ -28,8 +29,8 @@ use Rattle.core_window.specs.Outstanding.{outstanding_reads}
 abbrev pub credits_now : Config → ℕ → List Entry → List CoreStep → List Message → ℕ → Credits
 credits_now s core trace steps mail channel =
     record {
-      read = credits_had s core mail channel false - credits_spent s core trace steps channel false;
-      write = credits_had s core mail channel true - credits_spent s core trace steps channel true;
+      read = credits_had s core mail channel access.Read - credits_spent s core trace steps channel access.Read;
+      write = credits_had s core mail channel access.Write - credits_spent s core trace steps channel access.Write;
     }
 
 -- the statistics of the replies that came in the cycle after these steps, and of nothing else

@@ -2,7 +2,7 @@
 --     IsAhead trace from one two      where the next two memory entries stand
 --     IsSeen trace from one two entry      the same, and which entry the first is
 --     IsIssued trace first m memory      the one memory entry that is among some that issue, if one is
---     more_credit write c, less_credit write c      one credit more, and one less
+--     more_credit access c, less_credit access c      one credit more, and one less
 --     cycle_counts ..      what statistics count in a cycle, except for replies
 use Rattle.std.specs.Prelude.{◌≡◌, ℕ, ◌+◌, ◌-◌, ◌<◌, ◌≤◌, nat_lt, nat_le, Bool, true, false, ◌&&◌, List, [], ◌∷◌, ◌==◌, length, slice_get, Option, Some, None, if◌then◌else◌}
 use Rattle.std.specs.Option.{IfSome, option_to_list}
@@ -12,6 +12,8 @@ use Rattle.sim_base.specs.History.{retired_before, issued_before, core_messages,
 use Rattle.sim_base.specs.Places.{place_of}
 use Rattle.core_window.specs.declared.outstanding.OutstandingRead.{OutstandingRead}
 use Rattle.sim_base.specs.declared.config.Config.{Config}
+use Rattle.sim_base.specs.declared.message.Access.{Access}
+use Rattle.sim_base.specs.declared.message.Access.TheVariants as access
 use Rattle.sim_base.specs.declared.message.Message.{Message}
 use Rattle.sim_base.specs.declared.history.CoreStep.{CoreStep}
 use Rattle.sim_base.specs.declared.trace.Entry.{Entry}
@@ -57,16 +59,19 @@ IsIssued trace first m None = IsPlainBetween trace first (first + m)
 IsIssued trace first m (Some e) = IsAmong trace first m e
 
 -- one credit more
-abbrev pub more_credit : Bool → Credits → Credits
-more_credit write c = record { read = if write then c.read else c.read + 1; write = if write then c.write + 1 else c.write }
+abbrev pub more_credit : Access → Credits → Credits
+more_credit access.Read c = record c { read = c.read + 1 }
+more_credit access.Write c = record c { write = c.write + 1 }
 
 -- one credit less
-abbrev pub less_credit : Bool → Credits → Credits
-less_credit write c = record { read = if write then c.read else c.read - 1; write = if write then c.write - 1 else c.write }
+abbrev pub less_credit : Access → Credits → Credits
+less_credit access.Read c = record c { read = c.read - 1 }
+less_credit access.Write c = record c { write = c.write - 1 }
 
--- the credits of a kind
-abbrev pub credits_of_kind : Bool → Credits → ℕ
-credits_of_kind write c = if write then c.write else c.read
+-- the credits of a kind: for reads, or for writes
+abbrev pub credits_of_kind : Access → Credits → ℕ
+credits_of_kind access.Read c = c.read
+credits_of_kind access.Write c = c.write
 
 -- whether the memory entry that issues is a Read, and whether it is a Write
 abbrev pub is_read_among : Option MemoryEntry → Bool
@@ -126,8 +131,8 @@ requests_issued s core now (Some e) = option_to_list (request_of s core now e.nu
 -- the credits for a channel after an entry has issued
 abbrev pub credit_after_entry : Config → ℕ → Entry → Credits → Credits
 credit_after_entry s channel Plain c = c
-credit_after_entry s channel (Read address) c = if (place_of s address).channel == channel then less_credit false c else c
-credit_after_entry s channel (Write address) c = if (place_of s address).channel == channel then less_credit true c else c
+credit_after_entry s channel (Read address) c = if (place_of s address).channel == channel then less_credit access.Read c else c
+credit_after_entry s channel (Write address) c = if (place_of s address).channel == channel then less_credit access.Write c else c
 
 -- the same, for the memory entry that issues, if one does
 abbrev pub credit_after : Config → ℕ → Option MemoryEntry → Credits → Credits

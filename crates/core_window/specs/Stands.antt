@@ -10,6 +10,7 @@ use Rattle.sim_base.specs.Counts.{replied_entry, is_reply}
 use Rattle.sim_base.specs.History.{retired_before, issued_before, core_messages}
 use Rattle.sim_base.specs.Windows.{is_request_for, is_credit, credit_cap}
 use Rattle.sim_base.specs.declared.history.CoreStep.{CoreStep}
+use Rattle.sim_base.specs.declared.message.Access.{Access}
 use Rattle.sim_base.specs.declared.message.Message.{Message}
 use Rattle.sim_base.specs.declared.trace.Entry.{Entry}
 use Rattle.statistics.specs.Cores.{core_stats}
@@ -23,16 +24,16 @@ abbrev pub FollowsItsEntry : List CoreStep → Message → Type 0
 FollowsItsEntry steps m = IfSome (replied_entry m.load) (λ entry. entry < issued_before (take m.arrival steps))
 
 -- a credit on this link
-abbrev pub is_credit_from : ℕ → Bool → Message → Bool
-is_credit_from link write m = (m.link == link) && is_credit write m.load
+abbrev pub is_credit_from : ℕ → Access → Message → Bool
+is_credit_from link access m = (m.link == link) && is_credit access m.load
 
 -- the credits that a core had for a channel in all: those at first, and those that came
-abbrev pub credits_had : Config → ℕ → List Message → ℕ → Bool → ℕ
-credits_had s core mail channel write = credit_cap s write + count_by (is_credit_from (credit_link s core channel) write) mail
+abbrev pub credits_had : Config → ℕ → List Message → ℕ → Access → ℕ
+credits_had s core mail channel access = credit_cap s access + count_by (is_credit_from (credit_link s core channel) access) mail
 
 -- the credits that a core spent for a channel
-abbrev pub credits_spent : Config → ℕ → List Entry → List CoreStep → ℕ → Bool → ℕ
-credits_spent s core trace steps channel write = count_by (λ m. is_request_for channel write m.load) (core_messages s core trace steps)
+abbrev pub credits_spent : Config → ℕ → List Entry → List CoreStep → ℕ → Access → ℕ
+credits_spent s core trace steps channel access = count_by (λ m. is_request_for channel access m.load) (core_messages s core trace steps)
 
 -- What holds of the steps of a core, one a cycle, and of the messages that it had, those of the next cycle perhaps included.
 pub record IsPast (s : Config) (core : ℕ) (trace : List Entry) (steps : List CoreStep) (mail : List Message) : Type 0 where
@@ -53,7 +54,7 @@ pub record IsPast (s : Config) (core : ℕ) (trace : List Entry) (steps : List C
   -- no more Reads were answered than were issued
   pub answered : length (filter is_reply mail) + length (outstanding_reads trace steps mail) ≤ issued_before steps
   -- no credit was spent that the core did not have
-  pub paid : (channel : ℕ) (write : Bool) → credits_spent s core trace steps channel write ≤ credits_had s core mail channel write
+  pub paid : (channel : ℕ) (access : Access) → credits_spent s core trace steps channel access ≤ credits_had s core mail channel access
 
 -- A core did what these steps say, one a cycle, and had these messages in those cycles: it stands at the cycle after them.
 pub record StandsFor (s : Config) (core : ℕ) (trace : List Entry) (steps : List CoreStep) (mail : List Message) (view : CoreView) : Type 0 where

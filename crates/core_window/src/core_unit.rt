@@ -33,7 +33,7 @@ use cpu_trace::entries::MemoryEntry;
 use cpu_trace::trace::Trace;
 use sim_base::config::Config;
 use sim_base::history::CoreStep;
-use sim_base::message::{CoreId, Cycle, LinkId, Load, Message};
+use sim_base::message::{Access, CoreId, Cycle, LinkId, Load, Message};
 use sim_base::trace::{Entry, Stop};
 use statistics::cores::CoreStats;
 use statistics::final_state::Credits;
@@ -217,15 +217,15 @@ impl Core {
     }
 
     /// A credit comes.
-    fn take_credit_on(&mut self, link: LinkId, write: bool)
+    fn take_credit_on(&mut self, link: LinkId, access: Access)
         requires { length self.old.credits.items ≡ self.old.config.channels }
         ensures rest { view_of self.new ≡ with_credits (view_of self.old) self.new.credits.items }
         ensures len { length self.new.credits.items ≡ length self.old.credits.items }
         ensures credits { let channel = link / 3 % self.old.config.channels in
-            IsCreditedAt channel write self.old.credits.items self.new.credits.items }
+            IsCreditedAt channel access self.old.credits.items self.new.credits.items }
     {
         let channel = channel_of(&self.config, link);
-        add_credit_at(&mut self.credits, channel as usize, write);
+        add_credit_at(&mut self.credits, channel as usize, access);
     }
 
     /// Takes a message of the cycle at which the core stands.
@@ -236,7 +236,7 @@ impl Core {
     {
         match message.load {
             Load::Reply(entry) => self.take_reply(entry),
-            Load::Credit { write, .. } => self.take_credit_on(message.link, write),
+            Load::Credit { access, .. } => self.take_credit_on(message.link, access),
             Load::Request(_) => (),
         }
     }

@@ -16,7 +16,7 @@ use crate::outstanding::{OutstandingRead, OutstandingReads};
 use crate::receive::take_credit;
 use cpu_trace::entries::MemoryEntry;
 use sim_base::config::Config;
-use sim_base::message::{CoreId, Cycle, LinkId, Load, Message, Request};
+use sim_base::message::{Access, CoreId, Cycle, LinkId, Load, Message, Request};
 use sim_base::place::Place;
 use sim_base::trace::Entry;
 use statistics::final_state::Credits;
@@ -42,12 +42,12 @@ pub fn wait_for(
 }
 
 /// A credit of a channel is spent.
-fn spend_at(credits: &mut [Credits], place: u32, write: bool)
+fn spend_at(credits: &mut [Credits], place: u32, access: Access)
     requires { place < length credits.old }
     ensures { (channel : ℕ) (c : Credits) → slice_get credits.old channel ≡ Some c
-        → slice_get credits.new channel ≡ Some (if place == channel then less_credit write c else c) }
+        → slice_get credits.new channel ≡ Some (if place == channel then less_credit access c else c) }
 {
-    take_credit(&mut credits[place as usize], write);
+    take_credit(&mut credits[place as usize], access);
 }
 
 /// The entry that issues, which lies at this place, spends a credit.
@@ -59,8 +59,8 @@ pub fn spend(credits: &mut [Credits], place: &Place, memory: Option<MemoryEntry>
 {
     if let Some(next) = memory {
         match next.entry {
-            Entry::Read(_) => spend_at(credits, place.channel, false),
-            Entry::Write(_) => spend_at(credits, place.channel, true),
+            Entry::Read(_) => spend_at(credits, place.channel, Access::Read),
+            Entry::Write(_) => spend_at(credits, place.channel, Access::Write),
             Entry::Plain => (),
         }
     }
@@ -90,14 +90,14 @@ pub struct Sender<'a> {
 fn request_of_address(
     sender: &Sender<'_>,
     entry: u64,
-    write: bool,
+    access: Access,
     address: u64,
     place: Place,
 ) -> Message
     requires early { sender.now.cycle < 2 ^ 62 }
     requires placed { place ≡ place_of sender.now.config.now address }
     ensures { result ≡ request sender.now.config.now sender.now.core sender.now.cycle
-        entry write address }
+        entry access address }
 {
     let config = sender.config;
     let core = sender.core;
@@ -109,7 +109,7 @@ fn request_of_address(
         load: Load::Request(Request {
             core,
             entry,
-            write,
+            access,
             address,
             place,
             arrival,
@@ -131,13 +131,13 @@ pub fn send(
         sent.old.items sent.new.items) }
 {
     if let Some(next) = memory {
-        let (write, address) = match next.entry {
-            Entry::Read(address) => (false, address),
-            Entry::Write(address) => (true, address),
+        let (access, address) = match next.entry {
+            Entry::Read(address) => (Access::Read, address),
+            Entry::Write(address) => (Access::Write, address),
             Entry::Plain => return Ok(()),
         };
         sent.reserve(1)?;
-        let request = request_of_address(sender, next.number, write, address, *place);
+        let request = request_of_address(sender, next.number, access, address, *place);
         sent.push_reserved(request);
     }
     Ok(())

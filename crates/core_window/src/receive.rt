@@ -5,7 +5,7 @@ ghost use Rattle.core_window.specs.Counting.{counted_reply, HasRoom, IsCreditedA
 ghost use Rattle.core_window.specs.OneCycle.{more_credit, less_credit};
 
 use sim_base::config::Config;
-use sim_base::message::LinkId;
+use sim_base::message::{Access, LinkId};
 use statistics::cores::CoreStats;
 use statistics::final_state::Credits;
 
@@ -17,33 +17,31 @@ pub fn channel_of(config: &Config, link: LinkId) -> u64
 }
 
 /// One credit more.
-pub fn add_credit(credits: &mut Credits, write: bool)
-    ensures { HasRoom write credits.old → credits.new ≡ more_credit write credits.old }
+pub fn add_credit(credits: &mut Credits, access: Access)
+    ensures { HasRoom access credits.old → credits.new ≡ more_credit access credits.old }
 {
-    if write {
-        credits.write = credits.write.saturating_add(1);
-    } else {
-        credits.read = credits.read.saturating_add(1);
+    match access {
+        Access::Read => credits.read = credits.read.saturating_add(1),
+        Access::Write => credits.write = credits.write.saturating_add(1),
     }
 }
 
 /// One credit less.
-pub fn take_credit(credits: &mut Credits, write: bool)
-    ensures { credits.new ≡ less_credit write credits.old }
+pub fn take_credit(credits: &mut Credits, access: Access)
+    ensures { credits.new ≡ less_credit access credits.old }
 {
-    if write {
-        credits.write = credits.write.saturating_sub(1);
-    } else {
-        credits.read = credits.read.saturating_sub(1);
+    match access {
+        Access::Read => credits.read = credits.read.saturating_sub(1),
+        Access::Write => credits.write = credits.write.saturating_sub(1),
     }
 }
 
 /// One credit more for a channel.
-pub fn add_credit_at(credits: &mut [Credits], place: usize, write: bool)
+pub fn add_credit_at(credits: &mut [Credits], place: usize, access: Access)
     requires { place < length credits.old }
-    ensures { IsCreditedAt place write credits.old credits.new }
+    ensures { IsCreditedAt place access credits.old credits.new }
 {
-    add_credit(&mut credits[place], write);
+    add_credit(&mut credits[place], access);
 }
 
 /// Counts a reply, and how long it was waited for.

@@ -5,12 +5,12 @@ use Rattle.std.proofs.lemmas.List.Splits.{slice_split_first, slice_split_none}
 use Rattle.std.proofs.lemmas.List.Sums.{prefix_len_passes}
 use Rattle.std.specs.List.{prefix_len}
 use Rattle.std.specs.Option.{MatchOption}
+use Rattle.std.proofs.lemmas.Bool.{not-true}
 use Rattle.sim_base.specs.declared.fault.LineCause.{LineCause}
 use Rattle.sim_base.specs.declared.trace.Entry.{Entry}
 use Rattle.sim_base.specs.TraceText.{◌>>=◌, is_line_feed, lines_of, line_entries, in_line}
 use Rattle.cpu_trace.specs.Reading.{appended, kept_of, kept_from, IsReadUpTo, IsReadingOf}
 use Rattle.cpu_trace.proofs.Kept.{kept_from-first}
-use Rattle.cpu_trace.proofs.Meaning.{false_from_not}
 
 -- how long the first line of a text is
 abbrev pub line_len : List ℕ → ℕ
@@ -22,7 +22,7 @@ unfolding lines_of
 lines_of-last text none =
     let n = line_len text in
     let all : length text ≤ n = omega (arith, none, length-drop n text) in
-    slice_split_none is_line_feed text (λ k d lt. false_from_not _ (prefix_len_passes (λ byte. not (is_line_feed byte)) text k d (omega (arith, lt, all))))
+    slice_split_none is_line_feed text (λ k d lt. not-true _ (prefix_len_passes (λ byte. not (is_line_feed byte)) text k d (omega (arith, lt, all))))
     ∙ ap (λ line. line ∷ []) (sym (take_all n text all))
 
 -- and else its first line ends at its first line feed

@@ -1,6 +1,6 @@
 -- The tokens of a line, and the numbers that it joins.
 use Rattle.std.proofs.Common.{◌≡◌, ℕ, suc, ◌+◌, ◌<◌, ◌≤◌, ◌⊎◌, inl, inr, Bool, true, false, not, cond, ◌||◌, eqb, List, [], ◌∷◌, ◌++◌, length, take, drop, get_or, refl, sym, ap, ◌∙◌, subst, arith, codes}
-use Rattle.std.proofs.lemmas.Bool.{and_parts, and_from, ne_eqb, false≢true}
+use Rattle.std.proofs.lemmas.Bool.{and_parts, and_from, ne_eqb, false≢true, not-true, not-false, or_from}
 use Rattle.std.proofs.lemmas.List.{append-nil, take-append-drop, take_at, drop_at, get_or-take, get_or-drop, length-take-le, length-drop, length-append}
 use Rattle.std.proofs.lemmas.List.Sums.{prefix_len-le-length, prefix_len_passes, prefix_len_stops, list_all-from_AllPass}
 use Rattle.std.specs.Char.{digit_value}
@@ -8,20 +8,11 @@ use Rattle.std.specs.List.{AllZip, list_all, prefix_len}
 use Rattle.std.specs.Str.Parse.{AllDigits}
 use Rattle.sim_base.specs.TraceText.{is_separator, tokens_of}
 use Rattle.sim_base.specs.TraceGrammar.{WritesNumber, IsGap, IsApart, JoinsNumbers}
-use Rattle.cpu_trace.proofs.Spelling.{none_of}
 use Rattle.cpu_trace.proofs.Tokens.{token_len, tokens_of-separator, tokens_of-skip, tokens_of-first, tokens_of-none, skip-first}
 
 -- a byte of a token
 abbrev is_inside : ℕ → Bool
 is_inside byte = not (is_separator byte)
-
-false_from_not : (b : Bool) → not b ≡ true → b ≡ false
-false_from_not true h = absurd (false≢true h)
-false_from_not false h = refl
-
-true_from_not : (b : Bool) → not b ≡ false → b ≡ true
-true_from_not true h = refl
-true_from_not false h = absurd (false≢true (sym h))
 
 -- separators tell nothing
 tokens_of-gap_before : (gap line : List ℕ) → IsGap gap → tokens_of (gap ++ line) ≡ tokens_of line
@@ -47,7 +38,7 @@ token_len-append (byte ∷ token) rest h apart =
 
 first_inside : (token rest : List ℕ) → 0 < length token → list_all is_inside token ≡ true → is_separator (get_or (token ++ rest) 0 0) ≡ false
 first_inside [] rest some h = absurd (omega (arith, some))
-first_inside (byte ∷ token) rest some h = false_from_not (is_separator byte) (and_parts (is_inside byte) (list_all is_inside token) h).0
+first_inside (byte ∷ token) rest some h = not-true (is_separator byte) (and_parts (is_inside byte) (list_all is_inside token) h).0
 
 tokens_of-token : (token rest : List ℕ) → 0 < length token → list_all is_inside token ≡ true → IsApart rest → tokens_of (token ++ rest) ≡ token ∷ tokens_of rest
 tokens_of-token token rest some h apart =
@@ -60,7 +51,7 @@ tokens_of-token token rest some h apart =
 digit-inside : (radix c : ℕ) → radix ≤ 16 → digit_value c < radix → is_inside c ≡ true
 digit-inside radix c small h =
     let other = λ (b : ℕ) (large : 16 ≤ digit_value b). ne_eqb c b (λ e. let digit : digit_value b < radix = rw e at h in absurd (omega (arith, digit, small, large))) in
-    ap not (none_of (eqb c 32 || eqb c 9) (eqb c 13) (none_of (eqb c 32) (eqb c 9) (other 32 (omega arith)) (other 9 (omega arith))) (other 13 (omega arith)))
+    ap not (or_from (eqb c 32 || eqb c 9) (eqb c 13) (or_from (eqb c 32) (eqb c 9) (other 32 (omega arith)) (other 9 (omega arith))) (other 13 (omega arith)))
 
 digits-inside : (radix : ℕ) (digits : List ℕ) → radix ≤ 16 → AllDigits radix digits → list_all is_inside digits ≡ true
 digits-inside radix [] small h = refl
@@ -101,7 +92,7 @@ rest-apart line some =
     let n = token_len line in
     let within : n < length line = omega (arith, some, length-drop n line) in
     let place : n + 0 ≡ n = omega arith in
-    ap is_separator (get_or-drop n line 0 0 ∙ ap (λ k. get_or line k 0) place) ∙ true_from_not (is_separator (get_or line n 0)) (prefix_len_stops is_inside line 0 within)
+    ap is_separator (get_or-drop n line 0 0 ∙ ap (λ k. get_or line k 0) place) ∙ not-false (is_separator (get_or line n 0)) (prefix_len_stops is_inside line 0 within)
 
 -- a line begins with a token
 abbrev IsTaken : List ℕ → Type 0

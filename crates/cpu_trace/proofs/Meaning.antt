@@ -1,6 +1,6 @@
 -- What a text stands for, and what its lines give.
 use Rattle.std.proofs.Common.{◌≡◌, ℕ, ◌^◌, ◌<◌, ◌≤◌, inl, inr, Bool, true, false, not, leb, List, [], ◌∷◌, ◌++◌, length, get_or, Result, Ok, Err, refl, sym, ap, ◌∙◌, subst, arith, codes}
-use Rattle.std.proofs.lemmas.Bool.{and_parts, and_from, ne_eqb, leb-false, false≢true}
+use Rattle.std.proofs.lemmas.Bool.{and_parts, and_from, ne_eqb, leb-false, false≢true, not-true}
 use Rattle.std.proofs.lemmas.List.Folds.{list_all-append}
 use Rattle.std.proofs.lemmas.List.Splits.{slice_split_none, slice_split_at, join_with_byte-slice_split}
 use Rattle.std.proofs.lemmas.List.Sums.{AllPass-from_list_all}
@@ -55,12 +55,8 @@ joined-of_line line (number ∷ numbers) h =
     let rest = joined-of_line h.0 numbers h.2 in
     rw h.1.parts (join-of_line h.1.gap (h.1.token ++ h.0) (gap-of_line h.1.gap h.1.is_gap) (join-of_line h.1.token h.0 token rest))
 
-pub false_from_not : (b : Bool) → not b ≡ true → b ≡ false
-false_from_not true h = absurd (false≢true h)
-false_from_not false h = refl
-
 pub no_line_feed : (line : List ℕ) → AreOfLine line → All (λ byte. is_line_feed byte ≡ false) line
-no_line_feed line h k d lt = false_from_not (is_line_feed (get_or line k d)) (AllPass-from_list_all is_of_line line h k d lt)
+no_line_feed line h k d lt = not-true (is_line_feed (get_or line k d)) (AllPass-from_list_all is_of_line line h k d lt)
 
 -- lines that are joined are the lines of the text
 lines_of-join : (line : List ℕ) (lines : List (List ℕ)) (part : List Entry) (parts : List (List Entry)) → AllZip StandsForLine (line ∷ lines) (part ∷ parts) → lines_of (join_with_byte 10 (line ∷ lines)) ≡ line ∷ lines

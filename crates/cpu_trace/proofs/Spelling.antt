@@ -1,6 +1,6 @@
 -- What a token writes, by the grammar and by its number.
 use Rattle.std.proofs.Common.{◌≡◌, ℕ, ◌^◌, ◌<◌, ◌⊎◌, inl, inr, Bool, true, false, not, cond, ◌&&◌, ◌||◌, ltb, eqb, List, [], ◌∷◌, ◌++◌, length, drop, Result, Ok, Err, refl, sym, ap, ◌∙◌, arith, codes}
-use Rattle.std.proofs.lemmas.Bool.{and_parts, and_left, and_right, ltb-true, lt-ltb, eqb-true, eqb-false, ne_eqb, false≢true}
+use Rattle.std.proofs.lemmas.Bool.{and_parts, and_left, and_right, ltb-true, lt-ltb, eqb-true, eqb-false, ne_eqb, false≢true, or_from, or_cases}
 use Rattle.std.specs.Char.{digit_value, is_digit}
 use Rattle.std.specs.List.{list_all}
 use Rattle.std.specs.Str.Parse.{AllDigits, digits_value}
@@ -45,23 +45,15 @@ AreDigitsOf-numeral radix digits number h =
       fits = omega (arith, ltb-true (digits_value radix digits) (2 ^ 64) tests.2, tests.3);
     }
 
-pub none_of : (a b : Bool) → a ≡ false → b ≡ false → (a || b) ≡ false
-none_of true b h k = absurd (false≢true (sym h))
-none_of false b h k = k
-
-one_of : (a b : Bool) → (a || b) ≡ true → (a ≡ true) ⊎ (b ≡ true)
-one_of true b h = inl refl
-one_of false b h = inr h
-
 -- decimal digits have no mark
 unmarked : (token : List ℕ) → AllDigits 10 token → is_hexadecimal token ≡ false
 unfolding is_hexadecimal
 unmarked [] h = refl
-unmarked (c ∷ []) h = none_of (eqb 48 c && false) (eqb 48 c && false) (and_right (eqb 48 c) false refl) (and_right (eqb 48 c) false refl)
+unmarked (c ∷ []) h = or_from (eqb 48 c && false) (eqb 48 c && false) (and_right (eqb 48 c) false refl) (and_right (eqb 48 c) false refl)
 unmarked (c ∷ d ∷ token) h =
     let small : eqb 120 d ≡ false = ne_eqb 120 d (λ e. let digit : digit_value 120 < 10 = rw (← e) at h.1.0 in absurd (omega (arith, digit))) in
     let large : eqb 88 d ≡ false = ne_eqb 88 d (λ e. let digit : digit_value 88 < 10 = rw (← e) at h.1.0 in absurd (omega (arith, digit))) in
-    none_of (eqb 48 c && (eqb 120 d && true)) (eqb 48 c && (eqb 88 d && true))
+    or_from (eqb 48 c && (eqb 120 d && true)) (eqb 48 c && (eqb 88 d && true))
     (and_right (eqb 48 c) (eqb 120 d && true) (and_left (eqb 120 d) true small))
     (and_right (eqb 48 c) (eqb 88 d && true) (and_left (eqb 88 d) true large))
 
@@ -86,9 +78,9 @@ two_bytes c d m token h =
 marked : (token : List ℕ) → is_hexadecimal token ≡ true → IsMarked token
 unfolding is_hexadecimal
 marked [] h = absurd (false≢true h)
-marked (c ∷ []) h = absurd (false≢true (sym (none_of (eqb 48 c && false) (eqb 48 c && false) (and_right (eqb 48 c) false refl) (and_right (eqb 48 c) false refl)) ∙ h))
+marked (c ∷ []) h = absurd (false≢true (sym (or_from (eqb 48 c && false) (eqb 48 c && false) (and_right (eqb 48 c) false refl) (and_right (eqb 48 c) false refl)) ∙ h))
 marked (c ∷ d ∷ token) h =
-    elim (one_of (eqb 48 c && (eqb 120 d && true)) (eqb 48 c && (eqb 88 d && true)) h) [
+    elim (or_cases (eqb 48 c && (eqb 120 d && true)) (eqb 48 c && (eqb 88 d && true)) h) [
       | inl e ↦ (codes "0x", inl refl, two_bytes c d 120 token e)
       | inr e ↦ (codes "0X", inr refl, two_bytes c d 88 token e)
     ]

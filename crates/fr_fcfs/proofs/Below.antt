@@ -67,10 +67,6 @@ pub place_all : (n : ℕ) (test : Request → Bool) (log : List Arrived) → All
 place_all n test log within =
     same_among (λ r. ltb (bank_number r.place) n && test r) test (λ r. bank_number r.place < n) log within (λ r below. ap (λ b. b && test r) (lt-ltb (bank_number r.place) n below))
 
-pub none_is : (o : Option ℕ) → is_some o ≡ false → o ≡ None
-none_is None off = refl
-none_is (Some k) off = cc
-
 -- the command of the first request that is ready, by the places
 pub ready_by_places : (s : Config) (history : List IssuedCommand) (log : List Arrived) (accesses : Accesses) (cycle : ℕ)
     → first_ready s history cycle (going accesses log)

@@ -2,6 +2,7 @@
 use Rattle.std.proofs.Common.{◌≡◌, ℕ, zero, suc, ◌+◌, ◌<◌, Bool, true, false, not, cond, ◌&&◌, ◌||◌, eqb, eq-eqb, ne_eqb, List, Option, None, refl, sym, ap, ◌∙◌, inl, inr, arith}
 use Rattle.std.proofs.lemmas.Bool.{cases_Bool, cases_eq, false≢true}
 use Rattle.std.specs.List.{All}
+use Rattle.std.proofs.Math.Bool.{or-false, and-false}
 use Rattle.sim_base.specs.declared.message.Request.{Request}
 use Rattle.queue.specs.declared.request_log.Arrived.{Arrived}
 use Rattle.queue.specs.Log.{all_requests}
@@ -9,7 +10,6 @@ use Rattle.queue.specs.Columns.{bank_number}
 use Rattle.queue.specs.Candidates.{first_place}
 use Rattle.queue.specs.Moves.{earlier}
 use Rattle.queue.proofs.Searches.{none_everywhere}
-use Rattle.fr_fcfs.proofs.Booleans.{and_false, or_false}
 use Rattle.fr_fcfs.proofs.Firsts.{same_among, either_among}
 use Rattle.fr_fcfs.proofs.Below.{place_below, none_below, place_more, place_all}
 
@@ -36,7 +36,7 @@ beside_test left after bank k t was is others = elim (cases_eq k bank) [
       ∙ (λ i. (not ((sym (ap left same ∙ was)) i) && t) || ((sym (eq-eqb k bank same)) i && t))
   | inr apart ↦
       ap (λ b. not b && t) (others k apart)
-      ∙ sym (or_false (not (left k) && t))
+      ∙ sym (or-false (not (left k) && t))
       ∙ ap (λ b. (not (left k) && t) || (b && t)) (sym (ne_eqb k bank apart))
 ]
 
@@ -59,7 +59,7 @@ none_at : (left : ℕ → Bool) (n : ℕ) (test : Request → Bool) (log : List 
 none_at left n test log none = elim (cases_Bool (left n)) [
   | inl is_left ↦
       same_among (λ r. eqb (bank_number r.place) n && (not (left (bank_number r.place)) && test r)) (λ r. false) (λ r. Unit {0}) log (λ k d exists. tt)
-      (λ r in_all. at_bank left n (bank_number r.place) (test r) true is_left ∙ and_false (eqb (bank_number r.place) n))
+      (λ r in_all. at_bank left n (bank_number r.place) (test r) true is_left ∙ and-false (eqb (bank_number r.place) n))
       ∙ sym (none_everywhere (λ r. false) log (λ r. refl))
   | inr out ↦
       same_among (λ r. eqb (bank_number r.place) n && (not (left (bank_number r.place)) && test r)) (λ r. eqb (bank_number r.place) n && test r) (λ r. Unit {0}) log (λ k d exists. tt)

@@ -3,20 +3,17 @@ use Rattle.std.proofs.Common.{◌≡◌, ℕ, ◌+◌, ◌<◌, ◌≤◌, Bool,
 use Rattle.std.proofs.lemmas.Bool.{cases_lt, cases_eq, eq-eqb, ne_eqb, ltb-true, ltb-false, lt-ltb, le-ltb, cond-true, cond-false, le-leb, lt-leb, false≢true}
 use Rattle.std.specs.Option.{option_map}
 use Rattle.queue.specs.Moves.{earlier}
+use Rattle.queue.proofs.BankCandidatesServed.{earlier_none}
 use Rattle.fr_fcfs.specs.declared.offers.Offer.{Offer}
 use Rattle.fr_fcfs.specs.Offers.{goes_before, IsAt, IsBestOffer, IsBest}
 
 none_both : (a b : Option ℕ) → a ≡ None → b ≡ None → earlier a b ≡ None
 none_both a b none_a none_b = λ i. earlier (none_a i) (none_b i)
 
-pub first_alone : (a : Option ℕ) → earlier a None ≡ a
-first_alone None = refl
-first_alone (Some k) = refl
-
 -- an offer beside one whose place is not ready yet
 at_alone : (hit : Bool) (h r h2 r2 : Option ℕ) (slot : ℕ) → h2 ≡ None → r2 ≡ None → IsAt hit h r slot → IsAt hit (earlier h h2) (earlier r r2) slot
-at_alone true h r h2 r2 slot none_h none_r is = ap (earlier h) none_h ∙ first_alone h ∙ is
-at_alone false h r h2 r2 slot none_h none_r is = (ap (earlier h) none_h ∙ first_alone h ∙ is.0, ap (earlier r) none_r ∙ first_alone r ∙ is.1)
+at_alone true h r h2 r2 slot none_h none_r is = ap (earlier h) none_h ∙ earlier_none h ∙ is
+at_alone false h r h2 r2 slot none_h none_r is = (ap (earlier h) none_h ∙ earlier_none h ∙ is.0, ap (earlier r) none_r ∙ earlier_none r ∙ is.1)
 
 at_other : (hit : Bool) (h r h2 r2 : Option ℕ) (slot : ℕ) → h ≡ None → r ≡ None → IsAt hit h2 r2 slot → IsAt hit (earlier h h2) (earlier r r2) slot
 at_other true h r h2 r2 slot none_h none_r is = ap (λ o. earlier o h2) none_h ∙ is

@@ -1,35 +1,14 @@
 -- Tests, and lists of them.
-use Rattle.std.proofs.Common.{◌≡◌, ℕ, zero, suc, ◌+◌, ◌<◌, Bool, true, false, ◌&&◌, ◌||◌, eqb, eq-eqb, ne_eqb, List, [], ◌∷◌, refl, sym, ap, ◌∙◌, inl, inr, arith}
-use Rattle.std.proofs.lemmas.Bool.{cases_Bool, eqb-true, eqb-false}
+use Rattle.std.proofs.Common.{◌≡◌, ℕ, zero, suc, ◌+◌, ◌<◌, Bool, true, false, ◌&&◌, ◌||◌, List, [], ◌∷◌, refl, sym, ap, ◌∙◌, arith}
 use Rattle.std.proofs.lemmas.List.Folds.{list_any_at}
 use Rattle.std.proofs.lemmas.List.FromFn.{length-range_with_len, get_or-range_with_len}
 use Rattle.std.specs.List.{list_any, range_with_len}
+use Rattle.std.proofs.Math.Bool.{or-false, and-false}
 use Rattle.sim_base.specs.History.{below}
-
-pub and_false : (a : Bool) → (a && false) ≡ false
-and_false true = refl
-and_false false = refl
-
-pub and_true : (a : Bool) → (a && true) ≡ a
-and_true true = refl
-and_true false = refl
-
-pub or_false : (a : Bool) → (a || false) ≡ a
-or_false true = refl
-or_false false = refl
-
-pub or_assoc : (a b c : Bool) → ((a || b) || c) ≡ (a || (b || c))
-or_assoc true b c = refl
-or_assoc false b c = refl
-
-pub eqb_swap : (a b : ℕ) → eqb a b ≡ eqb b a
-eqb_swap a b = elim (cases_Bool (eqb a b)) [
-  | inl same ↦ same ∙ sym (eq-eqb b a (sym (eqb-true a b same)))
-  | inr apart ↦ apart ∙ sym (ne_eqb b a (λ e. eqb-false a b apart (sym e)))
-]
+use Rattle.queue.proofs.Eligible.{or_assoc}
 
 any_range_more : (p : ℕ → Bool) (a n : ℕ) → list_any p (range_with_len a (suc n)) ≡ (list_any p (range_with_len a n) || p (a + n))
-any_range_more p a zero = let here : a ≡ a + 0 = omega arith in or_false (p a) ∙ ap p here
+any_range_more p a zero = let here : a ≡ a + 0 = omega arith in or-false (p a) ∙ ap p here
 any_range_more p a (suc n) =
     let there : (a + 1) + n ≡ a + suc n = omega arith in
     ap (λ b. p a || b) (any_range_more p (a + 1) n ∙ ap (λ k. list_any p (range_with_len (a + 1) n) || p k) there)
@@ -48,4 +27,4 @@ any_below_at p n k exists holds =
 
 pub any_never : {X : Type 0} (p : X → Bool) (xs : List X) → list_any (λ x. p x && false) xs ≡ false
 any_never p [] = refl
-any_never p (x ∷ xs) = ap (λ b. b || list_any (λ y. p y && false) xs) (and_false (p x)) ∙ any_never p xs
+any_never p (x ∷ xs) = ap (λ b. b || list_any (λ y. p y && false) xs) (and-false (p x)) ∙ any_never p xs

@@ -4,7 +4,10 @@ use Rattle.std.proofs.lemmas.Bool.{cases_lt, cond-true, cond-false, and_from, an
 use Rattle.std.specs.List.{filter, list_any, position, position_or_len}
 use Rattle.std.specs.Option.{is_some, IfSome}
 use Rattle.sim_base.specs.declared.config.Config.{Config}
+use Rattle.sim_base.specs.declared.message.Access.{Access}
+use Rattle.sim_base.specs.declared.message.Access.TheVariants as access
 use Rattle.sim_base.specs.declared.message.Request.{Request}
+use Rattle.sim_base.specs.Access.{is_access}
 use Rattle.sim_base.specs.Scheduling.{candidates, favour, is_favoured, first_of_lines}
 use Rattle.queue.specs.declared.request_log.Arrived.{Arrived}
 use Rattle.queue.specs.Log.{waiting_requests}
@@ -12,7 +15,7 @@ use Rattle.queue.specs.View.{QueueView, is_draining}
 use Rattle.queue.specs.Candidates.{passes, entries, first_place}
 use Rattle.queue.proofs.Entries.{length-entries}
 use Rattle.fr_fcfs.specs.Requests.{candidates_of}
-use Rattle.fr_fcfs.specs.Offers.{is_of, only, all_accesses}
+use Rattle.fr_fcfs.specs.Offers.{includes, is_of, only, favoured_access, other_access, all_accesses}
 use Rattle.fr_fcfs.proofs.Firsts.{some_filtered}
 
 -- Where the channel ever drains and some request is favoured, the favoured ones go first.
@@ -48,8 +51,13 @@ any_item : {X : Type 0} (xs : List X) → list_any (λ x. true) xs ≡ ltb 0 (le
 any_item [] = refl
 any_item (x ∷ xs) = sym (lt-ltb 0 (suc (length xs)) (omega arith))
 
-pub some_favoured : (write : Bool) (log : List Arrived) → is_some (first_place (is_favoured write) log) ≡ ltb 0 (length (filter (is_favoured write) (first_of_lines (waiting_requests log))))
-some_favoured write log = some_filtered (is_favoured write) log ∙ any_item (filter (is_favoured write) (first_of_lines (waiting_requests log)))
+-- a request is of this access
+abbrev pub has : Access → Request → Bool
+has access r = is_access access r.access
+
+-- some request of an access may be served
+pub some_of_access : (access : Access) (log : List Arrived) → is_some (first_place (has access) log) ≡ ltb 0 (length (filter (has access) (first_of_lines (waiting_requests log))))
+some_of_access access log = some_filtered (has access) log ∙ any_item (filter (has access) (first_of_lines (waiting_requests log)))
 
 filter_same : {X : Type 0} (p q : X → Bool) (xs : List X) → ((x : X) → p x ≡ q x) → filter p xs ≡ filter q xs
 filter_same p q xs same = λ i. filter (λ x. same x i) xs
@@ -58,14 +66,19 @@ filter_all : {X : Type 0} (p : X → Bool) (xs : List X) → ((x : X) → p x �
 filter_all p [] all = refl
 filter_all p (x ∷ xs) all = cond-true (p x) (x ∷ filter p xs) (filter p xs) (all x) ∙ ap (λ ys. x ∷ ys) (filter_all p xs all)
 
-one_access : (write w : Bool) → cond write w (not w) ≡ cond w write (not write)
-one_access true true = refl
-one_access true false = refl
-one_access false true = refl
-one_access false false = refl
+-- the favoured requests are those of the favoured access
+pub favoured_are : (draining : Bool) (requests : List Request) → filter (has (favoured_access draining)) requests ≡ filter (is_favoured draining) requests
+favoured_are true requests = refl
+favoured_are false requests = refl
 
-pub of_one_access : (write : Bool) (requests : List Request) → filter (is_favoured write) requests ≡ filter (is_of (only write)) requests
-of_one_access write requests = filter_same (is_favoured write) (is_of (only write)) requests (λ r. one_access write r.write)
+one_access : (access other : Access) → is_access access other ≡ includes (only access) other
+one_access access.Read access.Read = refl
+one_access access.Read access.Write = refl
+one_access access.Write access.Read = refl
+one_access access.Write access.Write = refl
+
+pub of_one_access : (access : Access) (requests : List Request) → filter (has access) requests ≡ filter (is_of (only access)) requests
+of_one_access access requests = filter_same (has access) (is_of (only access)) requests (λ r. one_access access r.access)
 
 -- where a test keeps nothing, its opposite keeps all
 kept_next : {X : Type 0} (keep other : Bool) (x : X) (kept rest xs : List X) → other ≡ not keep → length (cond keep (x ∷ kept) kept) ≡ 0 → (length kept ≡ 0 → rest ≡ xs)
@@ -77,22 +90,22 @@ filter_others : {X : Type 0} (p q : X → Bool) (xs : List X) → ((x : X) → q
 filter_others p q [] opposite none = refl
 filter_others p q (x ∷ xs) opposite none = kept_next (p x) (q x) x (filter p xs) (filter q xs) xs (opposite x) none (filter_others p q xs opposite)
 
-other_access : (write w : Bool) → cond w (not write) (not (not write)) ≡ not (cond write w (not w))
-other_access true true = refl
-other_access true false = refl
-other_access false true = refl
-other_access false false = refl
+not_of_one : (access other : Access) → includes (only (other_access access)) other ≡ not (is_access access other)
+not_of_one access.Read access.Read = refl
+not_of_one access.Read access.Write = refl
+not_of_one access.Write access.Read = refl
+not_of_one access.Write access.Write = refl
 
--- where no request is of a kind, all are of the other
-pub of_other_access : (write : Bool) (requests : List Request) → length (filter (is_favoured write) requests) ≡ 0 → requests ≡ filter (is_of (only (not write))) requests
-of_other_access write requests none = sym (filter_others (is_favoured write) (is_of (only (not write))) requests (λ r. other_access write r.write) none)
+-- where no request is of an access, all are of the other
+pub of_other_access : (access : Access) (requests : List Request) → length (filter (has access) requests) ≡ 0 → requests ≡ filter (is_of (only (other_access access))) requests
+of_other_access access requests none = sym (filter_others (has access) (is_of (only (other_access access))) requests (λ r. not_of_one access r.access) none)
 
 pub of_all_accesses : (requests : List Request) → requests ≡ filter (is_of all_accesses) requests
-of_all_accesses requests = sym (filter_all (is_of all_accesses) requests (λ r. any_access r.write))
+of_all_accesses requests = sym (filter_all (is_of all_accesses) requests (λ r. any_access r.access))
   where
-    any_access : (w : Bool) → cond w true true ≡ true
-    any_access true = refl
-    any_access false = refl
+    any_access : (access : Access) → includes all_accesses access ≡ true
+    any_access access.Read = refl
+    any_access access.Write = refl
 
 bound : {X : Type 0} (p : X → Bool) (xs : List X) (k : ℕ) → position p xs ≡ Some k → k < length xs
 bound p xs k is =

@@ -17,7 +17,7 @@ use Rattle.queue.proofs.Eligible.{length-eligible, marked_waits}
 use Rattle.queue.specs.Candidates.{passes, entries, first_place}
 use Rattle.queue.specs.Moves.{earlier}
 use Rattle.queue.proofs.Entries.{length-entries}
-use Rattle.queue.proofs.Positions.{position-cons, position-either}
+use Rattle.queue.proofs.Positions.{position-cons, position-either, first_none}
 use Rattle.queue.proofs.Searches.{none_everywhere}
 use Rattle.queue.proofs.Firsts.{marked_eligible}
 use Rattle.fr_fcfs.specs.declared.accesses.Accesses.{Accesses}
@@ -52,11 +52,6 @@ pub place_if : (b : Bool) (test : Request → Bool) (log : List Arrived) → fir
 place_if true test log = refl
 place_if false test log = sym (none_everywhere (λ r. false) log (λ r. refl))
 
-none_parts : (t : Bool) (o : Option ℕ) → cond t (Some 0) (option_map suc o) ≡ None → (t ≡ false) × (o ≡ None)
-none_parts true o none = cc
-none_parts false None none = (refl, refl)
-none_parts false (Some k) none = cc
-
 unless_next : (m p q h : Bool) → (m && h) ≡ false → (h ≡ false → p ≡ q) → (m && p) ≡ (m && q)
 unless_next true p q h none same = same none
 unless_next false p q h none same = refl
@@ -66,7 +61,7 @@ zipped_unless : (p q h : Request → Bool) (P : Request → Type 0) (rs : List R
 zipped_unless p q h P [] ms none all same = refl
 zipped_unless p q h P (r ∷ rs) [] none all same = refl
 zipped_unless p q h P (r ∷ rs) (m ∷ ms) none all same =
-    let parts = none_parts (is_marked m && h r) (position (passes h) (zip rs ms)) (sym (position-cons (passes h) (r, m) (zip rs ms)) ∙ none) in
+    let parts = first_none (is_marked m && h r) (position (passes h) (zip rs ms)) (sym (position-cons (passes h) (r, m) (zip rs ms)) ∙ none) in
     let candidate = unless_next (is_marked m) (p r) (q r) (h r) parts.0 (same r (All-head P r rs all)) in
     position-cons (passes p) (r, m) (zip rs ms)
     ∙ (λ i. cond (candidate i) (Some 0) (option_map suc (zipped_unless p q h P rs ms parts.1 (All-tail P r rs all) same i)))

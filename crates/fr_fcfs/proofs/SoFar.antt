@@ -2,9 +2,10 @@
 use Rattle.std.proofs.Common.{◌≡◌, ℕ, ◌<◌, ◌≤◌, Bool, true, false, cond, ltb, eqb, max, min, Option, Some, None, refl, sym, ap, subst, ◌∙◌, inl, inr, arith}
 use Rattle.std.proofs.lemmas.Bool.{cases_lt, cases_eq, eq-eqb, ne_eqb, lt-ltb, le-ltb, cond-true, cond-false}
 use Rattle.queue.specs.Moves.{earlier}
+use Rattle.queue.proofs.BankCandidatesServed.{earlier_none}
 use Rattle.fr_fcfs.specs.declared.offers.Offer.{Offer}
 use Rattle.fr_fcfs.specs.Offers.{goes_before, no_offer, if_within, offer_from, IsAt, IsBestOffer, IsBest, IsBestSoFar}
-use Rattle.fr_fcfs.proofs.Bests.{first_alone, better_is, second_alone_is, best_same}
+use Rattle.fr_fcfs.proofs.Bests.{better_is, second_alone_is, best_same}
 
 hit_or : (hit test : Bool) → test ≡ true → cond hit true test ≡ true
 hit_or true test is = refl
@@ -91,8 +92,8 @@ hits_late room now floor hits rows late_hits o late fits none so_far = elim (cas
       told room now (λ c. earlier (hits c) (late_hits c)) rows o within
       (record {
         from_now = best.from_now;
-        none_before = λ c from before. let before_it = best.none_before c from before in (ap (earlier (hits c)) (none c (omega arith)) ∙ first_alone (hits c) ∙ before_it.0, before_it.1);
-        then_is = subst (λ x. IsAt o.hit x (rows o.cycle) o.slot) (sym (ap (earlier (hits o.cycle)) (none o.cycle late) ∙ first_alone (hits o.cycle))) best.then_is;
+        none_before = λ c from before. let before_it = best.none_before c from before in (ap (earlier (hits c)) (none c (omega arith)) ∙ earlier_none (hits c) ∙ before_it.0, before_it.1);
+        then_is = subst (λ x. IsAt o.hit x (rows o.cycle) o.slot) (sym (ap (earlier (hits o.cycle)) (none o.cycle late) ∙ earlier_none (hits o.cycle))) best.then_is;
       })
   | inr outside ↦
       let last : o.cycle ≡ 18446744073709551615 = ap (λ x. x.cycle) (so_far.none outside) in

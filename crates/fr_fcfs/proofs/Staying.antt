@@ -7,6 +7,7 @@ use Rattle.std.proofs.lemmas.List.Elements.{All-nil, All-cons, All-head, All-tai
 use Rattle.std.proofs.lemmas.List.Folds.{find-append, list_any-append}
 use Rattle.std.specs.List.{All, AllWithin, filter, find, zip, slice_get}
 use Rattle.std.specs.Option.{option_map, option_or}
+use Rattle.std.proofs.Math.Bool.{or-false, and-false}
 use Rattle.sim_base.specs.declared.config.Config.{Config}
 use Rattle.sim_base.specs.declared.command.Command.{Command}
 use Rattle.sim_base.specs.declared.command.Command.TheVariants.{Prea, Ref}
@@ -29,7 +30,6 @@ use Rattle.fr_fcfs.specs.Arrivals.{ComesAfter, KeepsNext}
 use Rattle.fr_fcfs.specs.Choices.{choice_in}
 use Rattle.fr_fcfs.specs.Requests.{IsInBanks, is_hit, candidates_of}
 use Rattle.fr_fcfs.specs.Offers.{IsReadyFrom}
-use Rattle.fr_fcfs.proofs.Booleans.{and_false, or_false}
 use Rattle.queue.proofs.Firsts.{marked_eligible}
 use Rattle.fr_fcfs.proofs.Legal.{withheld_is, hit_is, same_bank}
 use Rattle.fr_fcfs.proofs.BankOffers.{legal_then}
@@ -92,10 +92,10 @@ late_hits : (s : Config) (history : List IssuedCommand) (cycle t : ℕ) (hit : B
 unfolding ready_hit
 late_hits s history cycle t hit more early all =
     none_found (λ r. is_hit history r && is_legal s history t (needed history r)) more
-    (λ k d exists. ap (λ b. is_hit history (slice_index_or more k d) && b) ((all k d exists).late t early) ∙ and_false (is_hit history (slice_index_or more k d)))
+    (λ k d exists. ap (λ b. is_hit history (slice_index_or more k d) && b) ((all k d exists).late t early) ∙ and-false (is_hit history (slice_index_or more k d)))
 
 no_row : (hit legal withheld : Bool) → legal ≡ false → ((not hit && legal) && not withheld) ≡ false
-no_row hit legal withheld off = ap (λ b. (not hit && b) && not withheld) off ∙ ap (λ b. b && not withheld) (and_false (not hit))
+no_row hit legal withheld off = ap (λ b. (not hit && b) && not withheld) off ∙ ap (λ b. b && not withheld) (and-false (not hit))
 
 late_rows : (s : Config) (history : List IssuedCommand) (cycle t : ℕ) (hit : Bool) (requests more : List Request) → t < cycle → All (ComesAfter s history cycle hit) more
     → find (ready_row s history t requests) more ≡ None
@@ -172,7 +172,7 @@ rows_same s history cycle t requests more all r =
     ap (λ w. (not hit && legal) && not w)
     (withheld_is history (requests ++ more) r
     ∙ ap (λ b. b && not hit)
-    (hits_more history requests more bank ∙ ap (λ b. has_hit history requests bank || b) (no_hits_among s history cycle more all bank) ∙ or_false (has_hit history requests bank))
+    (hits_more history requests more bank ∙ ap (λ b. has_hit history requests bank || b) (no_hits_among s history cycle more all bank) ∙ or-false (has_hit history requests bank))
     ∙ sym (withheld_is history requests r))
 
 none_hit : (s : Config) (history : List IssuedCommand) (cycle t : ℕ) (more : List Request) → All (ComesAfter s history cycle false) more → find (ready_hit s history t) more ≡ None

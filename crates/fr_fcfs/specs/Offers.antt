@@ -1,6 +1,7 @@
 -- What banks offer for the candidates of their queues.
---     is_of accesses r      a request is of the accesses that go
---     only write      requests to write go alone, or requests to read
+--     includes accesses access, is_of accesses r      requests of an access go, and so does a request
+--     only access      requests of one access go alone
+--     favoured_access draining, other_access access      the favoured access, and the one that is not this one
 --     hits_in s history log accesses bank cycle      the place of the first ready row hit of a bank in a cycle
 --     rows_in s history log accesses bank cycle      the place of its first request for which an ACT or a PRE may be issued then
 --     rows_beside s history log accesses left cycle      the place of the first such request of all banks but those that are left
@@ -20,6 +21,8 @@ use Rattle.sim_base.specs.declared.command.Command.{Command}
 use Rattle.sim_base.specs.declared.command.IssuedCommand.{IssuedCommand}
 use Rattle.sim_base.specs.declared.command.Kind.{Kind}
 use Rattle.sim_base.specs.declared.command.Kind.TheVariants as kind
+use Rattle.sim_base.specs.declared.message.Access.{Access}
+use Rattle.sim_base.specs.declared.message.Access.TheVariants as access
 use Rattle.sim_base.specs.declared.message.Request.{Request}
 use Rattle.sim_base.specs.declared.place.BankId.{BankId}
 use Rattle.sim_base.specs.Rules.{kind_of, bank_of, finds_its_banks}
@@ -38,21 +41,37 @@ use Rattle.fr_fcfs.specs.declared.first.RowCommands.{RowCommands}
 use Rattle.fr_fcfs.specs.declared.offers.Offer.{Offer}
 use Rattle.fr_fcfs.specs.Requests.{IsLegalFrom, candidates_of}
 
+-- requests of an access go
+abbrev pub includes : Accesses → Access → Bool
+includes accesses access.Read = accesses.reads
+includes accesses access.Write = accesses.writes
+
 -- a request is of the accesses that go
 abbrev pub is_of : Accesses → Request → Bool
-is_of accesses r = if r.write then accesses.writes else accesses.reads
+is_of accesses r = includes accesses r.access
 
--- requests to write go alone, or requests to read
-abbrev pub only : Bool → Accesses
-only write = record { reads = not write; writes = write }
+-- requests of one access go alone
+abbrev pub only : Access → Accesses
+only access.Read = record { reads = true; writes = false }
+only access.Write = record { reads = false; writes = true }
+
+-- the favoured access: to write while a channel drains its writes, and to read while it does not
+abbrev pub favoured_access : Bool → Access
+favoured_access true = access.Write
+favoured_access false = access.Read
+
+abbrev pub other_access : Access → Access
+other_access access.Read = access.Write
+other_access access.Write = access.Read
 
 -- all requests go
 abbrev pub all_accesses : Accesses
 all_accesses = record { reads = true; writes = true }
 
 -- the command that moves data
-abbrev pub column_kind : Bool → Kind
-column_kind write = if write then kind.Wr else kind.Rd
+abbrev pub column_kind : Access → Kind
+column_kind access.Read = kind.Rd
+column_kind access.Write = kind.Wr
 
 -- a candidate, if its access goes
 abbrev pub if_allowed : Option ℕ → Bool → Option ℕ
@@ -97,9 +116,9 @@ rows_in s history log accesses bank cycle = first_place (λ r. (bank_number r.pl
 abbrev pub all_hits : Config → List IssuedCommand → List Arrived → Accesses → ℕ → Option ℕ
 all_hits s history log accesses = λ cycle. first_place (hits_now s history accesses cycle) log
 
--- the same to write, or to read, if these requests go
-abbrev pub hits_if : Bool → Config → List IssuedCommand → List Arrived → Bool → ℕ → Option ℕ
-hits_if goes s history log write = λ cycle. first_place (λ r. goes && hits_now s history (only write) cycle r) log
+-- the same of one access, if its requests go
+abbrev pub hits_if : Bool → Config → List IssuedCommand → List Arrived → Access → ℕ → Option ℕ
+hits_if goes s history log access = λ cycle. first_place (λ r. goes && hits_now s history (only access) cycle r) log
 
 -- the place of the first request of all banks for which an ACT or a PRE may be issued in a cycle
 abbrev pub all_rows : Config → List IssuedCommand → List Arrived → Accesses → ℕ → Option ℕ

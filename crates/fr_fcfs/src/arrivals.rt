@@ -26,20 +26,22 @@ use queue::bank_candidates::BankCandidates;
 use queue::request_log::Arrived;
 use queue::request_log::words::bank_number;
 use sim_base::command::Kind;
-use sim_base::message::{Cycle, Request};
+use sim_base::message::{Access, Cycle, Request};
 
 /// The kind of command that a request for a row needs, given the open row of its bank.
 #[inline(always)]
-fn kind_needed(open_row: Option<u32>, row: u32, write: bool) -> Kind
+fn kind_needed(open_row: Option<u32>, row: u32, access: Access) -> Kind
     ensures kind { (r : Request)
-        → r.place.row ≡ row → r.write ≡ write → result ≡ kind_of (needed_at open_row r) }
+        → r.place.row ≡ row → r.access ≡ access → result ≡ kind_of (needed_at open_row r) }
     ensures bank { IsTrue (names_bank result) }
 {
     match open_row {
         None => Kind::Act,
         Some(open) if open != row => Kind::Pre,
-        Some(_) if write => Kind::Wr,
-        Some(_) => Kind::Rd,
+        Some(_) => match access {
+            Access::Read => Kind::Rd,
+            Access::Write => Kind::Wr,
+        },
     }
 }
 
@@ -67,7 +69,7 @@ fn comes_after(
         → ComesAfter s history cycle hit request.now }
 {
     let open_row = bank_candidates.open_row(request.place.bank_id());
-    let kind = kind_needed(open_row, request.place.row, request.write);
+    let kind = kind_needed(open_row, request.place.row, request.access);
     let after = cycle <= ready(banks, bank_number(request.place), kind);
     after && (hit || !moves_data(kind))
 }

@@ -21,16 +21,19 @@ use bank_ready::banks::Banks;
 use queue::Queue;
 use queue::bank_candidates::{BankCandidates, BankSet};
 use sim_base::command::Kind;
-use sim_base::message::Cycle;
+use sim_base::message::{Access, Cycle};
 
 /// The command that moves data.
 #[inline(always)]
-fn column_kind(write: bool) -> Kind
-    ensures kind { result ≡ column_kind write }
+fn column_kind(access: Access) -> Kind
+    ensures kind { result ≡ column_kind access }
     ensures bank { IsTrue (names_bank result) }
     ensures data { IsTrue (moves_data result) }
 {
-    if write { Kind::Wr } else { Kind::Rd }
+    match access {
+        Access::Read => Kind::Rd,
+        Access::Write => Kind::Wr,
+    }
 }
 
 /// The first of two places, if there is one.
@@ -72,11 +75,11 @@ fn oldest(bank_candidates: &BankCandidates, bank: usize, accesses: Accesses) -> 
         return bank_candidates.first(bank);
     }
     let read = if_allowed(
-        bank_candidates.of_access(bank, false).oldest,
+        bank_candidates.of_access(bank, Access::Read).oldest,
         accesses.reads,
     );
     let write = if_allowed(
-        bank_candidates.of_access(bank, true).oldest,
+        bank_candidates.of_access(bank, Access::Write).oldest,
         accesses.writes,
     );
     match earlier(read, write) {
@@ -92,8 +95,14 @@ fn banks_with_candidate(bank_candidates: &BankCandidates, accesses: Accesses) ->
     ensures each { (bank : ℕ) → bank < bank_count bank_candidates.now
         → is_in result bank ≡ is_some (oldest_of accesses bank_candidates.now bank) }
 {
-    let reads = banks_if(bank_candidates.banks_with_candidate(false), accesses.reads);
-    let writes = banks_if(bank_candidates.banks_with_candidate(true), accesses.writes);
+    let reads = banks_if(
+        bank_candidates.banks_with_candidate(Access::Read),
+        accesses.reads,
+    );
+    let writes = banks_if(
+        bank_candidates.banks_with_candidate(Access::Write),
+        accesses.writes,
+    );
     reads.union(writes)
 }
 
@@ -103,8 +112,8 @@ fn hit(bank_candidates: &BankCandidates, accesses: Accesses) -> BankSet
     ensures { (bank : ℕ) → bank < bank_count bank_candidates.now
         → is_in result bank ≡ is_some (hit_of accesses bank_candidates.now bank) }
 {
-    let reads = banks_if(bank_candidates.hit(false), accesses.reads);
-    let writes = banks_if(bank_candidates.hit(true), accesses.writes);
+    let reads = banks_if(bank_candidates.hit(Access::Read), accesses.reads);
+    let writes = banks_if(bank_candidates.hit(Access::Write), accesses.writes);
     reads.union(writes)
 }
 
@@ -116,10 +125,10 @@ struct RowCommands {
     now: Cycle,
 }
 
-/// What moves data of row hits from a cycle on: a WR, or a RD.
+/// What moves data of row hits from a cycle on: a RD, or a WR.
 #[derive(Clone, Copy)]
 struct DataCommands {
-    write: bool,
+    access: Access,
     now: Cycle,
 }
 
@@ -164,13 +173,13 @@ fn with_hit(
     ensures { (s : Config) (history : List IssuedCommand) (log : List Arrived)
         → StandForLog bank_candidates.now banks.now s history log
         → TakesHits log commands.now best.old best.new
-        (hits_in s history log (only commands.write) bank) }
+        (hits_in s history log (only commands.access) bank) }
 {
-    let ready = ready(banks, bank, column_kind(commands.write));
+    let ready = ready(banks, bank, column_kind(commands.access));
     if best.cycle < ready {
         return;
     }
-    if let Some(slot) = bank_candidates.of_access(bank, commands.write).hit {
+    if let Some(slot) = bank_candidates.of_access(bank, commands.access).hit {
         improve(best, ready, true, slot, commands.now);
     }
 }
@@ -242,7 +251,7 @@ fn with_rows(
     with_rows_of(best, bank_candidates, banks, closed, activate);
 }
 
-/// Takes the row hits to write, or to read, into the best offer so far, in all banks.
+/// Takes the row hits of one access into the best offer so far, in all banks.
 #[inline(always)]
 fn with_all_hits(
     best: &mut Offer,
@@ -254,16 +263,16 @@ fn with_all_hits(
     ensures { (s : Config) (history : List IssuedCommand) (log : List Arrived)
         → StandForLog bank_candidates.now banks.now s history log
         → TakesHits log commands.now best.old best.new
-        (all_hits s history log (only commands.write)) }
+        (all_hits s history log (only commands.access)) }
 {
-    let mut rest = bank_candidates.hit(commands.write);
+    let mut rest = bank_candidates.hit(commands.access);
     while let Some(bank) = rest.first() {
         with_hit(best, bank_candidates, banks, bank, commands);
         rest = rest.without_first();
     }
 }
 
-/// Takes the row hits to write, or to read, into the best offer so far, if they go. They are left out where none may be issued by its
+/// Takes the row hits of one access into the best offer so far, if they go. They are left out where none may be issued by its
 /// cycle.
 #[inline(always)]
 fn with_hits(
@@ -277,12 +286,12 @@ fn with_hits(
     ensures { (s : Config) (history : List IssuedCommand) (log : List Arrived)
         → StandForLog bank_candidates.now banks.now s history log
         → TakesHits log commands.now best.old best.new
-        (hits_if goes s history log commands.write) }
+        (hits_if goes s history log commands.access) }
 {
     if !goes {
         return;
     }
-    if best.cycle < banks.data_floor(column_kind(commands.write)) {
+    if best.cycle < banks.data_floor(column_kind(commands.access)) {
         return;
     }
     with_all_hits(best, bank_candidates, banks, commands);
@@ -305,9 +314,15 @@ fn with_banks(
         (all_hits s history log accesses) (all_rows s history log accesses) best.new }
 {
     with_rows(best, bank_candidates, accesses, banks, now);
-    let read = DataCommands { write: false, now };
+    let read = DataCommands {
+        access: Access::Read,
+        now,
+    };
     with_hits(best, bank_candidates, banks, read, accesses.reads);
-    let write = DataCommands { write: true, now };
+    let write = DataCommands {
+        access: Access::Write,
+        now,
+    };
     with_hits(best, bank_candidates, banks, write, accesses.writes);
 }
 

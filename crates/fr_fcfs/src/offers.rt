@@ -16,7 +16,7 @@ use bank_ready::banks::Banks;
 use queue::Queue;
 use queue::bank_candidates::BankCandidates;
 use sim_base::command::Kind;
-use sim_base::message::Cycle;
+use sim_base::message::{Access, Cycle};
 
 /// A request whose need may be issued from a cycle on.
 #[derive(Clone, Copy)]
@@ -91,10 +91,9 @@ fn first_of_one_access(
         → s.write_high ≡ queue.now.high
         → IsFirstReady s history queue.now now result }
 {
-    if access_that_goes(queue, bank_candidates) {
-        first_of(queue, bank_candidates, WRITES, banks, now)
-    } else {
-        first_of(queue, bank_candidates, READS, banks, now)
+    match access_that_goes(queue, bank_candidates) {
+        Access::Read => first_of(queue, bank_candidates, READS, banks, now),
+        Access::Write => first_of(queue, bank_candidates, WRITES, banks, now),
     }
 }
 

@@ -12,12 +12,12 @@ use Rattle.sim_base.specs.History.{is_to, by_age}
 use Rattle.sim_base.proofs.Arrived.{by_age-puts}
 use Rattle.sim_base.proofs.Each.{Each-all, Each-filter}
 use Rattle.sim_base.proofs.Ordered.{Each-weaker, filter-by_age}
+use Rattle.sim_base.proofs.Lists.{filter-both, filter-none}
 use Rattle.links.specs.InFlight.{is_due}
 use Rattle.span_laws.specs.Mail.{mail_before, mail_in}
 use Rattle.horizon_laws.specs.Flight.{is_request, flight_of}
 use Rattle.horizon_laws.specs.Sent.{requests_sent, answers_sent, RequestsTravelFor, AnswersTakeFor}
 use Rattle.horizon_laws.specs.Turns.{own_cycle, other_cycle}
-use Rattle.horizon_laws.proofs.Lists.{filter-both, filter-none}
 use Rattle.horizon_laws.proofs.Requesting.{requests-each, answers-each, request-to, answer-to}
 use Rattle.horizon_laws.proofs.Knowing.{requests-known, answers-known}
 use Rattle.horizon_laws.proofs.Taking.{due_at, channel-due, core-due}

@@ -1,8 +1,8 @@
 -- What is in flight where the cores stand at one cycle and the channels at another, as they go on in turns.
-use Rattle.std.proofs.Common.{◌≡◌, ℕ, zero, suc, ◌+◌, ◌%◌, ◌<◌, ◌≤◌, Bool, true, false, not, ltb, leb, eqb, ◌&&◌, List, [], ◌∷◌, ◌++◌, length, refl, sym, ap, ap₂, subst, ◌∙◌, ◌⊎◌, inl, inr, arith}
+use Rattle.std.proofs.Common.{◌≡◌, ℕ, ◌+◌, ◌%◌, ◌<◌, ◌≤◌, Bool, true, false, not, ltb, leb, eqb, ◌&&◌, List, [], ◌++◌, length, refl, sym, ap, ap₂, subst, ◌∙◌, arith}
 use Rattle.std.specs.Prelude.{filter, fold, flat_map}
 use Rattle.std.specs.List.{AllByRecursion as Each}
-use Rattle.std.proofs.lemmas.Bool.{cases_lt, lt-ltb, le-ltb, le-leb, lt-leb, eqb-true, true≢false}
+use Rattle.std.proofs.lemmas.Bool.{le-leb, eqb-true, true≢false}
 use Rattle.std.proofs.lemmas.List.{append-nil}
 use Rattle.std.proofs.lemmas.List.Elements.{filter-append}
 use Rattle.sim_base.specs.declared.config.Config.{Config}
@@ -14,36 +14,22 @@ use Rattle.sim_base.specs.declared.message.Unit.{Unit as MachineUnit}
 use Rattle.sim_base.specs.declared.message.Unit.TheVariants.{Core, Channel}
 use Rattle.sim_base.specs.declared.trace.Entry.{Entry}
 use Rattle.sim_base.proofs.Arrived.{puts, by_age-puts, fold-puts}
-use Rattle.sim_base.proofs.Below.{flat_map_below_more, flat_map_below_same}
+use Rattle.sim_base.proofs.Below.{flat_map_below_same}
 use Rattle.sim_base.proofs.Each.{Each-all, Each-filter, Each-flat_map_below}
-use Rattle.sim_base.proofs.Grows.{SentBy, links_differ, of_core-by, of_channel-by}
+use Rattle.sim_base.proofs.Grows.{SentBy, of_core-by, of_channel-by, grow, cores_differ, channels_differ}
 use Rattle.sim_base.proofs.Ordered.{Apart, Each-weaker, puts-swap, puts-append, Sorted-puts, filter-by_age, filter-puts}
 use Rattle.sim_base.proofs.Spans.{length-run}
 use Rattle.sim_base.specs.Sends.{sender}
+use Rattle.sim_base.proofs.Lists.{filter-both, filter-each, filter-agree, filter-none}
 use Rattle.links.specs.InFlight.{is_due}
 use Rattle.span_laws.specs.Mail.{arriving}
 use Rattle.horizon_laws.specs.Flight.{is_request, flight_of, left_by_channels, left_by_cores, FlightsMeet, ChannelsAreBrought, CoresAreBrought, ChannelsGoFurther, CoresGoFurther, ChannelsGoFurtherFor, CoresGoFurtherFor}
 use Rattle.horizon_laws.specs.Sent.{requests_sent, answers_sent}
-use Rattle.span_laws.proofs.Flights.{due-left}
+use Rattle.span_laws.proofs.Flights.{due-left, not_before, in_span, not-lt, and-swap, later-both}
+use Rattle.span_laws.proofs.Later.{each-right}
 use Rattle.horizon_laws.proofs.Late.{core-sent_late, channel-sent_late}
-use Rattle.horizon_laws.proofs.Lists.{filter-both, filter-each, filter-none, filter-agree}
 use Rattle.horizon_laws.proofs.Requesting.{core-requests, channel-answers, requests-each, answers-each, request-to, answer-to}
 use Rattle.horizon_laws.proofs.Knowing.{requests-known, answers-known}
-
--- what has not arrived before a cycle
-abbrev not_before : ℕ → Message → Bool
-not_before cycle m = leb cycle m.arrival
-
--- a message arrives in a span
-abbrev in_span : ℕ → ℕ → Message → Bool
-in_span from until m = leb from m.arrival && ltb m.arrival until
-
-not-lt : (a b : ℕ) → not (ltb a b) ≡ leb b a
-not-lt a b = go (cases_lt a b)
-  where
-    go : (a < b) ⊎ (b ≤ a) → not (ltb a b) ≡ leb b a
-    go (inl h) = ap not (lt-ltb a b h) ∙ sym (lt-leb b a h)
-    go (inr h) = ap not (le-ltb a b h) ∙ sym (le-leb b a h)
 
 pub flights-meet : (s : Config) (traces : List (List Entry)) (now : ℕ) → FlightsMeet s traces now
 unfolding in_flight messages
@@ -55,12 +41,6 @@ flights-meet s traces now =
     ap by_age
     (sym (filter-append (not_before now) (requests_sent s traces now) (answers_sent s traces now))
     ∙ sym (filter-agree (is_in_flight history) (not_before now) sent (Each-all (λ (m : Message). is_in_flight history m ≡ not_before now m) same sent)))
-
-and-swap : (a b c : Bool) → (a && (b && c)) ≡ (b && (a && (b && c)))
-and-swap true true c = refl
-and-swap true false c = refl
-and-swap false true c = refl
-and-swap false false c = refl
 
 -- what is due at a unit of what has not arrived
 due-mail : (s : Config) (from until : ℕ) (unit : MachineUnit) (sent : List Message)
@@ -97,39 +77,6 @@ cores-brought s traces a b until units least core other t h =
     ∙ filter-by_age due (xs ++ ys)
     ∙ ap by_age (filter-append due xs ys ∙ ap₂ (λ x y. x ++ y) none (due-mail s a until (Core core) (answers_sent s traces b)))
     ∙ sym ((answers-known s traces b until least until core t h (omega arith)).1 a)
-
--- what units of one kind send can be put in before or after what they sent
-apart : (s : Config) (a b : MachineUnit) → (a ≡ b → ⊥) → (xs ys : List Message) → SentBy s a xs → SentBy s b ys → Apart xs ys
-apart s a b h xs ys j k =
-    Each-weaker _ (λ (x : Message). Each (λ (y : Message). eqb x.link y.link ≡ false) ys)
-    (λ x e. Each-weaker _ (λ (y : Message). eqb x.link y.link ≡ false) (λ y f. links_differ s a b h x.link y.link e f) ys k) xs j
-
-grow : (s : Config) (unit : ℕ → MachineUnit) → ((i j : ℕ) → i < j → unit i ≡ unit j → ⊥) → (f g : ℕ → List Message) (acc : List Message) (n : ℕ)
-    → ((i : ℕ) → i < n → SentBy s (unit i) (f i)) → ((i : ℕ) → i < n → SentBy s (unit i) (g i))
-    → puts acc (flat_map (λ i. f i ++ g i) (below n)) ≡ puts (puts acc (flat_map f (below n))) (flat_map g (below n))
-grow s unit differ f g acc zero hf hg = refl
-grow s unit differ f g acc (suc n) hf hg =
-    let old = flat_map f (below n) in
-    let new = flat_map g (below n) in
-    let far : Apart new (f n) =
-    Each-flat_map_below _ g n (λ i l. apart s (unit i) (unit n) (differ i n l) (g i) (f n) (hg i (omega arith)) (hf n (omega arith))) in
-    ap (puts acc) (flat_map_below_more (λ i. f i ++ g i) n)
-    ∙ puts-append acc (flat_map (λ i. f i ++ g i) (below n)) (f n ++ g n)
-    ∙ puts-append _ (f n) (g n)
-    ∙ ap (λ z. puts (puts z (f n)) (g n)) (grow s unit differ f g acc n (λ i l. hf i (omega arith)) (λ i l. hg i (omega arith)))
-    ∙ ap (λ z. puts z (g n)) (puts-swap (puts acc old) new (f n) far)
-    ∙ sym (puts-append (puts (puts acc old) (f n)) new (g n))
-    ∙ ap₂ (λ y z. puts y z) (sym (puts-append acc old (f n)) ∙ ap (puts acc) (sym (flat_map_below_more f n))) (sym (flat_map_below_more g n))
-
-cores_differ : (i j : ℕ) → i < j → Core i ≡ Core j → ⊥
-cores_differ i j l e = let same : i ≡ j = cc in omega arith
-
-channels_differ : (i j : ℕ) → i < j → Channel i ≡ Channel j → ⊥
-channels_differ i j l e = let same : i ≡ j = cc in omega arith
-
-each-right : (P : Message → Type 0) (xs ys : List Message) → Each P (xs ++ ys) → Each P ys
-each-right P [] ys h = h
-each-right P (x ∷ xs) ys h = each-right P xs ys h.1
 
 -- how what a kind of units sent grows
 abbrev pub CoresSent : Config → List (List Entry) → ℕ → ℕ → (ℕ → List Message) → Type 0
@@ -221,18 +168,6 @@ second-more xs ys all new e far_all far_new far_old =
     ∙ sym (puts-append [] all xs)
     ∙ first-more ys xs all new far_new e
     ∙ ap (λ z. puts z new) (puts-append [] ys xs ∙ puts-swap [] ys xs far_old ∙ sym (puts-append [] xs ys))
-
--- a test on what is left, where no message is of the kind that is taken out
-later-both : (from until : ℕ) → from ≤ until → (m : Message) → not_before until m ≡ (not_before from m && not_before until m)
-later-both from until l m = go (cases_lt m.arrival until)
-  where
-    none : (b : Bool) → (b && false) ≡ false
-    none true = refl
-    none false = refl
-
-    go : (m.arrival < until) ⊎ (until ≤ m.arrival) → not_before until m ≡ (not_before from m && not_before until m)
-    go (inl h) = lt-leb until m.arrival h ∙ sym (ap (λ b. not_before from m && b) (lt-leb until m.arrival h) ∙ none (not_before from m))
-    go (inr h) = ap (λ b. b && not_before until m) (sym (le-leb from m.arrival (omega arith)))
 
 -- what is left of messages of which each is taken out that arrives before a cycle
 left-taken : (stay : Message → Bool) (from until : ℕ) → from ≤ until → (ms : List Message) → Each (λ (m : Message). stay m ≡ not_before until m) ms

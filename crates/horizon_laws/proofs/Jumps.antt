@@ -2,7 +2,7 @@
 use Rattle.std.proofs.Common.{◌≡◌, ℕ, zero, suc, ◌+◌, ◌-◌, ◌/◌, ◌%◌, ◌<◌, ◌≤◌, Bool, true, false, not, cond, ltb, leb, eqb, ◌&&◌, List, [], ◌∷◌, ◌++◌, refl, sym, ap, subst, ◌∙◌, ◌⊎◌, inl, inr, arith}
 use Rattle.std.specs.Prelude.{filter, fold, flat_map, count_by}
 use Rattle.std.specs.List.{AllByRecursion as Each, list_any}
-use Rattle.std.proofs.lemmas.Bool.{leb-true, le-ltb, cases_lt, cond_both, cond-true, cond-false, eq-eqb}
+use Rattle.std.proofs.lemmas.Bool.{leb-true, le-ltb, cases_lt, cond_both, cond-true, cond-false}
 use Rattle.std.proofs.lemmas.Bool.Decides.{nat_tests}
 use Rattle.std.proofs.lemmas.List.Elements.{All-from_recursion}
 use Rattle.sim_base.specs.declared.config.Config.{Config}
@@ -16,12 +16,13 @@ use Rattle.sim_base.proofs.Below.{flat_map_below_more}
 use Rattle.sim_base.proofs.Arrived.{Each-by_age}
 use Rattle.sim_base.proofs.Each.{Each-all, Each-append}
 use Rattle.sim_base.proofs.Ordered.{Each-weaker}
+use Rattle.sim_base.proofs.Lists.{filter-both, filter-agree, filter-none, count-cons}
+use Rattle.sim_base.proofs.Grows.{is_unit-own}
 use Rattle.links.specs.InFlight.{is_due}
+use Rattle.links.proofs.Next.{by_age-empty}
 use Rattle.span_laws.specs.Flight.{has_unit}
 use Rattle.span_laws.proofs.Flights.{any-and, left-all}
 use Rattle.laws.specs.Commands.{channel_steps_of}
-use Rattle.laws.proofs.Counting.{count-cons}
-use Rattle.laws.proofs.Sent.{count-by_age}
 use Rattle.span_laws.specs.Cores.{core_steps_of}
 use Rattle.span_laws.specs.Mail.{mail_before, mail_in}
 use Rattle.span_laws.specs.Quiet.{IsSilent}
@@ -31,7 +32,6 @@ use Rattle.span_laws.proofs.Later.{IsOfMachine, IsReceived, messages-received}
 use Rattle.horizon_laws.specs.Flight.{is_request, flight_of, left_by_channels, left_by_cores, ChannelsTakeTheirs, CoresTakeTheirs, LaterStays}
 use Rattle.horizon_laws.specs.Sent.{requests_sent, answers_sent, RequestsTravelFor, AnswersTakeFor}
 use Rattle.horizon_laws.specs.Turns.{Waits, IsInTurns, IsLowered, TurnsBegin, TurnsJump, ChannelsIdle, CoresIdle}
-use Rattle.horizon_laws.proofs.Lists.{filter-both, filter-none, filter-agree}
 use Rattle.horizon_laws.proofs.Requesting.{requests-each, answers-each, request-to, answer-to}
 use Rattle.horizon_laws.proofs.Flights.{flights-meet, channels-left, cores-left}
 use Rattle.horizon_laws.proofs.Leasts.{request-meets, request-positive}
@@ -57,10 +57,10 @@ none-now s traces n now u =
     let q = λ (m : Message). leb now m.arrival && ltb m.arrival now in
     filter-none q (inbox s traces (run s traces n) u) (Each-all (λ (m : Message). q m ≡ false) (λ m. nothing-in now m.arrival) (inbox s traces (run s traces n) u))
 
-requests-none : (s : Config) (n : ℕ) → n ≡ 0 → RequestsTravelFor s n
+pub requests-none : (s : Config) (n : ℕ) → n ≡ 0 → RequestsTravelFor s n
 requests-none s n e core channel c k = omega arith
 
-answers-none : (s : Config) (n : ℕ) → n ≡ 0 → AnswersTakeFor s n
+pub answers-none : (s : Config) (n : ℕ) → n ≡ 0 → AnswersTakeFor s n
 answers-none s n e core channel c k = (omega arith, omega arith)
 
 waits-now : (s : Config) (traces : List (List Entry)) (now : ℕ) (u : MachineUnit) → Waits s traces now now u now now
@@ -81,9 +81,6 @@ all-none : (ms : List Message) → count_by (λ m. true) ms ≡ 0 → ms ≡ []
 all-none [] h = refl
 all-none (m ∷ ms) h = let e : count_by (λ (x : Message). true) (m ∷ ms) ≡ 1 + count_by (λ (x : Message). true) ms = count-cons (λ (x : Message). true) m ms in absurd (omega arith)
 
-by_age-none : (ms : List Message) → by_age ms ≡ [] → ms ≡ []
-by_age-none ms h = all-none ms (sym (count-by_age (λ (m : Message). true) ms) ∙ ap (count_by (λ (m : Message). true)) h)
-
 -- where none is left, none passes
 each-fails : (p : Message → Bool) (ms : List Message) → filter p ms ≡ [] → Each (λ (m : Message). p m ≡ false) ms
 each-fails p [] h = tt
@@ -92,10 +89,6 @@ each-fails p (m ∷ ms) h = go (p m) refl h (each-fails p ms)
     go : (b : Bool) → p m ≡ b → cond b (m ∷ filter p ms) (filter p ms) ≡ [] → (filter p ms ≡ [] → Each (λ (x : Message). p x ≡ false) ms) → (p m ≡ false) × Each (λ (x : Message). p x ≡ false) ms
     go true e k rest = cc
     go false e k rest = (e, rest k)
-
-same-unit : (u : MachineUnit) → is_unit u u ≡ true
-same-unit (Core core) = eq-eqb core core refl
-same-unit (Channel channel) = eq-eqb channel channel refl
 
 of-machine : (s : Config) (u : MachineUnit) → IsOfMachine s u → Exists s u
 of-machine s (Core core) h = h
@@ -109,7 +102,7 @@ none-within s from until [] h k = tt
 none-within s from until (m ∷ ms) h k =
     let u = receiver s m.link in
     let here : due_at s u from until m ≡ false = (k u (of-machine s u h.0)).0 in
-    (ap (λ b. b && (leb from m.arrival && ltb m.arrival until)) (sym (same-unit u)) ∙ here, none-within s from until ms h.1 (λ v e. (k v e).1))
+    (ap (λ b. b && (leb from m.arrival && ltb m.arrival until)) (sym (is_unit-own u)) ∙ here, none-within s from until ms h.1 (λ v e. (k v e).1))
 
 same-later : (from until arrival : ℕ) → from ≤ until → (leb from arrival && ltb arrival until) ≡ false → leb until arrival ≡ leb from arrival
 same-later from until arrival l h = grind (arith, nat_tests)
@@ -155,7 +148,7 @@ channels-leave s traces a b until l none =
     fails (Core core) k = core-fails core (requests_sent s traces a) (to-none core (requests_sent s traces a) (requests-each s traces a))
     fails (Channel channel) k =
         each-fails (due_at s (Channel channel) b until) (requests_sent s traces a)
-        (by_age-none (filter (due_at s (Channel channel) b until) (requests_sent s traces a)) (sym (channel-mail s traces a b until channel) ∙ none channel k))
+        (by_age-empty (filter (due_at s (Channel channel) b until) (requests_sent s traces a)) (sym (channel-mail s traces a b until channel) ∙ none channel k))
 
 cores-leave : (s : Config) (traces : List (List Entry)) (a b until : ℕ) → a ≤ until → ((core : ℕ) → core < s.cores → mail_in s traces b (Core core) a until ≡ [])
     → left_by_cores until (flight_of s traces a b) ≡ flight_of s traces a b
@@ -177,7 +170,7 @@ cores-leave s traces a b until l none =
     fails (Channel channel) k = channel-fails channel (answers_sent s traces b) (to-none channel (answers_sent s traces b) (answers-each s traces b))
     fails (Core core) k =
         each-fails (due_at s (Core core) a until) (answers_sent s traces b)
-        (by_age-none (filter (due_at s (Core core) a until) (answers_sent s traces b)) (sym (core-mail s traces b a until core) ∙ none core k))
+        (by_age-empty (filter (due_at s (Core core) a until) (answers_sent s traces b)) (sym (core-mail s traces b a until core) ∙ none core k))
 
 -- what units send that are not touched
 abbrev nothing : ℕ → List Message
@@ -286,7 +279,7 @@ kept-ones s units from until mine (m ∷ ms) h r k =
     (λ late. (
       kept-is s units from until m
           ∙ stays-one (has_unit units (receiver s m.link)) (mine m) (leb from m.arrival) (ltb m.arrival until) h.0 late
-          (λ f. ap (λ b. b && (leb from m.arrival && ltb m.arrival until)) (sym (same-unit (receiver s m.link))) ∙ (k (receiver s m.link) (of-machine s (receiver s m.link) r.0) f).0),
+          (λ f. ap (λ b. b && (leb from m.arrival && ltb m.arrival until)) (sym (is_unit-own (receiver s m.link))) ∙ (k (receiver s m.link) (of-machine s (receiver s m.link) r.0) f).0),
       rest,
     ))
     (λ late. rest)
@@ -329,7 +322,7 @@ channels-taken s traces a b until units l no_core none =
         (λ m e. ap (λ x. x && (leb b m.arrival && ltb m.arrival until)) (request-to s core m e)) (requests_sent s traces a) (requests-each s traces a)
     fails (Channel channel) k f =
         each-fails (due_at s (Channel channel) b until) (requests_sent s traces a)
-        (by_age-none (filter (due_at s (Channel channel) b until) (requests_sent s traces a)) (sym (channel-mail s traces a b until channel) ∙ none channel k f))
+        (by_age-empty (filter (due_at s (Channel channel) b until) (requests_sent s traces a)) (sym (channel-mail s traces a b until channel) ∙ none channel k f))
 
 pub cores-taken : (s : Config) (traces : List (List Entry)) (a b until : ℕ) → CoresTakeTheirs s traces a b until
 cores-taken s traces a b until units l no_channel none =
@@ -357,7 +350,7 @@ cores-taken s traces a b until units l no_channel none =
         (λ m e. ap (λ x. x && (leb a m.arrival && ltb m.arrival until)) (answer-to s channel m e)) (answers_sent s traces b) (answers-each s traces b)
     fails (Core core) k f =
         each-fails (due_at s (Core core) a until) (answers_sent s traces b)
-        (by_age-none (filter (due_at s (Core core) a until) (answers_sent s traces b)) (sym (core-mail s traces b a until core) ∙ none core k f))
+        (by_age-empty (filter (due_at s (Core core) a until) (answers_sent s traces b)) (sym (core-mail s traces b a until core) ∙ none core k f))
 
 -- what is due later is kept
 kept-later : (has i low within g w : Bool) → (g ≡ true → within ≡ false) → (i && (g && w)) ≡ (not (has && (low && within)) && (i && (g && w)))

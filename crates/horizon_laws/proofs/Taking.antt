@@ -14,6 +14,7 @@ use Rattle.sim_base.specs.declared.trace.Entry.{Entry}
 use Rattle.sim_base.proofs.Arrived.{puts, by_age-puts}
 use Rattle.sim_base.proofs.Each.{Each-filter, Each-flat_map_below}
 use Rattle.sim_base.proofs.Ordered.{Each-weaker, Sorted-puts, filter-by_age, filter-puts}
+use Rattle.sim_base.proofs.Lists.{filter-both, filter-none}
 use Rattle.links.specs.InFlight.{is_due}
 use Rattle.span_laws.specs.Flight.{left_after}
 use Rattle.span_laws.specs.Mail.{arriving, mail_in}
@@ -23,7 +24,6 @@ use Rattle.span_laws.proofs.Silent.{silent-sooner, none-part, none-first, silent
 use Rattle.horizon_laws.specs.Flight.{is_request, flight_of, left_by_channels, left_by_cores}
 use Rattle.horizon_laws.specs.Sent.{requests_sent, answers_sent, RequestsTravelFor, AnswersTakeFor}
 use Rattle.horizon_laws.specs.Turns.{Waits, IsLeft, IsRun, IsLowered, ChannelsAreReady, CoresAreReady, ChannelsTurn, CoresTurn, ChannelGoes, CoreGoes, ChannelStays, CoreStays}
-use Rattle.horizon_laws.proofs.Lists.{filter-both, filter-none}
 use Rattle.horizon_laws.proofs.Late.{core-sent_late, channel-sent_late}
 use Rattle.horizon_laws.proofs.Requesting.{requests-each, answers-each, request-to, answer-to, to-channel, to-core}
 use Rattle.horizon_laws.proofs.Knowing.{requests-known, answers-known}

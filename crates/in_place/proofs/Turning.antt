@@ -3,7 +3,7 @@ use Rattle.std.proofs.Common.{◌≡◌, ℕ, ◌+◌, ◌-◌, ◌^◌, ◌<◌
 use Rattle.std.specs.Prelude.{fold, flat_map, All}
 use Rattle.std.proofs.lemmas.Bool.{cases_lt, true≢false}
 use Rattle.std.proofs.lemmas.Bool.Decides.{nat_tests}
-use Rattle.std.proofs.lemmas.List.{get_or_append_left, get_or-append-add, get_or-take, get_or-drop, length-take, length-drop}
+use Rattle.std.proofs.lemmas.List.{get_or_append_left, get_or-append-add, get_or-take, get_or-drop, length-take, length-drop, get_or_default}
 use Rattle.sim_base.specs.declared.config.Config.{Config}
 use Rattle.sim_base.specs.Counts.{in_flight}
 use Rattle.sim_base.specs.History.{below, is_unit, messages_of_core, messages_of_channel, insert_by_age}
@@ -13,7 +13,7 @@ use Rattle.sim_base.specs.declared.message.Unit.{Unit as MachineUnit}
 use Rattle.sim_base.specs.declared.message.Unit.TheVariants.{Core, Channel}
 use Rattle.sim_base.specs.declared.trace.Entry.{Entry}
 use Rattle.sim_base.proofs.Each.{Each-all}
-use Rattle.sim_base.proofs.Spans.{has_channels}
+use Rattle.sim_base.proofs.Grows.{has_channels}
 use Rattle.links.specs.InFlight.{InFlight, receiver_of}
 use Rattle.span_laws.specs.Mail.{mail_in}
 use Rattle.span_laws.specs.Units.{Exists}
@@ -23,14 +23,14 @@ use Rattle.horizon_laws.specs.Turns.{IsInTurns, IsLowered}
 use Rattle.horizon_laws.specs.Turns.{Waits as Left}
 use Rattle.horizon_laws.proofs.Bringing.{unit-due, unit-overdue, channel-known, core-known}
 use Rattle.horizon_laws.proofs.Flights.{flights-meet, channels-further, cores-further}
-use Rattle.horizon_laws.proofs.Jumps.{channels-taken, cores-taken, turns-jump}
+use Rattle.horizon_laws.proofs.Jumps.{channels-taken, cores-taken, turns-jump, requests-none, answers-none}
 use Rattle.horizon_laws.proofs.Taking.{channel-keeps, core-keeps, requests-shorter, answers-shorter}
 use Rattle.units.specs.Flight.{fresh, among, sent_by, is_at_places}
 use Rattle.units.specs.Parts.{IsPart}
 use Rattle.units.specs.Units.{unit_at, unit_count}
 use Rattle.units.proofs.Due.{exists-at}
 use Rattle.units.proofs.Joining.{fresh-is}
-use Rattle.units.proofs.Standing.{core-at_place, channel-at_place, same-default}
+use Rattle.units.proofs.Standing.{core-at_place, channel-at_place}
 use Rattle.units.proofs.Travelling.{Added, core-added, channel-added}
 use Rattle.in_place.specs.Turns.{AreByKind, AreInTurns, all_units, all_words}
 use Rattle.in_place.specs.declared.taking_turns.UnitsByKind.{UnitsByKind}
@@ -371,18 +371,12 @@ turns-later machine a b until units words links h l m sleep =
 
     core-none : (core : ℕ) (d : TimedUnit) → core < machine.config.cores → mail_in machine.config machine.traces.items until (Core core) (get_or units core d).at (get_or words core 0) ≡ []
     core-none core d k =
-        subst (λ (x : TimedUnit). mail_in machine.config machine.traces.items until (Core core) x.at (get_or words core 0) ≡ []) (same-default units core some d (omega (arith, k, h.count))) (then.wait (Core core) k).none
+        subst (λ (x : TimedUnit). mail_in machine.config machine.traces.items until (Core core) x.at (get_or words core 0) ≡ []) (get_or_default units core some d (omega (arith, k, h.count))) (then.wait (Core core) k).none
 
     channel-none : (channel : ℕ) (d : TimedUnit) → channel < machine.config.channels → mail_in machine.config machine.traces.items until (Channel channel) (get_or units (machine.config.cores + channel) d).at (get_or words (machine.config.cores + channel) 0) ≡ []
     channel-none channel d k =
-        subst (λ (x : TimedUnit). mail_in machine.config machine.traces.items until (Channel channel) x.at (get_or words (machine.config.cores + channel) 0) ≡ []) (same-default units (machine.config.cores + channel) some d (omega (arith, k, h.count)))
+        subst (λ (x : TimedUnit). mail_in machine.config machine.traces.items until (Channel channel) x.at (get_or words (machine.config.cores + channel) 0) ≡ []) (get_or_default units (machine.config.cores + channel) some d (omega (arith, k, h.count)))
         (then.wait (Channel channel) k).none
-
-requests-none : (s : Config) (n : ℕ) → n ≡ 0 → RequestsTravelFor s n
-requests-none s n e core channel c k = omega (arith, e)
-
-answers-none : (s : Config) (n : ℕ) → n ≡ 0 → AnswersTakeFor s n
-answers-none s n e core channel c k = (omega (arith, e), omega (arith, e))
 
 all-flight : (s : Config) (traces : List (List Entry)) (now count : ℕ) → count ≡ unit_count s → among s 0 (0 + count) (in_flight s traces (run s traces now)) ≡ flight_of s traces now now
 all-flight s traces now count e =

@@ -4,9 +4,10 @@ use Rattle.std.specs.Prelude.{count_by, filter, flat_map, slice_get}
 use Rattle.std.specs.Option.{IfSome}
 use Rattle.std.specs.List.{AllByRecursion as Each}
 use Rattle.std.proofs.lemmas.Bool.{and_parts, eqb-true, cases_lt, and_right, and_from, eq-eqb}
-use Rattle.std.proofs.lemmas.List.{map-append, length-map, take-take, take-append-le, take_all}
+use Rattle.std.proofs.lemmas.List.{map-append, length-map, take-append-le, take_all}
 use Rattle.std.proofs.lemmas.List.Elements.{All-from_recursion}
-use Rattle.std.proofs.lemmas.List.Sums.{sum_by-take-le}
+use Rattle.sim_base.specs.declared.message.Access.{Access}
+use Rattle.sim_base.specs.declared.message.Access.TheVariants as access
 use Rattle.sim_base.specs.declared.config.Config.{Config}
 use Rattle.sim_base.specs.Config.{reply_link, latency}
 use Rattle.sim_base.specs.MachineStep.{MachineStep, step_of_core, step_of_channel}
@@ -30,19 +31,16 @@ use Rattle.sim_base.proofs.Arrived.{Each-by_age}
 use Rattle.sim_base.proofs.Below.{flat_map_below_more}
 use Rattle.sim_base.proofs.Ordered.{Each-weaker}
 use Rattle.sim_base.proofs.Spans.{length-run, step_of_channel-next}
+use Rattle.sim_base.proofs.Lists.{bit, count-cons}
+use Rattle.laws.specs.Messages.{memory_entry}
 use Rattle.laws.specs.Requests.{serves_entry_in, AnswersReadAs, AnswersRead, RepliesAnswerReads, ReadsAreAnsweredOnce}
-use Rattle.laws.proofs.Counting.{count-cons, count-append, count-none, count-filter, count-flat_map-none, count-flat_map-bound}
+use Rattle.laws.proofs.Counting.{count-append, count-none, count-filter, count-flat_map-none, count-flat_map-bound}
 use Rattle.laws.proofs.Legal.{chosen}
 use Rattle.laws.proofs.Once.{ServesAt, one_channel, served_once}
 use Rattle.laws.proofs.Receivers.{receiver_reply, Each-filter_passes}
 use Rattle.laws.proofs.Sent.{count-by_age, count-messages, Each-messages, messages-none, issues-each, sends-each}
-use Rattle.laws.proofs.Traced.{memory_entry, Queued, ServesQueued, chosen-serves}
-
--- what was issued by a cycle was issued by a later one
-issued-later : (steps : List CoreStep) (a b : ℕ) → a ≤ b → issued_before (take a steps) ≤ issued_before (take b steps)
-unfolding issued_before
-issued-later steps a b h =
-    subst (λ xs. issued_before xs ≤ issued_before (take b steps)) (take-take a b steps h) (sum_by-take-le (λ (core_step : CoreStep). core_step.issued) (take b steps) a)
+use Rattle.laws.proofs.Traced.{Queued, ServesQueued, chosen-serves}
+use Rattle.statistics.proofs.Replies.{issued_before-take-later}
 
 -- and is issued whatever comes after
 issued-kept : (steps : List CoreStep) (core_step : CoreStep) (a : ℕ) → issued_before (take a steps) ≤ issued_before (take a (steps ++ core_step ∷ []))
@@ -55,7 +53,7 @@ issued-kept steps core_step a = go (cases_lt a (length steps))
     go (inl b) = let e = ap issued_before (take-append-le a steps (core_step ∷ []) (omega arith)) in omega arith
     go (inr b) =
         let e = ap issued_before (take_all a steps b) in
-        let l = issued-later (steps ++ core_step ∷ []) (length steps) a b in
+        let l = issued_before-take-later (steps ++ core_step ∷ []) (length steps) a b in
         omega (arith, whole)
 
 -- a message that goes to this core is a reply to a Read that it issued before
@@ -65,7 +63,7 @@ Answers traces history s c m = is_to s (Core c) m ≡ true → AnswersRead (trac
 answers-kept : (trace : List Entry) (steps : List CoreStep) (core_step : CoreStep) (cycle : ℕ) (l : Load) → AnswersReadAs trace steps cycle l → AnswersReadAs trace (steps ++ core_step ∷ []) cycle l
 answers-kept trace steps core_step cycle (load.Reply entry) h = (h.0, let k = issued-kept steps core_step cycle in omega arith)
 answers-kept trace steps core_step cycle (load.Request r) h = tt
-answers-kept trace steps core_step cycle (load.Credit write entry) h = tt
+answers-kept trace steps core_step cycle (load.Credit access entry) h = tt
 
 request-answers : (s : Config) (traces : List (List Entry)) (history : List MachineStep) (c core cycle entry : ℕ) (e : Entry) → IfSome (request_of s core cycle entry e) (Answers traces history s c)
 unfolding request
@@ -81,7 +79,7 @@ reply-to s c k cycle source l h =
     eqb-true _ _ f
 
 reply-answers : (s : Config) (traces : List (List Entry)) (n c k : ℕ) (source : Source) (machine_step : MachineStep) → k < s.channels
-    → ((r : Request) × Queued s traces n k r × (r.write ≡ false) × (source ≡ source_of r))
+    → ((r : Request) × Queued s traces n k r × (r.access ≡ access.Read) × (source ≡ source_of r))
     → Answers traces (run s traces n ++ machine_step ∷ []) s c (reply s k (length (run s traces n)) source)
 unfolding reply steps_of_core
 reply-answers s traces n c k source machine_step l q h =
@@ -102,17 +100,17 @@ reply-answers s traces n c k source machine_step l q h =
     ap (λ x. issued_before (take arrival x)) (map-append (step_of_core c) history (machine_step ∷ [])) in
     ((q.0.address, read), omega arith)
 
-credit-answers : (s : Config) (traces : List (List Entry)) (history : List MachineStep) (c k cycle : ℕ) (write : Bool) (source : Source) → Answers traces history s c (credit s k cycle write source)
+credit-answers : (s : Config) (traces : List (List Entry)) (history : List MachineStep) (c k cycle : ℕ) (access : Access) (source : Source) → Answers traces history s c (credit s k cycle access source)
 unfolding credit
-credit-answers s traces history c k cycle write source = λ h. tt
+credit-answers s traces history c k cycle access source = λ h. tt
 
 command-answers : (s : Config) (traces : List (List Entry)) (n c k : ℕ) (row : MachineStep) → k < s.channels → (o : Option Command) → IfSome o (ServesQueued s traces n k)
     → Each (Answers traces (run s traces n ++ row ∷ []) s c) (messages_at s k (length (run s traces n)) o)
 unfolding messages_of
 command-answers s traces n c k row l None h = tt
 command-answers s traces n c k row l (Some (Rd bank r column source)) h =
-    (reply-answers s traces n c k source row l h, (credit-answers s traces (run s traces n ++ row ∷ []) c k (length (run s traces n)) false source, tt))
-command-answers s traces n c k row l (Some (Wr bank r column source)) h = (credit-answers s traces (run s traces n ++ row ∷ []) c k (length (run s traces n)) true source, tt)
+    (reply-answers s traces n c k source row l h, (credit-answers s traces (run s traces n ++ row ∷ []) c k (length (run s traces n)) access.Read source, tt))
+command-answers s traces n c k row l (Some (Wr bank r column source)) h = (credit-answers s traces (run s traces n ++ row ∷ []) c k (length (run s traces n)) access.Write source, tt)
 command-answers s traces n c k row l (Some (Act bank r source)) h = tt
 command-answers s traces n c k row l (Some (Pre bank source)) h = tt
 command-answers s traces n c k row l (Some (Prea rank)) h = tt
@@ -160,20 +158,20 @@ replies_to s c entry m = is_to s (Core c) m && is_reply_to entry m.load
 abbrev Served : Config → List (List Entry) → ℕ → ℕ → ℕ → Type 0
 Served s traces c entry n = (k : ℕ) × (k < s.channels) × ServesAt s traces c entry k n
 
-credit-no_reply : (s : Config) (c entry k cycle : ℕ) (write : Bool) (source : Source) → replies_to s c entry (credit s k cycle write source) ≡ false
+credit-no_reply : (s : Config) (c entry k cycle : ℕ) (access : Access) (source : Source) → replies_to s c entry (credit s k cycle access source) ≡ false
 unfolding credit
-credit-no_reply s c entry k cycle write source = and_right (is_to s (Core c) (credit s k cycle write source)) false refl
+credit-no_reply s c entry k cycle access source = and_right (is_to s (Core c) (credit s k cycle access source)) false refl
 
 -- what a channel sends for a command is a reply to an entry at most where it serves the entry
 count-read : (s : Config) (c entry k cycle : ℕ) (source : Source)
-    → count_by (replies_to s c entry) (reply s k cycle source ∷ credit s k cycle false source ∷ []) ≡ cond (replies_to s c entry (reply s k cycle source)) 1 0
+    → count_by (replies_to s c entry) (reply s k cycle source ∷ credit s k cycle access.Read source ∷ []) ≡ cond (replies_to s c entry (reply s k cycle source)) 1 0
 count-read s c entry k cycle source =
-    count-cons (replies_to s c entry) (reply s k cycle source) (credit s k cycle false source ∷ [])
-    ∙ ap (λ n. cond (replies_to s c entry (reply s k cycle source)) 1 0 + n) (count-none (replies_to s c entry) (credit s k cycle false source ∷ []) (credit-no_reply s c entry k cycle false source, tt))
+    count-cons (replies_to s c entry) (reply s k cycle source) (credit s k cycle access.Read source ∷ [])
+    ∙ ap (λ n. cond (replies_to s c entry (reply s k cycle source)) 1 0 + n) (count-none (replies_to s c entry) (credit s k cycle access.Read source ∷ []) (credit-no_reply s c entry k cycle access.Read source, tt))
     ∙ add-zero _
 
-count-write : (s : Config) (c entry k cycle : ℕ) (source : Source) → count_by (replies_to s c entry) (credit s k cycle true source ∷ []) ≡ 0
-count-write s c entry k cycle source = count-none (replies_to s c entry) (credit s k cycle true source ∷ []) (credit-no_reply s c entry k cycle true source, tt)
+count-write : (s : Config) (c entry k cycle : ℕ) (source : Source) → count_by (replies_to s c entry) (credit s k cycle access.Write source ∷ []) ≡ 0
+count-write s c entry k cycle source = count-none (replies_to s c entry) (credit s k cycle access.Write source ∷ []) (credit-no_reply s c entry k cycle access.Write source, tt)
 
 reply-entry : (s : Config) (c entry k cycle : ℕ) (source : Source) → k < s.channels → replies_to s c entry (reply s k cycle source) ≡ true
     → (eqb c source.core && eqb entry source.entry) ≡ true
@@ -196,10 +194,6 @@ command-replies s c entry k cycle l (Some (Act bank r source)) h = absurd (omega
 command-replies s c entry k cycle l (Some (Pre bank source)) h = absurd (omega arith)
 command-replies s c entry k cycle l (Some (Prea rank)) h = absurd (omega arith)
 command-replies s c entry k cycle l (Some (Ref rank)) h = absurd (omega arith)
-
-bit : (b : Bool) → cond b 1 0 ≤ 1
-bit true = omega arith
-bit false = omega arith
 
 command-one_reply : (s : Config) (c entry k cycle : ℕ) (o : Option Command) → count_by (replies_to s c entry) (messages_at s k cycle o) ≤ 1
 unfolding messages_of
@@ -226,8 +220,8 @@ channel-replies s traces c entry n k l h =
 request-no_reply : (s : Config) (c entry core cycle i : ℕ) (e : Entry) → IfSome (request_of s core cycle i e) (λ (m : Message). replies_to s c entry m ≡ false)
 unfolding request
 request-no_reply s c entry core cycle i Plain = tt
-request-no_reply s c entry core cycle i (Read address) = and_right (is_to s (Core c) (request s core cycle i false address)) false refl
-request-no_reply s c entry core cycle i (Write address) = and_right (is_to s (Core c) (request s core cycle i true address)) false refl
+request-no_reply s c entry core cycle i (Read address) = and_right (is_to s (Core c) (request s core cycle i access.Read address)) false refl
+request-no_reply s c entry core cycle i (Write address) = and_right (is_to s (Core c) (request s core cycle i access.Write address)) false refl
 
 cores-no_reply : (s : Config) (traces : List (List Entry)) (c entry n i : ℕ) → i < s.cores
     → count_by (replies_to s c entry) (core_sends s traces (run s traces n) (next_step s traces (run s traces n)) i) ≡ 0

@@ -1,30 +1,32 @@
 -- No queue has more requests than there are credits.
-use Rattle.std.proofs.Common.{◌≡◌, ℕ, zero, suc, ◌+◌, ◌-◌, ◌*◌, ◌%◌, ◌<◌, ◌≤◌, Bool, true, false, ◌&&◌, eqb, ltb, List, [], ◌∷◌, length, Option, Some, None, refl, sym, ap, subst, ◌∙◌, ◌⊎◌, inl, inr, arith}
-use Rattle.std.specs.Prelude.{count_by, filter, find, not, option_map, unwrap_or}
+use Rattle.std.proofs.Common.{◌≡◌, ℕ, zero, suc, ◌+◌, ◌-◌, ◌*◌, ◌%◌, ◌<◌, ◌≤◌, Bool, true, false, ◌&&◌, eqb, ltb, List, [], ◌∷◌, length, refl, sym, ap, subst, ◌∙◌, ◌⊎◌, inl, inr, arith}
+use Rattle.std.specs.Prelude.{count_by, filter, not}
 use Rattle.std.specs.List.{AllByRecursion as Each}
-use Rattle.std.proofs.lemmas.Bool.{cond_both, and_parts, and_from, and_left, eq-eqb, lt-ltb, le-ltb, ltb-true, cases_lt, not_from_false}
+use Rattle.std.proofs.lemmas.Bool.{cond_both, and_parts, and_from, and_left, eq-eqb, lt-ltb, le-ltb, ltb-true, cases_lt}
 use Rattle.std.proofs.lemmas.List.Sums.{length-filter}
+use Rattle.sim_base.specs.declared.message.Access.{Access}
+use Rattle.sim_base.specs.declared.message.Access.TheVariants as access
+use Rattle.sim_base.specs.Access.{is_access}
 use Rattle.sim_base.specs.declared.config.Config.{Config}
-use Rattle.sim_base.specs.declared.overrides.Override.{Override}
-use Rattle.sim_base.specs.Config.{usual_latency, latency}
+use Rattle.sim_base.specs.Config.{usual_latency}
 use Rattle.sim_base.specs.History.{inbox, issued_commands}
 use Rattle.sim_base.specs.Scheduling.{is_served, is_queued, queued_requests, queue_in}
 use Rattle.sim_base.specs.Machine.{run}
-use Rattle.sim_base.specs.Locality.{TravelsFor}
 use Rattle.sim_base.specs.declared.message.Request.{Request}
 use Rattle.sim_base.specs.declared.message.Unit.TheVariants.{Channel}
 use Rattle.sim_base.specs.declared.trace.Entry.{Entry}
 use Rattle.sim_base.proofs.Arrived.{arrived}
-use Rattle.sim_base.proofs.LinkNumbers.{override_in_range}
 use Rattle.sim_base.proofs.Ordered.{Each-weaker}
 use Rattle.sim_base.proofs.Same.{queue-same}
-use Rattle.sim_base.proofs.Spans.{inbox-run, inbox-stamped, has_channels}
+use Rattle.sim_base.proofs.Spans.{inbox-run, inbox-stamped}
+use Rattle.sim_base.proofs.Grows.{has_channels}
 use Rattle.laws.specs.Commands.{channel_steps_of, history_of}
 use Rattle.laws.specs.Credits.{QueuesAreBounded}
 use Rattle.laws.proofs.Conserved.{is_of, unserved, unserved-bound}
 use Rattle.laws.proofs.Counting.{count-none, count-weaker, count-weaker_each, count-split}
 use Rattle.laws.proofs.Legal.{take-channel_steps_of}
 use Rattle.laws.proofs.Traced.{requests_to, requests-traced}
+use Rattle.statistics.proofs.RunSteps.{travels}
 
 -- the requests of the first n cores, where there are no more than b of each
 first_cores : (p : Request → Bool) (xs : List Request) (b n : ℕ) → ((c : ℕ) → c < n → count_by (λ r. eqb r.core c && p r) xs ≤ b) → count_by (λ r. ltb r.core n && p r) xs ≤ n * b
@@ -71,24 +73,24 @@ of_core : (s : Config) (traces : List (List Entry)) (n k c : ℕ) → k < s.chan
     → count_by (λ r. eqb r.core c && is_unserved s traces n k r) (requests_to s traces n k) ≤ s.read_credits + s.write_credits
 unfolding unserved is_unserved
 of_core s traces n k c l m =
-    let a = unserved-bound s traces n c k false m l in
-    let b = unserved-bound s traces n c k true m l in
+    let a = unserved-bound s traces n c k access.Read m l in
+    let b = unserved-bound s traces n c k access.Write m l in
     let d = count-split (λ r. eqb r.core c && not (is_served (history_of s traces n k) r))
-    (λ r. is_of c false r && not (is_served (history_of s traces n k) r)) (λ r. is_of c true r && not (is_served (history_of s traces n k) r)) either (requests_to s traces n k) in
+    (λ r. is_of c access.Read r && not (is_served (history_of s traces n k) r)) (λ r. is_of c access.Write r && not (is_served (history_of s traces n k) r)) either (requests_to s traces n k) in
     omega arith
   where
-    kind : (r : Request) (b : Bool) → r.write ≡ b → eqb r.core c ≡ true → (is_of c false r ≡ true) ⊎ (is_of c true r ≡ true)
-    kind r true e h = inr (and_from (eqb r.core c) r.write h e)
-    kind r false e h = inl (and_from (eqb r.core c) (not r.write) h (not_from_false r.write e))
+    kind : (r : Request) (a : Access) → r.access ≡ a → eqb r.core c ≡ true → (is_of c access.Read r ≡ true) ⊎ (is_of c access.Write r ≡ true)
+    kind r access.Write e h = inr (and_from (eqb r.core c) _ h (ap (is_access access.Write) e))
+    kind r access.Read e h = inl (and_from (eqb r.core c) _ h (ap (is_access access.Read) e))
 
-    both : (r : Request) → not (is_served (history_of s traces n k) r) ≡ true → (is_of c false r ≡ true) ⊎ (is_of c true r ≡ true)
-        → ((is_of c false r && not (is_served (history_of s traces n k) r)) ≡ true) ⊎ ((is_of c true r && not (is_served (history_of s traces n k) r)) ≡ true)
-    both r e (inl f) = inl (and_from (is_of c false r) _ f e)
-    both r e (inr f) = inr (and_from (is_of c true r) _ f e)
+    both : (r : Request) → not (is_served (history_of s traces n k) r) ≡ true → (is_of c access.Read r ≡ true) ⊎ (is_of c access.Write r ≡ true)
+        → ((is_of c access.Read r && not (is_served (history_of s traces n k) r)) ≡ true) ⊎ ((is_of c access.Write r && not (is_served (history_of s traces n k) r)) ≡ true)
+    both r e (inl f) = inl (and_from (is_of c access.Read r) _ f e)
+    both r e (inr f) = inr (and_from (is_of c access.Write r) _ f e)
 
     either : (r : Request) → (eqb r.core c && not (is_served (history_of s traces n k) r)) ≡ true
-        → ((is_of c false r && not (is_served (history_of s traces n k) r)) ≡ true) ⊎ ((is_of c true r && not (is_served (history_of s traces n k) r)) ≡ true)
-    either r h = let parts = and_parts (eqb r.core c) (not (is_served (history_of s traces n k) r)) h in both r parts.1 (kind r r.write refl parts.0)
+        → ((is_of c access.Read r && not (is_served (history_of s traces n k) r)) ≡ true) ⊎ ((is_of c access.Write r && not (is_served (history_of s traces n k) r)) ≡ true)
+    either r h = let parts = and_parts (eqb r.core c) (not (is_served (history_of s traces n k) r)) h in both r parts.1 (kind r r.access refl parts.0)
 
 -- no more requests wait than there are credits, whenever they arrived
 pub queued_requests-bound : (s : Config) (traces : List (List Entry)) (n k until : ℕ) → k < s.channels
@@ -111,17 +113,6 @@ usual-positive s link =
     let r = s.latencies_in_range in
     cond_both (eqb (link % 3) 0) s.request_latency _ (λ x. 1 ≤ x) (λ e. r.request_in.0)
     (λ e. cond_both (eqb (link % 3) 1) s.reply_latency s.credit_latency (λ x. 1 ≤ x) (λ f. r.reply_in.0) (λ f. r.credit_in.0))
-
-latency-positive : (s : Config) (link : ℕ) → 1 ≤ latency s link
-unfolding latency
-latency-positive s link = go (find (λ o. eqb o.link link) s.overrides) refl
-  where
-    go : (o : Option Override) → find (λ o. eqb o.link link) s.overrides ≡ o → 1 ≤ unwrap_or (option_map (λ o. o.latency) o) (usual_latency s link)
-    go None e = usual-positive s link
-    go (Some o) e = (override_in_range s.overrides link o s.overrides_in_range e).0
-
-travels : (s : Config) → TravelsFor s 1
-travels s link l = latency-positive s link
 
 -- the queue in a cycle does not depend on what is done from then on
 pub queue-then : (s : Config) (traces : List (List Entry)) (k : ℕ) → k < s.channels → (n t : ℕ) → t ≤ n

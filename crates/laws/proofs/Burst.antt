@@ -18,9 +18,10 @@ use Rattle.sim_base.specs.History.{steps_of_channel, issued_at, issued_commands}
 use Rattle.sim_base.specs.Machine.{run}
 use Rattle.sim_base.specs.declared.trace.Entry.{Entry}
 use Rattle.sim_base.proofs.Ordered.{Each-weaker}
+use Rattle.sim_base.proofs.Lists.{count-push}
 use Rattle.laws.specs.Commands.{channel_steps_of, history_of}
 use Rattle.laws.specs.DataBus.{is_in_burst, has_data_in, moves_data_in, DataBusIsShared}
-use Rattle.laws.proofs.Counting.{count-push, count-none, Each-list_all}
+use Rattle.laws.proofs.Counting.{count-none, Each-list_all}
 use Rattle.laws.proofs.Legal.{chosen, channel_steps_of-more, IsLegalStep, legal_step, issued_commands-push}
 
 -- an earlier command at a cycle does not hold back a later one now

@@ -1,9 +1,8 @@
 -- When a rank may be precharged and refreshed.
-use Rattle.std.proofs.Common.{◌≡◌, ℕ, ◌+◌, ◌≤◌, Bool, true, false, ◌&&◌, ◌||◌, cond, eqb, leb, List, [], ◌∷◌, ◌++◌, max, Option, None, refl, ap, ap₂, ◌∙◌, arith}
+use Rattle.std.proofs.Common.{◌≡◌, ℕ, ◌+◌, ◌≤◌, Bool, true, false, ◌&&◌, ◌||◌, cond, eqb, leb, List, [], ◌∷◌, ◌++◌, max, refl, ap, ap₂, ◌∙◌, arith}
 use Rattle.std.specs.Prelude.{not, is_some}
 use Rattle.std.specs.List.{AllByRecursion as Each, list_all, list_any}
 use Rattle.std.proofs.lemmas.Bool.{cond-true, and_from, le-leb, eqb-true, eq-eqb, cond_both}
-use Rattle.std.proofs.lemmas.List.Sums.{fold_push}
 use Rattle.sim_base.specs.declared.config.Config.{Config}
 use Rattle.sim_base.specs.declared.timing.Timing.{Timing}
 use Rattle.sim_base.specs.declared.command.Kind.{Kind}
@@ -16,7 +15,8 @@ use Rattle.sim_base.specs.declared.command.IssuedCommand.{IssuedCommand}
 use Rattle.sim_base.specs.declared.place.BankId.{BankId}
 use Rattle.sim_base.proofs.Ordered.{Each-weaker}
 use Rattle.sim_base.specs.History.{below}
-use Rattle.sim_base.specs.Rules.{is_bound, gap, kind_of, relation_of, row_after, open_row, is_past_gap, is_allowed, is_open, has_open_bank_in_group, has_open_bank, is_legal}
+use Rattle.sim_base.specs.Rules.{is_bound, gap, kind_of, relation_of, is_past_gap, is_allowed, is_open, has_open_bank_in_group, has_open_bank, is_legal}
+use Rattle.sim_base.proofs.OpenRows.{open_row-push}
 
 -- the longest that a rank's banks can hold a precharge of all of them back
 abbrev pub close_wait : Timing → ℕ
@@ -100,10 +100,6 @@ list_any-none p h (x ∷ xs) = ap₂ (λ a b. a || b) (h x) (list_any-none p h x
 list_any-same : {X : Type 0} (p q : X → Bool) → ((x : X) → p x ≡ q x) → (xs : List X) → list_any p xs ≡ list_any q xs
 list_any-same p q h [] = refl
 list_any-same p q h (x ∷ xs) = ap₂ (λ a b. a || b) (h x) (list_any-same p q h xs)
-
-open_row-push : (bank : BankId) (history : List IssuedCommand) (i : IssuedCommand) → open_row bank (history ++ i ∷ []) ≡ row_after bank (open_row bank history) i.command
-unfolding open_row
-open_row-push bank history i = fold_push (λ (row : Option ℕ) (x : IssuedCommand). row_after bank row x.command) None history i
 
 -- a precharge of all banks leaves none open
 pub closed-prea : (s : Config) (history : List IssuedCommand) (rank cycle channel : ℕ)

@@ -8,6 +8,7 @@ use Rattle.std.proofs.lemmas.Bool.{eqb-true, le-leb, lt-leb}
 use Rattle.std.proofs.lemmas.List.{map-append}
 use Rattle.std.proofs.lemmas.List.Elements.{All-from_recursion}
 use Rattle.std.proofs.lemmas.List.Folds.{length-prefix_len}
+use Rattle.sim_base.specs.declared.message.Access.{Access}
 use Rattle.sim_base.specs.declared.config.Config.{Config}
 use Rattle.sim_base.specs.Config.{request_link, latency}
 use Rattle.sim_base.specs.Counts.{is_unissued_after, issue_cycle}
@@ -26,8 +27,11 @@ use Rattle.sim_base.specs.declared.trace.Entry.{Entry}
 use Rattle.sim_base.specs.declared.trace.Entry.TheVariants.{Plain, Read, Write}
 use Rattle.sim_base.proofs.Arrived.{Each-by_age}
 use Rattle.sim_base.proofs.Ordered.{Each-weaker}
-use Rattle.statistics.proofs.CoreSteps.{issued_before-push, issued_before-take-le, issue_cycle-push}
-use Rattle.statistics.proofs.Lists.{length-push_suc, take-push}
+use Rattle.sim_base.specs.declared.message.Access.TheVariants as access
+use Rattle.sim_base.proofs.Added.{length-push_suc}
+use Rattle.sim_base.proofs.Grows.{issued_before-push}
+use Rattle.statistics.proofs.CoreSteps.{issued_before-take-le, issue_cycle-push}
+use Rattle.statistics.proofs.Lists.{take-push}
 use Rattle.laws.proofs.Chosen.{IfSome-weaker}
 use Rattle.laws.proofs.Receivers.{receiver_request, place_in, Each-filter_passes}
 use Rattle.laws.proofs.Sent.{Each-messages, messages-none, issues-each, commands-each, sends-each}
@@ -94,17 +98,17 @@ dated-more s history machine_step m h = IfSome-weaker _ _ (λ r k. more r k) (re
           link = k.link;
         }
 
-request-dated : (s : Config) (history : List MachineStep) (c cycle entry : ℕ) (write : Bool) (address : ℕ)
-    → entry < issued_before (steps_of_core c history) → issue_cycle (steps_of_core c history) entry ≡ cycle → IsDated s history (request s c cycle entry write address)
+request-dated : (s : Config) (history : List MachineStep) (c cycle entry : ℕ) (access : Access) (address : ℕ)
+    → entry < issued_before (steps_of_core c history) → issue_cycle (steps_of_core c history) entry ≡ cycle → IsDated s history (request s c cycle entry access address)
 unfolding request
-request-dated s history c cycle entry write address l e =
+request-dated s history c cycle entry access address l e =
     record { issued = l; arrival = ap (λ t. t + latency s (request_link s c (place_of s address).channel)) (sym e); place = refl; link = refl }
 
 request_of-dated : (s : Config) (history : List MachineStep) (c cycle entry : ℕ) (e : Entry)
     → entry < issued_before (steps_of_core c history) → issue_cycle (steps_of_core c history) entry ≡ cycle → IfSome (request_of s c cycle entry e) (IsDated s history)
 request_of-dated s history c cycle entry Plain l i = tt
-request_of-dated s history c cycle entry (Read address) l i = request-dated s history c cycle entry false address l i
-request_of-dated s history c cycle entry (Write address) l i = request-dated s history c cycle entry true address l i
+request_of-dated s history c cycle entry (Read address) l i = request-dated s history c cycle entry access.Read address l i
+request_of-dated s history c cycle entry (Write address) l i = request-dated s history c cycle entry access.Write address l i
 
 length-steps : (history : List MachineStep) (c : ℕ) → length (steps_of_core c history) ≡ length history
 unfolding steps_of_core
@@ -132,7 +136,7 @@ sends-dated s traces history =
     request_of-dated s (history ++ machine_step ∷ []) c (length history) entry e
     (subst (λ x. entry < issued_before x) (sym more) until)
     (ap (λ x. issue_cycle x entry) more ∙ issue_cycle-new steps one entry from until ∙ length-steps history c)))
-    (λ k l. commands-each P s k (length history) (λ source. tt) (λ write source. tt) (step_of_channel k machine_step))
+    (λ k l. commands-each P s k (length history) (λ source. tt) (λ access source. tt) (step_of_channel k machine_step))
 
 messages-dated : (s : Config) (traces : List (List Entry)) (n : ℕ) → Each (IsDated s (run s traces n)) (messages s traces (run s traces n))
 unfolding run

@@ -15,6 +15,7 @@ use Rattle.sim_base.specs.declared.command.IssuedCommand.{IssuedCommand}
 use Rattle.sim_base.specs.declared.message.Request.{Request}
 use Rattle.sim_base.specs.declared.message.Unit.TheVariants.{Channel}
 use Rattle.sim_base.specs.declared.trace.Entry.{Entry}
+use Rattle.sim_base.proofs.Accesses.{column_both}
 use Rattle.laws.specs.Commands.{channel_steps_of, history_of}
 use Rattle.laws.proofs.Chosen.{find-passes, first_ready-needed}
 use Rattle.laws.proofs.Counting.{test_in}
@@ -60,7 +61,7 @@ chosen-refresh s traces k t rank e =
 needed-no_refresh : (rank : ℕ) (r : Request) (o : Option ℕ) → refreshes rank (needed_at o r) ≡ false
 needed-no_refresh rank r None = refl
 needed-no_refresh rank r (Some row) =
-    cond_both (eqb row r.place.row) (column_command r) _ (λ c. refreshes rank c ≡ false) (λ e. cond_both r.write _ _ (λ c. refreshes rank c ≡ false) (λ f. refl) (λ f. refl)) (λ e. refl)
+    cond_both (eqb row r.place.row) (column_command r) _ (λ c. refreshes rank c ≡ false) (λ e. column_both (λ c. refreshes rank c ≡ false) r.access _ _ _ _ (λ f. refl) (λ f. refl)) (λ e. refl)
 
 -- a refresh is issued only where it is due
 if_legal-refresh : (s : Config) (traces : List (List Entry)) (k t rank other : ℕ) → is_due s traces k t other ≡ true

@@ -1,5 +1,5 @@
 -- Each message is what its link is for, and each entry is requested once.
-use Rattle.std.proofs.Common.{◌≡◌, ℕ, zero, suc, ◌+◌, ◌<◌, ◌≤◌, true, false, ◌&&◌, eqb, List, [], ◌∷◌, ◌++◌, length, refl, sym, ap, subst, ◌∙◌, ◌⊎◌, inl, inr, arith}
+use Rattle.std.proofs.Common.{◌≡◌, ℕ, zero, suc, ◌+◌, ◌<◌, ◌≤◌, true, false, ◌&&◌, eqb, List, ◌++◌, length, refl, sym, ap, subst, ◌∙◌, ◌⊎◌, inl, inr, arith}
 use Rattle.std.specs.Prelude.{All, count_by, filter, flat_map, IsSomeAnd}
 use Rattle.std.specs.Option.{IfSome}
 use Rattle.std.specs.List.{AllByRecursion as Each}
@@ -24,6 +24,7 @@ use Rattle.sim_base.specs.declared.trace.Entry.TheVariants.{Plain, Read, Write}
 use Rattle.sim_base.proofs.Arrived.{Each-by_age}
 use Rattle.sim_base.proofs.Made.{messages-each}
 use Rattle.sim_base.proofs.Ordered.{Each-weaker}
+use Rattle.sim_base.proofs.Each.{Each-both}
 use Rattle.laws.specs.Messages.{is_request_of, RequestsAreSentOnce, IsRequestTo, RequestsFit, FitsCore, AnswersFit}
 use Rattle.laws.proofs.Counting.{count-append, count-none, count-flat_map-none, count-flat_map-bound}
 use Rattle.laws.proofs.Receivers.{receiver_request, receiver_reply, receiver_credit, place_in, Each-filter_passes}
@@ -34,17 +35,13 @@ use Rattle.laws.proofs.Traced.{TracedIn, IsTraced, messages-traced}
 abbrev IsLinkedAs : Config → Message → Load → Type 0
 IsLinkedAs s m (load.Request r) = (r.link ≡ m.link) × (r.arrival ≡ m.arrival)
 IsLinkedAs s m (load.Reply entry) = (core : ℕ) × (channel : ℕ) × (channel < s.channels) × (m.link ≡ reply_link s core channel)
-IsLinkedAs s m (load.Credit write entry) = (core : ℕ) × (channel : ℕ) × (channel < s.channels) × (m.link ≡ credit_link s core channel)
+IsLinkedAs s m (load.Credit access entry) = (core : ℕ) × (channel : ℕ) × (channel < s.channels) × (m.link ≡ credit_link s core channel)
 
 messages-linked : (s : Config) (traces : List (List Entry)) (history : List MachineStep) → Each (λ (m : Message). IsLinkedAs s m m.load) (messages s traces history)
 unfolding request reply credit
 messages-linked s traces history =
-    messages-each s (λ (m : Message). IsLinkedAs s m m.load) (λ core cycle entry write address l. (refl, refl))
-    ((λ channel cycle source l. (source.core, channel, l, refl)), (λ channel cycle write source l. (source.core, channel, l, refl))) traces history
-
-Each-both : {X : Type 0} (P Q : X → Type 0) (xs : List X) → Each P xs → Each Q xs → Each (λ x. P x × Q x) xs
-Each-both P Q [] h k = tt
-Each-both P Q (x ∷ xs) h k = ((h.0, k.0), Each-both P Q xs h.1 k.1)
+    messages-each s (λ (m : Message). IsLinkedAs s m m.load) (λ core cycle entry access address l. (refl, refl))
+    ((λ channel cycle source l. (source.core, channel, l, refl)), (λ channel cycle access source l. (source.core, channel, l, refl))) traces history
 
 -- a message to a channel
 to_channel : (s : Config) (traces : List (List Entry)) (history : List MachineStep) (k : ℕ) (m : Message) (l : Load) → is_unit (receiver s m.link) (Channel k) ≡ true
@@ -65,7 +62,7 @@ to_channel s traces history k m (load.Request r) to linked made =
     }
 to_channel s traces history k m (load.Reply entry) to linked made =
     absurd (false≢true (ap (λ u. is_unit u (Channel k)) (sym (ap (receiver s) linked.3 ∙ receiver_reply s linked.0 linked.1 linked.2)) ∙ to))
-to_channel s traces history k m (load.Credit write entry) to linked made =
+to_channel s traces history k m (load.Credit access entry) to linked made =
     absurd (false≢true (ap (λ u. is_unit u (Channel k)) (sym (ap (receiver s) linked.3 ∙ receiver_credit s linked.0 linked.1 linked.2)) ∙ to))
 
 -- and one to a core
@@ -78,7 +75,7 @@ to_core s traces history c m (load.Request r) to linked made =
 to_core s traces history c m (load.Reply entry) to linked made =
     let f : linked.0 ≡ c = eqb-true _ _ (ap (λ u. is_unit u (Core c)) (sym (ap (receiver s) linked.3 ∙ receiver_reply s linked.0 linked.1 linked.2)) ∙ to) in
     (linked.1, linked.2, linked.3 ∙ ap (λ x. reply_link s x linked.1) f)
-to_core s traces history c m (load.Credit write entry) to linked made =
+to_core s traces history c m (load.Credit access entry) to linked made =
     let f : linked.0 ≡ c = eqb-true _ _ (ap (λ u. is_unit u (Core c)) (sym (ap (receiver s) linked.3 ∙ receiver_credit s linked.0 linked.1 linked.2)) ∙ to) in
     (linked.1, linked.2, linked.3 ∙ ap (λ x. credit_link s x linked.1) f)
 
@@ -120,7 +117,7 @@ not_issued s traces n core entry h =
         let c : r.entry < issued_before (steps_of_core core (run s traces n)) = subst (λ x. r.entry < issued_before (steps_of_core x (run s traces n))) a made.traced.issued in
         omega arith)
     other m (load.Reply e) made = refl
-    other m (load.Credit write e) made = refl
+    other m (load.Credit access e) made = refl
 
 -- nor again
 request_of-later : (s : Config) (core entry c cycle i : ℕ) (e : Entry) → ((c ≡ core) → entry < i) → IfSome (request_of s c cycle i e) (λ (m : Message). is_request_of core entry m.load ≡ false)
@@ -136,7 +133,7 @@ channels_request : (s : Config) (traces : List (List Entry)) (history : List Mac
 unfolding channel_sends reply credit
 channels_request s traces history core entry k =
     count-none (λ (m : Message). is_request_of core entry m.load) _
-    (commands-each (λ (m : Message). is_request_of core entry m.load ≡ false) s k (length history) (λ source. refl) (λ write source. refl) (step_of_channel k (next_step s traces history)))
+    (commands-each (λ (m : Message). is_request_of core entry m.load ≡ false) s k (length history) (λ source. refl) (λ access source. refl) (step_of_channel k (next_step s traces history)))
 
 -- what is sent in a cycle are requests of entries that were not issued before, at most one of a core
 sends-request : (s : Config) (traces : List (List Entry)) (history : List MachineStep) (core entry b : ℕ)

@@ -13,8 +13,9 @@ use Rattle.sim_base.specs.declared.trace.Entry.{Entry}
 use Rattle.sim_base.specs.declared.trace.Entry.TheVariants.{Plain, Read, Write}
 use Rattle.sim_base.specs.declared.trace.Stop.TheVariants as stop
 use Rattle.sim_base.proofs.Each.{Each-filter_map}
-use Rattle.laws.proofs.Counting.{count-cons}
-use Rattle.laws.proofs.Lists.{take-enumerate, drop-enumerate, Each-enumerate_from, slice_get-take_drop, slice_get-drop, fails_before_first}
+use Rattle.sim_base.proofs.Lists.{count-cons}
+use Rattle.laws.proofs.Lists.{take-enumerate, Each-enumerate_from, slice_get-take_drop, slice_get-drop, fails_before_first}
+use Rattle.statistics.proofs.Replies.{drop-enumerate_from}
 
 no_stop : (a b c d e : Bool) → is_some (cond a (Some stop.End) (cond b (Some stop.Width) (cond c (Some stop.Window) (cond d (Some stop.Memory) (cond e (Some stop.Credit) None))))) ≡ false
     → (d ≡ false) × (e ≡ false)
@@ -47,7 +48,7 @@ pub issued-each : (P : ℕ × Entry → Type 0) (trace : List Entry) (first end 
 issued-each P trace first end h =
     let m = end - first in
     subst (Each P)
-    (sym (ap (take m) (drop-enumerate first 0 trace ∙ ap (λ i. enumerate_from i (drop first trace)) (zero-add first)) ∙ take-enumerate m first (drop first trace)))
+    (sym (ap (take m) (drop-enumerate_from first 0 trace ∙ ap (λ i. enumerate_from i (drop first trace)) (zero-add first)) ∙ take-enumerate m first (drop first trace)))
     (Each-enumerate_from P first (take m (drop first trace)) (λ j e f. let k = slice_get-take_drop m first trace j e f in h j e k.0 k.1))
 
 pub between-each : (P : Message → Type 0) (s : Config) (core : ℕ) (trace : List Entry) (cycle first end : ℕ)
@@ -98,7 +99,7 @@ one_request s core trace cycle first m h =
     let e : first + m - first ≡ m = omega arith in
     let f : take (first + m - first) (drop first (enumerate_from 0 trace)) ≡ enumerate_from first (take m xs) =
     ap (λ k. take k (drop first (enumerate_from 0 trace))) e
-    ∙ ap (take m) (drop-enumerate first 0 trace ∙ ap (λ i. enumerate_from i xs) (zero-add first)) ∙ take-enumerate m first xs in
+    ∙ ap (take m) (drop-enumerate_from first 0 trace ∙ ap (λ i. enumerate_from i xs) (zero-add first)) ∙ take-enumerate m first xs in
     let g : length (filter_map (λ (e : ℕ × Entry). request_of s core cycle e.0 e.1) (take (first + m - first) (drop first (enumerate_from 0 trace)))) ≡ count_by is_memory (take m xs) =
     ap (λ es. length (filter_map (λ (e : ℕ × Entry). request_of s core cycle e.0 e.1) es)) f ∙ length-requests s core cycle first (take m xs) in
     omega arith

@@ -22,8 +22,8 @@ use Rattle.sim_base.proofs.Ordered.{Each-weaker}
 use Rattle.sim_base.proofs.Spans.{length-run, step_of_channel-next}
 use Rattle.laws.specs.Commands.{channel_steps_of, history_of, CommandsAreLegal, IsLegalHistory, HistoriesAreLegal, CyclesAscend}
 use Rattle.sim_base.proofs.Each.{Each-append}
-use Rattle.laws.proofs.Counting.{count-push, test_in}
-use Rattle.laws.proofs.Lists.{enumerate-append}
+use Rattle.sim_base.proofs.Lists.{count-push, enumerate-append}
+use Rattle.laws.proofs.Counting.{test_in}
 use Rattle.laws.proofs.Chosen.{IsLegalNow, choice-legal}
 
 -- what a channel chooses in the cycle after the first n of a run

@@ -1,28 +1,15 @@
 -- Parts of a list, and the first number that passes a test.
-use Rattle.std.proofs.Common.{◌≡◌, ℕ, zero, suc, ◌+◌, ◌<◌, ◌≤◌, Bool, false, List, [], ◌∷◌, ◌++◌, length, take, drop, Option, Some, None, refl, sym, ap, ◌∙◌, arith, add-zero, zero-add, ◌⊎◌, inl, inr}
+use Rattle.std.proofs.Common.{◌≡◌, ℕ, zero, suc, ◌+◌, ◌<◌, ◌≤◌, Bool, false, List, [], ◌∷◌, take, drop, Option, Some, None, refl, sym, ap, ◌∙◌, arith, add-zero, zero-add, ◌⊎◌, inl, inr}
 use Rattle.std.specs.Prelude.{find, slice_get, unwrap_or}
 use Rattle.std.specs.Option.{MatchOption}
 use Rattle.std.specs.List.{AllByRecursion as Each, enumerate_from, range_with_len}
 use Rattle.std.proofs.lemmas.Bool.{cond_both, cases_lt}
 use Rattle.sim_base.specs.History.{below}
 
-pub enumerate-append : {X : Type 0} (i : ℕ) (xs ys : List X) → enumerate_from i (xs ++ ys) ≡ enumerate_from i xs ++ enumerate_from (i + length xs) ys
-enumerate-append i [] ys = rw add-zero refl
-enumerate-append i (x ∷ xs) ys =
-    let e : i + 1 + length xs ≡ i + suc (length xs) = omega arith in
-    ap (λ z. (i, x) ∷ z) (enumerate-append (i + 1) xs ys ∙ ap (λ j. enumerate_from (i + 1) xs ++ enumerate_from j ys) e)
-
 pub take-enumerate : {X : Type 0} (n i : ℕ) (xs : List X) → take n (enumerate_from i xs) ≡ enumerate_from i (take n xs)
 take-enumerate zero i xs = refl
 take-enumerate (suc n) i [] = refl
 take-enumerate (suc n) i (x ∷ xs) = ap (λ z. (i, x) ∷ z) (take-enumerate n (i + 1) xs)
-
-pub drop-enumerate : {X : Type 0} (n i : ℕ) (xs : List X) → drop n (enumerate_from i xs) ≡ enumerate_from (i + n) (drop n xs)
-drop-enumerate zero i xs = ap (λ j. enumerate_from j xs) (sym (add-zero i))
-drop-enumerate (suc n) i [] = refl
-drop-enumerate (suc n) i (x ∷ xs) =
-    let e : i + 1 + n ≡ i + suc n = omega arith in
-    drop-enumerate n (i + 1) xs ∙ ap (λ j. enumerate_from j (drop n xs)) e
 
 pub Each-enumerate_from : {X : Type 0} (P : ℕ × X → Type 0) (i : ℕ) (xs : List X) → ((j : ℕ) (x : X) → slice_get xs j ≡ Some x → P (i + j, x)) → Each P (enumerate_from i xs)
 Each-enumerate_from P i [] h = tt

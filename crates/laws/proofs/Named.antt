@@ -13,6 +13,7 @@ use Rattle.sim_base.specs.declared.command.Command.{Command}
 use Rattle.sim_base.specs.declared.message.Request.{Request}
 use Rattle.sim_base.specs.declared.message.Unit.TheVariants.{Channel}
 use Rattle.sim_base.specs.declared.trace.Entry.{Entry}
+use Rattle.sim_base.proofs.Accesses.{column_both}
 use Rattle.laws.specs.Commands.{channel_steps_of}
 use Rattle.laws.specs.Requests.{CommandsNameTheQueue}
 use Rattle.laws.proofs.Bounded.{queue-then}
@@ -26,7 +27,7 @@ Names queue command = IfSome (source_in command) (λ source. (r : Request) × Co
 needed_at-names : (queue : List Request) (r : Request) (o : Option ℕ) → Contains queue r → Names queue (needed_at o r)
 needed_at-names queue r None h = (r, h, refl)
 needed_at-names queue r (Some row) h =
-    cond_both (eqb row r.place.row) (column_command r) _ (Names queue) (λ e. cond_both r.write _ _ (Names queue) (λ f. (r, h, refl)) (λ f. (r, h, refl))) (λ e. (r, h, refl))
+    cond_both (eqb row r.place.row) (column_command r) _ (Names queue) (λ e. column_both (Names queue) r.access _ _ _ _ (λ f. (r, h, refl)) (λ f. (r, h, refl))) (λ e. (r, h, refl))
 
 chosen-names : (s : Config) (traces : List (List Entry)) (n k t : ℕ) → k < s.channels → t ≤ n
     → IfSome (chosen s traces t k) (Names (queue_in k (channel_steps_of s traces n k) (inbox s traces (run s traces n) (Channel k)) t))

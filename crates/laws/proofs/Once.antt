@@ -1,10 +1,12 @@
 -- No entry is served twice.
-use Rattle.std.proofs.Common.{◌≡◌, ℕ, zero, suc, ◌+◌, ◌<◌, ◌≤◌, Bool, true, false, ◌&&◌, ◌||◌, eqb, List, [], ◌∷◌, get_or, Option, Some, None, refl, sym, ap, ap₂, subst, ◌∙◌, ◌⊎◌, inl, inr, arith}
+use Rattle.std.proofs.Common.{◌≡◌, ℕ, zero, suc, ◌+◌, ◌<◌, ◌≤◌, true, ◌&&◌, ◌||◌, eqb, List, [], ◌∷◌, get_or, Option, Some, None, refl, sym, ap, ap₂, subst, ◌∙◌, ◌⊎◌, inl, inr, arith}
 use Rattle.std.specs.Prelude.{filter_map, slice_get}
 use Rattle.std.specs.Option.{IfSome}
 use Rattle.std.specs.List.{list_any, enumerate_from}
 use Rattle.std.proofs.lemmas.Bool.{false≢true, and_parts, eqb-true, cases_lt, cases_order, or_left, or_right}
 use Rattle.std.proofs.lemmas.List.{get_or_past}
+use Rattle.sim_base.specs.declared.message.Access.{Access}
+use Rattle.sim_base.specs.declared.message.Access.TheVariants as access
 use Rattle.sim_base.specs.declared.config.Config.{Config}
 use Rattle.sim_base.specs.Places.{place_of}
 use Rattle.sim_base.specs.History.{trace_of, issued_at, issued_commands}
@@ -16,10 +18,11 @@ use Rattle.sim_base.specs.declared.command.Source.{Source}
 use Rattle.sim_base.specs.declared.message.Request.{Request}
 use Rattle.sim_base.specs.declared.place.Place.{Place}
 use Rattle.sim_base.specs.declared.trace.Entry.{Entry}
+use Rattle.laws.specs.Messages.{memory_entry}
 use Rattle.laws.specs.Commands.{channel_steps_of, history_of}
 use Rattle.laws.specs.Requests.{serves_entry, serves_entry_in, IsServedAt, RequestsAreServedOnce}
 use Rattle.laws.proofs.Legal.{chosen, length-channel_steps_of, channel_steps_of-at}
-use Rattle.laws.proofs.Traced.{memory_entry, Queued, ServesQueued, chosen-serves}
+use Rattle.laws.proofs.Traced.{Queued, ServesQueued, chosen-serves}
 
 -- a channel moves the data of an entry in a cycle
 abbrev pub ServesAt : Config → List (List Entry) → ℕ → ℕ → ℕ → ℕ → Type 0
@@ -91,20 +94,20 @@ once_in_channel s traces core entry k t u l h g = go (cases_order t u)
     go (inr (inr b)) = absurd (not_before s traces core entry k u t l b g h)
 
 -- an address is that of one place
-same_address : (v w : Bool) (a b : ℕ) → Some (memory_entry v a) ≡ Some (memory_entry w b) → a ≡ b
-same_address true true a b e = cc
-same_address true false a b e = cc
-same_address false true a b e = cc
-same_address false false a b e = cc
+same_address : (v w : Access) (a b : ℕ) → Some (memory_entry v a) ≡ Some (memory_entry w b) → a ≡ b
+same_address access.Write access.Write a b e = cc
+same_address access.Write access.Read a b e = cc
+same_address access.Read access.Write a b e = cc
+same_address access.Read access.Read a b e = cc
 
 pub one_channel : (s : Config) (traces : List (List Entry)) (core entry k j t u : ℕ) → ServesAt s traces core entry k t → ServesAt s traces core entry j u → k ≡ j
 one_channel s traces core entry k j t u h g = go (at-queued s traces core entry k t h) (at-queued s traces core entry j u g)
   where
     go : IsQueuedFor s traces core entry k t → IsQueuedFor s traces core entry j u → k ≡ j
     go (q, a, c, e) (r, b, d, f) =
-        let x : slice_get (trace_of traces core) entry ≡ Some (memory_entry q.write q.address) = sym (ap₂ (λ y z. slice_get (trace_of traces y) z) c e) ∙ a.traced.entry in
-        let y : slice_get (trace_of traces core) entry ≡ Some (memory_entry r.write r.address) = sym (ap₂ (λ y z. slice_get (trace_of traces y) z) d f) ∙ b.traced.entry in
-        let z : q.address ≡ r.address = same_address q.write r.write q.address r.address (sym x ∙ y) in
+        let x : slice_get (trace_of traces core) entry ≡ Some (memory_entry q.access q.address) = sym (ap₂ (λ y z. slice_get (trace_of traces y) z) c e) ∙ a.traced.entry in
+        let y : slice_get (trace_of traces core) entry ≡ Some (memory_entry r.access r.address) = sym (ap₂ (λ y z. slice_get (trace_of traces y) z) d f) ∙ b.traced.entry in
+        let z : q.address ≡ r.address = same_address q.access r.access q.address r.address (sym x ∙ y) in
         sym a.channel ∙ ap (λ (p : Place). p.channel) (a.traced.place ∙ ap (place_of s) z ∙ sym b.traced.place) ∙ b.channel
 
 pub served_once : (s : Config) (traces : List (List Entry)) (core entry k j t u : ℕ) → k < s.channels → ServesAt s traces core entry k t → ServesAt s traces core entry j u → (k ≡ j) × (t ≡ u)

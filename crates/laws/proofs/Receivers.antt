@@ -11,7 +11,7 @@ use Rattle.sim_base.specs.Places.{field_of, place_of}
 use Rattle.sim_base.specs.History.{receiver}
 use Rattle.sim_base.specs.declared.message.Unit.TheVariants.{Core, Channel}
 use Rattle.sim_base.proofs.Added.{digit_below}
-use Rattle.sim_base.proofs.Spans.{has_channels}
+use Rattle.sim_base.proofs.Grows.{has_channels}
 
 pub receiver_request : (s : Config) (c k : ℕ) → k < s.channels → receiver s (request_link s c k) ≡ Channel k
 receiver_request s c k l =

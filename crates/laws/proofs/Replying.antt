@@ -1,14 +1,14 @@
 -- The rows of a core with a reply are the replies that came to it.
-use Rattle.std.proofs.Common.{◌≡◌, ℕ, zero, suc, ◌+◌, ◌-◌, ◌<◌, ◌≤◌, Bool, true, false, ◌&&◌, cond, eqb, ltb, List, [], ◌∷◌, ◌++◌, length, get_or, map, Option, Some, None, refl, sym, ap, ap₂, subst, ◌∙◌, zero-add, add-zero, arith}
-use Rattle.std.specs.Prelude.{count_by, sum_by, filter, filter_map, flat_map, is_some}
+use Rattle.std.proofs.Common.{◌≡◌, ℕ, zero, suc, ◌+◌, ◌-◌, ◌<◌, ◌≤◌, Bool, true, false, ◌&&◌, cond, eqb, ltb, List, [], ◌∷◌, ◌++◌, length, get_or, Option, Some, None, refl, sym, ap, ap₂, ◌∙◌, zero-add, add-zero, arith}
+use Rattle.std.specs.Prelude.{sum_by, filter, filter_map, flat_map, is_some}
 use Rattle.std.specs.Option.{IfSome}
-use Rattle.std.specs.List.{AllByRecursion as Each, cons_option, enumerate_from, range_with_len}
+use Rattle.std.specs.List.{AllByRecursion as Each, cons_option, range_with_len}
 use Rattle.std.proofs.lemmas.Bool.{cond-true, cond-false, cond_both, eqb-true}
 use Rattle.std.proofs.lemmas.List.Sums.{sum_by-cons, sum_by-append, length-filter}
+use Rattle.sim_base.specs.declared.message.Access.{Access}
 use Rattle.sim_base.specs.declared.config.Config.{Config}
-use Rattle.sim_base.specs.Config.{reply_link}
 use Rattle.sim_base.specs.Counts.{issue_cycle, replied_entry, is_reply, is_reply_before, replies, wait_of, read_latency}
-use Rattle.sim_base.specs.History.{below, steps_of_core, steps_of_channel, issued_at, commands, request, request_of, reply, credit, messages_of, messages_at, messages, is_unit, is_to, is_before, by_age, inbox, trace_of}
+use Rattle.sim_base.specs.History.{below, steps_of_core, issued_at, commands, request, request_of, reply, credit, messages_of, messages_at, messages, is_unit, is_to, is_before, by_age, inbox}
 use Rattle.sim_base.specs.Sends.{core_sends, channel_sends, sends}
 use Rattle.sim_base.specs.Machine.{next_command, next_step, run}
 use Rattle.sim_base.specs.MachineStep.{MachineStep, step_of_channel}
@@ -18,13 +18,14 @@ use Rattle.sim_base.specs.declared.command.IssuedCommand.{IssuedCommand}
 use Rattle.sim_base.specs.declared.command.Source.{Source}
 use Rattle.sim_base.specs.declared.history.CoreStep.{CoreStep}
 use Rattle.sim_base.specs.declared.message.Message.{Message}
-use Rattle.sim_base.specs.declared.message.Unit.TheVariants.{Core, Channel}
+use Rattle.sim_base.specs.declared.message.Unit.TheVariants.{Core}
 use Rattle.sim_base.specs.declared.trace.Entry.{Entry}
 use Rattle.sim_base.specs.declared.trace.Entry.TheVariants.{Plain, Read, Write}
 use Rattle.sim_base.proofs.Arrived.{put, puts, by_age-puts}
 use Rattle.sim_base.proofs.Each.{Each-flat_map_below}
 use Rattle.sim_base.proofs.Grows.{messages-grow}
 use Rattle.sim_base.proofs.Ordered.{Each-weaker}
+use Rattle.sim_base.specs.declared.message.Access.TheVariants as access
 use Rattle.std.proofs.lemmas.List.FromFn.{length-map-range_with_len}
 use Rattle.statistics.proofs.Replies.{length-steps_of_core}
 use Rattle.statistics.specs.Cores.{core_stats}
@@ -130,23 +131,23 @@ reply-weighs s core until w channel cycle source l =
     by true = refl
     by false = refl
 
-credit-weighs : (s : Config) (core until : ℕ) (w : Weight) (channel cycle : ℕ) (write : Bool) (source : Source) → in_time s core until w (credit s channel cycle write source) ≡ 0
+credit-weighs : (s : Config) (core until : ℕ) (w : Weight) (channel cycle : ℕ) (access : Access) (source : Source) → in_time s core until w (credit s channel cycle access source) ≡ 0
 unfolding credit
-credit-weighs s core until w channel cycle write source = not-sent s core until w (credit s channel cycle write source) refl
+credit-weighs s core until w channel cycle access source = not-sent s core until w (credit s channel cycle access source) refl
 
 command-weighs : (s : Config) (history : List MachineStep) (core : ℕ) (w : Weight) (channel cycle : ℕ) (i : IssuedCommand) (command : Command) → channel < s.channels → i.channel ≡ channel → i.cycle ≡ cycle
     → sum_by (in_time s core (length history) w) (messages_of s channel cycle command) ≡ of_request core w (request_by s history i command)
 unfolding messages_of
 command-weighs s history core w channel cycle i (Rd bank row column source) l same then =
     let g = in_time s core (length history) w in
-    let none : g (credit s channel cycle false source) ≡ 0 = credit-weighs s core (length history) w channel cycle false source in
-    sum_by-cons g (reply s channel cycle source) (credit s channel cycle false source ∷ [])
-    ∙ ap₂ (λ a b. a + b) (reply-weighs s core (length history) w channel cycle source l) (sum_by-cons g (credit s channel cycle false source) [] ∙ ap (λ a. a + 0) none)
+    let none : g (credit s channel cycle access.Read source) ≡ 0 = credit-weighs s core (length history) w channel cycle access.Read source in
+    sum_by-cons g (reply s channel cycle source) (credit s channel cycle access.Read source ∷ [])
+    ∙ ap₂ (λ a b. a + b) (reply-weighs s core (length history) w channel cycle source l) (sum_by-cons g (credit s channel cycle access.Read source) [] ∙ ap (λ a. a + 0) none)
     ∙ add-zero _
     ∙ ap₂ (λ k t. cond (eqb source.core core) (replied_weight w source.entry (if_within (length history) (reply_cycle s source.core k t))) 0) (sym same) (sym then)
 command-weighs s history core w channel cycle i (Wr bank row column source) l same then =
     let g = in_time s core (length history) w in
-    sum_by-cons g (credit s channel cycle true source) [] ∙ ap (λ a. a + 0) (credit-weighs s core (length history) w channel cycle true source) ∙ sym (by (eqb source.core core))
+    sum_by-cons g (credit s channel cycle access.Write source) [] ∙ ap (λ a. a + 0) (credit-weighs s core (length history) w channel cycle access.Write source) ∙ sym (by (eqb source.core core))
   where
     by : (b : Bool) → ◌≡◌ {A = ℕ} (cond {A = ℕ} b 0 0) 0
     by true = refl
@@ -189,8 +190,8 @@ channels-weigh s all core w cycle o (x ∷ os) k h l =
 request-weighs : (s : Config) (core until : ℕ) (w : Weight) (c cycle entry : ℕ) (e : Entry) → IfSome (request_of s c cycle entry e) (λ m. in_time s core until w m ≡ 0)
 unfolding request
 request-weighs s core until w c cycle entry Plain = tt
-request-weighs s core until w c cycle entry (Read address) = not-sent s core until w (request s c cycle entry false address) refl
-request-weighs s core until w c cycle entry (Write address) = not-sent s core until w (request s c cycle entry true address) refl
+request-weighs s core until w c cycle entry (Read address) = not-sent s core until w (request s c cycle entry access.Read address) refl
+request-weighs s core until w c cycle entry (Write address) = not-sent s core until w (request s c cycle entry access.Write address) refl
 
 cores-weigh : (s : Config) (traces : List (List Entry)) (history : List MachineStep) (core until : ℕ) (w : Weight)
     → sum_by (in_time s core until w) (flat_map (core_sends s traces history (next_step s traces history)) (below s.cores)) ≡ 0

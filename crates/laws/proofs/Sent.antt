@@ -4,6 +4,7 @@ use Rattle.std.specs.Prelude.{count_by, flat_map, slice_get}
 use Rattle.std.specs.Option.{IfSome}
 use Rattle.std.specs.List.{AllByRecursion as Each}
 use Rattle.std.proofs.lemmas.Bool.{cond_both}
+use Rattle.sim_base.specs.declared.message.Access.{Access}
 use Rattle.sim_base.specs.declared.config.Config.{Config}
 use Rattle.sim_base.specs.History.{below, trace_of, steps_of_core, steps_of_channel, core_messages, channel_messages, issued_before, inbox, request_of, reply, credit, messages_of, messages_at, messages_of_core, messages_of_channel, messages, is_before, by_age}
 use Rattle.sim_base.specs.Sends.{sender, core_sends, channel_sends, sends}
@@ -21,10 +22,12 @@ use Rattle.sim_base.specs.declared.trace.Entry.{Entry}
 use Rattle.sim_base.proofs.Arrived.{put, puts, by_age-puts, Each-puts}
 use Rattle.sim_base.proofs.Below.{flat_map_below_more}
 use Rattle.sim_base.proofs.Each.{Each-append, Each-flat_map_below}
-use Rattle.sim_base.proofs.Grows.{SentBy, messages-grow, core_channel_differ, core_sends-by, channel_sends-by, of_core-by, of_channel-by}
+use Rattle.sim_base.proofs.Grows.{SentBy, messages-grow, core_channel_differ, core_sends-by, channel_sends-by, of_core-by, of_channel-by, has_channels}
 use Rattle.sim_base.proofs.Ordered.{Each-weaker}
-use Rattle.sim_base.proofs.Spans.{step_of_core-next, has_channels}
-use Rattle.laws.proofs.Counting.{count-cons, count-append, count-none, count-flat_map-none, count-flat_map-one, count-flat_map-bound}
+use Rattle.sim_base.proofs.Spans.{step_of_core-next}
+use Rattle.sim_base.specs.declared.message.Access.TheVariants as access
+use Rattle.sim_base.proofs.Lists.{count-cons}
+use Rattle.laws.proofs.Counting.{count-append, count-none, count-flat_map-none, count-flat_map-one, count-flat_map-bound}
 use Rattle.laws.proofs.Issued.{GoesOn, goes_on, between-each, one_request}
 
 -- a count and a fact do not depend on the order
@@ -221,11 +224,11 @@ issues-one s traces history c l =
 
 -- what holds of each message that a channel sends for a command holds of what it sends in a cycle
 pub commands-each : (P : Message → Type 0) (s : Config) (channel cycle : ℕ) → ((source : Source) → P (reply s channel cycle source))
-    → ((write : Bool) (source : Source) → P (credit s channel cycle write source)) → (o : Option Command) → Each P (messages_at s channel cycle o)
+    → ((access : Access) (source : Source) → P (credit s channel cycle access source)) → (o : Option Command) → Each P (messages_at s channel cycle o)
 unfolding messages_of
 commands-each P s channel cycle h k None = tt
-commands-each P s channel cycle h k (Some (Rd bank row column source)) = (h source, (k false source, tt))
-commands-each P s channel cycle h k (Some (Wr bank row column source)) = (k true source, tt)
+commands-each P s channel cycle h k (Some (Rd bank row column source)) = (h source, (k access.Read source, tt))
+commands-each P s channel cycle h k (Some (Wr bank row column source)) = (k access.Write source, tt)
 commands-each P s channel cycle h k (Some (Act bank row source)) = tt
 commands-each P s channel cycle h k (Some (Pre bank source)) = tt
 commands-each P s channel cycle h k (Some (Prea rank)) = tt

@@ -1,9 +1,11 @@
 -- What channels keep of a request tells when it was where, and stands by cycle.
-use Rattle.std.proofs.Common.{◌≡◌, ℕ, suc, ◌+◌, ◌-◌, ◌<◌, Bool, true, false, List, [], ◌∷◌, ◌++◌, length, map, Option, Some, None, refl, sym, ap, ap₂, subst, ◌∙◌, arith}
+use Rattle.std.proofs.Common.{◌≡◌, ℕ, suc, ◌+◌, ◌-◌, ◌<◌, Bool, List, [], ◌∷◌, ◌++◌, length, map, Option, Some, None, refl, sym, ap, ap₂, subst, ◌∙◌, arith}
 use Rattle.std.specs.Prelude.{filter_map, flat_map, option_map}
 use Rattle.std.specs.Option.{IfSome}
 use Rattle.std.specs.List.{AllByRecursion as Each, cons_option, enumerate_from}
 use Rattle.std.proofs.lemmas.List.Elements.{filter_map-append}
+use Rattle.sim_base.specs.declared.message.Access.{Access}
+use Rattle.sim_base.specs.declared.message.Access.TheVariants as access
 use Rattle.sim_base.specs.declared.config.Config.{Config}
 use Rattle.sim_base.specs.Config.{request_link, latency}
 use Rattle.sim_base.specs.Counts.{is_hit, issue_cycle}
@@ -16,34 +18,34 @@ use Rattle.sim_base.specs.declared.command.Source.{Source}
 use Rattle.request_table.specs.Served.{served_of, served_by, served_in, served_requests}
 use Rattle.request_table.specs.declared.served_requests.ServedRequest.{ServedRequest}
 use Rattle.request_table.specs.Requests.{arrival_of, replied_in, request_for, request_by, requests_of}
-use Rattle.request_table.specs.Tables.{AreServed, access_of, times_of}
+use Rattle.request_table.specs.Tables.{AreServed, times_of}
 use Rattle.request_table.specs.declared.times.RequestTimes.{RequestTimes}
 use Rattle.request_table.proofs.Cutting.{served-earlier}
 use Rattle.laws.specs.Timed.{served_in_run, AreTimed}
 
 -- a request was issued as long before it came to its channel as it travelled
-as_served : (s : Config) (history : List MachineStep) (write : Bool) (i : IssuedCommand) (source : Source) → request_for s history (access_of write) i source
-    ≡ times_of s (length history) (served_of (arrival_of s history i.channel) (is_hit (issued_commands i.channel (steps_of_channel i.channel history)) i.command) i.channel i.cycle write source)
-as_served s history write i source =
+as_served : (s : Config) (history : List MachineStep) (access : Access) (i : IssuedCommand) (source : Source) → request_for s history access i source
+    ≡ times_of s (length history) (served_of (arrival_of s history i.channel) (is_hit (issued_commands i.channel (steps_of_channel i.channel history)) i.command) i.channel i.cycle access source)
+as_served s history access i source =
     let issued = issue_cycle (steps_of_core source.core history) source.entry in
     let travels = latency s (request_link s source.core i.channel) in
     let back : issued ≡ issued + travels - travels = omega arith in
     ap {B = RequestTimes} (λ n. record {
       core = source.core;
       entry = source.entry;
-      access = access_of write;
+      access = access;
       channel = i.channel;
       issued = n;
       arrived = issued + travels;
       served = i.cycle;
-      replied = replied_in s (length history) (access_of write) source.core i.channel i.cycle;
+      replied = replied_in s (length history) access source.core i.channel i.cycle;
       hit = is_hit (issued_commands i.channel (steps_of_channel i.channel history)) i.command;
     }) back
 
 by_served : (s : Config) (history : List MachineStep) (i : IssuedCommand) (command : Command) → request_by s history i command
     ≡ option_map (times_of s (length history)) (served_by (arrival_of s history i.channel) (is_hit (issued_commands i.channel (steps_of_channel i.channel history)) i.command) i.channel i.cycle command)
-by_served s history i (Rd bank row column source) = ap Some (as_served s history false i source)
-by_served s history i (Wr bank row column source) = ap Some (as_served s history true i source)
+by_served s history i (Rd bank row column source) = ap Some (as_served s history access.Read i source)
+by_served s history i (Wr bank row column source) = ap Some (as_served s history access.Write i source)
 by_served s history i (Act bank row source) = refl
 by_served s history i (Pre bank source) = refl
 by_served s history i (Prea rank) = refl

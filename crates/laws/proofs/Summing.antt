@@ -1,37 +1,38 @@
 -- The rows of a channel are the requests that it served.
-use Rattle.std.proofs.Common.{◌≡◌, ℕ, ◌+◌, ◌<◌, Bool, true, false, cond, eqb, not, List, [], ◌∷◌, map, Option, Some, None, refl, sym, ap, ap₂, ◌∙◌}
+use Rattle.std.proofs.Common.{◌≡◌, ℕ, ◌+◌, ◌<◌, Bool, true, false, cond, eqb, List, [], ◌∷◌, map, Option, Some, None, refl, sym, ap, ap₂, ◌∙◌}
 use Rattle.std.specs.Prelude.{count_by, filter, filter_map}
 use Rattle.std.specs.Option.{IfSome}
 use Rattle.std.specs.List.{cons_option, enumerate_from}
 use Rattle.std.proofs.lemmas.Bool.{cond-true, cond-false}
+use Rattle.sim_base.specs.declared.message.Access.TheVariants as access
+use Rattle.sim_base.specs.Access.{is_access}
 use Rattle.sim_base.specs.declared.config.Config.{Config}
-use Rattle.sim_base.specs.History.{steps_of_channel, issued_at, issued_commands, commands}
+use Rattle.sim_base.specs.History.{issued_at, issued_commands, commands}
 use Rattle.sim_base.specs.Machine.{run}
-use Rattle.sim_base.specs.MachineStep.{MachineStep}
 use Rattle.sim_base.specs.declared.command.Command.{Command}
 use Rattle.sim_base.specs.declared.command.Command.TheVariants.{Act, Rd, Wr, Pre, Prea, Ref}
 use Rattle.sim_base.specs.declared.command.IssuedCommand.{IssuedCommand}
 use Rattle.sim_base.specs.declared.command.Source.{Source}
 use Rattle.sim_base.specs.declared.trace.Entry.{Entry}
 use Rattle.sim_base.proofs.Spans.{length-run}
+use Rattle.sim_base.proofs.Lists.{count-cons}
 use Rattle.statistics.specs.Channels.{channel_stats}
 use Rattle.statistics.specs.Runs.{stats_of_channel}
 use Rattle.laws.specs.Commands.{history_of, channel_steps_of}
 use Rattle.laws.specs.Tables.{rows_on}
-use Rattle.laws.proofs.Counting.{count-cons}
 use Rattle.laws.proofs.Tabled.{rows_on-commands}
 use Rattle.request_table.specs.Served.{served_by, served_in, served_requests}
 use Rattle.request_table.specs.declared.served_requests.ServedRequest.{ServedRequest}
-use Rattle.request_table.specs.Requests.{arrival_of, requests_of}
-use Rattle.request_table.specs.Tables.{access_of, times_of}
+use Rattle.request_table.specs.Requests.{arrival_of}
+use Rattle.request_table.specs.Tables.{times_of}
 use Rattle.request_table.specs.declared.times.RequestTimes.{RequestTimes}
 use Rattle.laws.specs.Timed.{served_in_run}
-use Rattle.laws.specs.Totals.{rows_of_channel, is_read_row, is_write_row, ChannelAddsUp}
+use Rattle.laws.specs.Totals.{rows_of_channel, ChannelAddsUp}
 use Rattle.laws.proofs.Adding.{are_counted}
 use Rattle.laws.proofs.Serving.{are_timed}
 
 -- commands of one channel
-of-channel : (g : ℕ → IssuedCommand → Option ServedRequest) (channel cycle : ℕ) (steps : List (Option Command))
+pub of-channel : (g : ℕ → IssuedCommand → Option ServedRequest) (channel cycle : ℕ) (steps : List (Option Command))
     → filter_map (λ i. g i.channel i) (filter_map (λ (e : ℕ × Option Command). issued_at channel e.0 e.1) (enumerate_from cycle steps))
     ≡ filter_map (g channel) (filter_map (λ (e : ℕ × Option Command). issued_at channel e.0 e.1) (enumerate_from cycle steps))
 of-channel g channel cycle [] = refl
@@ -101,14 +102,6 @@ count-mapped : {X Y : Type 0} (g : X → Y) (p : Y → Bool) (q : X → Bool) �
 count-mapped g p q h [] = refl
 count-mapped g p q h (x ∷ xs) = count-cons p (g x) (map g xs) ∙ ap₂ (λ b n. cond b 1 0 + n) (h x) (count-mapped g p q h xs) ∙ sym (count-cons q x xs)
 
-reads-of : (write : Bool) → is_read_row (access_of write) ≡ not write
-reads-of true = refl
-reads-of false = refl
-
-writes-of : (write : Bool) → is_write_row (access_of write) ≡ write
-writes-of true = refl
-writes-of false = refl
-
 pub channel_adds_up : (s : Config) (traces : List (List Entry)) (n channel : ℕ) → channel < s.channels → ChannelAddsUp s traces n channel
 unfolding stats_of_channel channel_stats
 channel_adds_up s traces n channel l =
@@ -116,9 +109,9 @@ channel_adds_up s traces n channel l =
     let served = served_requests (arrival_of s (run s traces n) channel) (history_of s traces n channel) in
     let counted = are_counted (arrival_of s (run s traces n) channel) (history_of s traces n channel) in
     record {
-      reads = ap (count_by (λ (r : RequestTimes). is_read_row r.access)) rows
-          ∙ count-mapped (times_of s n) (λ (r : RequestTimes). is_read_row r.access) (λ (r : ServedRequest). not r.write) (λ r. reads-of r.write) served ∙ counted.reads;
-      writes = ap (count_by (λ (r : RequestTimes). is_write_row r.access)) rows
-          ∙ count-mapped (times_of s n) (λ (r : RequestTimes). is_write_row r.access) (λ (r : ServedRequest). r.write) (λ r. writes-of r.write) served ∙ counted.writes;
+      reads = ap (count_by (λ (r : RequestTimes). is_access access.Read r.access)) rows
+          ∙ count-mapped (times_of s n) (λ (r : RequestTimes). is_access access.Read r.access) (λ (r : ServedRequest). is_access access.Read r.access) (λ r. refl) served ∙ counted.reads;
+      writes = ap (count_by (λ (r : RequestTimes). is_access access.Write r.access)) rows
+          ∙ count-mapped (times_of s n) (λ (r : RequestTimes). is_access access.Write r.access) (λ (r : ServedRequest). is_access access.Write r.access) (λ r. refl) served ∙ counted.writes;
       hits = ap (count_by (λ (r : RequestTimes). r.hit)) rows ∙ count-mapped (times_of s n) (λ (r : RequestTimes). r.hit) (λ (r : ServedRequest). r.hit) (λ r. refl) served ∙ counted.hits;
     }

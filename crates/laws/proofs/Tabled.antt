@@ -22,9 +22,9 @@ use Rattle.sim_base.specs.declared.trace.Entry.{Entry}
 use Rattle.sim_base.proofs.Each.{Each-append}
 use Rattle.sim_base.proofs.Ordered.{Each-weaker}
 use Rattle.sim_base.proofs.Spans.{length-run, step_of_channel-next}
+use Rattle.sim_base.proofs.Lists.{enumerate-append}
 use Rattle.laws.specs.Commands.{history_of}
 use Rattle.laws.specs.Tables.{rows_on, stands_before, TablesAreOrdered, TablesAreLegal, TablesAreRefreshed}
-use Rattle.laws.proofs.Lists.{enumerate-append}
 use Rattle.laws.proofs.Legal.{chosen, EachAfter, EachAfter-push, IsLegalStep, legal_step, length-channel_steps_of, history_of-more}
 use Rattle.laws.proofs.Due.{refreshed, refreshed-by}
 use Rattle.laws.proofs.Timely.{refreshed_in_time}
@@ -99,7 +99,7 @@ abbrev HaveHistories : Config → List (List Entry) → ℕ → ℕ → List Iss
 HaveHistories s traces n i table = (k : ℕ) → i ≤ k → k < s.channels → rows_on k table ≡ history_of s traces n k
 
 -- what the channels from i on do in a cycle
-abbrev AreChosen : Config → List (List Entry) → ℕ → ℕ → List (Option Command) → Type 0
+abbrev pub AreChosen : Config → List (List Entry) → ℕ → ℕ → List (Option Command) → Type 0
 AreChosen s traces n i os = (j k : ℕ) → j < length os → i + j ≡ k → (k < s.channels) × (get_or os j None ≡ chosen s traces n k)
 
 -- one row more
@@ -151,7 +151,7 @@ table-stands s traces (suc n) =
     (Each-append _ (commands history) (rows_from (length history) 0 (next_step s traces history).commands)
     (stand-longer n (commands history) (table-stands s traces n)) (steps-stand (length history) (suc n) 0 (next_step s traces history).commands (omega arith)))
 
-next-chosen : (s : Config) (traces : List (List Entry)) (n : ℕ) → AreChosen s traces n 0 (next_step s traces (run s traces n)).commands
+pub next-chosen : (s : Config) (traces : List (List Entry)) (n : ℕ) → AreChosen s traces n 0 (next_step s traces (run s traces n)).commands
 unfolding next_step
 next-chosen s traces n j k l e =
     let f : j ≡ k = omega arith in

@@ -19,6 +19,7 @@ use Rattle.sim_base.specs.declared.command.Command.TheVariants.{Act, Rd, Wr, Pre
 use Rattle.sim_base.specs.declared.command.IssuedCommand.{IssuedCommand}
 use Rattle.sim_base.specs.declared.trace.Entry.{Entry}
 use Rattle.sim_base.proofs.Ordered.{Each-weaker}
+use Rattle.sim_base.proofs.Each.{Each-both}
 use Rattle.laws.specs.Commands.{history_of}
 use Rattle.laws.specs.Refreshes.{refreshes_by, RefreshesAreInTime, RefreshesAreNotEarly, RefreshesAreWanted}
 use Rattle.laws.proofs.Cleared.{close_wait, LetsClose, LetsRefresh, close-legal, refresh-legal, closed-prea, closed-ref}
@@ -107,10 +108,6 @@ lets-refresh t rank now begin start old at (Wr bank row column source) b c d h g
 lets-refresh t rank now begin start old at (Pre bank source) b c d h g k = omega arith
 lets-refresh t rank now begin start old at (Prea other) b c d h g k = λ e. omega arith
 lets-refresh t rank now begin start old at (Ref other) b c d h g k = λ e. let l = k (eq-eqb other rank e) in omega arith
-
-Each-both : {X : Type 0} (P Q : X → Type 0) (xs : List X) → Each P xs → Each Q xs → Each (λ x. P x × Q x) xs
-Each-both P Q [] h k = tt
-Each-both P Q (x ∷ xs) h k = ((h.0, k.0), Each-both P Q xs h.1 k.1)
 
 -- what holds of a command that closes a rank and of one that refreshes it holds of what is issued for the rank
 for_rank : (P : Command → Type 0) (s : Config) (history : List IssuedCommand) (now rank : ℕ) → (has_open_bank s history rank ≡ true → P (Prea rank)) → (has_open_bank s history rank ≡ false → P (Ref rank))

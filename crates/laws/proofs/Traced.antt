@@ -1,5 +1,5 @@
 -- The requests of a run come from its traces.
-use Rattle.std.proofs.Common.{◌≡◌, ℕ, zero, suc, ◌+◌, ◌<◌, ◌≤◌, Bool, true, false, eqb, ltb, cond, List, [], ◌∷◌, ◌++◌, length, Option, Some, None, refl, sym, ap, subst, ◌∙◌, arith}
+use Rattle.std.proofs.Common.{◌≡◌, ℕ, zero, suc, ◌+◌, ◌<◌, ◌≤◌, true, false, eqb, ltb, List, [], ◌∷◌, ◌++◌, length, Option, Some, None, refl, sym, ap, subst, ◌∙◌, arith}
 use Rattle.std.specs.Prelude.{filter_map, slice_get, not}
 use Rattle.std.specs.Option.{IfSome}
 use Rattle.std.specs.List.{AllByRecursion as Each, Contains}
@@ -7,6 +7,8 @@ use Rattle.std.proofs.lemmas.Bool.{cond_both, and_parts, eqb-true, ltb-true, not
 use Rattle.std.proofs.Math.Seq.{take-length}
 use Rattle.std.proofs.lemmas.List.{map-append}
 use Rattle.std.proofs.lemmas.List.Elements.{All-contains_itself, recursion_from_All}
+use Rattle.sim_base.specs.declared.message.Access.{Access}
+use Rattle.sim_base.specs.declared.message.Access.TheVariants as access
 use Rattle.sim_base.specs.declared.config.Config.{Config}
 use Rattle.sim_base.specs.Config.{request_link}
 use Rattle.sim_base.specs.Places.{place_of}
@@ -24,23 +26,21 @@ use Rattle.sim_base.specs.declared.message.Unit.TheVariants.{Channel}
 use Rattle.sim_base.specs.declared.trace.Entry.{Entry}
 use Rattle.sim_base.specs.declared.trace.Entry.TheVariants.{Plain, Read, Write}
 use Rattle.sim_base.proofs.Arrived.{Each-by_age}
-use Rattle.sim_base.proofs.Each.{Each-filter_map}
+use Rattle.sim_base.proofs.Each.{Each-both, Each-filter_map}
 use Rattle.sim_base.proofs.Grows.{issued_before-push}
 use Rattle.sim_base.proofs.Ordered.{Each-weaker}
+use Rattle.sim_base.proofs.Accesses.{column_both}
+use Rattle.laws.specs.Messages.{memory_entry}
 use Rattle.laws.specs.Commands.{channel_steps_of, history_of}
 use Rattle.laws.proofs.Chosen.{IfSome-weaker, choice-needed}
 use Rattle.laws.proofs.Legal.{chosen, length-channel_steps_of}
 use Rattle.laws.proofs.Receivers.{receiver_request, place_in, Each-filter_passes}
 use Rattle.laws.proofs.Sent.{Each-messages, messages-none, issues-each, commands-each, sends-each}
 
--- an entry that writes to an address, or reads from it
-abbrev pub memory_entry : Bool → ℕ → Entry
-memory_entry write address = cond write (Write address) (Read address)
-
 -- a request is that of an entry which its core has issued
 pub record Traced (s : Config) (traces : List (List Entry)) (history : List MachineStep) (r : Request) : Type 0 where
   pub core : r.core < s.cores
-  pub entry : slice_get (trace_of traces r.core) r.entry ≡ Some (memory_entry r.write r.address)
+  pub entry : slice_get (trace_of traces r.core) r.entry ≡ Some (memory_entry r.access r.address)
   pub place : r.place ≡ place_of s r.address
   pub issued : r.entry < issued_before (steps_of_core r.core history)
 
@@ -69,16 +69,16 @@ traced-more s traces history machine_step m h = IfSome-weaker _ _ (λ r k. more 
           link = k.link;
         }
 
-request-traced : (s : Config) (traces : List (List Entry)) (history : List MachineStep) (c cycle entry : ℕ) (write : Bool) (address : ℕ) → c < s.cores
-    → entry < issued_before (steps_of_core c history) → slice_get (trace_of traces c) entry ≡ Some (memory_entry write address) → IsTraced s traces history (request s c cycle entry write address)
+request-traced : (s : Config) (traces : List (List Entry)) (history : List MachineStep) (c cycle entry : ℕ) (access : Access) (address : ℕ) → c < s.cores
+    → entry < issued_before (steps_of_core c history) → slice_get (trace_of traces c) entry ≡ Some (memory_entry access address) → IsTraced s traces history (request s c cycle entry access address)
 unfolding request
-request-traced s traces history c cycle entry write address l i e = record { traced = record { core = l; entry = e; place = refl; issued = i }; link = refl }
+request-traced s traces history c cycle entry access address l i e = record { traced = record { core = l; entry = e; place = refl; issued = i }; link = refl }
 
 request_of-traced : (s : Config) (traces : List (List Entry)) (history : List MachineStep) (c cycle entry : ℕ) (e : Entry) → c < s.cores
     → entry < issued_before (steps_of_core c history) → slice_get (trace_of traces c) entry ≡ Some e → IfSome (request_of s c cycle entry e) (IsTraced s traces history)
 request_of-traced s traces history c cycle entry Plain l i f = tt
-request_of-traced s traces history c cycle entry (Read address) l i f = request-traced s traces history c cycle entry false address l i f
-request_of-traced s traces history c cycle entry (Write address) l i f = request-traced s traces history c cycle entry true address l i f
+request_of-traced s traces history c cycle entry (Read address) l i f = request-traced s traces history c cycle entry access.Read address l i f
+request_of-traced s traces history c cycle entry (Write address) l i f = request-traced s traces history c cycle entry access.Write address l i f
 
 sends-traced : (s : Config) (traces : List (List Entry)) (history : List MachineStep) → Each (IsTraced s traces (history ++ next_step s traces history ∷ [])) (sends s traces history (next_step s traces history))
 unfolding channel_sends reply credit
@@ -90,7 +90,7 @@ sends-traced s traces history =
     (λ j e b f g.
     let more = issued-more history machine_step c in
     request_of-traced s traces (history ++ machine_step ∷ []) c (length history) _ e l (omega arith) f))
-    (λ k l. commands-each P s k (length history) (λ source. tt) (λ write source. tt) (step_of_channel k machine_step))
+    (λ k l. commands-each P s k (length history) (λ source. tt) (λ access source. tt) (step_of_channel k machine_step))
 
 pub messages-traced : (s : Config) (traces : List (List Entry)) (n : ℕ) → Each (IsTraced s traces (run s traces n)) (messages s traces (run s traces n))
 unfolding run
@@ -138,10 +138,6 @@ pub record Queued (s : Config) (traces : List (List Entry)) (n k : ℕ) (r : Req
   pub unserved : is_served (history_of s traces n k) r ≡ false
   pub among : Contains (requests_to s traces n k) r
 
-Each-both : {X : Type 0} (P Q : X → Type 0) (xs : List X) → Each P xs → Each Q xs → Each (λ x. P x × Q x) xs
-Each-both P Q [] h k = tt
-Each-both P Q (x ∷ xs) h k = ((h.0, k.0), Each-both P Q xs h.1 k.1)
-
 queued_requests-queued : (s : Config) (traces : List (List Entry)) (n k : ℕ) → Each (Queued s traces n k) (queued_requests (history_of s traces n k) (inbox s traces (run s traces n) (Channel k)) (n + 1))
 unfolding queued_requests
 queued_requests-queued s traces n k =
@@ -166,8 +162,8 @@ queue-queued s traces n k =
 
 -- a command moves data for a request of the queue
 abbrev pub ServesQueued : Config → List (List Entry) → ℕ → ℕ → Command → Type 0
-ServesQueued s traces n k (Rd bank row column source) = (r : Request) × Queued s traces n k r × (r.write ≡ false) × (source ≡ source_of r)
-ServesQueued s traces n k (Wr bank row column source) = (r : Request) × Queued s traces n k r × (r.write ≡ true) × (source ≡ source_of r)
+ServesQueued s traces n k (Rd bank row column source) = (r : Request) × Queued s traces n k r × (r.access ≡ access.Read) × (source ≡ source_of r)
+ServesQueued s traces n k (Wr bank row column source) = (r : Request) × Queued s traces n k r × (r.access ≡ access.Write) × (source ≡ source_of r)
 ServesQueued s traces n k (Act bank row source) = Unit {0}
 ServesQueued s traces n k (Pre bank source) = Unit {0}
 ServesQueued s traces n k (Prea rank) = Unit {0}
@@ -177,7 +173,7 @@ needed_at-serves : (s : Config) (traces : List (List Entry)) (n k : ℕ) (r : Re
 needed_at-serves s traces n k r None h = tt
 needed_at-serves s traces n k r (Some row) h =
     cond_both (eqb row r.place.row) (column_command r) _ (ServesQueued s traces n k)
-    (λ e. cond_both r.write _ _ (ServesQueued s traces n k) (λ f. (r, h, f, refl)) (λ f. (r, h, f, refl)))
+    (λ e. column_both (ServesQueued s traces n k) r.access _ _ _ _ (λ f. (r, h, f, refl)) (λ f. (r, h, f, refl)))
     (λ e. tt)
 
 pub chosen-serves : (s : Config) (traces : List (List Entry)) (n k : ℕ) → IfSome (chosen s traces n k) (ServesQueued s traces n k)

@@ -6,6 +6,7 @@ use Rattle.std.specs.List.{AllByRecursion as Each}
 use Rattle.std.proofs.lemmas.Bool.{cond-true, cond-false, and_parts, eqb-true, cases_lt, false_from_ne_true}
 use Rattle.std.proofs.lemmas.Bool.Decides.{nat_tests}
 use Rattle.std.proofs.lemmas.List.Sums.{count_by-le-length}
+use Rattle.sim_base.specs.declared.message.Access.{Access}
 use Rattle.sim_base.specs.declared.config.Config.{Config}
 use Rattle.sim_base.specs.Config.{request_link, latency}
 use Rattle.sim_base.specs.Places.{place_of}
@@ -23,6 +24,7 @@ use Rattle.sim_base.specs.declared.trace.Entry.{Entry}
 use Rattle.sim_base.specs.declared.trace.Entry.TheVariants.{Plain, Read, Write}
 use Rattle.sim_base.proofs.Spans.{length-run}
 use Rattle.sim_base.proofs.Ordered.{Each-weaker}
+use Rattle.sim_base.specs.declared.message.Access.TheVariants as access
 use Rattle.laws.specs.Links.{arrives_on, LinksCarryOneACycle}
 use Rattle.laws.proofs.Counting.{count-none, count-weaker}
 use Rattle.laws.proofs.Sent.{OnlyFrom, count-messages, Each-messages, messages-none, sends-bound_core, sends-bound_channel, issues-each, issues-one, commands-each, sends-each}
@@ -53,9 +55,9 @@ travel_credit s x =
     let e : eqb ((3 * x + 2) % 3) 1 ≡ false = grind (arith, nat_tests) in
     cond-false _ _ _ e
 
-request-sent : (s : Config) (core cycle entry : ℕ) (write : Bool) (address : ℕ) → SentIn s cycle (request s core cycle entry write address)
+request-sent : (s : Config) (core cycle entry : ℕ) (access : Access) (address : ℕ) → SentIn s cycle (request s core cycle entry access address)
 unfolding request
-request-sent s core cycle entry write address = ap (λ x. cycle + x) (sym (travel_request s (core * s.channels + (place_of s address).channel)))
+request-sent s core cycle entry access address = ap (λ x. cycle + x) (sym (travel_request s (core * s.channels + (place_of s address).channel)))
 
 reply-sent : (s : Config) (channel cycle : ℕ) (source : Source) → SentIn s cycle (reply s channel cycle source)
 unfolding reply
@@ -63,14 +65,14 @@ reply-sent s channel cycle source =
     let e = travel_reply s (source.core * s.channels + channel) in
     omega arith
 
-credit-sent : (s : Config) (channel cycle : ℕ) (write : Bool) (source : Source) → SentIn s cycle (credit s channel cycle write source)
+credit-sent : (s : Config) (channel cycle : ℕ) (access : Access) (source : Source) → SentIn s cycle (credit s channel cycle access source)
 unfolding credit
-credit-sent s channel cycle write source = ap (λ x. cycle + x) (sym (travel_credit s (source.core * s.channels + channel)))
+credit-sent s channel cycle access source = ap (λ x. cycle + x) (sym (travel_credit s (source.core * s.channels + channel)))
 
 request_of-sent : (s : Config) (core cycle entry : ℕ) (e : Entry) → IfSome (request_of s core cycle entry e) (SentIn s cycle)
 request_of-sent s core cycle entry Plain = tt
-request_of-sent s core cycle entry (Read address) = request-sent s core cycle entry false address
-request_of-sent s core cycle entry (Write address) = request-sent s core cycle entry true address
+request_of-sent s core cycle entry (Read address) = request-sent s core cycle entry access.Read address
+request_of-sent s core cycle entry (Write address) = request-sent s core cycle entry access.Write address
 
 -- what is sent in a cycle arrives as much later as its link says
 sends-sent : (s : Config) (traces : List (List Entry)) (history : List MachineStep) → Each (SentIn s (length history)) (sends s traces history (next_step s traces history))
@@ -105,7 +107,7 @@ command-one : (s : Config) (link channel cycle : ℕ) (o : Option Command) → c
 unfolding messages_of reply credit
 command-one s link channel cycle None = omega arith
 command-one s link channel cycle (Some (Rd bank row column source)) = let b = two_links (request_link s source.core channel) link in omega arith
-command-one s link channel cycle (Some (Wr bank row column source)) = count_by-le-length (is_on link) (credit s channel cycle true source ∷ [])
+command-one s link channel cycle (Some (Wr bank row column source)) = count_by-le-length (is_on link) (credit s channel cycle access.Write source ∷ [])
 command-one s link channel cycle (Some (Act bank row source)) = omega arith
 command-one s link channel cycle (Some (Pre bank source)) = omega arith
 command-one s link channel cycle (Some (Prea rank)) = omega arith

@@ -4,7 +4,9 @@
 --     IsRequestTo s traces history channel m r      a message carries a request to a channel, as the trace of its core has it
 --     RequestsFit s traces n      each message to a channel carries such a request
 --     FitsCore s core link load, AnswersFit s traces n      each message to a core is a reply or a credit of a channel, on its link
-use Rattle.std.specs.Prelude.{◌≡◌, ℕ, ◌<◌, ◌≤◌, ◌==◌, Bool, false, ◌&&◌, List, slice_get, count_by, All, Some, IsSomeAnd, if◌then◌else◌}
+use Rattle.std.specs.Prelude.{◌≡◌, ℕ, ◌<◌, ◌≤◌, ◌==◌, Bool, false, ◌&&◌, List, slice_get, count_by, All, Some, IsSomeAnd}
+use Rattle.sim_base.specs.declared.message.Access.{Access}
+use Rattle.sim_base.specs.declared.message.Access.TheVariants as access
 use Rattle.sim_base.specs.declared.config.Config.{Config}
 use Rattle.sim_base.specs.Config.{request_link, reply_link, credit_link}
 use Rattle.sim_base.specs.Places.{place_of}
@@ -24,16 +26,21 @@ use Rattle.sim_base.specs.declared.trace.Entry.TheVariants.{Read, Write}
 abbrev pub is_request_of : ℕ → ℕ → Load → Bool
 is_request_of core entry (load.Request r) = (r.core == core) && (r.entry == entry)
 is_request_of core entry (load.Reply e) = false
-is_request_of core entry (load.Credit write e) = false
+is_request_of core entry (load.Credit access e) = false
 
 -- of the messages that are sent in the first n cycles, at most one is the request of an entry of a core
 abbrev pub RequestsAreSentOnce : Config → List (List Entry) → ℕ → Type 0
 RequestsAreSentOnce s traces n = (core entry : ℕ) → count_by (λ m. is_request_of core entry m.load) (messages s traces (run s traces n)) ≤ 1
 
+-- the entry of a trace that reads an address, or writes to it
+abbrev pub memory_entry : Access → ℕ → Entry
+memory_entry access.Read address = Read address
+memory_entry access.Write address = Write address
+
 -- a message carries this request to a channel: that of an entry which its core has issued, with the entry's kind and address
 pub record IsRequestTo (s : Config) (traces : List (List Entry)) (history : List MachineStep) (channel : ℕ) (m : Message) (r : Request) : Type 0 where
   pub core : r.core < s.cores
-  pub entry : slice_get (trace_of traces r.core) r.entry ≡ Some (if r.write then Write r.address else Read r.address)
+  pub entry : slice_get (trace_of traces r.core) r.entry ≡ Some (memory_entry r.access r.address)
   pub issued : r.entry < issued_before (steps_of_core r.core history)
   pub place : r.place ≡ place_of s r.address
   pub channel_of : r.place.channel ≡ channel
@@ -50,7 +57,7 @@ RequestsFit s traces n =
 -- a message on this link to a core is a reply or a credit of a channel
 abbrev pub FitsCore : Config → ℕ → ℕ → Load → Type 0
 FitsCore s core link (load.Reply entry) = (channel : ℕ) × (channel < s.channels) × (link ≡ reply_link s core channel)
-FitsCore s core link (load.Credit write entry) = (channel : ℕ) × (channel < s.channels) × (link ≡ credit_link s core channel)
+FitsCore s core link (load.Credit access entry) = (channel : ℕ) × (channel < s.channels) × (link ≡ credit_link s core channel)
 FitsCore s core link (load.Request r) = ⊥
 
 -- each message to a core is such a reply or credit

@@ -58,7 +58,7 @@ IsRead trace entry = (address : ℕ) × (slice_get trace entry ≡ Some (Read ad
 abbrev pub AnswersReadAs : List Entry → List CoreStep → ℕ → Load → Type 0
 AnswersReadAs trace steps cycle (load.Reply entry) = IsRead trace entry × entry < issued_before (take cycle steps)
 AnswersReadAs trace steps cycle (load.Request r) = Unit {0}
-AnswersReadAs trace steps cycle (load.Credit write entry) = Unit {0}
+AnswersReadAs trace steps cycle (load.Credit access entry) = Unit {0}
 
 -- a message that is a reply is that of a Read that the core issued before the cycle in which the reply arrives
 abbrev pub AnswersRead : List Entry → List CoreStep → Message → Type 0

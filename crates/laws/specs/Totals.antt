@@ -3,15 +3,15 @@
 --     wait_for issued replied, wait_of_row row      how long a request waited for its reply; 0 where it had none
 --     CoreAddsUp s traces n core      the rows of a core have as many replies, and waited as long, as its statistics say
 --     ChannelAddsUp s traces n channel      the rows of a channel are as many reads, writes and hits as its statistics say
-use Rattle.std.specs.Prelude.{◌≡◌, ℕ, ◌-◌, ◌==◌, Bool, true, false, List, filter, count_by, sum_by, is_some, Option, Some, None}
+use Rattle.std.specs.Prelude.{◌≡◌, ℕ, ◌-◌, ◌==◌, List, filter, count_by, sum_by, is_some, Option, Some, None}
+use Rattle.sim_base.specs.Access.{is_access}
 use Rattle.sim_base.specs.declared.config.Config.{Config}
 use Rattle.sim_base.specs.Machine.{run}
 use Rattle.sim_base.specs.MachineStep.{MachineStep}
 use Rattle.sim_base.specs.declared.trace.Entry.{Entry}
 use Rattle.statistics.specs.Runs.{stats_of_core, stats_of_channel}
 use Rattle.request_table.specs.Requests.{requests_of}
-use Rattle.request_table.specs.declared.times.Access.{Access}
-use Rattle.request_table.specs.declared.times.Access.TheVariants.{Read, Write}
+use Rattle.sim_base.specs.declared.message.Access.TheVariants.{Read, Write}
 use Rattle.request_table.specs.declared.times.RequestTimes.{RequestTimes}
 
 -- the requests of one core among those of a history
@@ -35,17 +35,8 @@ pub record CoreAddsUp (s : Config) (traces : List (List Entry)) (n core : ℕ) :
   pub replies : count_by (λ row. is_some row.replied) (rows_of_core s (run s traces n) core) ≡ (stats_of_core s traces (run s traces n) core).replies
   pub read_latency : sum_by wait_of_row (rows_of_core s (run s traces n) core) ≡ (stats_of_core s traces (run s traces n) core).read_latency
 
--- a request reads, or it writes
-abbrev pub is_read_row : Access → Bool
-is_read_row Read = true
-is_read_row Write = false
-
-abbrev pub is_write_row : Access → Bool
-is_write_row Read = false
-is_write_row Write = true
-
 -- the rows of a channel are as many reads, writes and hits as its statistics say
 pub record ChannelAddsUp (s : Config) (traces : List (List Entry)) (n channel : ℕ) : Type 0 where
-  pub reads : count_by (λ row. is_read_row row.access) (rows_of_channel s (run s traces n) channel) ≡ (stats_of_channel s traces (run s traces n) channel).rd
-  pub writes : count_by (λ row. is_write_row row.access) (rows_of_channel s (run s traces n) channel) ≡ (stats_of_channel s traces (run s traces n) channel).wr
+  pub reads : count_by (λ row. is_access Read row.access) (rows_of_channel s (run s traces n) channel) ≡ (stats_of_channel s traces (run s traces n) channel).rd
+  pub writes : count_by (λ row. is_access Write row.access) (rows_of_channel s (run s traces n) channel) ≡ (stats_of_channel s traces (run s traces n) channel).wr
   pub hits : count_by (λ row. row.hit) (rows_of_channel s (run s traces n) channel) ≡ (stats_of_channel s traces (run s traces n) channel).hits

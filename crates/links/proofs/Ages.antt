@@ -4,36 +4,20 @@ use Rattle.std.specs.Prelude.{filter, slice_get, All, IfSome}
 use Rattle.std.specs.Option.{option_map}
 use Rattle.std.proofs.lemmas.List.Elements.{All-from_recursion}
 use Rattle.std.specs.List.{AllByRecursion as Each}
-use Rattle.std.proofs.lemmas.Bool.{cond_both, cond-true, cond-false}
+use Rattle.std.proofs.lemmas.Bool.{cond_both, cond-false}
 use Rattle.std.proofs.lemmas.Bool.Decides.{nat_tests}
 use Rattle.sim_base.specs.History.{is_before, by_age}
 use Rattle.sim_base.specs.declared.message.Message.{Message}
-use Rattle.sim_base.proofs.Arrived.{put, puts, by_age-puts, Each-put}
+use Rattle.sim_base.proofs.Arrived.{put, puts, by_age-puts}
 use Rattle.sim_base.proofs.Each.{Each-append}
-use Rattle.sim_base.proofs.Ordered.{Each-weaker, Sorted, Sorted-puts, filter-by_age}
+use Rattle.sim_base.proofs.Ordered.{Each-weaker, Sorted, Sorted-puts, filter-by_age, put-before, Sorted-put}
 
 -- two messages with one arrival and one link
 abbrev pub is_tie : Message → Message → Bool
 is_tie a b = eqb a.arrival b.arrival && eqb a.link b.link
 
-before_trans : (a b c : Message) → is_before a b ≡ true → is_before b c ≡ true → is_before a c ≡ true
-before_trans a b c h k = grind (arith, nat_tests)
-
-before_asym : (a b : Message) → is_before a b ≡ true → is_before b a ≡ false
-before_asym a b h = grind (arith, nat_tests)
-
 before_back : (a b : Message) → is_tie a b ≡ false → is_before a b ≡ false → is_before b a ≡ true
 before_back a b h k = grind (arith, nat_tests)
-
-put-before : (m n : Message) (ns : List Message) → is_before m n ≡ true → put m (put n ns) ≡ put n (put m ns)
-put-before m n [] e = cond-true _ _ _ e ∙ sym (cond-false _ _ _ (before_asym m n e))
-put-before m n (x ∷ xs) e =
-    cond_both (is_before n x) (n ∷ x ∷ xs) (x ∷ put n xs) (λ y. put m y ≡ put n (put m (x ∷ xs)))
-    (λ f. cond-true _ _ _ e
-    ∙ sym (ap (put n) (cond-true _ _ _ (before_trans m n x e f)) ∙ cond-false _ _ _ (before_asym m n e) ∙ ap (λ y. m ∷ y) (cond-true _ _ _ f)))
-    (λ f. cond_both (is_before m x) (m ∷ x ∷ xs) (x ∷ put m xs) (λ y. put m (x ∷ put n xs) ≡ put n y)
-    (λ g. cond-true _ _ _ g ∙ sym (cond-false _ _ _ (before_asym m n e) ∙ ap (λ y. m ∷ y) (cond-false _ _ _ f)))
-    (λ g. cond-false _ _ _ g ∙ ap (λ y. x ∷ y) (put-before m n xs e) ∙ sym (cond-false _ _ _ f)))
 
 pub put-put : (m n : Message) (ns : List Message) → is_tie m n ≡ false → put m (put n ns) ≡ put n (put m ns)
 put-put m n ns h = by (is_before m n) refl
@@ -78,16 +62,6 @@ in_order-Sorted ms h = subst Sorted (sym (by_age-puts ms) ∙ h) (Sorted-puts []
 
 pub by_age-nil : by_age [] ≡ []
 by_age-nil = by_age-puts []
-
-put_keeps : (m x y : Message) → is_before m x ≡ true → is_before y x ≡ false → is_before y m ≡ false
-put_keeps m x y h k = grind (arith, nat_tests)
-
-pub Sorted-put : (m : Message) (ms : List Message) → Sorted ms → Sorted (put m ms)
-Sorted-put m [] k = (tt, tt)
-Sorted-put m (n ∷ ns) k =
-    cond_both (is_before m n) _ _ Sorted
-    (λ e. ((before_asym m n e, Each-weaker _ (λ (y : Message). is_before y m ≡ false) (λ y h. put_keeps m n y e h) ns k.0), k))
-    (λ e. (Each-put (λ (y : Message). is_before y n ≡ false) m e ns k.0, Sorted-put m ns k.1))
 
 -- a message in its place among others in order
 pub put-in_order : (m : Message) (ms : List Message) → by_age ms ≡ ms → by_age (put m ms) ≡ put m ms

@@ -3,7 +3,7 @@ use Rattle.std.proofs.Common.{ℕ, suc, zero, ◌+◌, ◌<◌, ◌≤◌, ◌�
 use Rattle.std.specs.Prelude.{filter, fold, slice_get}
 use Rattle.std.specs.Option.{option_map_or}
 use Rattle.std.specs.List.{prefix_len, AllByRecursion as Each}
-use Rattle.std.proofs.lemmas.Bool.{lt-ltb, eqb-true}
+use Rattle.std.proofs.lemmas.Bool.{lt-ltb, eqb-true, le-ltb}
 use Rattle.std.proofs.lemmas.List.{take-append-le}
 use Rattle.std.proofs.lemmas.List.Folds.{prefix_len-append}
 use Rattle.std.proofs.lemmas.List.Sums.{prefix_len-le-length}
@@ -16,9 +16,6 @@ use Rattle.links.specs.Rings.{arrives_later, head_of}
 use Rattle.links.proofs.Ages.{in_order-Sorted, by_age-same}
 use Rattle.links.proofs.Merging.{Merges, Merges-second, Merges-first, Merges-end, one_less, append_one, drop_past}
 use Rattle.links.proofs.Steps.{head_true, head_false, head_due}
-
-too_late : (a b : ℕ) → b ≤ a → ltb a b ≡ false
-too_late a b l = grind (arith, nat_tests)
 
 pub length_head : (until : ℕ) (zs : List Message) → length (head_of until zs) ≤ length zs
 length_head until [] = omega arith
@@ -47,7 +44,7 @@ at_head until (suc i) (z ∷ zs) d l k h = by (ltb z.arrival until) refl (at_hea
 -- the head ends before the first message that does not
 pub head_ends : (until i : ℕ) (zs : List Message) → i ≤ length (head_of until zs) → ((d : Message) → i < length zs → until ≤ (get_or zs i d).arrival) → i ≡ length (head_of until zs)
 head_ends until i [] l h = omega (arith, l)
-head_ends until zero (z ∷ zs) l h = rw (head_false (arrives_before until) z zs (too_late z.arrival until (h z (omega arith)))) refl
+head_ends until zero (z ∷ zs) l h = rw (head_false (arrives_before until) z zs (le-ltb z.arrival until (h z (omega arith)))) refl
 head_ends until (suc i) (z ∷ zs) l h = by (ltb z.arrival until) refl (λ k. head_ends until i zs k (λ d j. h d (omega (arith, j))))
   where
     by : (b : Bool) → ltb z.arrival until ≡ b → (i ≤ length (head_of until zs) → i ≡ length (head_of until zs)) → suc i ≡ length (head_of until (z ∷ zs))

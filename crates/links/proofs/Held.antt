@@ -6,6 +6,7 @@ use Rattle.std.proofs.lemmas.Bool.{cond_both, cond-true, cond-false, cases_lt, e
 use Rattle.std.proofs.lemmas.Bool.Decides.{nat_tests}
 use Rattle.std.proofs.lemmas.List.{get_or-set_other}
 use Rattle.std.proofs.lemmas.List.Elements.{filter-append}
+use Rattle.std.proofs.Math.Bool.{and-true}
 use Rattle.sim_base.specs.History.{is_unit, insert_by_age, by_age}
 use Rattle.sim_base.specs.declared.message.Message.{Message}
 use Rattle.sim_base.specs.declared.message.Unit.{Unit as MachineUnit}
@@ -333,10 +334,6 @@ pub nowhere : (ch : ℕ) (unit : MachineUnit) (q : Message → Bool) (ms : List 
     → (filter (to_unit ch unit q) ms ≡ []) × (filter (λ m. not (to_unit ch unit q m)) ms ≡ ms)
 nowhere ch unit q ms l e = none_there (to_unit ch unit q) (λ m. ap (λ b. b && q m) (not_there ch m.link unit l e)) ms
 
-and_true : (b : Bool) → (b && true) ≡ b
-and_true true = refl
-and_true false = refl
-
 filter_true : (ms : List Message) → filter (λ _. true) ms ≡ ms
 filter_true [] = refl
 filter_true (m ∷ ms) = ap (λ x. m ∷ x) (filter_true ms)
@@ -358,7 +355,7 @@ pub at_channel : (ch n b : ℕ) (unit : MachineUnit) (rings : List (List Message
     → filter (λ m. is_unit (receiver_of ch m.link) unit) (by_age (joined rings)) ≡ get_or rings n []
 at_channel ch n b unit rings e k h =
     held ch n (λ m. is_unit (receiver_of ch m.link) unit) (λ _. true) rings
-    (λ m. sym (and_true (is_unit (receiver_of ch m.link) unit)) ∙ of_a_channel ch n b unit (λ _. true) e k m) h
+    (λ m. sym (and-true (is_unit (receiver_of ch m.link) unit)) ∙ of_a_channel ch n b unit (λ _. true) e k m) h
     ∙ filter_true (get_or rings n [])
 
 -- and those to a core are what stands in its two, merged
@@ -366,5 +363,5 @@ pub at_core : (ch n b : ℕ) (unit : MachineUnit) (rings : List (List Message)) 
     → filter (λ m. is_unit (receiver_of ch m.link) unit) (by_age (joined rings)) ≡ fold insert_by_age (get_or rings n []) (get_or rings (n + 1) [])
 at_core ch n b unit rings l e k h =
     held_both ch n (λ m. is_unit (receiver_of ch m.link) unit) (λ _. true) rings
-    (λ m. sym (and_true (is_unit (receiver_of ch m.link) unit)) ∙ of_a_core ch n b unit (λ _. true) l e k m) h
+    (λ m. sym (and-true (is_unit (receiver_of ch m.link) unit)) ∙ of_a_core ch n b unit (λ _. true) l e k m) h
     ∙ ap₂ (λ x y. fold insert_by_age x y) (filter_true (get_or rings n [])) (filter_true (get_or rings (n + 1) []))

@@ -9,9 +9,9 @@ use Rattle.circular_buffer.specs.Buffer.{Buffer}
 use Rattle.sim_base.specs.History.{is_before, insert_by_age, by_age}
 use Rattle.sim_base.specs.declared.message.Message.{Message}
 use Rattle.sim_base.proofs.Arrived.{put, puts, by_age-puts, fold-puts}
-use Rattle.sim_base.proofs.Ordered.{Each-weaker, Sorted, Sorted-puts, puts-append}
+use Rattle.sim_base.proofs.Ordered.{Each-weaker, Sorted, puts-append, Sorted-put}
 use Rattle.links.specs.Rings.{contents, joined}
-use Rattle.links.proofs.Ages.{in_order-Sorted, by_age-nil, by_age-same, Sorted-put, puts-put_first}
+use Rattle.links.proofs.Ages.{in_order-Sorted, by_age-nil, by_age-same, puts-put_first}
 
 puts-head : (x : Message) (acc ys : List Message) → Each (λ (y : Message). is_before y x ≡ false) ys → puts (x ∷ acc) ys ≡ x ∷ puts acc ys
 puts-head x acc [] h = refl
@@ -146,9 +146,6 @@ pub messages_of_both : (xs ys : List (Buffer Message)) → fold insert_by_age (b
 messages_of_both xs ys =
     by_age-merge (joined (contents xs)) (joined (contents ys))
     ∙ ap by_age (sym (joined-append (contents xs) (contents ys)) ∙ ap joined (sym (map-append (λ (ring : Buffer Message). ring.items) xs ys)))
-
-pub by_age-again : (ms : List Message) → by_age (by_age ms) ≡ by_age ms
-by_age-again ms = by_age-same (by_age ms) (subst Sorted (sym (by_age-puts ms)) (Sorted-puts [] ms tt))
 
 pub in_order-take : (i : ℕ) (rings : List (Buffer Message)) → Each (λ ms. by_age ms ≡ ms) (contents rings) → Each (λ ms. by_age ms ≡ ms) (contents (take i rings))
 in_order-take zero [] h = tt

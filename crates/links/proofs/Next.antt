@@ -7,6 +7,7 @@ use Rattle.std.proofs.lemmas.Bool.{cond_both, eqb-true, eq-eqb, cases_lt, both_w
 use Rattle.std.proofs.lemmas.Bool.Decides.{nat_tests}
 use Rattle.std.proofs.lemmas.List.Elements.{All-nil, All-cons}
 use Rattle.std.proofs.lemmas.List.Folds.{Any-from_list_any}
+use Rattle.std.proofs.Math.Bool.{or-false}
 use Rattle.circular_buffer.specs.Buffer.{Buffer}
 use Rattle.sim_base.specs.History.{is_before, by_age}
 use Rattle.sim_base.specs.declared.message.Message.{Message}
@@ -61,12 +62,8 @@ list_any-puts p acc (m ∷ ms) =
     or_regroup false true c = refl
     or_regroup false false c = refl
 
-or_nothing : (a : Bool) → (a || false) ≡ a
-or_nothing true = refl
-or_nothing false = refl
-
 list_any-by_age : (p : Message → Bool) (ms : List Message) → list_any p (by_age ms) ≡ list_any p ms
-list_any-by_age p ms = ap (list_any p) (by_age-puts ms) ∙ list_any-puts p [] ms ∙ or_nothing (list_any p ms)
+list_any-by_age p ms = ap (list_any p) (by_age-puts ms) ∙ list_any-puts p [] ms ∙ or-false (list_any p ms)
 
 All-from_each : {X : Type 0} (P : X → Type 0) (xs : List X) → Each P xs → All P xs
 All-from_each P [] h = All-nil P
@@ -107,7 +104,7 @@ bound_stays : (least : Option ℕ) (bound : ℕ) (rings : List (List Message)) �
 bound_stays least bound [] h = h
 bound_stays least bound (ms ∷ rest) h = bound_stays (sooner_of least ms) bound rest (bound_kept least bound ms h)
 
-not_sooner : (m y : Message) → is_before y m ≡ false → m.arrival ≤ y.arrival
+pub not_sooner : (m y : Message) → is_before y m ≡ false → m.arrival ≤ y.arrival
 not_sooner m y h = grind (arith, nat_tests)
 
 first_bounds : (least : Option ℕ) (ms : List Message) → Sorted ms → Each (λ (m : Message). IsSomeAnd (sooner_of least ms) (λ a. a ≤ m.arrival)) ms

@@ -3,7 +3,7 @@ use Rattle.std.proofs.Common.{ℕ, suc, zero, ◌+◌, ◌-◌, ◌<◌, ◌≤�
 use Rattle.std.specs.Prelude.{filter, insert, slice_get}
 use Rattle.std.specs.Option.{option_map_or}
 use Rattle.std.specs.List.{take_while, AllByRecursion as Each}
-use Rattle.std.proofs.lemmas.Bool.{cond-true, cond-false}
+use Rattle.std.proofs.lemmas.Bool.{cond-true, cond-false, le-ltb, ltb-false}
 use Rattle.std.proofs.lemmas.List.{get_or_default, get_or-set_other, set-set}
 use Rattle.std.proofs.lemmas.Bool.Decides.{nat_tests}
 use Rattle.std.proofs.lemmas.List.Sums.{take_while-cons}
@@ -15,6 +15,7 @@ use Rattle.sim_base.proofs.Ordered.{Each-weaker, Sorted}
 use Rattle.links.specs.InFlight.{arrives_before}
 use Rattle.links.specs.Rings.{arrives_later, is_younger_last, IsSunk}
 use Rattle.links.proofs.Ages.{in_order-Sorted}
+use Rattle.links.proofs.Next.{not_sooner}
 
 -- ---- putting a message in, from the back
 pub Each-at : {X : Type 0} (P : X → Type 0) (xs : List X) (k : ℕ) (d : X) → Each P xs → k < length xs → P (get_or xs k d)
@@ -212,21 +213,11 @@ head_true p x xs e = take_while-cons p x xs ∙ cond-true _ _ _ e
 pub head_false : (p : Message → Bool) (x : Message) (xs : List Message) → p x ≡ false → take_while p (x ∷ xs) ≡ []
 head_false p x xs e = take_while-cons p x xs ∙ cond-false _ _ _ e
 
--- ---- taking messages out
-not_sooner : (m y : Message) → is_before y m ≡ false → m.arrival ≤ y.arrival
-not_sooner m y h = grind (arith, nat_tests)
-
-too_late : (a b : ℕ) → b ≤ a → ltb a b ≡ false
-too_late a b l = grind (arith, nat_tests)
-
-past : (a b : ℕ) → ltb a b ≡ false → b ≤ a
-past a b e = grind (arith, nat_tests)
-
 -- where all arrive later than a cycle
 late : (until : ℕ) (ms : List Message) → Each (λ (y : Message). until ≤ y.arrival) ms → (filter (arrives_before until) ms ≡ []) × (filter (arrives_later until) ms ≡ ms)
 late until [] h = (refl, refl)
 late until (m ∷ ms) h =
-    let no : arrives_before until m ≡ false = too_late m.arrival until h.0 in
+    let no : arrives_before until m ≡ false = le-ltb m.arrival until h.0 in
     let rest = late until ms h.1 in
     (cond-false _ _ _ no ∙ rest.0, cond-true _ _ _ (ap not no) ∙ ap (λ x. m ∷ x) rest.1)
 
@@ -250,7 +241,7 @@ due_at_head until (m ∷ ms) s = by (ltb m.arrival until) refl (due_at_head unti
           ap (λ z. drop (length z) (m ∷ ms)) head ∙ rest.1 ∙ sym (cond-false _ _ _ (ap not e)),
         )
     by false e rest =
-        let none = late until (m ∷ ms) (all_late until m ms s (past m.arrival until e)) in
+        let none = late until (m ∷ ms) (all_late until m ms s (ltb-false m.arrival until e)) in
         let head = head_false (arrives_before until) m ms e in (
           head ∙ sym none.0,
           ap (λ z. drop (length z) (m ∷ ms)) head ∙ sym none.1,

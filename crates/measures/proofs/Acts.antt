@@ -1,23 +1,18 @@
 -- The entries on whose behalf ACTs were issued, command by command.
 use Rattle.std.proofs.Common.{◌≡◌, ℕ, ◌+◌, ◌<◌, length, take, get_or, Bool, true, false, cond, not, ◌||◌, ◌&&◌, ◌==◌, List, [], ◌∷◌, refl, sym, ap, ap₂, ◌∙◌}
 use Rattle.std.specs.Prelude.{count_by, filter}
-use Rattle.std.proofs.lemmas.List.Sums.{length-filter}
-use Rattle.std.specs.List.{list_any}
 use Rattle.std.proofs.lemmas.Cmp.{nat_eq_equiv}
 use Rattle.std.proofs.lemmas.List.Folds.{list_any_more}
 use Rattle.sim_base.specs.Counts.{is_act_for, is_hit, hits}
 use Rattle.sim_base.specs.declared.command.Command.{Command}
 use Rattle.sim_base.specs.declared.command.Command.TheVariants.{Act, Rd, Wr, Pre, Prea, Ref}
 use Rattle.sim_base.specs.declared.command.IssuedCommand.{IssuedCommand}
-use Rattle.measures.specs.Hits.{same_entry, has_act, is_hit_without, with_entry}
+use Rattle.sim_base.proofs.Lists.{count-same}
+use Rattle.measures.specs.Hits.{has_act, is_hit_without, with_entry}
 
 filter_same : {A : Type 0} (p q : A → Bool) → ((x : A) → p x ≡ q x) → (xs : List A) → filter p xs ≡ filter q xs
 filter_same p q same [] = refl
 filter_same p q same (x ∷ xs) = ap₂ (λ b ys. cond b (x ∷ ys) ys) (same x) (filter_same p q same xs)
-
--- a count is the same by a test that says the same
-count_same : {A : Type 0} (p q : A → Bool) → ((x : A) → p x ≡ q x) → (xs : List A) → count_by p xs ≡ count_by q xs
-count_same p q same xs = sym (length-filter p xs) ∙ ap length (filter_same p q same xs) ∙ length-filter q xs
 
 hit_same : (commands : List IssuedCommand) (acts : ℕ × ℕ → Bool) → ((q : ℕ × ℕ) → acts q ≡ has_act commands q) → (command : Command) → is_hit_without acts command ≡ is_hit commands command
 unfolding has_act
@@ -31,7 +26,7 @@ hit_same commands acts same (Ref rank) = refl
 -- row hits by the entries that had an ACT
 pub count_hits : (commands : List IssuedCommand) (acts : ℕ × ℕ → Bool) → ((q : ℕ × ℕ) → acts q ≡ has_act commands q) → count_by (λ i. is_hit_without acts i.command) commands ≡ hits commands
 unfolding hits
-count_hits commands acts same = count_same (λ i. is_hit_without acts i.command) (λ i. is_hit commands i.command) (λ i. hit_same commands acts same i.command) commands
+count_hits commands acts same = count-same (λ i. is_hit_without acts i.command) (λ i. is_hit commands i.command) (λ i. hit_same commands acts same i.command) commands
 
 -- the same two numbers, the other way round
 turned : (a b : ℕ) → (a == b) ≡ (b == a)

@@ -7,7 +7,7 @@ use Rattle.std.specs.Prelude.{ℕ, ◌==◌, Bool, false, not, ◌&&◌, ◌||�
 use Rattle.std.specs.List.{list_any}
 use Rattle.sim_base.specs.Counts.{is_act_for}
 use Rattle.sim_base.specs.declared.command.Command.{Command}
-use Rattle.sim_base.specs.declared.command.Command.TheVariants.{Act, Rd, Wr, Pre, Prea, Ref}
+use Rattle.sim_base.specs.declared.command.Command.TheVariants.{Act, Rd, Wr}
 use Rattle.sim_base.specs.declared.command.IssuedCommand.{IssuedCommand}
 
 -- two entries of traces are the same, each by its core and its number

@@ -2,14 +2,12 @@
 --     part tally request      what a request adds to a count
 --     amount tally requests      the count over requests
 --     told tally stats      what the statistics have of it
-use Rattle.std.specs.Prelude.{ℕ, ◌-◌, ◌==◌, Bool, true, false, List, slice_get, Option, Some, None, if◌then◌else◌}
+use Rattle.std.specs.Prelude.{ℕ, ◌-◌, ◌==◌, List, slice_get, Option, Some, None, if◌then◌else◌}
 use Rattle.std.specs.List.{sum_by}
-use Rattle.request_table.specs.declared.times.Access.{Access}
-use Rattle.request_table.specs.declared.times.Access.TheVariants.{Read, Write}
+use Rattle.sim_base.specs.declared.message.Access.{Access}
+use Rattle.sim_base.specs.declared.message.Access.TheVariants.{Read, Write}
 use Rattle.request_table.specs.declared.times.RequestTimes.{RequestTimes}
 use Rattle.statistics.specs.Values.{RunStats}
-use Rattle.statistics.specs.declared.channels.ChannelStats.{ChannelStats}
-use Rattle.statistics.specs.declared.cores.CoreStats.{CoreStats}
 use Rattle.measures.specs.declared.request_check.tally.Tally.{Tally}
 use Rattle.measures.specs.declared.request_check.tally.Tally.TheVariants.{Replies, ReadLatency, Reads, Writes, Hits}
 

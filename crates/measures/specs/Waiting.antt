@@ -5,8 +5,8 @@
 --     channel_waits class channel requests      both
 use Rattle.std.specs.Prelude.{ℕ, ◌-◌, ◌==◌, Bool, true, false, ◌&&◌, List, count_by, if◌then◌else◌}
 use Rattle.std.specs.List.{sum_by}
-use Rattle.request_table.specs.declared.times.Access.{Access}
-use Rattle.request_table.specs.declared.times.Access.TheVariants.{Read, Write}
+use Rattle.sim_base.specs.declared.message.Access.{Access}
+use Rattle.sim_base.specs.declared.message.Access.TheVariants.{Read, Write}
 use Rattle.request_table.specs.declared.times.RequestTimes.{RequestTimes}
 use Rattle.measures.specs.declared.request_measures.waiting.Class.{Class}
 use Rattle.measures.specs.declared.request_measures.waiting.Class.TheVariants.{Reads, Writes, Hits}

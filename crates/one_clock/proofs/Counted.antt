@@ -11,11 +11,11 @@ use Rattle.sim_base.specs.History.{below, issued_before}
 use Rattle.sim_base.specs.declared.history.CoreStep.{CoreStep}
 use Rattle.sim_base.specs.declared.message.Message.{Message}
 use Rattle.sim_base.specs.declared.trace.Entry.{Entry}
+use Rattle.sim_base.proofs.Lists.{take_more, slice_get-drop}
 use Rattle.statistics.specs.Counts.{one_if}
 use Rattle.statistics.specs.Cores.{waited}
 use Rattle.statistics.proofs.Lists.{count_below_more}
 use Rattle.statistics.proofs.Replies.{issued_before-take-later}
-use Rattle.plain_steps.proofs.Entries.{take_more, slice_get-drop}
 use Rattle.one_clock.specs.Steps.{is_read_in, is_write_in}
 
 pub issued_none : issued_before [] ≡ 0

@@ -12,8 +12,9 @@ use Rattle.sim_base.specs.Scheduling.{due}
 use Rattle.sim_base.proofs.Spans.{length-run}
 use Rattle.statistics.specs.Runs.{row_of_bank, open_rows_left, channel_last, last_of_channel}
 use Rattle.statistics.specs.Values.{LastChannel}
+use Rattle.statistics.proofs.Replies.{length-steps_of_channel}
 use Rattle.plain_steps.specs.Plain.{ChannelView, channel_view, queue_of}
-use Rattle.one_clock.proofs.Next.{length-steps_of_channel, waiting_is}
+use Rattle.one_clock.proofs.Next.{waiting_is}
 
 pub channel_left_is : (s : Config) (traces : List (List Entry)) (n channel : ℕ) (view : ChannelView) → view ≡ channel_view s traces (run s traces n) channel
     → last_of_channel s traces (run s traces n) channel

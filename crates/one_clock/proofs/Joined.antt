@@ -1,9 +1,7 @@
 -- The statistics of each unit, one cycle more, and why they fit.
-use Rattle.std.proofs.Common.{◌≡◌, ℕ, suc, ◌+◌, ◌*◌, ◌^◌, ◌<◌, ◌≤◌, Bool, true, false, cond, eqb, List, [], length, take, None, refl, sym, ap, ap₂, subst, ◌∙◌, add-one, arith}
-use Rattle.std.specs.Prelude.{count_by, is_some, max}
+use Rattle.std.proofs.Common.{◌≡◌, ℕ, suc, ◌+◌, ◌*◌, ◌^◌, ◌<◌, ◌≤◌, Bool, true, false, cond, eqb, List, [], length, None, refl, sym, ap, ap₂, subst, ◌∙◌, add-one, arith}
+use Rattle.std.specs.Prelude.{is_some, max}
 use Rattle.std.proofs.Math.Seq.{take-length}
-use Rattle.std.proofs.lemmas.List.{length-take}
-use Rattle.std.proofs.lemmas.List.Sums.{count_by-le-length}
 use Rattle.std.proofs.lemmas.Nat.{mul-le}
 use Rattle.sim_base.specs.declared.config.Config.{Config}
 use Rattle.sim_base.specs.declared.history.CoreStep.{CoreStep}
@@ -24,15 +22,16 @@ use Rattle.statistics.specs.Channels.{draining_of, channel_stats, channel_cycle_
 use Rattle.statistics.specs.Cores.{replies_in, core_stats, core_cycle_with, core_cycle, core_none, core_joined, CoreFits}
 use Rattle.statistics.specs.Runs.{stats_of_core, stats_of_channel}
 use Rattle.statistics.proofs.ChannelBounds.{channel_stats-fit}
-use Rattle.statistics.proofs.CoreBounds.{read_latency-le, stopped_by-le, KeepsToTrace, KeepsToTrace-run}
+use Rattle.statistics.proofs.CoreBounds.{read_latency-le, stopped_by-le, KeepsToTrace, KeepsToTrace-run, count-take-le}
 use Rattle.statistics.proofs.CoreMail.{replies-same}
 use Rattle.statistics.proofs.ReplyBounds.{replies-le}
 use Rattle.statistics.proofs.RunSteps.{inbox-next, stats_of_core-next, stats_of_channel-next}
+use Rattle.statistics.proofs.Replies.{length-steps_of_channel, length-steps_of_core}
 use Rattle.plain_steps.specs.declared.scheduling.ChannelStep.{ChannelStep}
 use Rattle.plain_steps.specs.Plain.{CoreView, core_view, ChannelView, channel_view, channel_step_of, queue_of}
 use Rattle.one_clock.specs.Counts.{no_channel_counts}
 use Rattle.one_clock.specs.Steps.{core_step_of}
-use Rattle.one_clock.proofs.Next.{length-steps_of_core, length-steps_of_channel, queue_is, no_mail, run_none}
+use Rattle.one_clock.proofs.Next.{queue_is, no_mail, run_none}
 
 -- before the first cycle nothing is counted
 
@@ -119,9 +118,6 @@ core_stats_next s traces n core view step counts more l e f g h =
     ∙ ap (λ (x : CoreStep × Stop). core_cycle_with trace kept.past_steps x.0 x.1 (replies_in (length kept.past_steps) kept.inbox)) f)
     ∙ sym (stats_of_core-next s traces n core l)
     ∙ ap (λ i. stats_of_core s traces (run s traces i) core) (sym (add-one n))
-
-count-take-le : (p : Entry → Bool) (n : ℕ) (trace : List Entry) → count_by p (take n trace) ≤ n
-count-take-le p n trace = omega (arith, count_by-le-length p (take n trace), length-take n trace)
 
 fits : (s : Config) (core : ℕ) (trace : List Entry) (past_steps : List CoreStep) (mail : List Message) → length past_steps ≤ 2 ^ 62 → KeepsToTrace trace past_steps → length trace < 2 ^ 64
     → length (replies past_steps mail) < 2 ^ 64 → CoreFits (core_stats s core trace past_steps mail)

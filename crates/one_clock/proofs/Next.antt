@@ -1,30 +1,28 @@
 -- What the machine keeps, one cycle more.
-use Rattle.std.proofs.Common.{◌≡◌, ℕ, zero, suc, ◌+◌, ◌<◌, ◌≤◌, Bool, true, false, cond, ltb, eqb, ◌%◌, ◌&&◌, ◌||◌, List, [], ◌∷◌, ◌++◌, length, map, Option, Some, None, refl, sym, ap, ap₂, subst, ◌∙◌, add-one, add-zero, zero-add, append_assoc, arith}
-use Rattle.std.specs.Prelude.{filter, filter_map, flat_map, fold, not, count_by, find, unwrap_or, option_map}
-use Rattle.std.specs.Option.{IfSome, option_to_list}
+use Rattle.std.proofs.Common.{◌≡◌, ℕ, zero, suc, ◌+◌, ◌<◌, ◌≤◌, Bool, true, false, cond, ltb, eqb, ◌&&◌, ◌||◌, List, [], ◌∷◌, ◌++◌, length, map, Option, Some, None, refl, sym, ap, ap₂, subst, ◌∙◌, add-one, add-zero, zero-add, append_assoc, arith}
+use Rattle.std.specs.Prelude.{filter, filter_map, flat_map, fold, not, count_by}
+use Rattle.std.specs.Option.{option_to_list}
 use Rattle.std.specs.List.{list_all, list_any, enumerate_from, cons_option, range_with_len}
 use Rattle.std.proofs.Math.Seq.{take-length}
 use Rattle.std.proofs.lemmas.Bool.{cond_both}
 use Rattle.std.proofs.lemmas.Bool.Decides.{nat_tests}
-use Rattle.std.proofs.lemmas.List.{map-append, length-map, append-nil, take-append-le}
+use Rattle.std.proofs.lemmas.List.{map-append, append-nil, take-append-le}
 use Rattle.std.proofs.lemmas.List.Elements.{filter_map-append}
 use Rattle.std.proofs.lemmas.List.Folds.{list_any-append}
 use Rattle.std.proofs.lemmas.List.Concat.{flat_map-append}
+use Rattle.std.proofs.Math.Bool.{or-false, and-true, and-false}
 use Rattle.sim_base.specs.declared.config.Config.{Config}
-use Rattle.sim_base.specs.Config.{usual_latency, latency}
-use Rattle.sim_base.specs.Ranges.{LatencyInRange}
-use Rattle.sim_base.specs.declared.overrides.Override.{Override}
-use Rattle.sim_base.proofs.LinkNumbers.{found_in_range}
-use Rattle.sim_base.specs.Locality.{TravelsFor}
 use Rattle.sim_base.specs.MachineStep.{MachineStep, step_of_core, step_of_channel}
 use Rattle.sim_base.specs.History.{below, steps_of_core, steps_of_channel, issued_at, issued_commands, commands_in, commands, core_messages, channel_messages, messages, messages_of_core, messages_of_channel, is_to, is_before, by_age, insert_by_age, inbox}
 use Rattle.sim_base.specs.Sends.{core_sends, sends}
+use Rattle.sim_base.specs.Access.{is_access}
 use Rattle.sim_base.specs.Scheduling.{request_in, serves, is_served, is_queued, queued_requests, queue_in, writes_in, drains_with, drains_before, drains, candidates, lowest_due, choice_between, choice}
 use Rattle.sim_base.specs.Machine.{next_core_step, next_command, next_step, run, is_delivered}
 use Rattle.sim_base.specs.Counts.{is_in_flight, in_flight}
 use Rattle.sim_base.specs.declared.command.Command.{Command}
 use Rattle.sim_base.specs.declared.command.IssuedCommand.{IssuedCommand}
 use Rattle.sim_base.specs.declared.history.CoreStep.{CoreStep}
+use Rattle.sim_base.specs.declared.message.Access.TheVariants as access
 use Rattle.sim_base.specs.declared.message.Message.{Message}
 use Rattle.sim_base.specs.declared.message.Request.{Request}
 use Rattle.sim_base.specs.declared.message.Unit.{Unit as MachineUnit}
@@ -35,12 +33,16 @@ use Rattle.one_clock.specs.Steps.{core_step_of}
 use Rattle.sim_base.proofs.Below.{flat_map_below_more as flat_map_below_suc}
 use Rattle.sim_base.proofs.Arrived.{put, puts, by_age-puts, fold-puts}
 use Rattle.sim_base.proofs.Ordered.{Sorted, Sorted-puts, filter-puts, filter-by_age}
-use Rattle.sim_base.proofs.Grows.{core-grows, inbox-grows, by_age-filter-grows}
+use Rattle.sim_base.proofs.Grows.{core-grows, inbox-grows, by_age-filter-grows, has_channels}
 use Rattle.sim_base.proofs.Same.{drains-same}
-use Rattle.sim_base.proofs.Spans.{length-run, step_of_core-next, step_of_channel-next, inbox-run, inbox-stamped, has_channels}
+use Rattle.sim_base.proofs.Spans.{length-run, step_of_core-next, step_of_channel-next, inbox-run, inbox-stamped}
+use Rattle.sim_base.proofs.Lists.{enumerate-append}
 use Rattle.plain_steps.specs.declared.scheduling.ChannelStep.{ChannelStep}
 use Rattle.one_clock.proofs.Units.{filter_map_below_more}
 use Rattle.plain_steps.specs.Plain.{CoreView, core_view, ChannelView, channel_view, channel_step_of, queue_of, is_request_left, is_left, is_passed_over, is_left_by, is_late}
+use Rattle.laws.proofs.Sent.{messages-none}
+use Rattle.statistics.proofs.Replies.{length-steps_of_channel, length-steps_of_core, steps_of_core-push}
+use Rattle.statistics.proofs.RunSteps.{travels}
 
 filter-both : {X : Type 0} (p q : X → Bool) (xs : List X) → filter (λ x. p x && q x) xs ≡ filter q (filter p xs)
 filter-both p q [] = refl
@@ -53,12 +55,6 @@ filter-both p q (x ∷ xs) =
 pub filter-same : {X : Type 0} (p q : X → Bool) → ((x : X) → p x ≡ q x) → (xs : List X) → filter p xs ≡ filter q xs
 filter-same p q h [] = refl
 filter-same p q h (x ∷ xs) = ap₂ (λ b l. cond b (x ∷ l) l) (h x) (filter-same p q h xs)
-
-enumerate-append : {X : Type 0} (i : ℕ) (xs ys : List X) → enumerate_from i (xs ++ ys) ≡ enumerate_from i xs ++ enumerate_from (i + length xs) ys
-enumerate-append i [] ys = ap (λ n. enumerate_from n ys) (sym (add-zero i))
-enumerate-append i (x ∷ xs) ys =
-    let e : i + 1 + length xs ≡ i + suc (length xs) = omega arith in
-    ap (λ l. (i, x) ∷ l) (enumerate-append (i + 1) xs ys ∙ ap (λ n. enumerate_from (i + 1) xs ++ enumerate_from n ys) e)
 
 pub issued-push : (k : ℕ) (past_steps : List (Option Command)) (o : Option Command)
     → issued_commands k (past_steps ++ o ∷ []) ≡ issued_commands k past_steps ++ option_to_list (issued_at k (length past_steps) o)
@@ -84,18 +80,6 @@ commands-push history row =
 
 -- requests that are left
 
-or_false : (a : Bool) → (a || false) ≡ a
-or_false true = refl
-or_false false = refl
-
-and_true : (a : Bool) → (a && true) ≡ a
-and_true true = refl
-and_true false = refl
-
-and_false : (a : Bool) → (a && false) ≡ false
-and_false true = refl
-and_false false = refl
-
 not_or : (a b : Bool) → not (a || b) ≡ (not a && not b)
 not_or true b = refl
 not_or false b = refl
@@ -104,7 +88,7 @@ served-push : (h : List IssuedCommand) (i : IssuedCommand) (r : Request) → is_
 unfolding is_served
 served-push h i r =
     let p = λ (i : IssuedCommand). serves r i.command in
-    list_any-append p h (i ∷ []) ∙ ap (λ b. list_any p h || b) (or_false (serves r i.command))
+    list_any-append p h (i ∷ []) ∙ ap (λ b. list_any p h || b) (or-false (serves r i.command))
 
 request_left-push : (h : List IssuedCommand) (k n : ℕ) (c : Command) (o : Option Request)
     → is_request_left (h ++ (record { cycle = n; channel = k; command = c }) ∷ []) o ≡ (is_request_left h o && is_passed_over (Some c) o)
@@ -113,7 +97,7 @@ request_left-push h k n c (Some r) = ap not (served-push h (record { cycle = n; 
 
 left-push : (h : List IssuedCommand) (k n : ℕ) (o : Option Command) (m : Message)
     → is_left (h ++ option_to_list (issued_at k n o)) m ≡ (is_left h m && is_left_by o m)
-left-push h k n None m = ap (λ x. is_left x m) (append-nil h) ∙ sym (and_true (is_left h m))
+left-push h k n None m = ap (λ x. is_left x m) (append-nil h) ∙ sym (and-true (is_left h m))
 left-push h k n (Some c) m = request_left-push h k n c (request_in m.load)
 
 pub left_after : (h : List IssuedCommand) (k n : ℕ) (o : Option Command) (mail : List Message)
@@ -128,10 +112,10 @@ one_waiting h until rs ts e (Some r) =
     let a = late r in
     cond_both (not (is_served h r)) (r ∷ ts) ts (λ y. cond (a && not (is_served h r)) (r ∷ filter (is_queued h until) rs) (filter (is_queued h until) rs) ≡ filter late y)
     (λ f. ap (λ b. cond (a && b) (r ∷ filter (is_queued h until) rs) (filter (is_queued h until) rs)) f
-    ∙ ap (λ b. cond b (r ∷ filter (is_queued h until) rs) (filter (is_queued h until) rs)) (and_true a)
+    ∙ ap (λ b. cond b (r ∷ filter (is_queued h until) rs) (filter (is_queued h until) rs)) (and-true a)
     ∙ ap (λ l. cond a (r ∷ l) l) e)
     (λ f. ap (λ b. cond (a && b) (r ∷ filter (is_queued h until) rs) (filter (is_queued h until) rs)) f
-    ∙ ap (λ b. cond b (r ∷ filter (is_queued h until) rs) (filter (is_queued h until) rs)) (and_false a)
+    ∙ ap (λ b. cond b (r ∷ filter (is_queued h until) rs) (filter (is_queued h until) rs)) (and-false a)
     ∙ e)
 
 requests-cond : (b : Bool) (m : Message) (ms : List Message)
@@ -156,11 +140,11 @@ unfolding queue_in
 queue_is k past_steps mail = ap (λ x. queued_requests (issued_commands k x) mail (length past_steps + 1)) (take-length past_steps) ∙ waiting_is (issued_commands k past_steps) mail (length past_steps + 1)
 
 drains_next : (s : Config) (k : ℕ) (past_steps : List (Option Command)) (mail : List Message)
-    → drains s k past_steps mail (length past_steps) ≡ drains_with s (drains_before s k past_steps mail (length past_steps)) (count_by (λ r. r.write) (queue_of (filter (is_left (issued_commands k past_steps)) mail) (length past_steps + 1)))
+    → drains s k past_steps mail (length past_steps) ≡ drains_with s (drains_before s k past_steps mail (length past_steps)) (count_by (λ r. is_access access.Write r.access) (queue_of (filter (is_left (issued_commands k past_steps)) mail) (length past_steps + 1)))
 unfolding drains_before writes_in
 drains_next s k past_steps mail =
     ap (λ n. drains_before s k past_steps mail n) (add-one (length past_steps))
-    ∙ ap (λ q. drains_with s (drains_before s k past_steps mail (length past_steps)) (count_by (λ r. r.write) q)) (queue_is k past_steps mail)
+    ∙ ap (λ q. drains_with s (drains_before s k past_steps mail (length past_steps)) (count_by (λ r. is_access access.Write r.access) q)) (queue_is k past_steps mail)
 
 choice_next : (s : Config) (k : ℕ) (past_steps : List (Option Command)) (mail : List Message)
     → choice s k past_steps mail
@@ -171,22 +155,14 @@ unfolding choice
 choice_next s k past_steps mail =
     ap (λ q. choice_between s (issued_commands k past_steps) (length past_steps) (candidates s (drains s k past_steps mail (length past_steps)) q) (lowest_due s (issued_commands k past_steps) (length past_steps))) (queue_is k past_steps mail)
 
-pub length-steps_of_channel : (k : ℕ) (history : List MachineStep) → length (steps_of_channel k history) ≡ length history
-unfolding steps_of_channel
-length-steps_of_channel k history = length-map history (step_of_channel k)
-
-pub length-steps_of_core : (core : ℕ) (history : List MachineStep) → length (steps_of_core core history) ≡ length history
-unfolding steps_of_core
-length-steps_of_core core history = length-map history (step_of_core core)
-
 -- what a channel does next follows from what is kept of it
 pub step_draining : (s : Config) (traces : List (List Entry)) (history : List MachineStep) (k : ℕ)
     → (channel_step_of s traces history k).draining
-    ≡ drains_with s (channel_view s traces history k).draining (count_by (λ r. r.write) (queue_of (channel_view s traces history k).pending (length history + 1)))
+    ≡ drains_with s (channel_view s traces history k).draining (count_by (λ r. is_access access.Write r.access) (queue_of (channel_view s traces history k).pending (length history + 1)))
 step_draining s traces history k =
     let past_steps = steps_of_channel k history in
     let mail = inbox s traces history (Channel k) in
-    subst (λ n. drains s k past_steps mail n ≡ drains_with s (drains_before s k past_steps mail n) (count_by (λ r. r.write) (queue_of (filter (is_left (issued_commands k past_steps)) mail) (n + 1))))
+    subst (λ n. drains s k past_steps mail n ≡ drains_with s (drains_before s k past_steps mail n) (count_by (λ r. is_access access.Write r.access) (queue_of (filter (is_left (issued_commands k past_steps)) mail) (n + 1))))
     (length-steps_of_channel k history) (drains_next s k past_steps mail)
 
 pub step_command : (s : Config) (traces : List (List Entry)) (history : List MachineStep) (k : ℕ)
@@ -202,28 +178,13 @@ step_command s traces history k =
     ≡ choice_between s (issued_commands k past_steps) n (candidates s (drains s k past_steps mail n) (queue_of (filter (is_left (issued_commands k past_steps)) mail) (n + 1))) (lowest_due s (issued_commands k past_steps) n))
     (length-steps_of_channel k history) (choice_next s k past_steps mail)
 
--- each latency is a cycle at least
-pub travels_one : (s : Config) → TravelsFor s 1
-unfolding latency
-travels_one s link l = latency_from (find (λ o. eqb o.link link) s.overrides) (found_in_range (λ o. eqb o.link link) s.overrides s.overrides_in_range)
-  where
-    usual : 1 ≤ usual_latency s link
-    usual =
-        cond_both (eqb (link % 3) 0) _ _ (λ n. 1 ≤ n)
-        (λ e. s.latencies_in_range.request_in.0)
-        (λ e. cond_both (eqb (link % 3) 1) _ _ (λ n. 1 ≤ n) (λ f. s.latencies_in_range.reply_in.0) (λ f. s.latencies_in_range.credit_in.0))
-
-    latency_from : (o : Option Override) → IfSome o (λ o. LatencyInRange o.latency) → 1 ≤ unwrap_or (option_map (λ o. o.latency) o) (usual_latency s link)
-    latency_from None h = usual
-    latency_from (Some o) h = h.0
-
 -- what a channel did and was sent later does not change whether it drained its writes
 drains-push : (s : Config) (k : ℕ) (past_steps : List (Option Command)) (o : Option Command) (mail : List Message) (m : ℕ) → m ≤ length past_steps + 1
     → drains_before s k (past_steps ++ o ∷ []) mail m ≡ drains_before s k past_steps mail m
 unfolding drains_before writes_in queue_in
 drains-push s k past_steps o mail zero h = refl
 drains-push s k past_steps o mail (suc m) h =
-    ap₂ (λ d x. drains_with s d (count_by (λ r. r.write) (queued_requests (issued_commands k x) mail (m + 1))))
+    ap₂ (λ d x. drains_with s d (count_by (λ r. is_access access.Write r.access) (queued_requests (issued_commands k x) mail (m + 1))))
     (drains-push s k past_steps o mail m (omega arith))
     (take-append-le m past_steps (o ∷ []) (omega arith))
 
@@ -254,7 +215,7 @@ draining_next s traces n k l =
     (record {
       one = inbox-stamped s traces (run s traces (n + 1)) (Channel k);
       other = inbox-stamped s traces (run s traces n) (Channel k);
-      same = λ u h. inbox-run s traces n 1 (Channel k) u (has_channels s) (travels_one s) h 1;
+      same = λ u h. inbox-run s traces n 1 (Channel k) u (has_channels s) (travels s) h 1;
     })
 
 inbox-sorted : (s : Config) (traces : List (List Entry)) (history : List MachineStep) (unit : MachineUnit) → Sorted (inbox s traces history unit)
@@ -273,10 +234,6 @@ core_view_same a b e f g =
     let view : List CoreStep → List Message → List Message → CoreView = λ x y z. record { past_steps = x; sent = y; inbox = z } in
     ap (λ x. view x a.sent a.inbox) e ∙ ap (λ y. view b.past_steps y a.inbox) f ∙ ap (λ z. view b.past_steps b.sent z) g
 
-past_steps-push : (c : ℕ) (history : List MachineStep) (row : MachineStep) → steps_of_core c (history ++ row ∷ []) ≡ steps_of_core c history ++ step_of_core c row ∷ []
-unfolding steps_of_core
-past_steps-push c history row = map-append (step_of_core c) history (row ∷ [])
-
 pub core_step_is : (s : Config) (traces : List (List Entry)) (history : List MachineStep) (c : ℕ) → c < s.cores → step_of_core c (next_step s traces history) ≡ next_core_step s traces history c
 unfolding next_core_step
 core_step_is s traces history c l = step_of_core-next s traces history c l
@@ -284,9 +241,6 @@ core_step_is s traces history c l = step_of_core-next s traces history c l
 pub channel_step_is : (s : Config) (traces : List (List Entry)) (history : List MachineStep) (k : ℕ) → k < s.channels → step_of_channel k (next_step s traces history) ≡ (channel_step_of s traces history k).command
 unfolding next_command
 channel_step_is s traces history k l = step_of_channel-next s traces history k l
-
-pub length_run : (s : Config) (traces : List (List Entry)) (n : ℕ) → length (run s traces n) ≡ n
-length_run s traces n = length-run s traces n
 
 pub length_steps : (s : Config) (traces : List (List Entry)) (n c : ℕ) (view : CoreView) → view ≡ core_view s traces (run s traces n) c → length view.past_steps ≡ n
 length_steps s traces n c view e = ap (λ v. length v.past_steps) e ∙ length-steps_of_core c (run s traces n) ∙ length-run s traces n
@@ -342,7 +296,7 @@ core_view_next s traces n c l =
     let history = run s traces n in
     let row = next_step s traces history in
     core_view_same _ _
-    (ap (steps_of_core c) (run_next s traces n) ∙ past_steps-push c history row ∙ ap (λ r. steps_of_core c history ++ r ∷ []) (core_step_is s traces history c l))
+    (ap (steps_of_core c) (run_next s traces n) ∙ steps_of_core-push c history row ∙ ap (λ r. steps_of_core c history ++ r ∷ []) (core_step_is s traces history c l))
     (ap (λ x. messages_of_core s traces x c) (run_next s traces n) ∙ core-grows s traces history row c)
     (ap (λ x. inbox s traces x (Core c)) (run_next s traces n) ∙ inbox-grows s traces history row (Core c))
 
@@ -375,7 +329,7 @@ step_same a b e f =
 -- what a channel does next is known by its two parts
 pub step_is : (s : Config) (traces : List (List Entry)) (n k : ℕ) (view : ChannelView) (step : ChannelStep)
     → view ≡ channel_view s traces (run s traces n) k
-    → step.draining ≡ drains_with s view.draining (count_by (λ r. r.write) (queue_of view.pending (n + 1)))
+    → step.draining ≡ drains_with s view.draining (count_by (λ r. is_access access.Write r.access) (queue_of view.pending (n + 1)))
     → step.command ≡ choice_between s view.commands n (candidates s step.draining (queue_of view.pending (n + 1))) (lowest_due s view.commands n)
     → step ≡ channel_step_of s traces (run s traces n) k
 step_is s traces n k view step e f g =
@@ -383,8 +337,8 @@ step_is s traces n k view step e f g =
     let kept = channel_view s traces history k in
     let d : step.draining ≡ (channel_step_of s traces history k).draining =
     f
-    ∙ ap (λ (v : ChannelView). drains_with s v.draining (count_by (λ r. r.write) (queue_of v.pending (n + 1)))) e
-    ∙ ap (λ i. drains_with s kept.draining (count_by (λ r. r.write) (queue_of kept.pending (i + 1)))) (sym (length-run s traces n))
+    ∙ ap (λ (v : ChannelView). drains_with s v.draining (count_by (λ r. is_access access.Write r.access) (queue_of v.pending (n + 1)))) e
+    ∙ ap (λ i. drains_with s kept.draining (count_by (λ r. is_access access.Write r.access) (queue_of kept.pending (i + 1)))) (sym (length-run s traces n))
     ∙ sym (step_draining s traces history k) in
     step_same step (channel_step_of s traces history k)
     (g
@@ -437,14 +391,9 @@ no_channel_messages : (s : Config) (k : ℕ) → messages_of_channel s [] k ≡ 
 unfolding messages_of_channel steps_of_channel channel_messages
 no_channel_messages s k = refl
 
-no_messages : (s : Config) (traces : List (List Entry)) → messages s traces [] ≡ []
-unfolding messages
-no_messages s traces =
-    ap₂ (λ a b. a ++ b) (flat_map_nothing _ s.cores (no_core_messages s traces)) (flat_map_nothing _ s.channels (no_channel_messages s))
-
 pub no_mail : (s : Config) (traces : List (List Entry)) (unit : MachineUnit) → inbox s traces [] unit ≡ []
 unfolding inbox by_age
-no_mail s traces unit = ap (λ ms. by_age (filter (is_to s unit) ms)) (no_messages s traces)
+no_mail s traces unit = ap (λ ms. by_age (filter (is_to s unit) ms)) (messages-none s traces)
 
 pub run_none : (s : Config) (traces : List (List Entry)) → run s traces 0 ≡ []
 unfolding run
@@ -473,7 +422,7 @@ unfolding in_flight by_age
 flight_none s traces n e =
     ap (λ i. in_flight s traces (run s traces i)) e
     ∙ ap (in_flight s traces) (run_none s traces)
-    ∙ ap (λ ms. by_age (filter (is_in_flight []) ms)) (no_messages s traces)
+    ∙ ap (λ ms. by_age (filter (is_in_flight []) ms)) (messages-none s traces)
 
 -- nothing is in flight exactly where each message has arrived
 
@@ -519,3 +468,7 @@ delivered_is s traces history =
 pub step_alone : (s : Config) (traces : List (List Entry)) (n core : ℕ) → (core_step_of s traces (run s traces n) core).0 ≡ next_core_step s traces (run s traces n) core
 unfolding core_step_of next_core_step
 step_alone s traces n core = refl
+
+-- as many steps as cycles (by a name that a tactic can be given)
+pub length_run : (s : Config) (traces : List (List Entry)) (n : ℕ) → length (run s traces n) ≡ n
+length_run s traces n = length-run s traces n

@@ -18,6 +18,7 @@ use Rattle.sim_base.specs.Sends.{core_sends, channel_sends, sends}
 use Rattle.sim_base.specs.declared.command.IssuedCommand.{IssuedCommand}
 use Rattle.sim_base.specs.declared.command.Source.{Source}
 use Rattle.sim_base.specs.declared.history.CoreStep.{CoreStep}
+use Rattle.sim_base.specs.declared.message.Access.{Access}
 use Rattle.sim_base.specs.declared.message.Message.{Message}
 use Rattle.sim_base.specs.declared.trace.Stop.{Stop}
 use Rattle.statistics.specs.Runs.{stats_of_core, stats_of_channel, last_of_core, last_of_channel}
@@ -175,8 +176,8 @@ abbrev pub is_hit_in : RunCycle → IssuedCommand → Bool
 is_hit_in c row = is_hit (issued_commands row.channel (steps_of_channel row.channel (steps_before c))) row.command
 
 -- the request of an entry, read or written, that a command serves
-abbrev pub request_for : RunCycle → IssuedCommand → Bool → Source → ServedRequest
-request_for c row write source = served_of (arrival_in c row.channel) (is_hit_in c row) row.channel row.cycle write source
+abbrev pub request_for : RunCycle → IssuedCommand → Access → Source → ServedRequest
+request_for c row access source = served_of (arrival_in c row.channel) (is_hit_in c row) row.channel row.cycle access source
 
 -- the request that a command serves, if it serves one
 abbrev pub request_of_row : RunCycle → IssuedCommand → Option ServedRequest

@@ -7,7 +7,7 @@
 --     ends_before c      whether the run ends before the cycle
 --     outcome_before tables c      what the run leaves, if it does
 --     outcome_within tables s traces limit      what the run leaves, which ends where it is over, or at a limit
-use Rattle.std.specs.Prelude.{ℕ, Bool, true, false, ◌&&◌, List, length, map}
+use Rattle.std.specs.Prelude.{ℕ, Bool, ◌&&◌, List, length, map}
 use Rattle.std.specs.List.{list_all}
 use Rattle.sim_base.specs.History.{below}
 use Rattle.sim_base.specs.Machine.{is_retired, has_served, is_delivered, is_over, cycles_run}
@@ -15,6 +15,7 @@ use Rattle.sim_base.specs.Scheduling.{due}
 use Rattle.sim_base.specs.Windows.{held}
 use Rattle.sim_base.specs.declared.command.IssuedCommand.{IssuedCommand}
 use Rattle.sim_base.specs.declared.config.Config.{Config}
+use Rattle.sim_base.specs.declared.message.Access.TheVariants as access
 use Rattle.sim_base.specs.declared.trace.Entry.{Entry}
 use Rattle.statistics.specs.declared.final_state.Credits.{Credits}
 use Rattle.plain_steps.specs.Plain.{CoreView}
@@ -28,8 +29,8 @@ use Rattle.one_clock.specs.declared.run_cycle.RunCycle.{RunCycle}
 abbrev pub credits_kept : Config → ℕ → CoreView → ℕ → Credits
 credits_kept s core past channel =
     record {
-      read = held s core past.inbox past.sent channel false (length past.past_steps);
-      write = held s core past.inbox past.sent channel true (length past.past_steps);
+      read = held s core past.inbox past.sent channel access.Read (length past.past_steps);
+      write = held s core past.inbox past.sent channel access.Write (length past.past_steps);
     }
 
 -- the credits that it holds for each channel, by number

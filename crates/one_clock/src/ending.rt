@@ -12,7 +12,7 @@ use crate::state::{ChannelPast, CorePast};
 use plain_steps::{cores, rules, scheduling};
 use sim_base::command::IssuedCommand;
 use sim_base::config::Config;
-use sim_base::message::{ChannelId, CoreId};
+use sim_base::message::{Access, ChannelId, CoreId};
 use sim_base::place::BankId;
 use statistics::final_state::{ChannelState, CoreState, Credits, OpenRow};
 use std::alloc::{AllocError, Global};
@@ -24,8 +24,8 @@ fn credits_held(s: &Config, core: CoreId, past: &CorePast, channel: ChannelId) -
     let until = past.past_steps().len();
     let mail = past.mail(core);
     Credits {
-        read: cores::held_count(s, &mail, channel, false, until) as u64,
-        write: cores::held_count(s, &mail, channel, true, until) as u64,
+        read: cores::held_count(s, &mail, channel, Access::Read, until) as u64,
+        write: cores::held_count(s, &mail, channel, Access::Write, until) as u64,
     }
 }
 

@@ -15,7 +15,7 @@ use request_table::left::ServedList;
 use request_table::served_requests::ServedRequest;
 use request_table::table::RequestTable;
 use sim_base::command::{Command, IssuedCommand, Source};
-use sim_base::message::ChannelId;
+use sim_base::message::{Access, ChannelId};
 use std::alloc::AllocError;
 
 /// The cycle in which the request of an entry reaches a channel; None where there is no such core.
@@ -57,10 +57,10 @@ impl Machine {
         cycle: &RunCycle<'_>,
         row: &IssuedCommand,
         source: Source,
-        write: bool,
+        access: Access,
     ) -> Option<ServedRequest>
         requires machine { HoldsBefore cycle.now self.now }
-        ensures { IfSome result (λ request. request ≡ request_for cycle.now row.now write source) }
+        ensures { IfSome result (λ request. request ≡ request_for cycle.now row.now access source) }
     {
         let arrived = arrival(cycle, &self.cores, row.channel, source)?;
         let hit = hits(cycle, &self.channels, row)?;
@@ -70,7 +70,7 @@ impl Machine {
             served: row.cycle,
             channel: row.channel,
             core: source.core,
-            write,
+            access,
             hit,
         })
     }
@@ -86,8 +86,8 @@ impl Machine {
         ensures { IfOk result (λ request. request ≡ request_of_row cycle.now row.now) }
     {
         let request = match row.command {
-            Command::Rd { source, .. } => self.request(cycle, row, source, false),
-            Command::Wr { source, .. } => self.request(cycle, row, source, true),
+            Command::Rd { source, .. } => self.request(cycle, row, source, Access::Read),
+            Command::Wr { source, .. } => self.request(cycle, row, source, Access::Write),
             Command::Act { .. }
             | Command::Pre { .. }
             | Command::Prea { .. }

@@ -14,7 +14,7 @@ use plain_steps::scheduling::ChannelStep;
 use sim_base::command::{Command, Source};
 use sim_base::config::Config;
 use sim_base::history::CoreStep;
-use sim_base::message::{ChannelId, CoreId, Load, Message};
+use sim_base::message::{Access, ChannelId, CoreId, Load, Message};
 use sim_base::trace::Stop;
 use std::alloc::{AllocError, Global};
 
@@ -86,18 +86,18 @@ fn credit_message(
     s: &Config,
     channel: ChannelId,
     cycle: u64,
-    write: bool,
+    access: Access,
     source: Source,
 ) -> Message
     requires { cycle < 2 ^ 41 }
-    ensures { result ≡ credit s.now channel cycle write source }
+    ensures { result ≡ credit s.now channel cycle access source }
 {
     let link = s.credit_link(source.core, channel);
     Message {
         link,
         arrival: cycle + u64::from(s.latency(link)),
         load: Load::Credit {
-            write,
+            access,
             entry: source.entry,
         },
     }
@@ -118,11 +118,11 @@ fn messages_of_command(
     match command {
         Command::Rd { source, .. } => {
             sent.push(reply_message(s, channel, cycle, source))?;
-            sent.push(credit_message(s, channel, cycle, false, source))?;
+            sent.push(credit_message(s, channel, cycle, Access::Read, source))?;
             Ok(sent)
         }
         Command::Wr { source, .. } => {
-            sent.push(credit_message(s, channel, cycle, true, source))?;
+            sent.push(credit_message(s, channel, cycle, Access::Write, source))?;
             Ok(sent)
         }
         _ => Ok(sent),

@@ -3,16 +3,17 @@ use Rattle.std.proofs.Common.{◌≡◌, ◌<◌, true, List, length, get_or, re
 use Rattle.std.specs.Prelude.{All, Any, IsPermutation}
 use Rattle.std.proofs.lemmas.List.FromFn.{get_or-map-range_with_len}
 use Rattle.std.proofs.lemmas.List.Sorted.{All-permutation}
-use Rattle.units.proofs.Standing.{length-places, same-default}
+use Rattle.std.proofs.lemmas.List.{get_or_default}
 use Rattle.shards.specs.Jobs.{JobView}
 use Rattle.shards.specs.Merging.{IsOf, is_among, names_of}
 use Rattle.shards.specs.Phases.{PhaseView, shard_count, job_of, jobs_of}
 use Rattle.shards.proofs.Placing.{among-place}
+use Rattle.sim_base.proofs.Lists.{length-map_below}
 
 -- what is among the jobs of a phase is of its machine
 own : (p : PhaseView) (d : JobView) → Any (λ r. r ≡ d) (jobs_of p) → (d.machine ≡ p.machine) × (d.bounds ≡ p.bounds)
 own p d h =
-    let l : h.0 < shard_count p = subst (λ n. h.0 < n) (length-places (job_of p) (shard_count p)) h.2 in
+    let l : h.0 < shard_count p = subst (λ n. h.0 < n) (length-map_below (job_of p) (shard_count p)) h.2 in
     let is : h.1 ≡ job_of p h.0 = sym h.3 ∙ get_or-map-range_with_len (job_of p) 0 (shard_count p) h.0 h.0 h.1 l (zero-add h.0) in
     let e = sym h.4 ∙ is in
     (ap (λ (x : JobView). x.machine) e, ap (λ (x : JobView). x.bounds) e)
@@ -21,7 +22,7 @@ own p d h =
 named : (p : PhaseView) (d : JobView) → is_among (names_of p) d.name ≡ true → Any (λ r. r.name ≡ d.name) (jobs_of p)
 named p d among =
     let at = among-place p d.name among in
-    let l : at.0 < length (jobs_of p) = subst (λ n. at.0 < n) (sym (length-places (job_of p) (shard_count p))) at.1 in
+    let l : at.0 < length (jobs_of p) = subst (λ n. at.0 < n) (sym (length-map_below (job_of p) (shard_count p))) at.1 in
     (at.0, job_of p at.0, l, get_or-map-range_with_len (job_of p) 0 (shard_count p) at.0 at.0 (job_of p at.0) at.1 (zero-add at.0), at.2)
 
 -- so is what has such a name, where what has the name of one of the results is one of them
@@ -33,7 +34,7 @@ of_phase p results arranged e given k d l among =
 
 -- Each of some results is one of them, and so it is in another order.
 each-is_one : (results : List JobView) → All (λ d. Any (λ r. r ≡ d) results) results
-each-is_one results k d l = (k, get_or results k d, l, same-default results k (get_or results k d) d l, refl)
+each-is_one results k d l = (k, get_or results k d, l, get_or_default results k (get_or results k d) d l, refl)
 
 pub each-given : (results : List JobView) → All (λ d. Any (λ r. r.name ≡ d.name) results → Any (λ r. r ≡ d) results) results
 each-given results k d l named = each-is_one results k d l

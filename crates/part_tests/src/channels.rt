@@ -10,7 +10,7 @@ use sessions::channel_session::fault::SessionFault;
 use sessions::channel_session::requests::SentRequest;
 use sessions::channel_session::session::Session;
 use sim_base::command::{Command, IssuedCommand, Source};
-use sim_base::message::{CoreId, Cycle, Load, Message};
+use sim_base::message::{Access, CoreId, Cycle, Load, Message};
 use sim_base::place::BankId;
 use statistics::channels::ChannelStats;
 use std::alloc::Global;
@@ -34,7 +34,7 @@ fn read_of(core: CoreId, read: Read) -> SentRequest {
     SentRequest {
         core,
         entry,
-        write: false,
+        access: Access::Read,
         address: 64 * u64::from(line),
         arrival,
     }
@@ -135,7 +135,7 @@ const CREDIT: Message = Message {
     link: 2,
     arrival: 7,
     load: Load::Credit {
-        write: false,
+        access: Access::Read,
         entry: 0,
     },
 };
@@ -151,7 +151,7 @@ const NEXT_CREDIT: Message = Message {
     link: 2,
     arrival: 12,
     load: Load::Credit {
-        write: false,
+        access: Access::Read,
         entry: 1,
     },
 };

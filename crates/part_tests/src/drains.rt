@@ -1,21 +1,22 @@
 //! A drain that begins with three writes and ends with one.
 
-ghost use Rattle.std.specs.Prelude.{◌≡◌, true};
+ghost use Rattle.std.specs.Prelude.{◌≡◌};
+ghost use Rattle.sim_base.specs.declared.message.Access.TheVariants.{Write};
 
 use crate::expect::expect;
 use queue::Queue;
-use sim_base::message::Request;
+use sim_base::message::{Access, Request};
 use sim_base::place::Place;
 use std::alloc::Global;
 use std::test::Fail;
 
 fn write(entry: u64) -> Request
-    ensures { result.write ≡ true }
+    ensures { result.access ≡ Write }
 {
     Request {
         core: 0,
         entry,
-        write: true,
+        access: Access::Write,
         address: 0,
         place: Place {
             channel: 0,

@@ -4,7 +4,7 @@ use crate::expect::expect;
 use fixtures::small::small;
 use links::flight::Links;
 use links::latency::shortest;
-use sim_base::message::{Cycle, LinkId, Load, Message, Unit};
+use sim_base::message::{Access, Cycle, LinkId, Load, Message, Unit};
 use std::alloc::Global;
 use std::process::Abort;
 
@@ -70,7 +70,7 @@ const CREDIT: Message = Message {
     link: 2,
     arrival: 12,
     load: Load::Credit {
-        write: false,
+        access: Access::Read,
         entry: 1,
     },
 };

@@ -1,6 +1,5 @@
 -- The entries of a trace, one more at a time.
-use Rattle.std.proofs.Common.{◌≡◌, ℕ, zero, suc, ◌+◌, ◌-◌, false, ◌||◌, List, [], ◌∷◌, ◌++◌, take, drop, Option, Some, None, refl, sym, ap, ap₂, ◌∙◌, add-zero, zero-add, arith}
-use Rattle.std.proofs.Math.Nat.{suc-add}
+use Rattle.std.proofs.Common.{◌≡◌, ℕ, zero, suc, ◌+◌, ◌-◌, false, ◌||◌, List, [], ◌∷◌, ◌++◌, take, drop, Option, Some, None, refl, sym, ap, ap₂, ◌∙◌, zero-add, arith}
 use Rattle.std.specs.Prelude.{filter_map, slice_get, option_map, option_and_then}
 use Rattle.std.specs.Option.{option_to_list}
 use Rattle.std.specs.List.{list_any, enumerate_from, cons_option}
@@ -12,25 +11,7 @@ use Rattle.sim_base.specs.declared.trace.Entry.{Entry}
 use Rattle.sim_base.specs.History.{below, request_of, requests_between}
 use Rattle.sim_base.specs.Windows.{is_memory, is_memory_in, has_memory}
 use Rattle.sim_base.proofs.Below.{below_more}
-
-pub take_more : {X : Type 0} (xs : List X) (k : ℕ) → take (suc k) xs ≡ take k xs ++ option_to_list (slice_get xs k)
-take_more [] zero = refl
-take_more [] (suc k) = refl
-take_more (x ∷ xs) zero = refl
-take_more (x ∷ xs) (suc k) = ap (λ l. x ∷ l) (take_more xs k)
-
-pub slice_get-drop : {X : Type 0} (xs : List X) (n k : ℕ) → slice_get (drop n xs) k ≡ slice_get xs (n + k)
-slice_get-drop [] zero k = refl
-slice_get-drop [] (suc n) k = refl
-slice_get-drop (x ∷ xs) zero k = ap (slice_get (x ∷ xs)) (sym (zero-add k))
-slice_get-drop (x ∷ xs) (suc n) k = slice_get-drop xs n k ∙ ap (slice_get (x ∷ xs)) (sym (suc-add n k))
-
-slice_get-enumerate : {X : Type 0} (i : ℕ) (xs : List X) (k : ℕ) → slice_get (enumerate_from i xs) k ≡ option_map (λ x. (i + k, x)) (slice_get xs k)
-slice_get-enumerate i [] k = refl
-slice_get-enumerate i (x ∷ xs) zero = ap (λ n. Some (n, x)) (sym (add-zero i))
-slice_get-enumerate i (x ∷ xs) (suc k) =
-    let e : i + 1 + k ≡ i + suc k = omega arith in
-    slice_get-enumerate (i + 1) xs k ∙ ap (λ n. option_map (λ x. (n, x)) (slice_get xs k)) e
+use Rattle.sim_base.proofs.Lists.{take_more, slice_get-drop, slice_get-enumerate}
 
 one_request : (s : Config) (core cycle n : ℕ) (o : Option Entry)
     → filter_map (λ (e : ℕ × Entry). request_of s core cycle e.0 e.1) (option_to_list (option_map (λ x. (0 + n, x)) o)) ≡ option_to_list (option_and_then (request_of s core cycle n) o)

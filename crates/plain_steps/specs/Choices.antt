@@ -7,9 +7,11 @@
 --     drains_in c drained pending      whether the channel drains its writes
 --     command_in c draining pending      the command that it issues
 use Rattle.std.specs.Prelude.{ℕ, ◌+◌, Bool, List, count_by, Option}
+use Rattle.sim_base.specs.Access.{is_access}
 use Rattle.sim_base.specs.Rules.{is_legal}
 use Rattle.sim_base.specs.Scheduling.{drains_with, candidates, ready_hit, ready_row, first_ready, if_legal, lowest_due, choice_between}
 use Rattle.sim_base.specs.declared.command.Command.{Command}
+use Rattle.sim_base.specs.declared.message.Access.TheVariants as access
 use Rattle.sim_base.specs.declared.message.Message.{Message}
 use Rattle.sim_base.specs.declared.message.Request.{Request}
 use Rattle.plain_steps.specs.Plain.{queue_of}
@@ -43,7 +45,7 @@ choice_in c = choice_between c.config.now c.history.now c.number
 -- whether the channel drains its writes in the cycle, by whether it did in the one before and by the writes that are
 -- queued
 abbrev pub drains_in : ChannelCycle → Bool → List Message → Bool
-drains_in c drained pending = drains_with c.config.now drained (count_by (λ r. r.write) (queue_of pending (c.number + 1)))
+drains_in c drained pending = drains_with c.config.now drained (count_by (λ r. is_access access.Write r.access) (queue_of pending (c.number + 1)))
 
 -- the command that the channel issues in the cycle, where it drains its writes or not, and these messages are pending
 abbrev pub command_in : ChannelCycle → Bool → List Message → Option Command

@@ -1,7 +1,7 @@
 -- What a core issues in a cycle, and why it stops.
 --     request_of_entry s core cycle trace number      the request of the entry of a number, if there is one and it makes one
 --     requests_issued s core trace issued      the requests among entries that are issued in a cycle
---     credits_held s mail channel write until      the credits that a core holds, by its messages
+--     credits_held s mail channel access until      the credits that a core holds, by its messages
 --     is_memory_among trace first m      whether one of m entries is a Read or a Write
 --     lacks_credit_for stage entry      whether an entry needs a credit that the core does not hold
 --     cause_to_stop stage m, stops_after stage m      why no more than m entries issue, if anything; whether something does
@@ -14,6 +14,7 @@ use Rattle.sim_base.specs.History.{below, request_of, requests_between, core_mes
 use Rattle.sim_base.specs.Windows.{held, lacks_credit, is_memory_in, stop_after, has_cause, first_stop, step}
 use Rattle.sim_base.specs.declared.config.Config.{Config}
 use Rattle.sim_base.specs.declared.history.CoreStep.{CoreStep}
+use Rattle.sim_base.specs.declared.message.Access.{Access}
 use Rattle.sim_base.specs.declared.message.Message.{Message}
 use Rattle.sim_base.specs.declared.trace.Entry.{Entry}
 use Rattle.sim_base.specs.declared.trace.Stop.{Stop}
@@ -30,8 +31,8 @@ abbrev pub requests_issued : Config → ℕ → List Entry → IssuedEntries →
 requests_issued s core trace issued = requests_between s core trace issued.cycle issued.first (issued.first + issued.count)
 
 -- the credits that a core holds for a channel, to read or to write, those counted that arrived before a cycle
-abbrev pub credits_held : Config → CoreMail → ℕ → Bool → ℕ → ℕ
-credits_held s mail channel write until = held s mail.core mail.inbox.now mail.sent.now channel write until
+abbrev pub credits_held : Config → CoreMail → ℕ → Access → ℕ → ℕ
+credits_held s mail channel access until = held s mail.core mail.inbox.now mail.sent.now channel access until
 
 -- whether one of m entries, from `first` on, is a Read or a Write
 abbrev pub is_memory_among : List Entry → ℕ → ℕ → Bool

@@ -15,14 +15,20 @@ use cpu_trace::trace::Trace;
 use sim_base::command::Source;
 use sim_base::config::Config;
 use sim_base::history::CoreStep;
-use sim_base::message::{CoreId, Load, Message, Request};
+use sim_base::message::{Access, CoreId, Load, Message, Request};
 use sim_base::trace::{Entry, Stop};
 use std::alloc::{AllocError, Global};
 
 #[tactic(auto, unfolding(sim_base::specs::History::request))]
-fn request_message(s: &Config, cycle: usize, source: Source, write: bool, address: u64) -> Message
+fn request_message(
+    s: &Config,
+    cycle: usize,
+    source: Source,
+    access: Access,
+    address: u64,
+) -> Message
     requires early { cycle < 2 ^ 41 }
-    ensures { result ≡ request s.now source.core cycle source.entry write address }
+    ensures { result ≡ request s.now source.core cycle source.entry access address }
 {
     let Source { core, entry } = source;
     let place = place_of(s, address);
@@ -31,7 +37,7 @@ fn request_message(s: &Config, cycle: usize, source: Source, write: bool, addres
     let load = Load::Request(Request {
         core,
         entry,
-        write,
+        access,
         address,
         place,
         arrival,
@@ -54,8 +60,8 @@ fn request_for(s: &Config, core: CoreId, cycle: usize, number: u64, entry: Entry
     };
     match entry {
         Entry::Plain => None,
-        Entry::Read(address) => Some(request_message(s, cycle, source, false, address)),
-        Entry::Write(address) => Some(request_message(s, cycle, source, true, address)),
+        Entry::Read(address) => Some(request_message(s, cycle, source, Access::Read, address)),
+        Entry::Write(address) => Some(request_message(s, cycle, source, Access::Write, address)),
     }
 }
 
@@ -197,66 +203,71 @@ fn retire_count(s: &Config, trace: &Trace, past_steps: &[CoreStep], inbox: &[Mes
     done_count(trace, inbox, past_steps.len(), most, first)
 }
 
-fn is_request(channel: u32, write: bool, load: Load) -> bool
-    ensures { result ≡ is_request_for channel write load }
+fn is_request(channel: u32, access: Access, load: Load) -> bool
+    ensures { result ≡ is_request_for channel access load }
 {
     match load {
-        Load::Request(r) => r.place.channel == channel && (if write { r.write } else { !r.write }),
+        Load::Request(r) => r.place.channel == channel && access.is_access(r.access),
         Load::Reply(_) | Load::Credit { .. } => false,
     }
 }
 
-fn is_credit_for(write: bool, load: Load) -> bool
-    ensures { result ≡ is_credit write load }
+fn is_credit_for(access: Access, load: Load) -> bool
+    ensures { result ≡ is_credit access load }
 {
     match load {
-        Load::Credit { write: w, .. } => { if write { w } else { !w } }
+        Load::Credit { access: other, .. } => access.is_access(other),
         Load::Request(_) | Load::Reply(_) => false,
     }
 }
 
-fn cap(s: &Config, write: bool) -> u32
-    ensures { result ≡ credit_cap s.now write }
+fn cap(s: &Config, access: Access) -> u32
+    ensures { result ≡ credit_cap s.now access }
 {
-    if write {
-        s.write_credits
-    } else {
-        s.read_credits
+    match access {
+        Access::Read => s.read_credits,
+        Access::Write => s.write_credits,
     }
 }
 
-fn is_link_credit(link: u64, write: bool, until: usize, m: Message) -> bool
-    ensures { result ≡ is_credit_on link write until m }
+fn is_link_credit(link: u64, access: Access, until: usize, m: Message) -> bool
+    ensures { result ≡ is_credit_on link access until m }
 {
-    m.link == link && is_credit_for(write, m.load) && m.arrival < until as u64
+    m.link == link && is_credit_for(access, m.load) && m.arrival < until as u64
 }
 
-fn credits_received(inbox: &[Message], link: u64, write: bool, until: usize) -> usize
-    ensures value { result ≡ count_by (is_credit_on link write until) inbox.now }
+fn credits_received(inbox: &[Message], link: u64, access: Access, until: usize) -> usize
+    ensures value { result ≡ count_by (is_credit_on link access until) inbox.now }
     ensures small { result < 2 ^ 63 }
 {
     inbox
         .iter()
-        .filter(|m| is_link_credit(link, write, until, **m))
+        .filter(|m| is_link_credit(link, access, until, **m))
         .count()
 }
 
-fn request_count(sent: &[Message], channel: u32, write: bool) -> usize
-    ensures { result ≡ count_by (λ m. is_request_for channel write m.load) sent.now }
+fn request_count(sent: &[Message], channel: u32, access: Access) -> usize
+    ensures { result ≡ count_by (λ m. is_request_for channel access m.load) sent.now }
 {
     sent.iter()
-        .filter(|m| is_request(channel, write, m.load))
+        .filter(|m| is_request(channel, access, m.load))
         .count()
 }
 
 /// The credits that a core holds for a channel, to read or to write, those counted that arrived before a cycle.
 #[tactic(auto, unfolding(sim_base::specs::Windows::held))]
-pub fn held_count(s: &Config, mail: &CoreMail<'_>, channel: u32, write: bool, until: usize) -> usize
-    ensures { result ≡ credits_held s.now mail.now channel write until }
+pub fn held_count(
+    s: &Config,
+    mail: &CoreMail<'_>,
+    channel: u32,
+    access: Access,
+    until: usize,
+) -> usize
+    ensures { result ≡ credits_held s.now mail.now channel access until }
 {
     let link = s.credit_link(mail.core, channel);
-    let received = cap(s, write) as usize + credits_received(mail.inbox, link, write, until);
-    received.saturating_sub(request_count(mail.sent, channel, write))
+    let received = cap(s, access) as usize + credits_received(mail.inbox, link, access, until);
+    received.saturating_sub(request_count(mail.sent, channel, access))
 }
 
 fn is_memory_entry(entry: Entry) -> bool
@@ -315,11 +326,23 @@ impl IssueStage<'_> {
         match entry {
             Some(Entry::Read(address)) => {
                 let channel = place_of(self.config, address).channel;
-                held_count(self.config, self.mail, channel, false, self.cycle + 1) == 0
+                held_count(
+                    self.config,
+                    self.mail,
+                    channel,
+                    Access::Read,
+                    self.cycle + 1,
+                ) == 0
             }
             Some(Entry::Write(address)) => {
                 let channel = place_of(self.config, address).channel;
-                held_count(self.config, self.mail, channel, true, self.cycle + 1) == 0
+                held_count(
+                    self.config,
+                    self.mail,
+                    channel,
+                    Access::Write,
+                    self.cycle + 1,
+                ) == 0
             }
             Some(Entry::Plain) | None => false,
         }

@@ -1,6 +1,8 @@
 //! First-ready first-come-first-served scheduling of one channel.
 
 ghost use Rattle.std.specs.Prelude.{◌≡◌, ◌<◌, ◌^◌, find, filter, count_by, take, IfOk};
+ghost use Rattle.sim_base.specs.Access.{is_access};
+ghost use Rattle.sim_base.specs.declared.message.Access.TheVariants as access;
 ghost use Rattle.sim_base.specs.Scheduling.{request_in, is_source, serves, is_served, drains_with, asks_for_line};
 ghost use Rattle.sim_base.specs.Scheduling.{first_of_lines, is_favoured, candidates, needed, is_row_hit, has_hit, is_withheld};
 ghost use Rattle.sim_base.specs.Scheduling.{refreshes, due, lowest_due, refresh_command};
@@ -12,7 +14,7 @@ use crate::channel_cycle::ChannelCycle;
 use crate::rules;
 use sim_base::command::{Command, IssuedCommand, Kind, Source};
 use sim_base::config::Config;
-use sim_base::message::{Load, Message, Request};
+use sim_base::message::{Access, Load, Message, Request};
 use sim_base::place::{BankId, Place, is_row};
 use std::alloc::{AllocError, Global};
 
@@ -90,9 +92,12 @@ pub fn queue(alloc: Global, pending: &[Message], until: u64) -> Result<Vec<Reque
 }
 
 fn write_count(queue: &[Request]) -> usize
-    ensures { result ≡ count_by (λ r. r.write) queue.now }
+    ensures { result ≡ count_by (λ r. is_access access.Write r.access) queue.now }
 {
-    queue.iter().filter(|r| r.write).count()
+    queue
+        .iter()
+        .filter(|r| Access::Write.is_access(r.access))
+        .count()
 }
 
 fn drains_at(s: &Config, draining: bool, writes: usize) -> bool
@@ -126,7 +131,12 @@ fn first_for_lines(alloc: Global, queue: &[Request]) -> Result<Vec<Request>, All
 fn is_favoured_request(draining: bool, r: Request) -> bool
     ensures { result ≡ is_favoured draining r }
 {
-    if draining { r.write } else { !r.write }
+    let favoured = if draining {
+        Access::Write
+    } else {
+        Access::Read
+    };
+    favoured.is_access(r.access)
 }
 
 fn favoured_requests(

@@ -61,7 +61,10 @@ pub(crate) fn layout_of(csv: bool) -> Layout
 }
 
 /// What a screen shows, and by which clock.
-pub(crate) fn options_of(show: &ShowArguments<'_>) -> Options {
+pub(crate) fn options_of(show: &ShowArguments<'_>) -> Options
+    ensures all { result.all ≡ show.now.all }
+    ensures clock { result.khz ≡ show.now.khz }
+{
     Options {
         all: show.all,
         khz: show.khz,
@@ -69,7 +72,11 @@ pub(crate) fn options_of(show: &ShowArguments<'_>) -> Options {
 }
 
 /// What a page shows: its window of cycles, and its clock.
-pub(crate) fn view_of(page: &PageArguments<'_>) -> View {
+pub(crate) fn view_of(page: &PageArguments<'_>) -> View
+    ensures from { result.window.from ≡ page.now.from }
+    ensures cycles { result.window.cycles ≡ page.now.cycles }
+    ensures clock { result.khz ≡ page.now.khz }
+{
     let window = Window {
         from: page.from,
         cycles: page.cycles,

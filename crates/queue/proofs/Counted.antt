@@ -17,16 +17,11 @@ use Rattle.queue.specs.Columns.{line_slot, slot_of_line, slot_count, AreCounted,
 use Rattle.queue.proofs.SameLine.{line_same}
 use Rattle.queue.proofs.Waiting.{waiting_append, waiting_one}
 use Rattle.queue.proofs.Eligible.{length-eligible}
+use Rattle.queue.proofs.BankCandidatesCounted.{one_if, none_if}
 
 -- whether a counter counts a request
 abbrev counts_it : (Request → ℕ) → ℕ → Request → ℕ
 counts_it slot_of slot r = cond (eqb (slot_of r) slot) 1 0
-
-one_if : (b : Bool) → b ≡ true → cond {A = ℕ} b 1 0 ≡ 1
-one_if b holds = ap (λ t. cond {A = ℕ} t 1 0) holds
-
-none_if : (b : Bool) → b ≡ false → cond {A = ℕ} b 1 0 ≡ 0
-none_if b fails = ap (λ t. cond {A = ℕ} t 1 0) fails
 
 none_counted : (mask : ℕ) (place : Place) (rs : List Request) → slot_count (slot_of_line mask) rs (line_slot mask place) ≡ 0 → list_any (λ q. is_line q.place place) rs ≡ false
 none_counted mask place [] none = refl
@@ -121,7 +116,3 @@ blocked_few log = omega (arith, count_by-le-length is_blocked (zip log (eligible
 pub byte_is : (b : Bool) → bool_byte b ≡ cond b 1 0
 byte_is true = refl
 byte_is false = refl
-
-pub byte_small : (b : Bool) → cond b 1 0 ≤ 1
-byte_small true = omega arith
-byte_small false = omega arith

@@ -2,13 +2,14 @@
 use Rattle.std.proofs.Common.{◌≡◌, ℕ, zero, suc, ◌+◌, ◌<◌, Bool, true, false, not, ◌&&◌, ◌||◌, List, [], ◌∷◌, ◌++◌, length, map, take, get_or, refl, sym, ap, ◌∙◌, arith}
 use Rattle.std.proofs.lemmas.List.{take_at, length_push, append_assoc}
 use Rattle.std.specs.List.{enumerate_from}
+use Rattle.std.proofs.Math.Bool.{or-false}
 use Rattle.sim_base.specs.Places.{is_line}
 use Rattle.sim_base.specs.Scheduling.{asks_for_line}
 use Rattle.sim_base.specs.declared.place.Place.{Place}
 use Rattle.queue.specs.declared.request_log.Arrived.{Arrived}
 use Rattle.queue.specs.Marks.{mark, is_marked}
 use Rattle.queue.specs.Log.{waiting, waiting_requests, eligible_column}
-use Rattle.queue.proofs.Waiting.{or_false, asks_push, asks_first}
+use Rattle.queue.proofs.Waiting.{asks_push, asks_first}
 
 -- the lines that are asked for once one more has arrived
 abbrev pub asked_with : (Place → Bool) → Arrived → Place → Bool
@@ -58,7 +59,7 @@ marks_wait asked (a ∷ log) (suc k) d within marked = marks_wait (asked_with as
 pub marked_waits : (log : List Arrived) (k : ℕ) (d : Arrived) → k < length log → is_marked (get_or (eligible_column log) k 0) ≡ true → (get_or log k d).waits ≡ true
 marked_waits log k d within marked = marks_wait (λ p. false) log k d within (ap (λ ms. is_marked (get_or ms k 0)) (sym (eligible_is log)) ∙ marked)
 
-or_assoc : (a b c : Bool) → ((a || b) || c) ≡ (a || (b || c))
+pub or_assoc : (a b c : Bool) → ((a || b) || c) ≡ (a || (b || c))
 or_assoc true b c = refl
 or_assoc false b c = refl
 
@@ -66,7 +67,7 @@ or_assoc false b c = refl
 pub marks-append : (asked : Place → Bool) (log more : List Arrived)
     → marks_after asked (log ++ more) ≡ marks_after asked log ++ marks_after (λ p. asked p || asks_for_line p (waiting_requests log)) more
 unfolding asks_for_line waiting
-marks-append asked [] more = ap (λ (f : Place → Bool). marks_after f more) (λ i p. sym (or_false (asked p)) i)
+marks-append asked [] more = ap (λ (f : Place → Bool). marks_after f more) (λ i p. sym (or-false (asked p)) i)
 marks-append asked (a ∷ log) more =
     let step : (p : Place) → (asked_with asked a p || asks_for_line p (waiting_requests log)) ≡ (asked p || asks_for_line p (waiting_requests (a ∷ log))) =
     λ p.

@@ -4,6 +4,7 @@ use Rattle.std.proofs.lemmas.Bool.{cases_Bool}
 use Rattle.std.proofs.lemmas.List.{take_at, length_push, append_assoc}
 use Rattle.std.proofs.lemmas.List.Folds.{list_any-append}
 use Rattle.std.specs.List.{list_any, enumerate_from, zip}
+use Rattle.std.proofs.Math.Bool.{or-false}
 use Rattle.sim_base.specs.Places.{is_line}
 use Rattle.sim_base.specs.Scheduling.{asks_for_line, first_of_lines}
 use Rattle.sim_base.specs.declared.message.Request.{Request}
@@ -12,7 +13,7 @@ use Rattle.queue.specs.declared.request_log.Arrived.{Arrived}
 use Rattle.queue.specs.Marks.{mark, is_marked}
 use Rattle.queue.specs.Log.{waiting, waiting_requests, all_requests, eligible_column}
 use Rattle.queue.specs.Columns.{marked_items}
-use Rattle.queue.proofs.Waiting.{or_false, waiting_first, if_waits}
+use Rattle.queue.proofs.Waiting.{waiting_first, if_waits}
 use Rattle.queue.proofs.Eligible.{asked_with, marks_after, eligible_is}
 
 abbrev asked_too : (Place → Bool) → Request → Place → Bool
@@ -26,7 +27,7 @@ firsts_after asked (r ∷ rs) = cond (not (asked r.place)) (r ∷ firsts_after (
 asks_more : (p : Place) (older : List Request) (r : Request) → asks_for_line p (older ++ r ∷ []) ≡ asked_too (λ q. asks_for_line q older) r p
 unfolding asks_for_line
 asks_more p older r =
-    list_any-append (λ q. is_line q.place p) older (r ∷ []) ∙ ap (λ b. list_any (λ (q : Request). is_line q.place p) older || b) (or_false (is_line r.place p))
+    list_any-append (λ q. is_line q.place p) older (r ∷ []) ∙ ap (λ b. list_any (λ (q : Request). is_line q.place p) older || b) (or-false (is_line r.place p))
 
 firsts_next : (b c : Bool) (n : ℕ) (r : Request) (entries : List (ℕ × Request)) (rest : List Request) → b ≡ c → map (λ e. e.1) entries ≡ rest
     → map (λ e. e.1) (cond b ((n, r) ∷ entries) entries) ≡ cond c (r ∷ rest) rest
@@ -69,7 +70,7 @@ marked_step asked a rs = elim (cases_Bool a.waits) [
       ∙ ap (λ b. firsts_after asked (cond b (a.request ∷ []) [] ++ rs)) (sym does)
   | inr none ↦
       ap (λ b. cond b (cond (not (asked a.request.place)) (a.request ∷ firsts_after (asked_with asked a) rs) (firsts_after (asked_with asked a) rs)) (firsts_after (asked_with asked a) rs)) none
-      ∙ ap (λ (f : Place → Bool). firsts_after f rs) (λ i p. (ap (λ b. asked p || (b && is_line a.request.place p)) none ∙ or_false (asked p)) i)
+      ∙ ap (λ (f : Place → Bool). firsts_after f rs) (λ i p. (ap (λ b. asked p || (b && is_line a.request.place p)) none ∙ or-false (asked p)) i)
       ∙ ap (λ b. firsts_after asked (cond b (a.request ∷ []) [] ++ rs)) (sym none)
 ]
 

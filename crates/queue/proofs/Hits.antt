@@ -2,6 +2,7 @@
 use Rattle.std.proofs.Common.{◌≡◌, ℕ, ◌+◌, ◌<◌, Bool, true, false, ◌&&◌, eqb, List, length, get_or, Some, refl, sym, ap, ◌∙◌}
 use Rattle.std.proofs.lemmas.List.{get_or_default}
 use Rattle.std.proofs.lemmas.List.Quantifiers.{position-Some}
+use Rattle.sim_base.specs.declared.message.Access.{Access}
 use Rattle.queue.specs.declared.request_log.Arrived.{Arrived}
 use Rattle.queue.specs.Marks.{is_marked}
 use Rattle.queue.specs.Log.{absent, eligible_column}
@@ -24,12 +25,12 @@ none true true b is = is
 none true false b is = refl
 none false a b is = refl
 
-pub hit_here : (log xs : List Arrived) (slot bank row : ℕ) (write : Bool) (e : Arrived) → slot < length log → xs ≡ log → Some slot ≡ first_place (asks bank write) log
-    → eqb (get_or xs slot e).request.place.row row ≡ true → Some slot ≡ first_place (wants bank write (Some row)) log
-hit_here log xs slot bank row write e within same is asked =
-    let any = asks bank write in
-    let test = wants bank write (Some row) in
-    found_here test log slot within (none_narrower test any log slot (wants_narrower bank write row) (none_before_first any log slot is))
+pub hit_here : (log xs : List Arrived) (slot bank row : ℕ) (access : Access) (e : Arrived) → slot < length log → xs ≡ log → Some slot ≡ first_place (asks bank access) log
+    → eqb (get_or xs slot e).request.place.row row ≡ true → Some slot ≡ first_place (wants bank access (Some row)) log
+hit_here log xs slot bank row access e within same is asked =
+    let any = asks bank access in
+    let test = wants bank access (Some row) in
+    found_here test log slot within (none_narrower test any log slot (wants_narrower bank access row) (none_before_first any log slot is))
     (λ d.
     let r = (get_or log slot absent).request in
     let m = is_marked (get_or (eligible_column log) slot 0) in
@@ -37,12 +38,12 @@ hit_here log xs slot bank row write e within same is asked =
     here_is test log slot absent d within
     ∙ both m (any r) (eqb r.place.row row) (sym (here_is any log slot absent d within) ∙ passed) (row_at log xs slot e absent row within same ∙ asked))
 
-pub hit_behind : (log : List Arrived) (slot bank row : ℕ) (write : Bool) → Some slot ≡ first_place (asks bank write) log
-    → (slot < length log → eqb (get_or log slot absent).request.place.row row ≡ false) → NoneBefore (wants bank write (Some row)) log (slot + 1)
-hit_behind log slot bank row write is other =
-    let any = asks bank write in
-    let test = wants bank write (Some row) in
-    none_more test log slot (none_narrower test any log slot (wants_narrower bank write row) (none_before_first any log slot is))
+pub hit_behind : (log : List Arrived) (slot bank row : ℕ) (access : Access) → Some slot ≡ first_place (asks bank access) log
+    → (slot < length log → eqb (get_or log slot absent).request.place.row row ≡ false) → NoneBefore (wants bank access (Some row)) log (slot + 1)
+hit_behind log slot bank row access is other =
+    let any = asks bank access in
+    let test = wants bank access (Some row) in
+    none_more test log slot (none_narrower test any log slot (wants_narrower bank access row) (none_before_first any log slot is))
     (λ d within.
     let r = (get_or log slot absent).request in
     let m = is_marked (get_or (eligible_column log) slot 0) in

@@ -1,6 +1,7 @@
 -- The candidates of one bank, with one request more.
 use Rattle.std.proofs.Common.{◌≡◌, ℕ, Bool, true, false, not, cond, ◌&&◌, List, [], ◌∷◌, ◌++◌, length, Option, Some, None, refl, sym, ap, ◌∙◌, inl, inr}
 use Rattle.std.proofs.lemmas.Bool.{cases_Bool, cond-true, cond-false}
+use Rattle.sim_base.specs.declared.message.Access.{Access}
 use Rattle.sim_base.specs.Rules.{is_row}
 use Rattle.sim_base.specs.Scheduling.{asks_for_line, or_else}
 use Rattle.sim_base.specs.declared.message.Request.{Request}
@@ -33,30 +34,30 @@ never_more true a b none = ap (λ t. t && b) none
 never_more false a b none = refl
 
 -- candidates that a new request is not for
-pub access_kept : (older : List Arrived) (a : Arrived) (bank : ℕ) (write : Bool) (row : Option ℕ) (h : AccessCandidates) → (may_follow older a && asks bank write a.request) ≡ false
-    → AreFirst older bank write row h → AreFirst (older ++ a ∷ []) bank write row h
-access_kept older a bank write row h none first = record {
-  oldest_is = first.oldest_is ∙ first_kept (asks bank write) older a none;
-  hit_is = first.hit_is ∙ first_kept (hits bank write row) older a (never_more (may_follow older a) (asks bank write a.request) (is_row a.request.place.row row) none);
+pub access_kept : (older : List Arrived) (a : Arrived) (bank : ℕ) (access : Access) (row : Option ℕ) (h : AccessCandidates) → (may_follow older a && asks bank access a.request) ≡ false
+    → AreFirst older bank access row h → AreFirst (older ++ a ∷ []) bank access row h
+access_kept older a bank access row h none first = record {
+  oldest_is = first.oldest_is ∙ first_kept (asks bank access) older a none;
+  hit_is = first.hit_is ∙ first_kept (hits bank access row) older a (never_more (may_follow older a) (asks bank access a.request) (is_row a.request.place.row row) none);
 }
 
 -- candidates that it is for
-pub access_joined : (older : List Arrived) (a : Arrived) (bank slot : ℕ) (write : Bool) (row : Option ℕ) (hit : Bool) (h j : AccessCandidates) → slot ≡ length older
-    → may_follow older a ≡ true → asks bank write a.request ≡ true → hit ≡ is_row a.request.place.row row → j.oldest ≡ or_else h.oldest (Some slot)
-    → j.hit ≡ cond hit (or_else h.hit (Some slot)) h.hit → AreFirst older bank write row h → AreFirst (older ++ a ∷ []) bank write row j
-access_joined older a bank slot write row hit h j long follows is hit_is oldest_joined hit_joined first =
+pub access_joined : (older : List Arrived) (a : Arrived) (bank slot : ℕ) (access : Access) (row : Option ℕ) (hit : Bool) (h j : AccessCandidates) → slot ≡ length older
+    → may_follow older a ≡ true → asks bank access a.request ≡ true → hit ≡ is_row a.request.place.row row → j.oldest ≡ or_else h.oldest (Some slot)
+    → j.hit ≡ cond hit (or_else h.hit (Some slot)) h.hit → AreFirst older bank access row h → AreFirst (older ++ a ∷ []) bank access row j
+access_joined older a bank slot access row hit h j long follows is hit_is oldest_joined hit_joined first =
     let may : (b : Bool) → (may_follow older a && b) ≡ b = λ b. ap (λ t. t && b) follows in
-    let wants : hits bank write row a.request ≡ hit = ap (λ t. t && is_row a.request.place.row row) is ∙ sym hit_is in
+    let wants : hits bank access row a.request ≡ hit = ap (λ t. t && is_row a.request.place.row row) is ∙ sym hit_is in
     record {
       oldest_is =
           oldest_joined ∙ ap (λ o. or_else o (Some slot)) first.oldest_is
-          ∙ first_joined (asks bank write) older a slot long (may (asks bank write a.request) ∙ is);
+          ∙ first_joined (asks bank access) older a slot long (may (asks bank access a.request) ∙ is);
       hit_is = elim (cases_Bool hit) [
         | inl on ↦
             hit_joined ∙ cond-true hit (or_else h.hit (Some slot)) h.hit on ∙ ap (λ o. or_else o (Some slot)) first.hit_is
-            ∙ first_joined (hits bank write row) older a slot long (may (hits bank write row a.request) ∙ wants ∙ on)
+            ∙ first_joined (hits bank access row) older a slot long (may (hits bank access row a.request) ∙ wants ∙ on)
         | inr off ↦
             hit_joined ∙ cond-false hit (or_else h.hit (Some slot)) h.hit off ∙ first.hit_is
-            ∙ first_kept (hits bank write row) older a (may (hits bank write row a.request) ∙ wants ∙ off)
+            ∙ first_kept (hits bank access row) older a (may (hits bank access row a.request) ∙ wants ∙ off)
       ];
     }

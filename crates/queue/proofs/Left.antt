@@ -1,6 +1,6 @@
 -- The log once a request is served, and what is kept beside it.
-use Rattle.std.proofs.Common.{◌≡◌, ℕ, ◌+◌, ◌-◌, ◌<◌, ◌≤◌, Bool, true, false, not, cond, List, length, take, get_or, set, refl, sym, ap, ◌∙◌, arith}
-use Rattle.std.proofs.lemmas.Bool.{and_parts, false≢true}
+use Rattle.std.proofs.Common.{◌≡◌, ℕ, ◌+◌, ◌-◌, ◌<◌, ◌≤◌, true, false, cond, List, length, take, get_or, set, sym, ap, ◌∙◌, arith}
+use Rattle.std.proofs.lemmas.Bool.{and_parts, false≢true, false_from_ne_true}
 use Rattle.std.proofs.lemmas.List.{get_or-set_other, length-set, set_past}
 use Rattle.sim_base.specs.Places.{is_line}
 use Rattle.sim_base.specs.Scheduling.{asks_for_line}
@@ -26,10 +26,6 @@ NoneBehind log slot until = (j : ℕ) → slot < j → j < until → is_for (get
 other_there : (log : List Arrived) (slot j : ℕ) → slot < j → get_or (served_at log slot) j absent ≡ get_or log j absent
 other_there log slot j behind = get_or-set_other log slot j (left_off (get_or log slot absent)) absent (λ e. omega (arith, e, behind))
 
-never_both : (b : Bool) → (b ≡ true → ⊥) → b ≡ false
-never_both true not = absurd (not refl)
-never_both false not = refl
-
 -- the marks where no other one of the line waits
 pub served_last : (log : List Arrived) (slot : ℕ) → slot < length log → waits_at log slot ≡ true → is_marked (get_or (eligible_column log) slot 0) ≡ true → NoneBehind log slot (length log)
     → eligible_column (served_at log slot) ≡ set (eligible_column log) slot 0
@@ -40,7 +36,7 @@ served_last log slot within waits first none =
 -- none behind waits for the line where none is blocked
 pub none_blocked : (log : List Arrived) (slot : ℕ) → waits_at log slot ≡ true → blocked_count log ≡ 0 → NoneBehind log slot (length log)
 none_blocked log slot waits none j behind within =
-    never_both (is_for (get_or log slot absent).request.place (get_or log j absent))
+    false_from_ne_true (is_for (get_or log slot absent).request.place (get_or log j absent))
     (λ here.
     let parts = and_parts (waits_at log j) (is_line (get_or log j absent).request.place (get_or log slot absent).request.place) here in
     let some = blocked_some log j within parts.0 (blocked_behind log slot j behind within waits here) in
@@ -50,7 +46,7 @@ none_blocked log slot waits none j behind within =
 pub none_alike : (log : List Arrived) (slot : ℕ) → asks_for_line (get_or log slot absent).request.place (waiting_requests (served_at log slot)) ≡ false → NoneBehind log slot (length log)
 none_alike log slot none j behind within =
     let place = (get_or log slot absent).request.place in
-    never_both (is_for place (get_or log j absent))
+    false_from_ne_true (is_for place (get_or log j absent))
     (λ here.
     false≢true
     (sym none ∙ asks_some place (served_at log slot) j (omega (arith, within, length-served log slot)) (ap (is_for place) (other_there log slot j behind) ∙ here)))
@@ -71,7 +67,7 @@ none_met log tags slot a left left_tags until is short none j behind below =
     let there : get_or left_tags j 0 ≡ get_or (tag_column log) j 0 =
     ap (λ xs. get_or xs j 0) is.left_tags_are ∙ get_or-set_other tags slot j left_tag 0 (λ e. omega (arith, e, behind)) ∙ ap (λ xs. get_or xs j 0) is.tags_are in
     let other : get_or left j absent ≡ get_or log j absent = ap (λ (xs : List Arrived). get_or xs j absent) is.left_is ∙ other_there log slot j behind in
-    never_both (is_for place (get_or log j absent))
+    false_from_ne_true (is_for place (get_or log j absent))
     (λ here.
     let within : j < length log = omega (arith, below, short) in
     let told = told_there false place log j within here (blocked_behind log slot j behind within is.waits here) in
@@ -104,13 +100,13 @@ pub marks_next : (log : List Arrived) (slot next : ℕ) → slot < length log �
 marks_next log slot next within waits first is = served_first log slot next within waits first is.behind is.none (λ below. is.here)
 
 pub tags_next : (log : List Arrived) (tags : List ℕ) (slot next tag : ℕ) → slot < length log → waits_at log slot ≡ true → is_marked (get_or (eligible_column log) slot 0) ≡ true
-    → IsNextAt log slot next → tags ≡ tag_column log → tag ≡ tag_word true (get_or (served_at log slot) next absent).request.write (bank_number (get_or (served_at log slot) next absent).request.place)
+    → IsNextAt log slot next → tags ≡ tag_column log → tag ≡ tag_word true (get_or (served_at log slot) next absent).request.access (bank_number (get_or (served_at log slot) next absent).request.place)
     → set (set tags slot left_tag) next tag ≡ tag_column (served_at log slot)
 tags_next log tags slot next tag within waits first is tags_are tag_is =
     let a = get_or (served_at log slot) next absent in
     let parts = and_parts (waits_at log next) (is_line (get_or log next absent).request.place (get_or log slot absent).request.place) is.here in
     let does : a.waits ≡ true = ap (λ (b : Arrived). b.waits) (other_there log slot next is.behind) ∙ parts.0 in
-    (λ i. set (set (tags_are i) slot left_tag) next ((tag_is ∙ ap (λ w. cond w (tag_word true a.request.write (bank_number a.request.place)) left_tag) (sym does)) i))
+    (λ i. set (set (tags_are i) slot left_tag) next ((tag_is ∙ ap (λ w. cond w (tag_word true a.request.access (bank_number a.request.place)) left_tag) (sym does)) i))
     ∙ sym (tag_unblocked log slot next (marks_next log slot next within waits first is))
 
 pub blocked_fewer : (log : List Arrived) (slot next : ℕ) → slot < length log → waits_at log slot ≡ true → is_marked (get_or (eligible_column log) slot 0) ≡ true → IsNextAt log slot next

@@ -79,7 +79,7 @@ before_next false n (Some k) = elim (cases_lt k n) [
 pub before_past : (n k : ℕ) → n ≤ k → before n (Some k) ≡ None
 before_past n k over = cond-false (ltb k n) (Some k) None (le-ltb k n over)
 
-first_none : (t : Bool) (o : Option ℕ) → cond t (Some 0) (option_map suc o) ≡ None → (t ≡ false) × (o ≡ None)
+pub first_none : (t : Bool) (o : Option ℕ) → cond t (Some 0) (option_map suc o) ≡ None → (t ≡ false) × (o ≡ None)
 first_none true o none = cc
 first_none false None none = (refl, refl)
 first_none false (Some k) none = cc

@@ -3,13 +3,13 @@ use Rattle.std.proofs.Common.{◌≡◌, ℕ, ◌+◌, Bool, false, not, cond, �
 use Rattle.std.proofs.lemmas.Bool.{cases_Bool}
 use Rattle.std.proofs.lemmas.List.Sums.{sum_by-cons}
 use Rattle.std.specs.List.{zip, count_by}
+use Rattle.std.proofs.Math.Bool.{or-false}
 use Rattle.sim_base.specs.Places.{is_line}
 use Rattle.sim_base.specs.declared.place.Place.{Place}
 use Rattle.queue.specs.declared.request_log.Arrived.{Arrived}
 use Rattle.queue.specs.Marks.{mark, is_marked}
 use Rattle.queue.specs.Log.{waiting, eligible_column}
 use Rattle.queue.specs.Columns.{tag_of, tags_of, tag_column, is_blocked, blocked_count, waiting_items}
-use Rattle.queue.proofs.Waiting.{or_false}
 use Rattle.queue.proofs.Eligible.{asked_with, marks_after, eligible_is}
 
 -- those that wait all wait
@@ -40,7 +40,7 @@ marks_waiting asked (a ∷ log) =
           ∙ ap (λ ms. word ∷ ms) (marks_waiting (asked_with asked a) log)
           ∙ ap (λ b. map (λ (e : Arrived × ℕ). e.1) (cond b ((a, word) ∷ filter (λ e. e.0.waits) (zip log rest)) (filter (λ e. e.0.waits) (zip log rest)))) (sym does)
       | inr none ↦
-          let same : (p : Place) → asked_with asked a p ≡ asked p = λ p. ap (λ b. asked p || (b && is_line a.request.place p)) none ∙ or_false (asked p) in
+          let same : (p : Place) → asked_with asked a p ≡ asked p = λ p. ap (λ b. asked p || (b && is_line a.request.place p)) none ∙ or-false (asked p) in
           ap (λ b. marks_after asked (cond b (a ∷ waiting log) (waiting log))) none
           ∙ ap (λ (f : Place → Bool). marks_after f (waiting log)) (λ i p. sym (same p) i)
           ∙ marks_waiting (asked_with asked a) log
@@ -84,7 +84,7 @@ zip_none (a ∷ log) = refl
 nothing_more : (n : ℕ) → n ≡ 0 + n
 nothing_more n = omega arith
 
-abbrev weight : Arrived × ℕ → ℕ
+abbrev pub weight : Arrived × ℕ → ℕ
 weight e = cond (is_blocked e) 1 0
 
 counted_waiting : (log : List Arrived) (marks : List ℕ) → count_by is_blocked (zip (waiting log) (waiting_items log marks)) ≡ count_by is_blocked (zip log marks)

@@ -2,6 +2,7 @@
 use Rattle.std.proofs.Common.{◌≡◌, ℕ, zero, suc, ◌+◌, ◌-◌, ◌<◌, Bool, true, false, not, ◌&&◌, ◌||◌, List, [], ◌∷◌, ◌++◌, length, take, drop, get_or, set, refl, sym, ap, subst, ◌∙◌, inl, inr, arith}
 use Rattle.std.proofs.lemmas.Bool.{cases_Bool, and_parts, false≢true}
 use Rattle.std.proofs.lemmas.List.{length-take-le, length-drop, get_or_at, get_or-take, get_or-drop, set_at, set-append_right}
+use Rattle.std.proofs.Math.Bool.{or-false, and-false}
 use Rattle.sim_base.specs.Places.{is_line}
 use Rattle.sim_base.specs.Scheduling.{asks_for_line}
 use Rattle.sim_base.specs.declared.place.Place.{Place}
@@ -9,7 +10,7 @@ use Rattle.queue.specs.declared.request_log.Arrived.{Arrived}
 use Rattle.queue.specs.Marks.{mark, is_marked}
 use Rattle.queue.specs.Log.{absent, waiting, waiting_requests, eligible_column, is_for, served_at, waits_at}
 use Rattle.queue.proofs.SameLine.{line_same, line_apart, line_itself}
-use Rattle.queue.proofs.Waiting.{or_false, asks_first, asks_some}
+use Rattle.queue.proofs.Waiting.{asks_first, asks_some}
 use Rattle.queue.proofs.Eligible.{asked_with, marks_after, eligible_is, length-marks, split_marks}
 use Rattle.queue.proofs.Places.{around, left_off, served_around}
 
@@ -17,7 +18,7 @@ or_swap : (a b c : Bool) → ((a || b) || c) ≡ ((a || c) || b)
 or_swap true b c = refl
 or_swap false true true = refl
 or_swap false true false = refl
-or_swap false false c = sym (or_false c)
+or_swap false false c = sym (or-false c)
 
 or_twice : (a b : Bool) → ((a || b) || b) ≡ (a || b)
 or_twice true b = refl
@@ -32,7 +33,7 @@ with_line asked p q = asked q || is_line p q
 kept_asked : (asked : Place → Bool) (p q : Place) → asked p ≡ true → with_line asked p q ≡ asked q
 kept_asked asked p q before = elim (cases_Bool (is_line p q)) [
   | inl same ↦ let there : asked q ≡ true = subst (λ x. asked x ≡ true) (line_same p q same) before in ap (λ b. b || is_line p q) there ∙ sym there
-  | inr apart ↦ ap (λ b. asked q || b) apart ∙ or_false (asked q)
+  | inr apart ↦ ap (λ b. asked q || b) apart ∙ or-false (asked q)
 ]
 
 unblocked_here : (asked : Place → Bool) (p : Place) (b : Arrived) (log : List Arrived) → asked p ≡ false → is_for p b ≡ true
@@ -52,7 +53,7 @@ unblocked_head : (asked : Place → Bool) (p : Place) (b : Arrived) → is_for p
 unblocked_head asked p b apart = elim (cases_Bool b.waits) [
   | inl does ↦
       let other : is_line b.request.place p ≡ false = ap (λ w. w && is_line b.request.place p) (sym does) ∙ apart in
-      ap (λ t. mark (b.waits && not (asked b.request.place || t))) (line_apart b.request.place p other) ∙ ap (λ t. mark (b.waits && not t)) (or_false (asked b.request.place))
+      ap (λ t. mark (b.waits && not (asked b.request.place || t))) (line_apart b.request.place p other) ∙ ap (λ t. mark (b.waits && not t)) (or-false (asked b.request.place))
   | inr none ↦ ap (λ w. mark (w && not (with_line asked p b.request.place))) none ∙ ap (λ w. mark (w && not (asked b.request.place))) (sym none)
 ]
 
@@ -76,7 +77,7 @@ served_marks : (older later : List Arrived) (a : Arrived)
     → eligible_column (older ++ left_off a ∷ later) ≡ marks_after (λ p. false) older ++ 0 ∷ marks_after (λ p. asks_for_line p (waiting_requests older)) later
 served_marks older later a =
     split_marks older later (left_off a)
-    ∙ ap (λ (f : Place → Bool). marks_after (λ p. false) older ++ 0 ∷ marks_after f later) (λ i p. or_false (asks_for_line p (waiting_requests older)) i)
+    ∙ ap (λ (f : Place → Bool). marks_after (λ p. false) older ++ 0 ∷ marks_after f later) (λ i p. or-false (asks_for_line p (waiting_requests older)) i)
 
 -- the marks of a log without that at a place whose request waits
 cleared_marks : (older later : List Arrived) (a : Arrived) (slot : ℕ) → length older ≡ slot → a.waits ≡ true
@@ -109,10 +110,6 @@ marked_at : (log : List Arrived) (k : ℕ) → k < length log
 marked_at log k within =
     ap (λ (l : List Arrived). is_marked (get_or (eligible_column l) k 0)) (around log k absent within)
     ∙ marked_there (take k log) (drop (k + 1) log) (get_or log k absent) k (length-take-le k log (omega (arith, within)))
-
-never : (b : Bool) → (b && false) ≡ false
-never true = refl
-never false = refl
 
 turned : (b c : Bool) → not b ≡ c → b ≡ not c
 turned true c is = ap not is
@@ -186,7 +183,7 @@ blocked_behind log slot k behind within waits here =
     ∙ (λ i. waits i && is_line a.request.place (line_same b.request.place a.request.place parts.1 i))
     ∙ line_itself a.request.place in
     let asked = asks_some b.request.place (take k log) slot (omega (arith, behind, within, length-take-le k log (omega (arith, within)))) older in
-    marked_at log k within ∙ ap (λ t. b.waits && not t) asked ∙ never b.waits
+    marked_at log k within ∙ ap (λ t. b.waits && not t) asked ∙ and-false b.waits
 
 -- where none that waits for a line is marked, the line is not asked for
 none_marked : (asked : Place → Bool) (p : Place) (log : List Arrived) → asked p ≡ false

@@ -1,10 +1,12 @@
 -- What the candidates of all banks stand for, when those of one bank change.
-use Rattle.std.proofs.Common.{◌≡◌, ℕ, ◌+◌, ◌*◌, ◌/◌, ◌%◌, ◌^◌, ◌<◌, ◌≤◌, Bool, true, false, cond, ◌&&◌, eqb, ltb, List, [], ◌∷◌, ◌++◌, length, map, filter, get_or, set, take, drop, replicate, Option, Some, None, refl, sym, ap, subst, ◌∙◌, inl, inr, arith, get_or-set_same, get_or-set_other}
+use Rattle.std.proofs.Common.{◌≡◌, ℕ, ◌+◌, ◌*◌, ◌/◌, ◌%◌, ◌^◌, ◌<◌, ◌≤◌, Bool, true, false, cond, ◌&&◌, eqb, ltb, List, [], ◌∷◌, ◌++◌, length, map, get_or, set, take, drop, replicate, Option, Some, None, refl, sym, ap, subst, ◌∙◌, inl, inr, arith, get_or-set_same, get_or-set_other}
 use Rattle.std.proofs.lemmas.Bool.{cases_lt, cases_eq, eq-eqb, ne_eqb, cond-true, cond-false, lt-ltb, le-ltb, and_from, and_parts, eqb-true, false_from_ne_true}
-use Rattle.std.proofs.lemmas.List.{get_or-replicate, length-replicate, length-set, length-map, length-take-le, map-append, get_or_at}
+use Rattle.std.proofs.lemmas.List.{get_or-replicate, length-replicate, length-set, length-take-le, map-append, get_or_at}
 use Rattle.std.proofs.lemmas.List.Elements.{All-push}
-use Rattle.std.proofs.lemmas.List.Sums.{length-filter, count_by-le-length}
 use Rattle.std.specs.List.{All, position, zip}
+use Rattle.std.proofs.Math.Bool.{and-false}
+use Rattle.sim_base.specs.declared.message.Access.{Access}
+use Rattle.sim_base.specs.declared.message.Access.TheVariants as access
 use Rattle.sim_base.specs.Places.{is_bank}
 use Rattle.sim_base.specs.Rules.{is_row}
 use Rattle.sim_base.specs.Scheduling.{asks_for_line, or_else}
@@ -20,7 +22,7 @@ use Rattle.queue.proofs.Places.{around, all_served}
 use Rattle.queue.proofs.Renumbered.{waiting_twice}
 use Rattle.queue.proofs.Waiting.{waiting_append, waiting_one}
 use Rattle.queue.specs.declared.bank_candidates.all_banks.BankCandidates.{BankCandidates}
-use Rattle.queue.specs.Candidates.{asks, hits, passes, first_place, AreFirst, AreCandidates, RowsFit, access_number, access_of, bank_at, number_of}
+use Rattle.queue.specs.Candidates.{asks, hits, passes, first_place, AreFirst, AreCandidates, RowsFit, access_number, access_number_of, bank_at, number_of}
 use Rattle.queue.specs.Moves.{earlier}
 use Rattle.queue.specs.Served.{IsServed, AreFirstWith}
 use Rattle.queue.specs.Places.{candidate_in, access_in}
@@ -28,16 +30,17 @@ use Rattle.queue.specs.Stands.{bank_count, candidates_of_bank, StandsFor, Stands
 use Rattle.queue.proofs.BankCandidatesCounted.{AreCounted}
 use Rattle.queue.proofs.Entries.{eligible_append}
 use Rattle.queue.proofs.Joined.{may_follow, access_kept, access_joined}
-use Rattle.queue.proofs.OneBank.{asks_own, wants_access, access_bank, access_write}
+use Rattle.queue.proofs.OneBank.{asks_own, wants_access, number_bank, number_access}
 use Rattle.queue.proofs.BankCandidatesServed.{earlier_none, other_candidate}
 use Rattle.queue.proofs.Waits.{all_waiting}
+use Rattle.queue.proofs.Served.{marked_mark}
 
 -- What candidates stand for, of their parts.
 pub record AreStanding (rows : List (Option ℕ)) (words : List ℕ) (log : List Arrived) (open_rows : ℕ → Option ℕ) : Type 0 where
   pub within : All (λ r. bank_number r.place < length rows) (all_requests log)
   pub fit : RowsFit (all_requests log)
   pub opened : (bank : ℕ) → bank < length rows → get_or rows bank None ≡ open_rows bank
-  pub first : (bank : ℕ) (write : Bool) → bank < length rows → AreFirst log bank write (open_rows bank) (access_in words (access_number bank write))
+  pub first : (bank : ℕ) (access : Access) → bank < length rows → AreFirst log bank access (open_rows bank) (access_in words (access_number bank access))
 
 pub to_parts : (candidates : BankCandidates) (log : List Arrived) (open_rows : ℕ → Option ℕ) → StandsFor candidates log open_rows
     → AreStanding candidates.rows.items candidates.places.words.items log open_rows
@@ -46,29 +49,29 @@ to_parts candidates log open_rows stands =
       within = stands.within;
       fit = stands.rows_fit;
       opened = stands.rows_are;
-      first = λ bank write exists.
-          subst (λ row. AreFirst log bank write row (access_in candidates.places.words.items (access_number bank write))) (stands.rows_are bank exists)
-          (of_access bank write exists (stands.candidates_are bank exists));
+      first = λ bank access exists.
+          subst (λ row. AreFirst log bank access row (access_in candidates.places.words.items (access_number bank access))) (stands.rows_are bank exists)
+          (of_access bank access exists (stands.candidates_are bank exists));
     }
   where
-    of_access : (bank : ℕ) (write : Bool) → bank < bank_count candidates
+    of_access : (bank : ℕ) (access : Access) → bank < bank_count candidates
         → AreCandidates log bank (candidates_of_bank candidates bank)
-        → AreFirst log bank write (get_or candidates.rows.items bank None) (access_in candidates.places.words.items (access_number bank write))
-    of_access bank true exists are = are.writes_are
-    of_access bank false exists are = are.reads_are
+        → AreFirst log bank access (get_or candidates.rows.items bank None) (access_in candidates.places.words.items (access_number bank access))
+    of_access bank access.Write exists are = are.writes_are
+    of_access bank access.Read exists are = are.reads_are
 
 pub from_parts : (candidates : BankCandidates) (log : List Arrived) (open_rows : ℕ → Option ℕ)
     → AreStanding candidates.rows.items candidates.places.words.items log open_rows
     → AreCounted candidates.counts.items (waiting_requests log) → StandsFor candidates log open_rows
 from_parts candidates log open_rows parts counted =
-    let first : (bank : ℕ) (write : Bool) → bank < bank_count candidates
-    → AreFirst log bank write (get_or candidates.rows.items bank None) (access_in candidates.places.words.items (access_number bank write)) =
-    λ bank write exists. subst (λ row. AreFirst log bank write row (access_in candidates.places.words.items (access_number bank write))) (sym (parts.opened bank exists)) (parts.first bank write exists) in
+    let first : (bank : ℕ) (access : Access) → bank < bank_count candidates
+    → AreFirst log bank access (get_or candidates.rows.items bank None) (access_in candidates.places.words.items (access_number bank access)) =
+    λ bank access exists. subst (λ row. AreFirst log bank access row (access_in candidates.places.words.items (access_number bank access))) (sym (parts.opened bank exists)) (parts.first bank access exists) in
     record {
       within = parts.within;
       rows_fit = parts.fit;
       rows_are = parts.opened;
-      candidates_are = λ bank exists. record { reads_are = first bank false exists; writes_are = first bank true exists };
+      candidates_are = λ bank exists. record { reads_are = first bank access.Read exists; writes_are = first bank access.Write exists };
       counts_are = counted;
     }
 
@@ -77,20 +80,16 @@ all_push : (P : Request → Type 0) (older : List Arrived) (a : Arrived) → All
 all_push P older a all here = subst (All P) (sym (map-append (λ (x : Arrived). x.request) older (a ∷ []))) (All-push P (all_requests older) a.request all here)
 
 -- a request asks for no other bank and access than its own
-asks_own_access : (r : Request) (bank : ℕ) (write : Bool) → (access_number bank write ≡ access_of r → ⊥) → asks bank write r ≡ false
-asks_own_access r bank write apart = false_from_ne_true (asks bank write r) (λ is. apart (sym (eqb-true (access_of r) (access_number bank write) (wants_access bank write None r is))))
-
-never_and : (b : Bool) → (b && false) ≡ false
-never_and true = refl
-never_and false = refl
+asks_own_access : (r : Request) (bank : ℕ) (access : Access) → (access_number bank access ≡ access_number_of r → ⊥) → asks bank access r ≡ false
+asks_own_access r bank access apart = false_from_ne_true (asks bank access r) (λ is. apart (sym (eqb-true (access_number_of r) (access_number bank access) (wants_access bank access None r is))))
 
 -- a request more, which may be served
 pub joined_stand : (rows : List (Option ℕ)) (old new : List ℕ) (older : List Arrived) (a : Arrived) (open_rows : ℕ → Option ℕ) (slot : ℕ) (hit : Bool)
     → slot ≡ length older → bank_number a.request.place < length rows → a.request.place.row < 2 ^ 32 → may_follow older a ≡ true
     → hit ≡ is_row a.request.place.row (get_or rows (bank_number a.request.place) None)
-    → candidate_in new (access_of a.request) false ≡ or_else (candidate_in old (access_of a.request) false) (Some slot)
-    → candidate_in new (access_of a.request) true ≡ cond hit (or_else (candidate_in old (access_of a.request) true) (Some slot)) (candidate_in old (access_of a.request) true)
-    → ((access : ℕ) → (access ≡ access_of a.request → ⊥) → access_in new access ≡ access_in old access) → AreStanding rows old older open_rows → AreStanding rows new (older ++ a ∷ []) open_rows
+    → candidate_in new (access_number_of a.request) false ≡ or_else (candidate_in old (access_number_of a.request) false) (Some slot)
+    → candidate_in new (access_number_of a.request) true ≡ cond hit (or_else (candidate_in old (access_number_of a.request) true) (Some slot)) (candidate_in old (access_number_of a.request) true)
+    → ((number : ℕ) → (number ≡ access_number_of a.request → ⊥) → access_in new number ≡ access_in old number) → AreStanding rows old older open_rows → AreStanding rows new (older ++ a ∷ []) open_rows
 joined_stand rows old new older a open_rows slot hit long exists short follows hit_is oldest_joined hit_joined others stands =
     let r = a.request in
     let own = bank_number r.place in
@@ -98,19 +97,19 @@ joined_stand rows old new older a open_rows slot hit long exists short follows h
       within = all_push (λ (x : Request). bank_number x.place < length rows) older a stands.within exists;
       fit = all_push (λ (x : Request). x.place.row < 2 ^ 32) older a stands.fit short;
       opened = stands.opened;
-      first = λ bank write there. elim (cases_eq (access_number bank write) (access_of r)) [
+      first = λ bank access there. elim (cases_eq (access_number bank access) (access_number_of r)) [
         | inl same ↦
-            let bank_is : own ≡ bank = sym (access_bank bank own write r.write same) in
-            let write_is : r.write ≡ write = access_write own bank r.write write (sym same) in
-            let here : AreFirst (older ++ a ∷ []) own r.write (open_rows own) (access_in new (access_of r)) =
-            access_joined older a own slot r.write (open_rows own) hit (access_in old (access_of r)) (access_in new (access_of r)) long follows (asks_own r own refl)
-            (hit_is ∙ ap (is_row r.place.row) (stands.opened own exists)) oldest_joined hit_joined (stands.first own r.write exists) in
-            subst (λ b. AreFirst (older ++ a ∷ []) b write (open_rows b) (access_in new (access_number b write))) bank_is
-            (subst (λ w. AreFirst (older ++ a ∷ []) own w (open_rows own) (access_in new (access_number own w))) write_is here)
+            let bank_is : own ≡ bank = sym (number_bank bank own access r.access same) in
+            let access_is : r.access ≡ access = number_access own bank r.access access (sym same) in
+            let here : AreFirst (older ++ a ∷ []) own r.access (open_rows own) (access_in new (access_number_of r)) =
+            access_joined older a own slot r.access (open_rows own) hit (access_in old (access_number_of r)) (access_in new (access_number_of r)) long follows (asks_own r own refl)
+            (hit_is ∙ ap (is_row r.place.row) (stands.opened own exists)) oldest_joined hit_joined (stands.first own r.access exists) in
+            subst (λ b. AreFirst (older ++ a ∷ []) b access (open_rows b) (access_in new (access_number b access))) bank_is
+            (subst (λ w. AreFirst (older ++ a ∷ []) own w (open_rows own) (access_in new (access_number own w))) access_is here)
         | inr apart ↦
-            subst (AreFirst (older ++ a ∷ []) bank write (open_rows bank)) (sym (others (access_number bank write) apart))
-            (access_kept older a bank write (open_rows bank) (access_in old (access_number bank write))
-            (ap (λ b. may_follow older a && b) (asks_own_access r bank write apart) ∙ never_and (may_follow older a)) (stands.first bank write there))
+            subst (AreFirst (older ++ a ∷ []) bank access (open_rows bank)) (sym (others (access_number bank access) apart))
+            (access_kept older a bank access (open_rows bank) (access_in old (access_number bank access))
+            (ap (λ b. may_follow older a && b) (asks_own_access r bank access apart) ∙ and-false (may_follow older a)) (stands.first bank access there))
       ];
     }
 
@@ -122,22 +121,13 @@ unjoined_stand rows words older a open_rows exists short blocked stands = record
   within = all_push (λ (x : Request). bank_number x.place < length rows) older a stands.within exists;
   fit = all_push (λ (x : Request). x.place.row < 2 ^ 32) older a stands.fit short;
   opened = stands.opened;
-  first = λ bank write there.
-      access_kept older a bank write (open_rows bank) (access_in words (access_number bank write)) (ap (λ b. b && asks bank write a.request) blocked) (stands.first bank write there);
+  first = λ bank access there.
+      access_kept older a bank access (open_rows bank) (access_in words (access_number bank access)) (ap (λ b. b && asks bank access a.request) blocked) (stands.first bank access there);
 }
 
 -- those that wait, with one more
 pub waiting_push : (older : List Arrived) (a : Arrived) → a.waits ≡ true → waiting_requests (older ++ a ∷ []) ≡ waiting_requests older ++ a.request ∷ []
 waiting_push older a waits = waiting_append older (a ∷ []) ∙ ap (λ rs. waiting_requests older ++ rs) (waiting_one a ∙ ap (λ b. cond b (a.request ∷ []) []) waits)
-
-pub few_wait : (log : List Arrived) → length (waiting_requests log) ≤ length log
-unfolding waiting
-few_wait log = omega (arith, length-map (filter (λ (a : Arrived). a.waits) log) (λ (a : Arrived). a.request), length-filter (λ (a : Arrived). a.waits) log, count_by-le-length (λ (a : Arrived). a.waits) log)
-
--- whether a request that was read may follow those before it
-marked_mark : (b : Bool) → is_marked (mark b) ≡ b
-marked_mark true = refl
-marked_mark false = refl
 
 pub mark_read : (log : List Arrived) (slot : ℕ) → slot < length log → is_marked (get_or (eligible_column log) slot 0) ≡ may_follow (take slot log) (get_or log slot absent)
 mark_read log slot exists =
@@ -153,34 +143,34 @@ mark_read log slot exists =
 -- where one request was served, and the candidates of its access have left it
 pub left_stand : (candidates : BankCandidates) (old : List ℕ) (was log : List Arrived) (slot : ℕ) (unblocked : Option ℕ) (open_rows : ℕ → Option ℕ) → IsServed was slot unblocked log
     → (let r = (get_or was slot absent).request in
-    AreFirstWith log (bank_number r.place) r.write (open_rows (bank_number r.place)) unblocked (access_in candidates.places.words.items (access_of r)))
-    → ((access : ℕ) → (access ≡ access_of (get_or was slot absent).request → ⊥) → access_in candidates.places.words.items access ≡ access_in old access)
+    AreFirstWith log (bank_number r.place) r.access (open_rows (bank_number r.place)) unblocked (access_in candidates.places.words.items (access_number_of r)))
+    → ((number : ℕ) → (number ≡ access_number_of (get_or was slot absent).request → ⊥) → access_in candidates.places.words.items number ≡ access_in old number)
     → AreStanding candidates.rows.items old was open_rows → AreCounted candidates.counts.items (waiting_requests log) → StandsUpTo candidates log unblocked open_rows
 left_stand candidates old was log slot unblocked open_rows served own others stands counted =
     let r = (get_or was slot absent).request in
     let number = bank_number r.place in
     let words = candidates.places.words.items in
     let all : all_requests log ≡ all_requests was = ap all_requests served.log_is ∙ all_served was slot in
-    let kept : (bank : ℕ) (write : Bool) → (access_number bank write ≡ access_of r → ⊥) → AreFirst was bank write (open_rows bank) (access_in old (access_number bank write))
-    → AreFirstWith log bank write (open_rows bank) unblocked (access_in old (access_number bank write)) =
-    λ bank write apart first.
-    let fails = asks_own_access r bank write apart in
+    let kept : (bank : ℕ) (access : Access) → (access_number bank access ≡ access_number_of r → ⊥) → AreFirst was bank access (open_rows bank) (access_in old (access_number bank access))
+    → AreFirstWith log bank access (open_rows bank) unblocked (access_in old (access_number bank access)) =
+    λ bank access apart first.
+    let fails = asks_own_access r bank access apart in
     record {
-      oldest_is = other_candidate (asks bank write) was log slot unblocked _ served fails first.oldest_is;
-      hit_is = other_candidate (hits bank write (open_rows bank)) was log slot unblocked _ served (ap (λ b. b && is_row r.place.row (open_rows bank)) fails) first.hit_is;
+      oldest_is = other_candidate (asks bank access) was log slot unblocked _ served fails first.oldest_is;
+      hit_is = other_candidate (hits bank access (open_rows bank)) was log slot unblocked _ served (ap (λ b. b && is_row r.place.row (open_rows bank)) fails) first.hit_is;
     } in
     record {
       within = subst (All (λ (x : Request). bank_number x.place < bank_count candidates)) (sym all) stands.within;
       rows_fit = subst RowsFit (sym all) stands.fit;
       rows_are = stands.opened;
-      candidates_are = λ bank write exists. elim (cases_eq (access_number bank write) (access_of r)) [
+      candidates_are = λ bank access exists. elim (cases_eq (access_number bank access) (access_number_of r)) [
         | inl same ↦
-            let bank_is : number ≡ bank = sym (access_bank bank number write r.write same) in
-            let write_is : r.write ≡ write = access_write number bank r.write write (sym same) in
-            subst (λ b. AreFirstWith log b write (open_rows b) unblocked (access_in words (access_number b write))) bank_is
-            (subst (λ w. AreFirstWith log number w (open_rows number) unblocked (access_in words (access_number number w))) write_is own)
+            let bank_is : number ≡ bank = sym (number_bank bank number access r.access same) in
+            let access_is : r.access ≡ access = number_access number bank r.access access (sym same) in
+            subst (λ b. AreFirstWith log b access (open_rows b) unblocked (access_in words (access_number b access))) bank_is
+            (subst (λ w. AreFirstWith log number w (open_rows number) unblocked (access_in words (access_number number w))) access_is own)
         | inr apart ↦
-            subst (AreFirstWith log bank write (open_rows bank) unblocked) (sym (others (access_number bank write) apart)) (kept bank write apart (stands.first bank write exists))
+            subst (AreFirstWith log bank access (open_rows bank) unblocked) (sym (others (access_number bank access) apart)) (kept bank access apart (stands.first bank access exists))
       ];
       counts_are = counted;
     }
@@ -191,8 +181,8 @@ none_unblocked candidates log open_rows stands = from_parts candidates log open_
   within = stands.within;
   fit = stands.rows_fit;
   opened = stands.rows_are;
-  first = λ bank write exists.
-      let first = stands.candidates_are bank write exists in
+  first = λ bank access exists.
+      let first = stands.candidates_are bank access exists in
       record { oldest_is = sym (earlier_none _) ∙ first.oldest_is; hit_is = sym (earlier_none _) ∙ first.hit_is };
 }) stands.counts_are
 
@@ -200,40 +190,40 @@ none_unblocked candidates log open_rows stands = from_parts candidates log open_
 pub unblocked_stand : (old new : List ℕ) (candidates : BankCandidates) (log : List Arrived) (next : ℕ) (open_rows : ℕ → Option ℕ) (hit : Bool)
     → bank_number (get_or log next absent).request.place < bank_count candidates
     → hit ≡ is_row (get_or log next absent).request.place.row (get_or candidates.rows.items (bank_number (get_or log next absent).request.place) None)
-    → (let access = access_of (get_or log next absent).request in candidate_in new access false ≡ earlier (candidate_in old access false) (Some next))
-    → (let access = access_of (get_or log next absent).request in candidate_in new access true ≡ earlier (candidate_in old access true) (cond hit (Some next) None))
-    → ((access : ℕ) → (access ≡ access_of (get_or log next absent).request → ⊥) → access_in new access ≡ access_in old access)
+    → (let number = access_number_of (get_or log next absent).request in candidate_in new number false ≡ earlier (candidate_in old number false) (Some next))
+    → (let number = access_number_of (get_or log next absent).request in candidate_in new number true ≡ earlier (candidate_in old number true) (cond hit (Some next) None))
+    → ((number : ℕ) → (number ≡ access_number_of (get_or log next absent).request → ⊥) → access_in new number ≡ access_in old number)
     → old ≡ candidates.places.words.items → StandsUpTo candidates log (Some next) open_rows → AreStanding candidates.rows.items new log open_rows
 unblocked_stand old new candidates log next open_rows hit exists hit_is oldest_taken hit_taken others same_words stands =
     let r = (get_or log next absent).request in
     let own = bank_number r.place in
-    let before : (bank : ℕ) (write : Bool) → bank < bank_count candidates → AreFirstWith log bank write (open_rows bank) (Some next) (access_in old (access_number bank write)) =
-    λ bank write there. subst (λ ws. AreFirstWith log bank write (open_rows bank) (Some next) (access_in ws (access_number bank write))) (sym same_words) (stands.candidates_are bank write there) in
-    let asked : asks own r.write r ≡ true = asks_own r own refl in
-    let wanted : hits own r.write (open_rows own) r ≡ hit = ap (λ b. b && is_row r.place.row (open_rows own)) asked ∙ ap (is_row r.place.row) (sym (stands.rows_are own exists)) ∙ sym hit_is in
-    let first = before own r.write exists in
-    let taken : AreFirst log own r.write (open_rows own) (access_in new (access_of r)) = record {
-      oldest_is = oldest_taken ∙ ap (λ b. earlier (candidate_in old (access_of r) false) (cond b (Some next) None)) (sym asked) ∙ first.oldest_is;
-      hit_is = hit_taken ∙ ap (λ b. earlier (candidate_in old (access_of r) true) (cond b (Some next) None)) (sym wanted) ∙ first.hit_is;
+    let before : (bank : ℕ) (access : Access) → bank < bank_count candidates → AreFirstWith log bank access (open_rows bank) (Some next) (access_in old (access_number bank access)) =
+    λ bank access there. subst (λ ws. AreFirstWith log bank access (open_rows bank) (Some next) (access_in ws (access_number bank access))) (sym same_words) (stands.candidates_are bank access there) in
+    let asked : asks own r.access r ≡ true = asks_own r own refl in
+    let wanted : hits own r.access (open_rows own) r ≡ hit = ap (λ b. b && is_row r.place.row (open_rows own)) asked ∙ ap (is_row r.place.row) (sym (stands.rows_are own exists)) ∙ sym hit_is in
+    let first = before own r.access exists in
+    let taken : AreFirst log own r.access (open_rows own) (access_in new (access_number_of r)) = record {
+      oldest_is = oldest_taken ∙ ap (λ b. earlier (candidate_in old (access_number_of r) false) (cond b (Some next) None)) (sym asked) ∙ first.oldest_is;
+      hit_is = hit_taken ∙ ap (λ b. earlier (candidate_in old (access_number_of r) true) (cond b (Some next) None)) (sym wanted) ∙ first.hit_is;
     } in
     record {
       within = stands.within;
       fit = stands.rows_fit;
       opened = stands.rows_are;
-      first = λ bank write there. elim (cases_eq (access_number bank write) (access_of r)) [
+      first = λ bank access there. elim (cases_eq (access_number bank access) (access_number_of r)) [
         | inl same ↦
-            let bank_is : own ≡ bank = sym (access_bank bank own write r.write same) in
-            let write_is : r.write ≡ write = access_write own bank r.write write (sym same) in
-            subst (λ b. AreFirst log b write (open_rows b) (access_in new (access_number b write))) bank_is
-            (subst (λ w. AreFirst log own w (open_rows own) (access_in new (access_number own w))) write_is taken)
+            let bank_is : own ≡ bank = sym (number_bank bank own access r.access same) in
+            let access_is : r.access ≡ access = number_access own bank r.access access (sym same) in
+            subst (λ b. AreFirst log b access (open_rows b) (access_in new (access_number b access))) bank_is
+            (subst (λ w. AreFirst log own w (open_rows own) (access_in new (access_number own w))) access_is taken)
         | inr apart ↦
-            let fails = asks_own_access r bank write apart in
-            let kept = before bank write there in
-            subst (AreFirst log bank write (open_rows bank)) (sym (others (access_number bank write) apart))
+            let fails = asks_own_access r bank access apart in
+            let kept = before bank access there in
+            subst (AreFirst log bank access (open_rows bank)) (sym (others (access_number bank access) apart))
             (record {
-              oldest_is = sym (ap (λ b. earlier (candidate_in old (access_number bank write) false) (cond b (Some next) None)) fails ∙ earlier_none _) ∙ kept.oldest_is;
+              oldest_is = sym (ap (λ b. earlier (candidate_in old (access_number bank access) false) (cond b (Some next) None)) fails ∙ earlier_none _) ∙ kept.oldest_is;
               hit_is =
-                  sym (ap (λ b. earlier (candidate_in old (access_number bank write) true) (cond (b && is_row r.place.row (open_rows bank)) (Some next) None)) fails ∙ earlier_none _)
+                  sym (ap (λ b. earlier (candidate_in old (access_number bank access) true) (cond (b && is_row r.place.row (open_rows bank)) (Some next) None)) fails ∙ earlier_none _)
                   ∙ kept.hit_is;
             })
       ];
@@ -241,13 +231,13 @@ unblocked_stand old new candidates log next open_rows hit exists hit_is oldest_t
 
 -- where all candidates were looked for among those that wait
 pub renewed_stand : (rows : List (Option ℕ)) (old new : List ℕ) (was log : List Arrived) (open_rows : ℕ → Option ℕ) → log ≡ waiting was
-    → ((bank : ℕ) (write : Bool) → bank < length rows → AreFirst log bank write (get_or rows bank None) (access_in new (access_number bank write)))
+    → ((bank : ℕ) (access : Access) → bank < length rows → AreFirst log bank access (get_or rows bank None) (access_in new (access_number bank access)))
     → AreStanding rows old was open_rows → AreStanding rows new log open_rows
 renewed_stand rows old new was log open_rows log_is first stands = record {
   within = subst (λ xs. All (λ (x : Request). bank_number x.place < length rows) (all_requests xs)) (sym log_is) (all_waiting (λ (x : Request). bank_number x.place < length rows) was stands.within);
   fit = subst (λ xs. RowsFit (all_requests xs)) (sym log_is) (all_waiting (λ (x : Request). x.place.row < 2 ^ 32) was stands.fit);
   opened = stands.opened;
-  first = λ bank write exists. subst (λ o. AreFirst log bank write o (access_in new (access_number bank write))) (stands.opened bank exists) (first bank write exists);
+  first = λ bank access exists. subst (λ o. AreFirst log bank access o (access_in new (access_number bank access))) (stands.opened bank exists) (first bank access exists);
 }
 
 pub counted_waiting : (counts : List ℕ) (was log : List Arrived) → log ≡ waiting was → AreCounted counts (waiting_requests was) → AreCounted counts (waiting_requests log)
@@ -263,15 +253,15 @@ activated_stand candidates log slot open_rows stands =
       within = subst (All (λ (x : Request). bank_number x.place < bank_count candidates)) (sym (all_activated log slot)) parts.within;
       fit = subst RowsFit (sym (all_activated log slot)) parts.fit;
       opened = parts.opened;
-      first = λ bank write exists.
-          let first = parts.first bank write exists in
-          record { oldest_is = first.oldest_is ∙ same (asks bank write); hit_is = first.hit_is ∙ same (hits bank write (open_rows bank)) };
+      first = λ bank access exists.
+          let first = parts.first bank access exists in
+          record { oldest_is = first.oldest_is ∙ same (asks bank access); hit_is = first.hit_is ∙ same (hits bank access (open_rows bank)) };
     }) (subst (AreCounted candidates.counts.items) (sym (waiting_activated log slot)) stands.counts_are)
 
 -- one bank that is opened or closed
 pub row_stand : (rows : List (Option ℕ)) (old new : List ℕ) (log : List Arrived) (open_rows : ℕ → Option ℕ) (number : ℕ) (row : Option ℕ) → number < length rows
-    → ((write : Bool) → AreFirst log number write row (access_in new (access_number number write)))
-    → ((other : ℕ) (write : Bool) → (other ≡ number → ⊥) → access_in new (access_number other write) ≡ access_in old (access_number other write))
+    → ((access : Access) → AreFirst log number access row (access_in new (access_number number access)))
+    → ((other : ℕ) (access : Access) → (other ≡ number → ⊥) → access_in new (access_number other access) ≡ access_in old (access_number other access))
     → AreStanding rows old log open_rows → AreStanding (set rows number row) new log (with_row number row open_rows)
 row_stand rows old new log open_rows number row exists own others stands =
     let long : length (set rows number row) ≡ length rows = length-set rows number row in
@@ -284,13 +274,13 @@ row_stand rows old new log open_rows number row exists own others stands =
         | inl same ↦ subst (λ b. get_or (set rows number row) b None ≡ with_row number row open_rows b) (sym same) (get_or-set_same rows number row None exists ∙ sym here)
         | inr apart ↦ get_or-set_other rows number bank row None apart ∙ stands.opened bank (omega (arith, long)) ∙ sym (there bank apart)
       ];
-      first = λ bank write within. elim (cases_eq bank number) [
+      first = λ bank access within. elim (cases_eq bank number) [
         | inl same ↦
-            subst (λ b. AreFirst log b write (with_row number row open_rows b) (access_in new (access_number b write))) (sym same)
-            (subst (λ o. AreFirst log number write o (access_in new (access_number number write))) (sym here) (own write))
+            subst (λ b. AreFirst log b access (with_row number row open_rows b) (access_in new (access_number b access))) (sym same)
+            (subst (λ o. AreFirst log number access o (access_in new (access_number number access))) (sym here) (own access))
         | inr apart ↦
-            subst (λ o. AreFirst log bank write o (access_in new (access_number bank write))) (sym (there bank apart))
-            (subst (AreFirst log bank write (open_rows bank)) (sym (others bank write apart)) (stands.first bank write (omega (arith, long))))
+            subst (λ o. AreFirst log bank access o (access_in new (access_number bank access))) (sym (there bank apart))
+            (subst (AreFirst log bank access (open_rows bank)) (sym (others bank access apart)) (stands.first bank access (omega (arith, long))))
       ];
     }
 
@@ -339,7 +329,7 @@ closed_same number rank open_rows apart_rank bank = elim (cases_eq bank number) 
   | inl same ↦
       let none : eqb (bank / 16) rank ≡ false = ap (λ n. eqb (n / 16) rank) same ∙ apart_rank in
       ap (λ b. cond (ltb bank number && b) None (open_rows bank)) none
-      ∙ ap (λ b. cond b None (open_rows bank)) (never_and (ltb bank number) ∙ sym (never_and (ltb bank (number + 1))))
+      ∙ ap (λ b. cond b None (open_rows bank)) (and-false (ltb bank number) ∙ sym (and-false (ltb bank (number + 1))))
       ∙ ap (λ b. cond (ltb bank (number + 1) && b) None (open_rows bank)) (sym none)
   | inr apart ↦ ap (λ b. cond (b && eqb (bank / 16) rank) None (open_rows bank)) (ltb_more bank number apart)
 ]
@@ -373,14 +363,14 @@ bank_named n b group bank = elim (cases_eq n (number_of b)) [
 
 -- candidates of closed banks and of no request
 pub first_stand : (candidates : BankCandidates) (banks : ℕ) → candidates.rows.items ≡ replicate banks None → candidates.counts.items ≡ replicate (2 * banks) 0
-    → ((access : ℕ) (hit : Bool) → candidate_in candidates.places.words.items access hit ≡ None) → StandsFor candidates [] (λ bank. None)
+    → ((number : ℕ) (hit : Bool) → candidate_in candidates.places.words.items number hit ≡ None) → StandsFor candidates [] (λ bank. None)
 unfolding waiting
 first_stand candidates banks closed counts none = from_parts candidates [] (λ bank. None) (record {
   within = λ k d there. absurd (omega arith);
   fit = λ k d there. absurd (omega arith);
   opened = λ bank exists. ap (λ xs. get_or xs bank None) closed ∙ get_or-replicate banks bank None None (omega (arith, ap length closed, length-replicate banks (let none : Option ℕ = None in none)));
-  first = λ bank write exists. record { oldest_is = none (access_number bank write) false; hit_is = none (access_number bank write) true };
-}) (λ access exists. ap (λ xs. get_or xs access 0) counts ∙ get_or-replicate (2 * banks) access 0 0 (omega (arith, ap length counts, length-replicate {A = ℕ} (2 * banks) 0)))
+  first = λ bank access exists. record { oldest_is = none (access_number bank access) false; hit_is = none (access_number bank access) true };
+}) (λ number exists. ap (λ xs. get_or xs number 0) counts ∙ get_or-replicate (2 * banks) number 0 0 (omega (arith, ap length counts, length-replicate {A = ℕ} (2 * banks) 0)))
 
 -- the bank with the number of a bank
 pub bank_at_number : (b : BankId) → b.group < 4 → b.bank < 4 → bank_at (number_of b) ≡ b

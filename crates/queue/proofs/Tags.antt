@@ -3,6 +3,8 @@ use Rattle.std.proofs.Common.{◌≡◌, ℕ, zero, suc, ◌%◌, ◌<◌, Bool,
 use Rattle.std.proofs.lemmas.Bool.{cases_Bool, le-leb, lt-leb}
 use Rattle.std.proofs.Math.Nat.{mod-lt}
 use Rattle.std.proofs.lemmas.Simd.{get_or-zip2, length-zip2}
+use Rattle.sim_base.specs.declared.message.Access.TheVariants as access
+use Rattle.sim_base.specs.declared.message.Access.{Access}
 use Rattle.queue.specs.declared.request_log.Arrived.{Arrived}
 use Rattle.queue.specs.Marks.{is_marked}
 use Rattle.queue.specs.Log.{absent, eligible_column}
@@ -19,19 +21,19 @@ pub tag_there : (log : List Arrived) (k : ℕ) (d : Arrived) → k < length log
 unfolding tag_column
 tag_there log k d within = get_or-zip2 (λ a m. tag_of (is_marked m) a) log (eligible_column log) k d 0 0 within (omega (arith, length-eligible log))
 
-told_word : (write : Bool) (bank : ℕ) → leb 128 (tag_word true write bank) ≡ true
-told_word true bank = le-leb 128 (tag_word true true bank) (omega arith)
-told_word false bank = le-leb 128 (tag_word true false bank) (omega arith)
+told_word : (access : Access) (bank : ℕ) → leb 128 (tag_word true access bank) ≡ true
+told_word access.Write bank = le-leb 128 (tag_word true access.Write bank) (omega arith)
+told_word access.Read bank = le-leb 128 (tag_word true access.Read bank) (omega arith)
 
-untold_word : (write : Bool) (bank : ℕ) → leb 128 (tag_word false write bank) ≡ false
-untold_word true bank = let small : bank % 64 < 64 = mod-lt bank (omega arith) in lt-leb 128 (tag_word false true bank) (omega (arith, small))
-untold_word false bank = let small : bank % 64 < 64 = mod-lt bank (omega arith) in lt-leb 128 (tag_word false false bank) (omega (arith, small))
+untold_word : (access : Access) (bank : ℕ) → leb 128 (tag_word false access bank) ≡ false
+untold_word access.Write bank = let small : bank % 64 < 64 = mod-lt bank (omega arith) in lt-leb 128 (tag_word false access.Write bank) (omega (arith, small))
+untold_word access.Read bank = let small : bank % 64 < 64 = mod-lt bank (omega arith) in lt-leb 128 (tag_word false access.Read bank) (omega (arith, small))
 
 told_of : (a : Arrived) (eligible : Bool) → (eligible ≡ true → a.waits ≡ true) → leb 128 (tag_of eligible a) ≡ eligible
-told_of a true waits = ap (λ b. leb 128 (cond b (tag_word true a.request.write (bank_number a.request.place)) left_tag)) (waits refl) ∙ told_word a.request.write (bank_number a.request.place)
+told_of a true waits = ap (λ b. leb 128 (cond b (tag_word true a.request.access (bank_number a.request.place)) left_tag)) (waits refl) ∙ told_word a.request.access (bank_number a.request.place)
 told_of a false waits = elim (cases_Bool a.waits) [
-  | inl does ↦ ap (λ b. leb 128 (cond b (tag_word false a.request.write (bank_number a.request.place)) left_tag)) does ∙ untold_word a.request.write (bank_number a.request.place)
-  | inr not ↦ ap (λ b. leb 128 (cond b (tag_word false a.request.write (bank_number a.request.place)) left_tag)) not
+  | inl does ↦ ap (λ b. leb 128 (cond b (tag_word false a.request.access (bank_number a.request.place)) left_tag)) does ∙ untold_word a.request.access (bank_number a.request.place)
+  | inr not ↦ ap (λ b. leb 128 (cond b (tag_word false a.request.access (bank_number a.request.place)) left_tag)) not
 ]
 
 any-default : (xs : List ℕ) (k d e : ℕ) → k < length xs → get_or xs k d ≡ get_or xs k e

@@ -11,6 +11,7 @@ use Rattle.queue.specs.Log.{absent, waiting_requests, eligible_column, arrived_n
 use Rattle.queue.specs.Columns.{tag_of, tags_of, tag_column, left_tag, is_blocked, blocked_count}
 use Rattle.queue.proofs.Eligible.{eligible_push, length-eligible}
 use Rattle.queue.proofs.Served.{marked_mark}
+use Rattle.queue.proofs.Renumbered.{weight}
 
 tags_push : (log : List Arrived) (marks : List ℕ) (a : Arrived) (m : ℕ) → length log ≡ length marks → tags_of (log ++ a ∷ []) (marks ++ m ∷ []) ≡ tags_of log marks ++ tag_of (is_marked m) a ∷ []
 tags_push [] [] a m same = refl
@@ -52,9 +53,6 @@ tag_unblocked log slot next marks =
     ap (tags_of left) marks
     ∙ tags_marked left (set (eligible_column log) slot 0) next absent
     ∙ ap (λ tags. set tags next (tag_of true (get_or left next absent))) (tags_set log (eligible_column log) slot _ 0)
-
-abbrev weight : Arrived × ℕ → ℕ
-weight e = cond (is_blocked e) 1 0
 
 zip_push : (log : List Arrived) (marks : List ℕ) (a : Arrived) (m : ℕ) → length log ≡ length marks → zip (log ++ a ∷ []) (marks ++ m ∷ []) ≡ zip log marks ++ (a, m) ∷ []
 zip_push [] [] a m same = refl

@@ -3,8 +3,11 @@ use Rattle.std.proofs.Common.{◌≡◌, ℕ, ◌+◌, ◌-◌, ◌<◌, Bool, t
 use Rattle.std.proofs.lemmas.Bool.{cases_Bool, cases_lt, and_parts, and_from, eqb-true, eq-eqb, false≢true, false_from_ne_true}
 use Rattle.std.proofs.lemmas.List.{get_or-drop}
 use Rattle.memchr.specs.Find.{is_byte2, Nowhere, Passes}
+use Rattle.sim_base.specs.declared.message.Access.{Access}
+use Rattle.sim_base.specs.declared.message.Access.TheVariants as access
 use Rattle.sim_base.specs.declared.place.Place.{Place}
 use Rattle.std.specs.Prelude.{is_some}
+use Rattle.std.proofs.Math.Bool.{or-true}
 use Rattle.sim_base.specs.Places.{is_line}
 use Rattle.sim_base.specs.Scheduling.{asks_for_line}
 use Rattle.queue.specs.Marks.{is_marked}
@@ -15,15 +18,15 @@ use Rattle.queue.specs.Lines.{is_told, NoneTold, IsFirstTold}
 use Rattle.queue.proofs.SameLine.{line_same}
 use Rattle.queue.proofs.Served.{none_asked}
 use Rattle.queue.proofs.Tags.{tag_there}
-use Rattle.queue.proofs.Waiting.{or_true, asks_some}
+use Rattle.queue.proofs.Waiting.{asks_some}
 
-passes : (eligible w : Bool) (bank read write tag : ℕ) → read ≡ tag_word eligible false bank → write ≡ tag_word eligible true bank → tag ≡ tag_word eligible w bank → is_byte2 read write tag ≡ true
-passes eligible true bank read write tag read_is write_is tag_is = ap (λ b. eqb tag read || b) (eq-eqb tag write (tag_is ∙ sym write_is)) ∙ or_true (eqb tag read)
-passes eligible false bank read write tag read_is write_is tag_is = ap (λ b. b || eqb tag write) (eq-eqb tag read (tag_is ∙ sym read_is))
+passes : (eligible : Bool) (w : Access) (bank read write tag : ℕ) → read ≡ tag_word eligible access.Read bank → write ≡ tag_word eligible access.Write bank → tag ≡ tag_word eligible w bank → is_byte2 read write tag ≡ true
+passes eligible access.Write bank read write tag read_is write_is tag_is = ap (λ b. eqb tag read || b) (eq-eqb tag write (tag_is ∙ sym write_is)) ∙ or-true (eqb tag read)
+passes eligible access.Read bank read write tag read_is write_is tag_is = ap (λ b. b || eqb tag write) (eq-eqb tag read (tag_is ∙ sym read_is))
 
 -- the requests whose tags are passed over are not told
-pub none_told : (eligible : Bool) (place : Place) (log : List Arrived) (tags hay : List ℕ) (from at n read write : ℕ) → hay ≡ drop at tags → read ≡ tag_word eligible false (bank_number place)
-    → write ≡ tag_word eligible true (bank_number place) → NoneTold eligible place log tags from at → Nowhere (Passes (is_byte2 read write) hay) 0 n → NoneTold eligible place log tags from (at + n)
+pub none_told : (eligible : Bool) (place : Place) (log : List Arrived) (tags hay : List ℕ) (from at n read write : ℕ) → hay ≡ drop at tags → read ≡ tag_word eligible access.Read (bank_number place)
+    → write ≡ tag_word eligible access.Write (bank_number place) → NoneTold eligible place log tags from at → Nowhere (Passes (is_byte2 read write) hay) 0 n → NoneTold eligible place log tags from (at + n)
 none_told eligible place log tags hay from at n read write hay_is read_is write_is none others k low high = elim (cases_lt k at) [
   | inl sooner ↦ none k low sooner
   | inr late ↦
@@ -33,8 +36,8 @@ none_told eligible place log tags hay from at n read write hay_is read_is write_
       let there : get_or hay (k - at) 0 ≡ tag = ap (λ xs. get_or xs (k - at) 0) hay_is ∙ get_or-drop at tags (k - at) 0 ∙ ap (λ j. get_or tags j 0) place_is in
       elim (cases_Bool (is_told eligible place a tag)) [
         | inl told ↦
-            let parts = and_parts (is_for place a) (eqb tag (tag_word eligible a.request.write (bank_number place))) told in
-            let same = passes eligible a.request.write (bank_number place) read write (get_or hay (k - at) 0) read_is write_is (there ∙ eqb-true tag _ parts.1) in
+            let parts = and_parts (is_for place a) (eqb tag (tag_word eligible a.request.access (bank_number place))) told in
+            let same = passes eligible a.request.access (bank_number place) read write (get_or hay (k - at) 0) read_is write_is (there ∙ eqb-true tag _ parts.1) in
             absurd (others (k - at) (omega arith) (omega (arith, high, late)) same)
         | inr other ↦ other
       ]
@@ -48,7 +51,7 @@ none_further eligible place log tags from at none here k low high = elim (cases_
   | inr late ↦
       let same : k ≡ at = omega (arith, high, late) in
       ap (λ j. is_told eligible place (get_or log j absent) (get_or tags j 0)) same
-      ∙ ap (λ b. b && eqb (get_or tags at 0) (tag_word eligible (get_or log at absent).request.write (bank_number place))) here
+      ∙ ap (λ b. b && eqb (get_or tags at 0) (tag_word eligible (get_or log at absent).request.access (bank_number place))) here
 ]
 
 -- a request that waits for the line has the tag that tells so
@@ -56,9 +59,9 @@ told_tag : (eligible : Bool) (place : Place) (a : Arrived) → is_for place a �
 told_tag eligible place a here =
     let parts = and_parts a.waits (is_line a.request.place place) here in
     let there = line_same a.request.place place parts.1 in
-    let word = tag_word eligible a.request.write (bank_number place) in
+    let word = tag_word eligible a.request.access (bank_number place) in
     let tag : tag_of eligible a ≡ word =
-    (λ i. cond (parts.0 i) (tag_word eligible a.request.write (bank_number (there i))) left_tag) in
+    (λ i. cond (parts.0 i) (tag_word eligible a.request.access (bank_number (there i))) left_tag) in
     and_from (is_for place a) (eqb (tag_of eligible a) word) here (eq-eqb (tag_of eligible a) word tag)
 
 pub told_there : (eligible : Bool) (place : Place) (log : List Arrived) (k : ℕ) → k < length log → is_for place (get_or log k absent) ≡ true → is_marked (get_or (eligible_column log) k 0) ≡ eligible

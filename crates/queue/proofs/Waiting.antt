@@ -3,20 +3,13 @@ use Rattle.std.proofs.Common.{◌≡◌, ℕ, zero, suc, ◌<◌, Bool, true, fa
 use Rattle.std.specs.List.{list_any}
 use Rattle.std.proofs.lemmas.List.{append_assoc, append-nil}
 use Rattle.std.proofs.lemmas.List.Folds.{list_any-append}
+use Rattle.std.proofs.Math.Bool.{or-false, or-true}
 use Rattle.sim_base.specs.Places.{is_line}
 use Rattle.sim_base.specs.Scheduling.{asks_for_line}
 use Rattle.sim_base.specs.declared.message.Request.{Request}
 use Rattle.sim_base.specs.declared.place.Place.{Place}
 use Rattle.queue.specs.declared.request_log.Arrived.{Arrived}
 use Rattle.queue.specs.Log.{absent, waiting, waiting_requests, is_for}
-
-pub or_false : (a : Bool) → (a || false) ≡ a
-or_false true = refl
-or_false false = refl
-
-pub or_true : (a : Bool) → (a || true) ≡ true
-or_true true = refl
-or_true false = refl
 
 -- the request of one, if it waits
 abbrev pub if_waits : Arrived → List Request
@@ -45,7 +38,7 @@ unfolding waiting
 waiting_one a = waiting_first a [] ∙ append-nil (if_waits a)
 
 any-one : (b : Bool) (r : Request) (p : Place) → list_any (λ q. is_line q.place p) (cond b (r ∷ []) []) ≡ (b && is_line r.place p)
-any-one true r p = or_false (is_line r.place p)
+any-one true r p = or-false (is_line r.place p)
 any-one false r p = refl
 
 -- whether some of a log and one more ask for a line
@@ -70,4 +63,4 @@ asks_first p a log =
 pub asks_some : (p : Place) (log : List Arrived) (k : ℕ) → k < length log → is_for p (get_or log k absent) ≡ true → asks_for_line p (waiting_requests log) ≡ true
 asks_some p [] k within here = absurd (omega (arith, within))
 asks_some p (a ∷ log) zero within here = asks_first p a log ∙ ap (λ b. b || asks_for_line p (waiting_requests log)) here
-asks_some p (a ∷ log) (suc k) within here = asks_first p a log ∙ ap (λ b. is_for p a || b) (asks_some p log k (omega (arith, within)) here) ∙ or_true (is_for p a)
+asks_some p (a ∷ log) (suc k) within here = asks_first p a log ∙ ap (λ b. is_for p a || b) (asks_some p log k (omega (arith, within)) here) ∙ or-true (is_for p a)

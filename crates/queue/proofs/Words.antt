@@ -2,6 +2,8 @@
 use Rattle.std.proofs.Common.{◌≡◌, ℕ, zero, suc, ◌+◌, ◌*◌, ◌%◌, ◌^◌, ◌<◌, ◌≢◌, min, Bool, true, false, not, cond, List, length, get_or, set, Option, Some, None, refl, sym, ap, ◌∙◌, inl, inr, arith, add-one, get_or-set_same, get_or-set_other}
 use Rattle.std.proofs.lemmas.Bool.{cases_eq, false≢true}
 use Rattle.std.specs.Option.{is_some}
+use Rattle.sim_base.specs.declared.message.Access.{Access}
+use Rattle.sim_base.specs.declared.message.Access.TheVariants as access
 use Rattle.queue.specs.declared.bank_candidates.sets.BankSet.{BankSet}
 use Rattle.queue.specs.Candidates.{access_number}
 use Rattle.queue.specs.Moves.{earlier}
@@ -9,17 +11,17 @@ use Rattle.queue.specs.Places.{candidate_of, word_of, column, Agree, candidate_i
 use Rattle.queue.specs.Sets.{is_in}
 
 -- the word of a bank is that of its access
-pub index_is : (bank : ℕ) (write hit : Bool) → 4 * bank + column write hit ≡ 2 * access_number bank write + cond hit 1 0
-index_is bank true true = omega arith
-index_is bank true false = omega arith
-index_is bank false true = omega arith
-index_is bank false false = omega arith
+pub index_is : (bank : ℕ) (access : Access) (hit : Bool) → 4 * bank + column access hit ≡ 2 * access_number bank access + cond hit 1 0
+index_is bank access.Write true = omega arith
+index_is bank access.Write false = omega arith
+index_is bank access.Read true = omega arith
+index_is bank access.Read false = omega arith
 
-pub column_few : (write hit : Bool) → column write hit < 4
-column_few true true = omega arith
-column_few true false = omega arith
-column_few false true = omega arith
-column_few false false = omega arith
+pub column_few : (access : Access) (hit : Bool) → column access hit < 4
+column_few access.Write true = omega arith
+column_few access.Write false = omega arith
+column_few access.Read true = omega arith
+column_few access.Read false = omega arith
 
 pub candidate_word : (o : Option ℕ) → candidate_of (word_of o) ≡ o
 candidate_word None = refl
@@ -51,32 +53,32 @@ set_agrees words sets bank number candidate s four room few agree same others b 
     ]
 
 -- the word that was written is read
-pub read_same : (words : List ℕ) (bank : ℕ) (write hit : Bool) (candidate : Option ℕ) → 4 * bank + 3 < length words
-    → candidate_in (set words (4 * bank + column write hit) (word_of candidate)) (access_number bank write) hit ≡ candidate
-read_same words bank write hit candidate room =
-    let index = 4 * bank + column write hit in
-    let within : index < length words = omega (arith, column_few write hit) in
-    ap (λ n. candidate_of (get_or (set words index (word_of candidate)) n 0)) (sym (index_is bank write hit))
+pub read_same : (words : List ℕ) (bank : ℕ) (access : Access) (hit : Bool) (candidate : Option ℕ) → 4 * bank + 3 < length words
+    → candidate_in (set words (4 * bank + column access hit) (word_of candidate)) (access_number bank access) hit ≡ candidate
+read_same words bank access hit candidate room =
+    let index = 4 * bank + column access hit in
+    let within : index < length words = omega (arith, column_few access hit) in
+    ap (λ n. candidate_of (get_or (set words index (word_of candidate)) n 0)) (sym (index_is bank access hit))
     ∙ ap candidate_of (get_or-set_same words index (word_of candidate) 0 within) ∙ candidate_word candidate
 
 -- and the others are as they were
-pub read_beside : (words : List ℕ) (bank : ℕ) (write hit : Bool) (word : ℕ)
-    → candidate_in (set words (4 * bank + column write hit) word) (access_number bank write) (not hit) ≡ candidate_in words (access_number bank write) (not hit)
-read_beside words bank write hit word =
-    ap candidate_of (get_or-set_other words (4 * bank + column write hit) (2 * access_number bank write + cond (not hit) 1 0) word 0 (apart hit))
+pub read_beside : (words : List ℕ) (bank : ℕ) (access : Access) (hit : Bool) (word : ℕ)
+    → candidate_in (set words (4 * bank + column access hit) word) (access_number bank access) (not hit) ≡ candidate_in words (access_number bank access) (not hit)
+read_beside words bank access hit word =
+    ap candidate_of (get_or-set_other words (4 * bank + column access hit) (2 * access_number bank access + cond (not hit) 1 0) word 0 (apart hit))
   where
-    apart : (h : Bool) → 2 * access_number bank write + cond (not h) 1 0 ≡ 4 * bank + column write h → ⊥
-    apart true e = let i = index_is bank write true in omega arith
-    apart false e = let i = index_is bank write false in omega arith
+    apart : (h : Bool) → 2 * access_number bank access + cond (not h) 1 0 ≡ 4 * bank + column access h → ⊥
+    apart true e = let i = index_is bank access true in omega arith
+    apart false e = let i = index_is bank access false in omega arith
 
-pub read_other : (words : List ℕ) (bank : ℕ) (write hit : Bool) (word access : ℕ) → access ≢ access_number bank write
-    → access_in (set words (4 * bank + column write hit) word) access ≡ access_in words access
-read_other words bank write hit word access other =
-    let index = 4 * bank + column write hit in
-    let is = index_is bank write hit in
-    (λ i. record { oldest = candidate_of (get_or-set_other words index (2 * access + 0) word 0 (apart hit 0 (omega arith) is) i); hit = candidate_of (get_or-set_other words index (2 * access + 1) word 0 (apart hit 1 (omega arith) is) i) })
+pub read_other : (words : List ℕ) (bank : ℕ) (access : Access) (hit : Bool) (word number : ℕ) → number ≢ access_number bank access
+    → access_in (set words (4 * bank + column access hit) word) number ≡ access_in words number
+read_other words bank access hit word number other =
+    let index = 4 * bank + column access hit in
+    let is = index_is bank access hit in
+    (λ i. record { oldest = candidate_of (get_or-set_other words index (2 * number + 0) word 0 (apart hit 0 (omega arith) is) i); hit = candidate_of (get_or-set_other words index (2 * number + 1) word 0 (apart hit 1 (omega arith) is) i) })
   where
-    apart : (h : Bool) (n : ℕ) → n < 2 → 4 * bank + column write hit ≡ 2 * access_number bank write + cond h 1 0 → 2 * access + n ≡ 4 * bank + column write hit → ⊥
+    apart : (h : Bool) (n : ℕ) → n < 2 → 4 * bank + column access hit ≡ 2 * access_number bank access + cond h 1 0 → 2 * number + n ≡ 4 * bank + column access hit → ⊥
     apart true n few is e = other (omega arith)
     apart false n few is e = other (omega arith)
 

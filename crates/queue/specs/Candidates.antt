@@ -1,25 +1,28 @@
 -- What the candidates of a log stand for.
 --     bank_at number, number_of bank      the bank with a number, and the number of a bank
---     asks bank write r      a request asks to write to a bank, or to read from it
---     hits bank write row r      it does, and for the row that is open there
---     wants bank write row r      it does, and for this row if one is given
+--     asks bank access r      a request asks to write to a bank, or to read from it
+--     hits bank access row r      it does, and for the row that is open there
+--     wants bank access row r      it does, and for this row if one is given
 --     RowsFit requests      each asks for a row whose number has 32 bits
 --     first_place test log      the place of the first request that may be served and passes a test
 --     NonePasses test log      no request that waits passes a test
 --     bank_asked_at log slot      the bank of the request at a place
 --     rows_after history      the rows that a list of commands leaves open, by the number of their bank
---     access_number bank write, access_of r      the number of a bank and an access, and of those that a request asks for
---     access_count access requests      how many ask for a bank and an access
---     NoneWaits log bank write      none that waits does
+--     access_number bank access, access_number_of r      the number of a bank and an access, and of those that a request asks for
+--     access_count number requests      how many ask for a bank and an access
+--     NoneWaits log bank access      none that waits does
 --     AreCandidates log bank candidates      each candidate of a bank is the place of the first such request
-use Rattle.std.specs.Prelude.{◌≡◌, ℕ, ◌+◌, ◌*◌, ◌/◌, ◌%◌, ◌^◌, ◌<◌, ◌==◌, Bool, true, false, not, ◌&&◌, List, All, count_by, slice_index_or, position, Option, Some, None, if◌then◌else◌}
+use Rattle.std.specs.Prelude.{◌≡◌, ℕ, ◌+◌, ◌*◌, ◌/◌, ◌%◌, ◌^◌, ◌<◌, ◌==◌, Bool, false, ◌&&◌, List, All, count_by, slice_index_or, position, Option, Some, None}
 use Rattle.std.specs.List.{zip}
+use Rattle.sim_base.specs.Access.{is_access}
+use Rattle.sim_base.specs.declared.message.Access.{Access}
+use Rattle.sim_base.specs.declared.message.Access.TheVariants as access
 use Rattle.sim_base.specs.declared.message.Request.{Request}
 use Rattle.sim_base.specs.declared.place.BankId.{BankId}
 use Rattle.sim_base.specs.Rules.{is_row, open_row}
 use Rattle.sim_base.specs.declared.command.IssuedCommand.{IssuedCommand}
 use Rattle.queue.specs.declared.request_log.Arrived.{Arrived}
-use Rattle.queue.specs.Marks.{is_marked}
+use Rattle.queue.specs.Marks.{is_marked, write_bit}
 use Rattle.queue.specs.Log.{absent, all_requests, waiting_requests, eligible_column}
 use Rattle.queue.specs.Columns.{bank_number}
 use Rattle.queue.specs.declared.bank_candidates.entry.AccessCandidates.{AccessCandidates}
@@ -34,17 +37,17 @@ abbrev pub number_of : BankId → ℕ
 number_of bank = (bank.rank * 4 + bank.group) * 4 + bank.bank
 
 -- a request asks to write to a bank, or to read from it
-abbrev pub asks : ℕ → Bool → Request → Bool
-asks bank write r = (bank_number r.place == bank) && (if write then r.write else not r.write)
+abbrev pub asks : ℕ → Access → Request → Bool
+asks bank access r = (bank_number r.place == bank) && is_access access r.access
 
 -- the same, and for the row that is open there
-abbrev pub hits : ℕ → Bool → Option ℕ → Request → Bool
-hits bank write row r = asks bank write r && is_row r.place.row row
+abbrev pub hits : ℕ → Access → Option ℕ → Request → Bool
+hits bank access row r = asks bank access r && is_row r.place.row row
 
 -- the same, and for a row if one is given
-abbrev pub wants : ℕ → Bool → Option ℕ → Request → Bool
-wants bank write None r = asks bank write r
-wants bank write (Some row) r = asks bank write r && (r.place.row == row)
+abbrev pub wants : ℕ → Access → Option ℕ → Request → Bool
+wants bank access None r = asks bank access r
+wants bank access (Some row) r = asks bank access r && (r.place.row == row)
 
 -- each request asks for a row whose number has 32 bits
 abbrev pub RowsFit : List Request → Type 0
@@ -75,27 +78,27 @@ abbrev pub rows_after : List IssuedCommand → ℕ → Option ℕ
 rows_after history = λ number. open_row (bank_at number) history
 
 -- the number of a bank and an access: twice that of the bank, plus one for a write
-abbrev pub access_number : ℕ → Bool → ℕ
-access_number bank write = bank * 2 + (if write then 1 else 0)
+abbrev pub access_number : ℕ → Access → ℕ
+access_number bank access = bank * 2 + write_bit access
 
 -- the number of the bank and the access of a request
-abbrev pub access_of : Request → ℕ
-access_of r = access_number (bank_number r.place) r.write
+abbrev pub access_number_of : Request → ℕ
+access_number_of r = access_number (bank_number r.place) r.access
 
 -- how many requests ask for a bank and an access
 abbrev pub access_count : ℕ → List Request → ℕ
-access_count access requests = count_by (λ r. access_of r == access) requests
+access_count number requests = count_by (λ r. access_number_of r == number) requests
 
 -- no request that waits asks for a bank and an access
-abbrev pub NoneWaits : List Arrived → ℕ → Bool → Type 0
-NoneWaits log bank write = access_count (access_number bank write) (waiting_requests log) ≡ 0
+abbrev pub NoneWaits : List Arrived → ℕ → Access → Type 0
+NoneWaits log bank access = access_count (access_number bank access) (waiting_requests log) ≡ 0
 
 -- the candidates of a bank to read or to write, where this row is open
-pub record AreFirst (log : List Arrived) (bank : ℕ) (write : Bool) (row : Option ℕ) (candidates : AccessCandidates) : Type 0 where
-  pub oldest_is : candidates.oldest ≡ first_place (asks bank write) log
-  pub hit_is : candidates.hit ≡ first_place (hits bank write row) log
+pub record AreFirst (log : List Arrived) (bank : ℕ) (access : Access) (row : Option ℕ) (candidates : AccessCandidates) : Type 0 where
+  pub oldest_is : candidates.oldest ≡ first_place (asks bank access) log
+  pub hit_is : candidates.hit ≡ first_place (hits bank access row) log
 
 -- the candidates of a bank
 pub record AreCandidates (log : List Arrived) (bank : ℕ) (candidates : CandidatesOfBank) : Type 0 where
-  pub reads_are : AreFirst log bank false candidates.row candidates.reads
-  pub writes_are : AreFirst log bank true candidates.row candidates.writes
+  pub reads_are : AreFirst log bank access.Read candidates.row candidates.reads
+  pub writes_are : AreFirst log bank access.Write candidates.row candidates.writes

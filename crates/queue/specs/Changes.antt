@@ -1,17 +1,19 @@
 -- The candidates of a bank and an access among those of all banks, and how they change.
 --     HasBank places bank      there are candidates of a bank with this number
---     candidate_at places bank write hit      a candidate of a bank and an access
---     candidates_at places bank write      both of them
+--     candidate_at places bank access hit      a candidate of a bank and an access
+--     candidates_at places bank access      both of them
 --     first_at places bank      the first request of a bank that may be served, to read or to write
 --     HasNoCandidate places      no bank has a candidate
 --     SameRoom old new      there are candidates of as many banks as before
---     SameCandidate old new bank write hit      a candidate stays as it was
---     SameOthers old new bank write      so do those of all other banks and accesses
+--     SameCandidate old new bank access hit      a candidate stays as it was
+--     SameOthers old new bank access      so do those of all other banks and accesses
 --     SameOtherBanks old new bank      so do those of all other banks
---     HasJoined, HasTakenIn old new bank write slot hit      a request is taken in, behind all others or at any place
+--     HasJoined, HasTakenIn old new bank access slot hit      a request is taken in, behind all others or at any place
 --     IsClosed old new bank      no request is for the open row of a bank
 use Rattle.std.specs.Prelude.{◌≡◌, ◌≢◌, ℕ, ◌+◌, ◌*◌, ◌<◌, Bool, true, false, length, Option, Some, None, if◌then◌else◌}
 use Rattle.sim_base.specs.Scheduling.{or_else}
+use Rattle.sim_base.specs.declared.message.Access.{Access}
+use Rattle.sim_base.specs.declared.message.Access.TheVariants as access
 use Rattle.queue.specs.declared.bank_candidates.entry.AccessCandidates.{AccessCandidates}
 use Rattle.queue.specs.declared.bank_candidates.places.Places.{Places}
 use Rattle.queue.specs.Candidates.{access_number}
@@ -23,50 +25,50 @@ abbrev pub HasBank : Places → ℕ → Type 0
 HasBank places bank = 4 * bank + 3 < length places.words.items
 
 -- a candidate of a bank and an access: the oldest, or the first hit
-abbrev pub candidate_at : Places → ℕ → Bool → Bool → Option ℕ
-candidate_at places bank write hit = candidate_in places.words.items (access_number bank write) hit
+abbrev pub candidate_at : Places → ℕ → Access → Bool → Option ℕ
+candidate_at places bank access hit = candidate_in places.words.items (access_number bank access) hit
 
 -- both of them
-abbrev pub candidates_at : Places → ℕ → Bool → AccessCandidates
-candidates_at places bank write = access_in places.words.items (access_number bank write)
+abbrev pub candidates_at : Places → ℕ → Access → AccessCandidates
+candidates_at places bank access = access_in places.words.items (access_number bank access)
 
 -- the first request of a bank that may be served, to read or to write
 abbrev pub first_at : Places → ℕ → Option ℕ
-first_at places bank = earlier (candidate_at places bank false false) (candidate_at places bank true false)
+first_at places bank = earlier (candidate_at places bank access.Read false) (candidate_at places bank access.Write false)
 
 -- no bank has a candidate
 abbrev pub HasNoCandidate : Places → Type 0
-HasNoCandidate places = (access : ℕ) (hit : Bool) → candidate_in places.words.items access hit ≡ None
+HasNoCandidate places = (number : ℕ) (hit : Bool) → candidate_in places.words.items number hit ≡ None
 
 -- there are candidates of as many banks as before
 abbrev pub SameRoom : Places → Places → Type 0
 SameRoom old new = length new.words.items ≡ length old.words.items
 
 -- a candidate stays as it was
-abbrev pub SameCandidate : Places → Places → ℕ → Bool → Bool → Type 0
-SameCandidate old new bank write hit = candidate_at new bank write hit ≡ candidate_at old bank write hit
+abbrev pub SameCandidate : Places → Places → ℕ → Access → Bool → Type 0
+SameCandidate old new bank access hit = candidate_at new bank access hit ≡ candidate_at old bank access hit
 
 -- all other banks and accesses keep their candidates
-abbrev pub SameOthers : Places → Places → ℕ → Bool → Type 0
-SameOthers old new bank write =
-    (access : ℕ) → access ≢ access_number bank write → access_in new.words.items access ≡ access_in old.words.items access
+abbrev pub SameOthers : Places → Places → ℕ → Access → Type 0
+SameOthers old new bank access =
+    (number : ℕ) → number ≢ access_number bank access → access_in new.words.items number ≡ access_in old.words.items number
 
 -- all other banks keep their candidates
 abbrev pub SameOtherBanks : Places → Places → ℕ → Type 0
-SameOtherBanks old new bank = (other : ℕ) (write : Bool) → other ≢ bank → candidates_at new other write ≡ candidates_at old other write
+SameOtherBanks old new bank = (other : ℕ) (access : Access) → other ≢ bank → candidates_at new other access ≡ candidates_at old other access
 
 -- A request at a place behind all others has joined the candidates of its bank and access: it is the oldest where
 -- there was none, and if it asks for the open row, it is the first hit where there was none.
-pub record HasJoined (old new : Places) (bank : ℕ) (write : Bool) (slot : ℕ) (hit : Bool) : Type 0 where
-  pub oldest_is : candidate_at new bank write false ≡ or_else (candidate_at old bank write false) (Some slot)
-  pub hit_is : candidate_at new bank write true ≡ (if hit then or_else (candidate_at old bank write true) (Some slot) else candidate_at old bank write true)
+pub record HasJoined (old new : Places) (bank : ℕ) (access : Access) (slot : ℕ) (hit : Bool) : Type 0 where
+  pub oldest_is : candidate_at new bank access false ≡ or_else (candidate_at old bank access false) (Some slot)
+  pub hit_is : candidate_at new bank access true ≡ (if hit then or_else (candidate_at old bank access true) (Some slot) else candidate_at old bank access true)
 
 -- A request at any place is taken in: the oldest is the first of it and the one before, and if it asks for the open
 -- row, so is the first hit.
-pub record HasTakenIn (old new : Places) (bank : ℕ) (write : Bool) (slot : ℕ) (hit : Bool) : Type 0 where
-  pub oldest_is : candidate_at new bank write false ≡ earlier (candidate_at old bank write false) (Some slot)
-  pub hit_is : candidate_at new bank write true ≡ earlier (candidate_at old bank write true) (if hit then Some slot else None)
+pub record HasTakenIn (old new : Places) (bank : ℕ) (access : Access) (slot : ℕ) (hit : Bool) : Type 0 where
+  pub oldest_is : candidate_at new bank access false ≡ earlier (candidate_at old bank access false) (Some slot)
+  pub hit_is : candidate_at new bank access true ≡ earlier (candidate_at old bank access true) (if hit then Some slot else None)
 
 -- no request of a bank is for its open row, and its oldest ones stay
 abbrev pub IsClosed : Places → Places → ℕ → Type 0
-IsClosed old new bank = (write : Bool) → candidates_at new bank write ≡ record (candidates_at old bank write) { hit = None }
+IsClosed old new bank = (access : Access) → candidates_at new bank access ≡ record (candidates_at old bank access) { hit = None }

@@ -1,27 +1,30 @@
 -- What is kept beside a log: a tag for each of its requests, and counters of those that wait.
 --     bank_number place      the number of a bank
---     tag_word eligible write bank      one byte that tells whether a request may be served and whether it writes, and its bank modulo 64
+--     tag_word eligible access bank      one byte that tells whether a request may be served and whether it writes, and its bank modulo 64
 --     left_tag      the tag of a request that was served
 --     tag_of eligible a, tags_of log marks      the tag of a request, and those of a log, of which the marked ones may be served
 --     tag_column log      the tags of all
 --     is_blocked e      a request with its mark waits and is not marked
 --     blocked_count log      how many wait and are blocked by an older one of their line
 --     line_slot mask place      the counter of the requests for the line of a place, and for some other lines
---     row_slot mask bank write row      the counter of the requests for a row of a bank, to write or to read, and for some other rows
+--     row_slot mask bank access row      the counter of the requests for a row of a bank, to write or to read, and for some other rows
 --     slot_of_line mask r, slot_of_row mask r      the counters of a request
 --     slot_count slot_of requests slot, AreCounted slot_of counts requests      how many requests a counter counts, and that each counter says so
---     asks_for_row bank write row r      a request asks for a row of a bank, to write or to read
---     NoneAsksForRow bank write row log      none that waits does
+--     asks_for_row bank access row r      a request asks for a row of a bank, to write or to read
+--     NoneAsksForRow bank access row log      none that waits does
 --     marked_items items marks      the items at the places that are marked
 --     waiting_items log items      the items at the places of those that wait
 --     write_count requests      how many of them are writes
 use Rattle.std.specs.Prelude.{ℕ, ◌≡◌, ◌<◌, ◌+◌, ◌*◌, ◌/◌, ◌%◌, ◌^◌, bit_and, length, slice_index_or, ◌==◌, Bool, false, not, ◌&&◌, List, All, map, filter, count_by, if◌then◌else◌}
 use Rattle.std.specs.List.{zip}
 use Rattle.std.specs.Simd.Lanes.{zip2}
+use Rattle.sim_base.specs.Access.{is_access}
+use Rattle.sim_base.specs.declared.message.Access.{Access}
+use Rattle.sim_base.specs.declared.message.Access.TheVariants as access
 use Rattle.sim_base.specs.declared.message.Request.{Request}
 use Rattle.sim_base.specs.declared.place.Place.{Place}
 use Rattle.queue.specs.declared.request_log.Arrived.{Arrived}
-use Rattle.queue.specs.Marks.{is_marked, mark}
+use Rattle.queue.specs.Marks.{is_marked, mark, write_bit}
 use Rattle.queue.specs.Log.{eligible_column, waiting_requests}
 
 -- the number of the bank of a place, each rank having places for four groups of four banks
@@ -29,8 +32,8 @@ abbrev pub bank_number : Place → ℕ
 bank_number place = (place.rank * 4 + place.group) * 4 + place.bank
 
 -- whether a request may be served in bit 7, whether it writes in bit 6, and the number of a bank modulo 64 in bits 0 to 5
-abbrev pub tag_word : Bool → Bool → ℕ → ℕ
-tag_word eligible write bank = (mark eligible * 2 + mark write) * 64 + bank % 64
+abbrev pub tag_word : Bool → Access → ℕ → ℕ
+tag_word eligible access bank = (mark eligible * 2 + write_bit access) * 64 + bank % 64
 
 -- the tag of a request that was served: no request that may be served has it
 abbrev pub left_tag : ℕ
@@ -38,7 +41,7 @@ left_tag = 127
 
 -- the tag of a request, which may be served or not
 abbrev pub tag_of : Bool → Arrived → ℕ
-tag_of eligible a = if a.waits then tag_word eligible a.request.write (bank_number a.request.place) else left_tag
+tag_of eligible a = if a.waits then tag_word eligible a.request.access (bank_number a.request.place) else left_tag
 
 -- the tags of a log, of which the marked ones may be served
 abbrev pub tags_of : List Arrived → List ℕ → List ℕ
@@ -61,8 +64,8 @@ unfoldable pub line_slot : ℕ → Place → ℕ
 line_slot mask place = bit_and ((((place.row * 128 + bank_number place) * 1024 + place.column) * 11400714819323198485) % 2 ^ 64 / 2 ^ 32) mask
 
 -- one of the counters up to `mask`, the same for all requests for a row of a bank, to write or to read
-unfoldable pub row_slot : ℕ → ℕ → Bool → ℕ → ℕ
-row_slot mask bank write row = bit_and (((row * 128 + bank) % 2 ^ 64 * 11400714819323198485) % 2 ^ 64 / 2 ^ 32 + mark write) mask
+unfoldable pub row_slot : ℕ → ℕ → Access → ℕ → ℕ
+row_slot mask bank access row = bit_and (((row * 128 + bank) % 2 ^ 64 * 11400714819323198485) % 2 ^ 64 / 2 ^ 32 + write_bit access) mask
 
 -- the counter of a request among those of lines
 abbrev pub slot_of_line : ℕ → Request → ℕ
@@ -70,7 +73,7 @@ slot_of_line mask r = line_slot mask r.place
 
 -- the counter of a request among those of rows
 abbrev pub slot_of_row : ℕ → Request → ℕ
-slot_of_row mask r = row_slot mask (bank_number r.place) r.write r.place.row
+slot_of_row mask r = row_slot mask (bank_number r.place) r.access r.place.row
 
 -- how many requests a counter counts
 abbrev pub slot_count : (Request → ℕ) → List Request → ℕ → ℕ
@@ -81,12 +84,12 @@ abbrev pub AreCounted : (Request → ℕ) → List ℕ → List Request → Type
 AreCounted slot_of counts requests = (slot : ℕ) → slot < length counts → slice_index_or counts slot 0 ≡ slot_count slot_of requests slot
 
 -- a request asks for a row of a bank, to write or to read
-abbrev pub asks_for_row : ℕ → Bool → ℕ → Request → Bool
-asks_for_row bank write row r = (bank_number r.place == bank) && (if write then r.write else not r.write) && (r.place.row == row)
+abbrev pub asks_for_row : ℕ → Access → ℕ → Request → Bool
+asks_for_row bank access row r = (bank_number r.place == bank) && is_access access r.access && (r.place.row == row)
 
 -- no request that waits asks for a row of a bank, to write or to read
-abbrev pub NoneAsksForRow : ℕ → Bool → ℕ → List Arrived → Type 0
-NoneAsksForRow bank write row log = All (λ r. asks_for_row bank write row r ≡ false) (waiting_requests log)
+abbrev pub NoneAsksForRow : ℕ → Access → ℕ → List Arrived → Type 0
+NoneAsksForRow bank access row log = All (λ r. asks_for_row bank access row r ≡ false) (waiting_requests log)
 
 -- the items at the places that are marked
 abbrev pub marked_items : {X : Type 0} → List X → List ℕ → List X
@@ -98,4 +101,4 @@ waiting_items log items = map (λ e. e.1) (filter (λ e. e.0.waits) (zip log ite
 
 -- how many requests are writes
 abbrev pub write_count : List Request → ℕ
-write_count requests = count_by (λ r. r.write) requests
+write_count requests = count_by (λ r. is_access access.Write r.access) requests

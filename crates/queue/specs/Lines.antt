@@ -11,7 +11,7 @@ use Rattle.queue.specs.Columns.{bank_number, tag_word}
 
 -- a request waits for the line of a place, and its tag says that it may be served, or that it may not
 abbrev pub is_told : Bool → Place → Arrived → ℕ → Bool
-is_told eligible place a tag = is_for place a && (tag == tag_word eligible a.request.write (bank_number place))
+is_told eligible place a tag = is_for place a && (tag == tag_word eligible a.request.access (bank_number place))
 
 -- none from a place until another does
 abbrev pub NoneTold : Bool → Place → List Arrived → List ℕ → ℕ → ℕ → Type 0

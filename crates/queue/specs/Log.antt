@@ -15,6 +15,7 @@ use Rattle.std.specs.Prelude.{ℕ, Bool, true, false, not, ◌&&◌, List, [], �
 use Rattle.std.specs.List.{enumerate_from}
 use Rattle.sim_base.specs.Scheduling.{asks_for_line}
 use Rattle.sim_base.specs.Places.{is_line}
+use Rattle.sim_base.specs.declared.message.Access.TheVariants.{Read}
 use Rattle.sim_base.specs.declared.message.Request.{Request}
 use Rattle.sim_base.specs.declared.place.Place.{Place}
 use Rattle.queue.specs.declared.request_log.Arrived.{Arrived}
@@ -26,7 +27,7 @@ absent = record {
   request = record {
     core = 0;
     entry = 0;
-    write = false;
+    access = Read;
     address = 0;
     place = record { channel = 0; rank = 0; group = 0; bank = 0; row = 0; column = 0 };
     arrival = 0;

@@ -3,8 +3,9 @@
 --     earlier a b      the first of two places, if there is one
 --     NoneBefore test log slot      no request before a place may be served and passes a test
 --     IsFirstFrom test log from found      what a search from a place on finds
---     IsFirstHit log bank write row oldest hit      the first request for the open row
+--     IsFirstHit log bank access row oldest hit      the first request for the open row
 use Rattle.std.specs.Prelude.{◌≡◌, ℕ, ◌<◌, nat_lt, min, Bool, false, List, length, slice_index_or, Option, Some, None, if◌then◌else◌}
+use Rattle.sim_base.specs.declared.message.Access.{Access}
 use Rattle.sim_base.specs.declared.message.Request.{Request}
 use Rattle.queue.specs.declared.request_log.Arrived.{Arrived}
 use Rattle.queue.specs.Candidates.{asks, hits, passes, entries, first_place}
@@ -31,5 +32,5 @@ IsFirstFrom test log from found = NoneBefore test log from → found ≡ first_p
 
 -- The first request of a bank and an access that asks for its open row, where `oldest` is the first of the bank and
 -- the access.
-abbrev pub IsFirstHit : List Arrived → ℕ → Bool → Option ℕ → Option ℕ → Option ℕ → Type 0
-IsFirstHit log bank write row oldest hit = oldest ≡ first_place (asks bank write) log → hit ≡ first_place (hits bank write row) log
+abbrev pub IsFirstHit : List Arrived → ℕ → Access → Option ℕ → Option ℕ → Option ℕ → Type 0
+IsFirstHit log bank access row oldest hit = oldest ≡ first_place (asks bank access) log → hit ≡ first_place (hits bank access row) log

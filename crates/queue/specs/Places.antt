@@ -2,12 +2,14 @@
 --     candidate_of word, word_of candidate      the place that a word tells, and the word of a place
 --     IsShort candidate      a place that has a word
 --     Agree words sets      the banks of each set are those whose word of its kind tells a place
---     column write hit      the set of the banks with a candidate: the oldest or the first hit, to write or to read
---     candidate_in words access hit      a candidate of a bank and an access
---     access_in words access      both of them
+--     column access hit      the set of the banks with a candidate: the oldest or the first hit, to write or to read
+--     candidate_in words number hit      a candidate of a bank and an access
+--     access_in words number      both of them
 use Rattle.std.specs.Prelude.{◌≡◌, ℕ, zero, suc, ◌+◌, ◌-◌, ◌*◌, ◌^◌, ◌<◌, Bool, false, true, List, slice_index_or, Option, Some, None, is_some, IfSome, if◌then◌else◌}
+use Rattle.sim_base.specs.declared.message.Access.{Access}
 use Rattle.queue.specs.declared.bank_candidates.entry.AccessCandidates.{AccessCandidates}
 use Rattle.queue.specs.declared.bank_candidates.sets.BankSet.{BankSet}
+use Rattle.queue.specs.Marks.{write_bit}
 use Rattle.queue.specs.Sets.{is_in}
 
 -- the place that a word tells: the word is one more, and 0 where there is none
@@ -25,8 +27,8 @@ abbrev pub IsShort : Option ℕ → Type 0
 IsShort candidate = IfSome candidate (λ k. k < 2 ^ 16 - 1)
 
 -- which set has the banks with a candidate: the oldest or the first hit, to write or to read
-abbrev pub column : Bool → Bool → ℕ
-column write hit = (if write then 2 else 0) + (if hit then 1 else 0)
+abbrev pub column : Access → Bool → ℕ
+column access hit = 2 * write_bit access + (if hit then 1 else 0)
 
 -- each bank has four words, and for each of the four there is a set: of the banks whose word tells a place
 abbrev pub Agree : List ℕ → List BankSet → Type 0
@@ -36,8 +38,8 @@ Agree words sets =
 
 -- a candidate of a bank and an access: the oldest, or the first hit
 abbrev pub candidate_in : List ℕ → ℕ → Bool → Option ℕ
-candidate_in words access hit = candidate_of (slice_index_or words (2 * access + (if hit then 1 else 0)) 0)
+candidate_in words number hit = candidate_of (slice_index_or words (2 * number + (if hit then 1 else 0)) 0)
 
 -- both of them
 abbrev pub access_in : List ℕ → ℕ → AccessCandidates
-access_in words access = record { oldest = candidate_in words access false; hit = candidate_in words access true }
+access_in words number = record { oldest = candidate_in words number false; hit = candidate_in words number true }

@@ -1,13 +1,15 @@
 -- What the candidates of a channel stand for.
 --     bank_count candidates      how many banks they were made for
 --     candidates_of_bank candidates bank      the candidates of a bank
---     candidates_to candidates bank write      those of one access
+--     candidates_to candidates bank access      those of one access
 --     oldest_of_bank candidates bank      the first request of a bank that may be served
 --     row_of_bank candidates bank      its open row
 --     StandsFor candidates log open_rows      they are those of a log, where these rows are open
 --     StandsUpTo candidates log unblocked open_rows      the same, but for a request that may be served since another one was, if there is one
 --     with_row number row open_rows, closed_in rank open_rows      the rows that are open once one bank has this row, and once a rank is closed
-use Rattle.std.specs.Prelude.{◌≡◌, ℕ, ◌/◌, ◌<◌, ◌==◌, Bool, false, true, List, length, slice_index_or, All, Option, None, if◌then◌else◌}
+use Rattle.std.specs.Prelude.{◌≡◌, ℕ, ◌/◌, ◌<◌, ◌==◌, List, length, slice_index_or, All, Option, None, if◌then◌else◌}
+use Rattle.sim_base.specs.declared.message.Access.{Access}
+use Rattle.sim_base.specs.declared.message.Access.TheVariants as access
 use Rattle.sim_base.specs.declared.place.BankId.{BankId}
 use Rattle.queue.specs.declared.request_log.Arrived.{Arrived}
 use Rattle.queue.specs.Log.{all_requests, waiting_requests}
@@ -29,17 +31,18 @@ abbrev pub candidates_of_bank : BankCandidates → ℕ → CandidatesOfBank
 candidates_of_bank candidates bank =
     record {
       row = slice_index_or candidates.rows.items bank None;
-      reads = access_in candidates.places.words.items (access_number bank false);
-      writes = access_in candidates.places.words.items (access_number bank true);
+      reads = access_in candidates.places.words.items (access_number bank access.Read);
+      writes = access_in candidates.places.words.items (access_number bank access.Write);
     }
 
 -- the candidates of a bank to write, or to read
-abbrev pub candidates_to : BankCandidates → ℕ → Bool → AccessCandidates
-candidates_to candidates bank write = if write then (candidates_of_bank candidates bank).writes else (candidates_of_bank candidates bank).reads
+abbrev pub candidates_to : BankCandidates → ℕ → Access → AccessCandidates
+candidates_to candidates bank access.Read = (candidates_of_bank candidates bank).reads
+candidates_to candidates bank access.Write = (candidates_of_bank candidates bank).writes
 
 -- the first request of a bank that may be served, to read or to write
 abbrev pub oldest_of_bank : BankCandidates → ℕ → Option ℕ
-oldest_of_bank candidates bank = earlier (candidates_to candidates bank false).oldest (candidates_to candidates bank true).oldest
+oldest_of_bank candidates bank = earlier (candidates_to candidates bank access.Read).oldest (candidates_to candidates bank access.Write).oldest
 
 -- the row that is open in a bank
 abbrev pub row_of_bank : BankCandidates → ℕ → Option ℕ
@@ -52,16 +55,16 @@ pub record StandsFor (candidates : BankCandidates) (log : List Arrived) (open_ro
   pub rows_fit : RowsFit (all_requests log)
   pub rows_are : (bank : ℕ) → bank < bank_count candidates → row_of_bank candidates bank ≡ open_rows bank
   pub candidates_are : (bank : ℕ) → bank < bank_count candidates → AreCandidates log bank (candidates_of_bank candidates bank)
-  pub counts_are : (access : ℕ) → access < length candidates.counts.items → slice_index_or candidates.counts.items access 0 ≡ access_count access (waiting_requests log)
+  pub counts_are : (number : ℕ) → number < length candidates.counts.items → slice_index_or candidates.counts.items number 0 ≡ access_count number (waiting_requests log)
 
 -- They will stand for a log once a request is taken in that may be served since another one was, if there is one.
 pub record StandsUpTo (candidates : BankCandidates) (log : List Arrived) (unblocked : Option ℕ) (open_rows : ℕ → Option ℕ) : Type 0 where
   pub within : All (λ r. bank_number r.place < bank_count candidates) (all_requests log)
   pub rows_fit : RowsFit (all_requests log)
   pub rows_are : (bank : ℕ) → bank < bank_count candidates → row_of_bank candidates bank ≡ open_rows bank
-  pub candidates_are : (bank : ℕ) (write : Bool) → bank < bank_count candidates
-      → AreFirstWith log bank write (open_rows bank) unblocked (access_in candidates.places.words.items (access_number bank write))
-  pub counts_are : (access : ℕ) → access < length candidates.counts.items → slice_index_or candidates.counts.items access 0 ≡ access_count access (waiting_requests log)
+  pub candidates_are : (bank : ℕ) (access : Access) → bank < bank_count candidates
+      → AreFirstWith log bank access (open_rows bank) unblocked (access_in candidates.places.words.items (access_number bank access))
+  pub counts_are : (number : ℕ) → number < length candidates.counts.items → slice_index_or candidates.counts.items number 0 ≡ access_count number (waiting_requests log)
 
 -- the rows that are open once the bank with a number has this row
 abbrev pub with_row : ℕ → Option ℕ → (ℕ → Option ℕ) → ℕ → Option ℕ

@@ -9,7 +9,7 @@ ghost use Rattle.std.specs.Prelude.{◌≡◌, ◌+◌, ◌-◌, ◌^◌, ◌<�
 ghost use Rattle.queue.specs.View.{drains_by, is_draining, places_for, empty_queue, with_request, renumbered};
 
 use crate::request_log::RequestLog;
-use sim_base::message::Request;
+use sim_base::message::{Access, Request};
 use std::alloc::{AllocError, Global};
 use std::marker::Model;
 
@@ -132,7 +132,7 @@ impl Queue {
     {
         self.log.arrive(request);
         self.waiting += 1;
-        if request.write {
+        if Access::Write.is_access(request.access) {
             self.writes += 1;
             self.drains = drains(self.high, self.low, self.drain_decided, self.writes);
         }
@@ -149,10 +149,10 @@ impl Queue {
         ensures place { IfSome result (λ next. next < length self.new.log) }
         ensures newly { IfSome result (λ next. is_eligible_at self.old.log next ≡ false) }
     {
-        let write = self.log.log()[slot].request.write;
+        let access = self.log.log()[slot].request.access;
         let unblocked = self.log.serve(slot);
         self.waiting -= 1;
-        if write {
+        if Access::Write.is_access(access) {
             self.writes -= 1;
             self.drains = drains(self.high, self.low, self.drain_decided, self.writes);
         }

@@ -8,7 +8,7 @@ ghost use Rattle.queue.specs.Columns.{bank_number, tag_word, slot_of_row, waitin
 
 use crate::request_log::lines::{counters, is_line_asked, next_for_line};
 use crate::request_log::words::{LEFT, bank_number, line_slot, row_slot, tag_word};
-use sim_base::message::Request;
+use sim_base::message::{Access, Request};
 use std::alloc::{AllocError, Global};
 use std::marker::Model;
 
@@ -32,15 +32,15 @@ fn row_slot_of(request: Request, mask: usize) -> usize
     ensures within { result ≤ mask }
 {
     let bank = bank_number(request.place);
-    row_slot(bank, request.write, request.place.row, mask)
+    row_slot(bank, request.access, request.place.row, mask)
 }
 
 /// The tag of a request that waits, which may be served or not.
 #[inline(always)]
 fn tag_of(eligible: bool, request: Request) -> u8
-    ensures { result ≡ tag_word eligible request.write (bank_number request.place) }
+    ensures { result ≡ tag_word eligible request.access (bank_number request.place) }
 {
-    tag_word(eligible, request.write, bank_number(request.place) as u64)
+    tag_word(eligible, request.access, bank_number(request.place) as u64)
 }
 
 /// Moves the tags of the requests that wait to the front, in their order.
@@ -155,10 +155,10 @@ impl RequestLog {
 
     /// Whether some request that waits may ask for a row of a bank, to write or to read: false only where none does.
     #[inline(always)]
-    pub fn may_ask(&self, bank: usize, write: bool, row: u32) -> bool
-        ensures { result ≡ false → NoneAsksForRow bank write row self.now.log }
+    pub fn may_ask(&self, bank: usize, access: Access, row: u32) -> bool
+        ensures { result ≡ false → NoneAsksForRow bank access row self.now.log }
     {
-        self.rows[row_slot(bank, write, row, self.row_mask)] != 0
+        self.rows[row_slot(bank, access, row, self.row_mask)] != 0
     }
 
     /// How many places are left.

@@ -15,6 +15,7 @@ use Rattle.request_table.specs.declared.times.RequestTimes.{RequestTimes}
 use Rattle.statistics.specs.Values.{RunStats, LastState}
 use Rattle.statistics.specs.declared.channels.ChannelStats.{ChannelStats}
 use Rattle.sim_base.specs.declared.command.IssuedCommand.{IssuedCommand}
+use Rattle.sim_base.proofs.Lists.{enumerate-append}
 
 -- rows after rows
 pub rows_text-append : (rows more : List (List (List ℕ))) → rows_text (rows ++ more) ≡ rows_text rows ++ rows_text more
@@ -36,16 +37,10 @@ pub table_text-parts : (names : List (List ℕ)) (rows : List (List (List ℕ)))
 unfolding table_text
 table_text-parts names rows = rows_text-first names rows
 
-enumerated-append : {A : Type 0} (n : ℕ) (xs ys : List A) → enumerate_from n (xs ++ ys) ≡ enumerate_from n xs ++ enumerate_from (n + length xs) ys
-enumerated-append n [] ys = let e : n ≡ n + 0 = omega arith in ap (λ k. enumerate_from k ys) e
-enumerated-append n (x ∷ xs) ys =
-    let e : n + 1 + length xs ≡ n + length (x ∷ xs) = omega arith in
-    ap (λ t. (n, x) ∷ t) (enumerated-append (n + 1) xs ys ∙ ap (λ k. enumerate_from (n + 1) xs ++ enumerate_from k ys) e)
-
 numbered-push : {A B : Type 0} (f : ℕ → A → List B) (xs : List A) (x : A) → numbered f (xs ++ x ∷ []) ≡ numbered f xs ++ f (length xs) x
 unfolding numbered
 numbered-push f xs x =
-    ap (flat_map (λ p. f p.0 p.1)) (enumerated-append 0 xs (x ∷ []))
+    ap (flat_map (λ p. f p.0 p.1)) (enumerate-append 0 xs (x ∷ []))
     ∙ flat_map-append (λ p. f p.0 p.1) (enumerate_from 0 xs) ((0 + length xs, x) ∷ [])
     ∙ ap (λ t. flat_map (λ p. f p.0 p.1) (enumerate_from 0 xs) ++ t) (append-nil (f (0 + length xs) x) ∙ ap (λ n. f n x) (zero-add (length xs)))
 

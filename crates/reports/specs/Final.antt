@@ -3,7 +3,7 @@
 --     final_fields ranks item numbers      the fields of a row
 --     final_rows ranks state      its rows
 --     final_text ranks state      the whole table
-use Rattle.std.specs.Prelude.{ℕ, ◌/◌, ◌%◌, ◌==◌, Bool, List, [], ◌∷◌, ◌++◌, length, map, codes, Option, Some, None, if◌then◌else◌}
+use Rattle.std.specs.Prelude.{ℕ, ◌/◌, ◌%◌, ◌==◌, List, [], ◌∷◌, ◌++◌, length, map, codes, Option, Some, None, if◌then◌else◌}
 use Rattle.reports.specs.Commands.{rank_field}
 use Rattle.reports.specs.Rows.{optional, numbered, table_text}
 use Rattle.reports.specs.declared.final_state.Numbers.{Numbers}
@@ -11,6 +11,8 @@ use Rattle.sim_base.specs.declared.message.Load.{Load}
 use Rattle.sim_base.specs.declared.message.Load.TheVariants as load
 use Rattle.sim_base.specs.declared.message.Message.{Message}
 use Rattle.sim_base.specs.declared.message.Request.{Request}
+use Rattle.sim_base.specs.declared.message.Access.{Access}
+use Rattle.sim_base.specs.declared.message.Access.TheVariants as access
 use Rattle.statistics.specs.Values.{LastCore, LastChannel, LastState}
 use Rattle.statistics.specs.declared.final_state.Credits.{Credits}
 use Rattle.statistics.specs.declared.final_state.OpenRow.{OpenRow}
@@ -69,8 +71,9 @@ abbrev pub open_fields : ℕ → ℕ → OpenRow → List (List ℕ)
 open_fields ranks channel opened = final_fields ranks (codes "open") (open_numbers channel opened)
 
 -- what a request that waits is called
-abbrev pub queued_item : Bool → List ℕ
-queued_item write = if write then codes "queued_write" else codes "queued_read"
+abbrev pub queued_item : Access → List ℕ
+queued_item access.Read = codes "queued_read"
+queued_item access.Write = codes "queued_write"
 
 -- a request that waits in the queue of a channel
 abbrev pub queued_numbers : ℕ → Request → Numbers
@@ -87,7 +90,7 @@ queued_numbers channel request =
     }
 
 abbrev pub queued_fields : ℕ → ℕ → Request → List (List ℕ)
-queued_fields ranks channel request = final_fields ranks (queued_item request.write) (queued_numbers channel request)
+queued_fields ranks channel request = final_fields ranks (queued_item request.access) (queued_numbers channel request)
 
 -- a channel: the refreshes that are due, by rank, its open rows, and its queue
 abbrev pub channel_rows : ℕ → ℕ → LastChannel → List (List (List ℕ))
@@ -99,13 +102,14 @@ channel_rows ranks channel state =
 abbrev pub flight_item : Load → List ℕ
 flight_item (load.Request request) = codes "flight_request"
 flight_item (load.Reply entry) = codes "flight_reply"
-flight_item (load.Credit write entry) = if write then codes "flight_credit_write" else codes "flight_credit_read"
+flight_item (load.Credit access.Read entry) = codes "flight_credit_read"
+flight_item (load.Credit access.Write entry) = codes "flight_credit_write"
 
 -- the entry that a message is about
 abbrev pub flight_entry : Load → ℕ
 flight_entry (load.Request request) = request.entry
 flight_entry (load.Reply entry) = entry
-flight_entry (load.Credit write entry) = entry
+flight_entry (load.Credit access entry) = entry
 
 -- the core of a link of a machine with this many channels; none where there is no channel
 abbrev pub core_of_link : ℕ → ℕ → Option ℕ

@@ -6,8 +6,8 @@
 --     request_lines rows      the rows without the header
 --     requests_text rows      the whole table
 use Rattle.std.specs.Prelude.{ℕ, Bool, List, [], ◌∷◌, map, codes, decimal, if◌then◌else◌}
-use Rattle.request_table.specs.declared.times.Access.{Access}
-use Rattle.request_table.specs.declared.times.Access.TheVariants as access
+use Rattle.sim_base.specs.declared.message.Access.{Access}
+use Rattle.sim_base.specs.declared.message.Access.TheVariants as access
 use Rattle.request_table.specs.declared.times.RequestTimes.{RequestTimes}
 use Rattle.reports.specs.Rows.{optional, rows_text, table_text}
 

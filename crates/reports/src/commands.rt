@@ -8,7 +8,7 @@ ghost use Rattle.reports.specs.Commands.{header, kind_word, request_operands, op
 
 use crate::hundreds::Hundred;
 use crate::line::{Line, put, put_byte, put_last_long, put_last_word, put_rank, put_word};
-use crate::pieces::{MOST, TableLines, TableThreads, write_pieces, write_whole};
+use crate::pieces::{MANY, MOST, TableLines, TableThreads, write_pieces, write_whole};
 use crate::table::{Loss, Table};
 use command_table::table::{CommandTable, Rows};
 use sim_base::command::{Command, IssuedCommand, Source};
@@ -251,5 +251,8 @@ pub fn write_commands_by<R: Threads + Sync, W: Write>(
         return write_commands(threads.alloc, ranks, commands, writer);
     }
     let pieces = commands.pieces(threads.alloc, MOST)?;
+    if pieces.len() < MANY {
+        return write_commands(threads.alloc, ranks, commands, writer);
+    }
     write_pieces(threads, &CommandLines { ranks }, &pieces, writer)
 }

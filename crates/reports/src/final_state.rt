@@ -8,7 +8,7 @@ ghost use Rattle.reports.specs.Tables.{AddsRows};
 use crate::line::{Line, put, put_last, put_rank, put_word};
 use crate::table::Table;
 use sim_base::fault::Fault;
-use sim_base::message::{LinkId, Load, Message, Request};
+use sim_base::message::{Access, LinkId, Load, Message, Request};
 use statistics::final_state::{ChannelState, CoreState, Credits, FinalState, OpenRow};
 use std::alloc::Global;
 use std::io::Write;
@@ -231,14 +231,13 @@ fn write_open_rows<W: Write>(
     }
 }
 
-fn queued_word(write: bool) -> &'static [u8]
-    ensures word { result.now ≡ queued_item write }
+fn queued_word(access: Access) -> &'static [u8]
+    ensures word { result.now ≡ queued_item access }
     ensures short { length result.now ≤ 32 }
 {
-    if write {
-        b"queued_write"
-    } else {
-        b"queued_read"
+    match access {
+        Access::Read => b"queued_read",
+        Access::Write => b"queued_write",
     }
 }
 
@@ -268,7 +267,7 @@ fn write_queue<W: Write>(
         (rows_text (map (queued_fields ranks channel) queue.now)) }
 {
     for request in queue {
-        let item = queued_word(request.write);
+        let item = queued_word(request.access);
         write_numbers(
             table,
             ranks,
@@ -315,8 +314,14 @@ fn flight_word(load: Load) -> &'static [u8]
     match load {
         Load::Request(_) => b"flight_request",
         Load::Reply(_) => b"flight_reply",
-        Load::Credit { write: true, .. } => b"flight_credit_write",
-        Load::Credit { write: false, .. } => b"flight_credit_read",
+        Load::Credit {
+            access: Access::Read,
+            ..
+        } => b"flight_credit_read",
+        Load::Credit {
+            access: Access::Write,
+            ..
+        } => b"flight_credit_write",
     }
 }
 

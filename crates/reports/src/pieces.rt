@@ -15,7 +15,7 @@ use std::thread::Threads;
 pub(crate) const MOST: usize = 4096;
 
 /// From how many pieces on threads put them together: fewer take the caller less time than threads take to start.
-const MANY: usize = 8;
+pub(crate) const MANY: usize = 8;
 
 /// How the lines of a table are written whose rows come in pieces of a type.
 pub(crate) trait TableLines<P> {
@@ -152,30 +152,28 @@ pub struct TableThreads<'a, R> {
     pub count: usize,
 }
 
-// Writes the rows of all pieces, as many pieces at a time as are wanted.
+// Writes the rows of all pieces, as many pieces at a time as there are threads.
 fn write_rounds<R: Threads + Sync, P: Sync, T: TableLines<P> + Sync, W: Write>(
     threads: &TableThreads<'_, R>,
-    at_once: usize,
     of: &T,
     pieces: &[P],
     writer: &mut W,
 ) -> Result<(), Fault>
-    requires some { 0 < at_once }
+    requires some { 0 < threads.now.count }
     ensures written { WritesOnOk result W.contents writer.old writer.new
         (flat_map (T.lines of.now) pieces.now) }
     ensures refused { IfErr result (λ e. IsReportFault e) }
 {
     let mut done = 0;
     while done < pieces.len() {
-        let end = done + at_once.min(pieces.len() - done);
+        let end = done + threads.count.min(pieces.len() - done);
         write_round(threads.rt, threads.alloc, of, &pieces[done..end], writer)?;
         done = end;
     }
     Ok(())
 }
 
-/// Writes a table: the header, and then the rows of the pieces, whose texts these threads put together if there are
-/// many.
+/// Writes a table: the header, and then the rows of the pieces, whose texts these threads put together.
 pub(crate) fn write_pieces<R: Threads + Sync, P: Sync, T: TableLines<P> + Sync, W: Write>(
     threads: &TableThreads<'_, R>,
     of: &T,
@@ -187,14 +185,6 @@ pub(crate) fn write_pieces<R: Threads + Sync, P: Sync, T: TableLines<P> + Sync, 
         (T.header_line of.now ++ flat_map (T.lines of.now) pieces.now) }
     ensures refused { IfErr result (λ e. IsReportFault e) }
 {
-    if let [rows] = pieces {
-        return write_whole(threads.alloc, of, rows, writer);
-    }
     write_header(threads.alloc, of, writer)?;
-    let at_once = if pieces.len() < MANY {
-        1
-    } else {
-        threads.count
-    };
-    write_rounds(threads, at_once, of, pieces, writer)
+    write_rounds(threads, of, pieces, writer)
 }

@@ -6,11 +6,12 @@ ghost use Rattle.reports.specs.Tables.{AddsRows};
 ghost use Rattle.reports.specs.Requests.{request_header, access_word, time_fields, request_fields, request_lines, requests_text};
 
 use crate::line::{Line, put, put_last, put_word};
-use crate::pieces::{MOST, TableLines, TableThreads, write_pieces, write_whole};
+use crate::pieces::{MANY, MOST, TableLines, TableThreads, write_pieces, write_whole};
 use crate::table::{Loss, Table};
 use request_table::table::{RequestTable, Rows};
-use request_table::times::{Access, RequestTimes};
+use request_table::times::RequestTimes;
 use sim_base::fault::Fault;
+use sim_base::message::Access;
 use std::alloc::Global;
 use std::io::Write;
 use std::thread::Threads;
@@ -146,5 +147,8 @@ pub fn write_requests_by<R: Threads + Sync, W: Write>(
         return write_requests(threads.alloc, requests, writer);
     }
     let pieces = requests.pieces(threads.alloc, MOST)?;
+    if pieces.len() < MANY {
+        return write_requests(threads.alloc, requests, writer);
+    }
     write_pieces(threads, &RequestLines, &pieces, writer)
 }

@@ -2,23 +2,25 @@
 --     served_by arrivals hit channel cycle command      the request whose data a command moves, if it moves any
 --     served_in arrivals history i      the same of one of these commands
 --     served_requests arrivals history      those of all of them, in their order
-use Rattle.std.specs.Prelude.{ℕ, Bool, true, false, List, filter_map, Option, Some, None}
+use Rattle.std.specs.Prelude.{ℕ, Bool, List, filter_map, Option, Some, None}
 use Rattle.sim_base.specs.Counts.{is_hit}
 use Rattle.sim_base.specs.declared.command.Command.{Command}
 use Rattle.sim_base.specs.declared.command.Command.TheVariants.{Act, Rd, Wr, Pre, Prea, Ref}
 use Rattle.sim_base.specs.declared.command.IssuedCommand.{IssuedCommand}
 use Rattle.sim_base.specs.declared.command.Source.{Source}
+use Rattle.sim_base.specs.declared.message.Access.{Access}
+use Rattle.sim_base.specs.declared.message.Access.TheVariants.{Read, Write}
 use Rattle.request_table.specs.declared.served_requests.ServedRequest.{ServedRequest}
 
 -- the request of an entry that is served in a cycle; `arrivals` tells when the request of an entry came to its channel
-abbrev pub served_of : (Source → ℕ) → Bool → ℕ → ℕ → Bool → Source → ServedRequest
-served_of arrivals hit channel cycle write source =
-    record { entry = source.entry; arrived = arrivals source; served = cycle; channel = channel; core = source.core; write = write; hit = hit }
+abbrev pub served_of : (Source → ℕ) → Bool → ℕ → ℕ → Access → Source → ServedRequest
+served_of arrivals hit channel cycle access source =
+    record { entry = source.entry; arrived = arrivals source; served = cycle; channel = channel; core = source.core; access = access; hit = hit }
 
 -- the request whose data a command moves, if it moves any
 abbrev pub served_by : (Source → ℕ) → Bool → ℕ → ℕ → Command → Option ServedRequest
-served_by arrivals hit channel cycle (Rd bank row column source) = Some (served_of arrivals hit channel cycle false source)
-served_by arrivals hit channel cycle (Wr bank row column source) = Some (served_of arrivals hit channel cycle true source)
+served_by arrivals hit channel cycle (Rd bank row column source) = Some (served_of arrivals hit channel cycle Read source)
+served_by arrivals hit channel cycle (Wr bank row column source) = Some (served_of arrivals hit channel cycle Write source)
 served_by arrivals hit channel cycle (Act bank row source) = None
 served_by arrivals hit channel cycle (Pre bank source) = None
 served_by arrivals hit channel cycle (Prea rank) = None

@@ -4,17 +4,14 @@
 --     served_at lists cycle      the requests that were served in a cycle, by list
 --     by_cycle cycles lists      the requests of some lists by cycle, and those of a cycle by their list
 --     rows_up_to cycle rows, rows_after cycle rows      those that were served up to a cycle, and after it
---     access_of write      whether a request reads or writes
 --     times_of s cycles request      when a served request was where, in a run of so many cycles
 --     times_by_cycle s cycles lists      the same for the requests of some lists, by cycle
-use Rattle.std.specs.Prelude.{ℕ, ◌-◌, ◌<◌, ◌≤◌, ◌==◌, nat_le, nat_lt, Bool, true, false, List, [], ◌∷◌, map, filter, flat_map}
+use Rattle.std.specs.Prelude.{ℕ, ◌-◌, ◌<◌, ◌≤◌, ◌==◌, nat_le, nat_lt, List, [], ◌∷◌, map, filter, flat_map}
 use Rattle.sim_base.specs.declared.config.Config.{Config}
 use Rattle.sim_base.specs.Config.{request_link, latency}
 use Rattle.sim_base.specs.History.{below}
 use Rattle.request_table.specs.declared.served_requests.ServedRequest.{ServedRequest}
 use Rattle.request_table.specs.Requests.{replied_in}
-use Rattle.request_table.specs.declared.times.Access.{Access}
-use Rattle.request_table.specs.declared.times.Access.TheVariants.{Read, Write}
 use Rattle.request_table.specs.declared.times.RequestTimes.{RequestTimes}
 
 -- requests were served by cycle, from one on and before another
@@ -43,23 +40,18 @@ rows_up_to cycle rows = filter (λ row. nat_le row.served cycle) rows
 abbrev pub rows_after : ℕ → List ServedRequest → List ServedRequest
 rows_after cycle rows = filter (λ row. nat_lt cycle row.served) rows
 
--- whether a request reads or writes
-abbrev pub access_of : Bool → Access
-access_of true = Write
-access_of false = Read
-
 -- when a served request was where, in a run of so many cycles: it was issued as long before it came to its channel as it travelled
 abbrev pub times_of : Config → ℕ → ServedRequest → RequestTimes
 times_of s cycles request =
     record {
       core = request.core;
       entry = request.entry;
-      access = access_of request.write;
+      access = request.access;
       channel = request.channel;
       issued = request.arrived - latency s (request_link s request.core request.channel);
       arrived = request.arrived;
       served = request.served;
-      replied = replied_in s cycles (access_of request.write) request.core request.channel request.served;
+      replied = replied_in s cycles request.access request.core request.channel request.served;
       hit = request.hit;
     }
 

@@ -1,6 +1,6 @@
 //! Requests that a channel served, with what is known of each when it is served.
 
-use sim_base::message::{ChannelId, CoreId, Cycle};
+use sim_base::message::{Access, ChannelId, CoreId, Cycle};
 use std::mem::size_of;
 
 /// A request that a channel served: whose it is, when it came to the channel, and when and how its data was moved. It takes 32 bytes.
@@ -14,7 +14,7 @@ pub struct ServedRequest {
     pub served: Cycle,
     pub channel: ChannelId,
     pub core: CoreId,
-    pub write: bool,
+    pub access: Access,
     /// Whether no ACT was issued in its name.
     pub hit: bool,
 }

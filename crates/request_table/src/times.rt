@@ -1,13 +1,6 @@
 //! When the requests of a run were where, from their core to their channel and back.
 
-use sim_base::message::{ChannelId, CoreId, Cycle};
-
-/// What a request asks of the memory.
-#[derive(Clone, Copy, PartialEq, Eq, Debug)]
-pub enum Access {
-    Read,
-    Write,
-}
+use sim_base::message::{Access, ChannelId, CoreId, Cycle};
 
 /// A request of a run that was served, and when it was where, in cycles: a row of `requests.csv`.
 #[derive(Clone, Copy, PartialEq, Eq, Debug)]

@@ -2,18 +2,12 @@
 
 ghost use Rattle.std.specs.Prelude.{◌≡◌, ◌+◌};
 ghost use Rattle.request_table.specs.Requests.{replied_in, if_within, reply_cycle};
-ghost use Rattle.request_table.specs.Tables.{access_of, times_of};
+ghost use Rattle.request_table.specs.Tables.{times_of};
 
 use crate::served_requests::ServedRequest;
-use crate::times::{Access, RequestTimes};
+use crate::times::RequestTimes;
 use sim_base::config::Config;
-use sim_base::message::Cycle;
-
-fn access(write: bool) -> Access
-    ensures { result ≡ access_of write }
-{
-    if write { Access::Write } else { Access::Read }
-}
+use sim_base::message::{Access, Cycle};
 
 /// The cycle that is so many later, if it is one of the first `cycles`.
 fn later(from: Cycle, wait: u64, cycles: Cycle) -> Option<Cycle>
@@ -26,14 +20,16 @@ fn later(from: Cycle, wait: u64, cycles: Cycle) -> Option<Cycle>
 /// When the reply to a served request comes to its core, if it has one and that is a cycle of a run of so many.
 fn replied(config: &Config, cycles: Cycle, request: &ServedRequest) -> Option<Cycle>
     ensures { result ≡ replied_in config.now cycles
-        (access_of request.now.write) request.now.core request.now.channel request.now.served }
+        request.now.access request.now.core request.now.channel request.now.served }
 {
-    if request.write {
-        return None;
+    match request.access {
+        Access::Read => {
+            let link = config.reply_link(request.core, request.channel);
+            let wait = u64::from(config.timing.n_cl) + 4 + u64::from(config.latency(link));
+            later(request.served, wait, cycles)
+        }
+        Access::Write => None,
     }
-    let link = config.reply_link(request.core, request.channel);
-    let wait = u64::from(config.timing.n_cl) + 4 + u64::from(config.latency(link));
-    later(request.served, wait, cycles)
 }
 
 /// When a served request was where, in a run of so many cycles of a machine with this configuration.
@@ -47,7 +43,7 @@ pub(crate) fn times(config: &Config, cycles: Cycle, request: &ServedRequest) -> 
     RequestTimes {
         core: request.core,
         entry: request.entry,
-        access: access(request.write),
+        access: request.access,
         channel: request.channel,
         issued,
         arrived: request.arrived,

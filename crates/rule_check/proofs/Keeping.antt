@@ -16,19 +16,20 @@ use Rattle.sim_base.specs.declared.command.Kind.TheVariants as kind
 use Rattle.sim_base.specs.declared.command.Command.{Command}
 use Rattle.sim_base.specs.declared.command.Command.TheVariants.{Act, Rd, Wr, Pre, Prea, Ref}
 use Rattle.sim_base.specs.declared.command.IssuedCommand.{IssuedCommand}
-use Rattle.sim_base.specs.Rules.{rules, is_kind, kind_of, rank_of, bank_of, relation_of, relation_in_rank, covers, row_after, open_row, has_open_bank, has_open_bank_in_group, is_row, finds_its_banks}
+use Rattle.sim_base.specs.Rules.{rules, is_kind, kind_of, rank_of, bank_of, relation_of, relation_in_rank, covers, open_row, has_open_bank, has_open_bank_in_group, is_row, finds_its_banks}
 use Rattle.rule_check.specs.Fields.{limits_of, BankFits, CommandFits, RowFits}
 use Rattle.rule_check.specs.Broken.{is_too_close, breaks_distance, breaks_window, breaks_refresh, is_overdue, breaks_in_channel}
 use Rattle.rule_check.specs.Kept.{lies, any_bank, nothing, latest_of, noted_where, latest_where, window_where, window_from, activates, deadline_where, deadline_from}
 use Rattle.rule_check.specs.Kept.{bank_past, bank_after, group_past, group_after, rank_past, rank_after, number_of, bank_numbered, group_number, IsKept}
 use Rattle.rule_check.specs.Kept.{kept, kept_in_bank, kept_in_group, kept_across_groups, kept_in_rank, kept_across_ranks, is_ahead, is_too_soon, kept_breaks_distance, kept_breaks_window, kept_overdue, kept_breaks_refresh, kept_row, has_kept_open_in_group, has_kept_open, kept_finds_banks, kept_breaks}
 use Rattle.sim_base.specs.Scheduling.{refreshes}
+use Rattle.sim_base.proofs.OpenRows.{open_row-push}
 use Rattle.rule_check.specs.declared.latest.Latest.{Latest}
 use Rattle.rule_check.specs.declared.state.Bank.{Bank}
 use Rattle.rule_check.specs.declared.state.Group.{Group}
 use Rattle.rule_check.specs.declared.state.Rank.{Rank}
 use Rattle.rule_check.specs.declared.state.Channel.{Channel}
-use Rattle.rule_check.proofs.Near.{too_close-any}
+use Rattle.rule_check.proofs.Near.{latest_of-nothing, too_close-any}
 use Rattle.rule_check.proofs.Windows.{window-recent}
 use Rattle.rule_check.proofs.Deadlines.{deadline-overdue}
 
@@ -38,10 +39,6 @@ latest_where-more : (p : Command → Bool) (history : List IssuedCommand) (i : I
     → latest_where p (history ++ i ∷ []) ≡ noted_where (p i.command) (kind_of i.command) i.cycle (latest_where p history)
 unfolding latest_where
 latest_where-more p history i = fold-append (λ l (j : IssuedCommand). noted_where (p j.command) (kind_of j.command) j.cycle l) nothing history (i ∷ [])
-
-open_row-more : (bank : BankId) (history : List IssuedCommand) (i : IssuedCommand) → open_row bank (history ++ i ∷ []) ≡ row_after bank (open_row bank history) i.command
-unfolding open_row
-open_row-more bank history i = fold-append (λ row (j : IssuedCommand). row_after bank row j.command) None history (i ∷ [])
 
 window_from-more : (t : Timing) (rank : ℕ) (history : List IssuedCommand) (i : IssuedCommand)
     → window_from t rank (history ++ i ∷ []) ≡ window_where (activates rank i.command) (i.cycle + t.n_faw) (window_from t rank history)
@@ -54,7 +51,7 @@ unfolding deadline_from
 deadline_from-more s rank history i = fold-append (λ d (j : IssuedCommand). deadline_where (refreshes rank j.command) s.timing.n_refi d) _ history (i ∷ [])
 
 bank-more : (history : List IssuedCommand) (i : IssuedCommand) (b : BankId) → bank_after b i.cycle i.command (bank_past history b) ≡ bank_past (history ++ i ∷ []) b
-bank-more history i b = λ x. record { latest = sym (latest_where-more (lies InBank b.rank (Some b)) history i) x; row = sym (open_row-more b history i) x }
+bank-more history i b = λ x. record { latest = sym (latest_where-more (lies InBank b.rank (Some b)) history i) x; row = sym (open_row-push b history i) x }
 
 group-more : (history : List IssuedCommand) (i : IssuedCommand) (rank group : ℕ)
     → group_after rank group i.cycle i.command (group_past history rank group) ≡ group_past (history ++ i ∷ []) rank group
@@ -252,14 +249,6 @@ fold-never (i ∷ history) l = fold-never history l
 latest_where-never : (history : List IssuedCommand) → latest_where (λ e. false) history ≡ nothing
 unfolding latest_where
 latest_where-never history = fold-never history nothing
-
-pub latest_of-nothing : (which : Kind) → latest_of nothing which ≡ None
-latest_of-nothing kind.Act = refl
-latest_of-nothing kind.Rd = refl
-latest_of-nothing kind.Wr = refl
-latest_of-nothing kind.Pre = refl
-latest_of-nothing kind.Prea = refl
-latest_of-nothing kind.Ref = refl
 
 -- THE LATEST COMMAND OF EACH SCOPE
 

@@ -1,12 +1,7 @@
 -- A loop that changes each element of a list by its place.
 use Rattle.std.proofs.Common.{◌≡◌, ℕ, ◌+◌, ◌<◌, ◌≤◌, ◌∙◌, List, length, get_or, set, sym, ap, arith, inl, inr}
 use Rattle.std.proofs.lemmas.Bool.{cases_eq}
-use Rattle.std.proofs.lemmas.Option.{slice_get-get_or, get_or_from_slice_get}
-use Rattle.std.proofs.lemmas.List.{get_or-set_same, get_or-set_other}
-
--- what is read within a list does not depend on what stands for an element past its end
-pub default : {X : Type 0} (xs : List X) (i : ℕ) (a b : X) → i < length xs → get_or xs i a ≡ get_or xs i b
-default xs i a b h = get_or_from_slice_get xs i (get_or xs i b) a (slice_get-get_or xs i b h)
+use Rattle.std.proofs.lemmas.List.{get_or-set_same, get_or-set_other, get_or_default}
 
 -- one element more is changed
 pub one_changed : {X : Type 0} (f : ℕ → X → X) (xs start : List X) (i : ℕ) (v e : X) → i < length xs
@@ -15,7 +10,7 @@ pub one_changed : {X : Type 0} (f : ℕ → X → X) (xs start : List X) (i : �
 one_changed f xs start i v e h done left is k d l =
     elim (cases_eq k i) [
       | inl same ↦
-          ap (λ n. get_or (set xs i v) n d) same ∙ get_or-set_same xs i v d h ∙ is ∙ ap (f i) (default xs i e d h ∙ left i d (omega arith))
+          ap (λ n. get_or (set xs i v) n d) same ∙ get_or-set_same xs i v d h ∙ is ∙ ap (f i) (get_or_default xs i e d h ∙ left i d (omega arith))
           ∙ ap (λ n. f n (get_or start n d)) (sym same)
       | inr apart ↦ get_or-set_other xs i k v d apart ∙ done k d (omega arith)
     ]

@@ -14,6 +14,14 @@ use Rattle.rule_check.specs.Broken.{is_too_close}
 use Rattle.rule_check.specs.Kept.{later_cycle, nothing, latest_of, noted, noted_where, latest_where, is_ahead}
 use Rattle.rule_check.specs.declared.latest.Latest.{Latest}
 
+pub latest_of-nothing : (which : Kind) → latest_of nothing which ≡ None
+latest_of-nothing kind.Act = refl
+latest_of-nothing kind.Rd = refl
+latest_of-nothing kind.Wr = refl
+latest_of-nothing kind.Pre = refl
+latest_of-nothing kind.Prea = refl
+latest_of-nothing kind.Ref = refl
+
 or_none : (b : Bool) → b ≡ (b || false)
 or_none true = refl
 or_none false = refl
@@ -62,14 +70,6 @@ ahead-fold p which now d l (i ∷ history) =
     ahead-fold p which now d (noted_where (p i.command) (kind_of i.command) i.cycle l) history
     ∙ ap (λ b. b || rest) (ahead-where (p i.command) which (kind_of i.command) i.cycle now d l)
     ∙ or_assoc (is_ahead now d (latest_of l which)) _ rest
-
-latest_of-nothing : (which : Kind) → latest_of nothing which ≡ None
-latest_of-nothing kind.Act = refl
-latest_of-nothing kind.Rd = refl
-latest_of-nothing kind.Wr = refl
-latest_of-nothing kind.Pre = refl
-latest_of-nothing kind.Prea = refl
-latest_of-nothing kind.Ref = refl
 
 ahead-any : (p : Command → Bool) (which : Kind) (now d : ℕ) (history : List IssuedCommand)
     → is_ahead now d (latest_of (latest_where p history) which) ≡ list_any (λ i. p i.command && is_kind which (kind_of i.command) && nat_lt now (i.cycle + d)) history

@@ -31,7 +31,7 @@ lowest-is past s rows row c h f read =
     let k = channel-kept past s rows row c h f read in
     λ x. find (λ number. cond (number == 1) (stands_wrongly (h.last x) row) (breaks-is c s (rows_on row.channel rows) row number k f x)) (range_with_len 1 21)
 
-last_row-more : (rows : List IssuedCommand) (row : IssuedCommand) → last_row (rows ++ row ∷ []) ≡ Some row
+pub last_row-more : (rows : List IssuedCommand) (row : IssuedCommand) → last_row (rows ++ row ∷ []) ≡ Some row
 unfolding last_row
 last_row-more rows row = fold-append (λ last (i : IssuedCommand). Some i) None rows (row ∷ [])
 

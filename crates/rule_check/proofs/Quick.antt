@@ -1,7 +1,8 @@
--- A row that breaks no rule, all of them taken at once, breaks none by its number.
-use Rattle.std.proofs.Common.{◌≡◌, ℕ, ◌∙◌, ◌&&◌, ◌||◌, ◌==◌, Bool, true, false, not, cond, List, [], ◌∷◌, Option, Some, None, refl, sym, ap}
+-- A row that breaks not-true rule, all of them taken at once, breaks none by its number.
+use Rattle.std.proofs.Common.{◌≡◌, ℕ, ◌∙◌, ◌&&◌, ◌||◌, ◌==◌, Bool, true, false, not, cond, List, [], ◌∷◌, Option, Some, None, refl, ap}
 use Rattle.std.specs.Prelude.{find}
 use Rattle.std.specs.List.{list_any}
+use Rattle.std.proofs.lemmas.Bool.{not-true, or_from, and_right}
 use Rattle.sim_base.specs.declared.config.Config.{Config}
 use Rattle.sim_base.specs.declared.rule.Rule.{Rule}
 use Rattle.sim_base.specs.declared.command.IssuedCommand.{IssuedCommand}
@@ -22,18 +23,10 @@ others : (a b : Bool) → (a || b) ≡ false → b ≡ false
 others true b h = absurd (cc h)
 others false b h = h
 
-or-none : (a b : Bool) → a ≡ false → b ≡ false → (a || b) ≡ false
-or-none true b h k = h
-or-none false b h k = k
-
-and-none : (a b : Bool) → b ≡ false → (a && b) ≡ false
-and-none true b h = h
-and-none false b h = refl
-
 -- what holds of none holds of none together with a test
 fewer : (p a : Rule → Bool) (rs : List Rule) → list_any p rs ≡ false → list_any (λ r. a r && p r) rs ≡ false
 fewer p a [] h = refl
-fewer p a (r ∷ rs) h = or-none (a r && p r) _ (and-none (a r) (p r) (first (p r) _ h)) (fewer p a rs (others (p r) _ h))
+fewer p a (r ∷ rs) h = or_from (a r && p r) _ (and_right (a r) (p r) (first (p r) _ h)) (fewer p a rs (others (p r) _ h))
 
 distances : (table : List Rule) (c : Channel) (row : IssuedCommand) (number : ℕ) → comes_too_soon table c row ≡ false → kept_breaks_distance table c row number ≡ false
 unfolding kept_breaks_distance
@@ -47,10 +40,6 @@ other : (a b : Bool) → (a && b) ≡ true → b ≡ true
 other true b h = h
 other false b h = absurd (cc h)
 
-no : (b : Bool) → not b ≡ true → b ≡ false
-no true h = sym h
-no false h = refl
-
 -- a row that keeps each rule of its channel breaks none of them by its number
 none-broken : (s : Config) (table : List Rule) (c : Channel) (row : IssuedCommand) (number : ℕ) → keeps_each s table c row ≡ true
     → kept_breaks s table c row number ≡ false
@@ -58,9 +47,9 @@ unfolding kept_breaks
 none-broken s table c row number keeps =
     let early = one _ _ keeps in
     let before = one _ _ early in
-    let soon = no _ (other _ _ keeps) in
-    let refresh = no _ (other _ _ early) in
-    let window = no _ (other _ _ before) in
+    let soon = not-true _ (other _ _ keeps) in
+    let refresh = not-true _ (other _ _ early) in
+    let window = not-true _ (other _ _ before) in
     let banks = one _ _ before in
     neither (number == 2) _ _ (ap not banks)
     (neither (number == 16) _ _ window (neither (number == 18) _ _ refresh (distances table c row number soon)))
@@ -69,7 +58,7 @@ find-nothing : (p : ℕ → Bool) (xs : List ℕ) → ((k : ℕ) → p k ≡ fal
 find-nothing p [] h = refl
 find-nothing p (k ∷ xs) h = ap (λ b. cond b (Some k) (find p xs)) (h k) ∙ find-nothing p xs h
 
--- then there is no lowest one
+-- then there is not-true lowest one
 pub none-found : (s : Config) (table : List Rule) (last : Option IssuedCommand) (c : Channel) (row : IssuedCommand) (numbers : List ℕ) → stands_wrongly last row ≡ false
     → keeps_each s table c row ≡ true → find (past_breaks s table last c row) numbers ≡ None
 none-found s table last c row numbers order keeps =

@@ -18,6 +18,8 @@ use Rattle.sim_base.specs.declared.command.IssuedCommand.{IssuedCommand}
 use Rattle.sim_base.specs.declared.command.Source.{Source}
 use Rattle.rule_check.specs.Numbers.{number_limit, number_below}
 use Rattle.sim_base.specs.Rules.{rank_of, bank_of}
+use Rattle.sim_base.specs.declared.message.Access.{Access}
+use Rattle.sim_base.specs.declared.message.Access.TheVariants as access
 
 -- what the numbers of a table are below, under a configuration
 abbrev pub limits_of : Config → Limits
@@ -141,8 +143,9 @@ wr_in limits fields = do
   Some (Wr bank row column source)
 
 -- a WR or a RD
-abbrev pub access_in : Limits → List (List ℕ) → Bool → Option Command
-access_in limits fields writes = if writes then wr_in limits fields else rd_in limits fields
+abbrev pub access_in : Limits → List (List ℕ) → Access → Option Command
+access_in limits fields access.Read = rd_in limits fields
+access_in limits fields access.Write = wr_in limits fields
 
 -- a PRE names a bank and an entry, and neither row nor column
 unfoldable pub pre_in : Limits → List (List ℕ) → Option Command

@@ -11,6 +11,7 @@ use crate::numbers::{NUMBER_LIMIT, number_below, small_number};
 use csv::ByteRecord;
 use sim_base::command::{Command, IssuedCommand, Source};
 use sim_base::config::Config;
+use sim_base::message::Access;
 use sim_base::place::BankId;
 
 impl Limits {
@@ -156,28 +157,27 @@ fn act_in(limits: Limits, fields: &ByteRecord) -> Option<Command>
 
 // The WR or the RD that a record writes.
 #[tactic(auto, unfolding(crate::specs::Fields::rd_in, crate::specs::Fields::wr_in))]
-fn access_in(limits: Limits, fields: &ByteRecord, writes: bool) -> Option<Command>
-    ensures value { result ≡ access_in limits (fields_of fields.now) writes }
+fn access_in(limits: Limits, fields: &ByteRecord, access: Access) -> Option<Command>
+    ensures value { result ≡ access_in limits (fields_of fields.now) access }
     ensures fits { IfSome result (CommandFits limits) }
 {
     let bank = bank_in(limits, fields)?;
     let row = small_number(limits.rows, operand(limits.ranks, fields, ROW))?;
     let column = small_number(limits.columns, operand(limits.ranks, fields, COLUMN))?;
     let source = source_in(limits, fields)?;
-    if writes {
-        Some(Command::Wr {
+    match access {
+        Access::Read => Some(Command::Rd {
             bank,
             row,
             column,
             source,
-        })
-    } else {
-        Some(Command::Rd {
+        }),
+        Access::Write => Some(Command::Wr {
             bank,
             row,
             column,
             source,
-        })
+        }),
     }
 }
 
@@ -235,9 +235,9 @@ fn command_in(limits: Limits, fields: &ByteRecord) -> Option<Command>
     if is_word(word, b"ACT") {
         act_in(limits, fields)
     } else if is_word(word, b"RD") {
-        access_in(limits, fields, false)
+        access_in(limits, fields, Access::Read)
     } else if is_word(word, b"WR") {
-        access_in(limits, fields, true)
+        access_in(limits, fields, Access::Write)
     } else if is_word(word, b"PRE") {
         pre_in(limits, fields)
     } else if is_word(word, b"PREA") {

@@ -3,12 +3,12 @@ use Rattle.std.proofs.Common.{◌≡◌, ◌^◌, ◌<◌, ◌≤◌, ◌&&◌, 
 use Rattle.std.specs.Prelude.{codes, option_map, ⊤}
 use Rattle.std.specs.Fmt.{decimal, digits}
 use Rattle.std.specs.Str.{bytes_eq}
-use Rattle.std.proofs.lemmas.Bool.{and_parts, cases_Bool, eqb-true, ltb-true, lt-ltb, leb-true, le-leb, ne_eqb}
+use Rattle.std.proofs.lemmas.Bool.{and_parts, cases_Bool, eqb-true, ltb-true, lt-ltb, leb-true, le-leb, ne_eqb, and_from}
 use Rattle.csv.specs.Records.{field_at}
 use Rattle.reports.specs.Requests.{request_header, access_word, hit_field, request_fields}
 use Rattle.reports.specs.Rows.{optional}
-use Rattle.request_table.specs.declared.times.Access.{Access}
-use Rattle.request_table.specs.declared.times.Access.TheVariants.{Read, Write}
+use Rattle.sim_base.specs.declared.message.Access.{Access}
+use Rattle.sim_base.specs.declared.message.Access.TheVariants.{Read, Write}
 use Rattle.request_table.specs.declared.times.RequestTimes.{RequestTimes}
 use Rattle.rule_check.specs.Fields.{◌>>=◌, is_empty, text_at}
 use Rattle.run_tables.specs.Numbers.{number_written}
@@ -227,10 +227,6 @@ reply_cycle access served None h = tt
 reply_cycle Read served (Some replied) h = h.1
 reply_cycle Write served (Some replied) h = absurd h
 
-and_true : (a b : Bool) → a ≡ true → b ≡ true → (a && b) ≡ true
-and_true true b h k = k
-and_true false b h k = cc h
-
 -- THE ROW
 
 -- a record from which a row is read is written of it, and the row fits
@@ -297,8 +293,8 @@ times_back row fits =
 
 follows_back : (row : RequestTimes) → RequestFits row → follows row ≡ true
 follows_back row fits =
-    and_true (nat_le row.issued row.arrived && nat_le row.arrived row.served) (is_reply_to row.access row.served row.replied)
-    (and_true (nat_le row.issued row.arrived) (nat_le row.arrived row.served) (le-leb row.issued row.arrived fits.issued_first) (le-leb row.arrived row.served fits.arrived_before))
+    and_from (nat_le row.issued row.arrived && nat_le row.arrived row.served) (is_reply_to row.access row.served row.replied)
+    (and_from (nat_le row.issued row.arrived) (nat_le row.arrived row.served) (le-leb row.issued row.arrived fits.issued_first) (le-leb row.arrived row.served fits.arrived_before))
     (reply_back row.access row.served row.replied fits.reply)
 
 -- what is written of a row that fits is read as that row

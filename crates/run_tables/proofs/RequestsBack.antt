@@ -9,8 +9,8 @@ use Rattle.sim_base.specs.declared.trace.Entry.{Entry}
 use Rattle.reports.specs.Requests.{request_header, access_word, hit_field, request_fields, requests_text}
 use Rattle.reports.specs.Rows.{optional, row_text, rows_text, table_text}
 use Rattle.request_table.specs.Requests.{requests_of}
-use Rattle.request_table.specs.declared.times.Access.{Access}
-use Rattle.request_table.specs.declared.times.Access.TheVariants.{Read, Write}
+use Rattle.sim_base.specs.declared.message.Access.{Access}
+use Rattle.sim_base.specs.declared.message.Access.TheVariants.{Read, Write}
 use Rattle.request_table.specs.declared.times.RequestTimes.{RequestTimes}
 use Rattle.rule_check.specs.Left.{records_after}
 use Rattle.rule_check.specs.Verdict.{records_of}
@@ -19,7 +19,7 @@ use Rattle.table_laws.proofs.RowsBack.{IsPlainRow, rows-read}
 use Rattle.run_tables.specs.Requests.{RequestFits, IsInOrder, IsRequestTable}
 use Rattle.run_tables.proofs.RunRequests.{requests-fit, requests-ordered}
 
-value-plain : (value : Option ℕ) → IsPlain (optional value)
+pub value-plain : (value : Option ℕ) → IsPlain (optional value)
 value-plain None = refl
 value-plain (Some n) = decimal-plain n
 

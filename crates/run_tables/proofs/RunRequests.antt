@@ -5,13 +5,12 @@ use Rattle.std.specs.Option.{IfSome}
 use Rattle.std.specs.List.{AllByRecursion as Each, AllPairs, cons_option}
 use Rattle.std.proofs.lemmas.Bool.{cases_Bool, cond_both, and_parts, eqb-true, ltb-true}
 use Rattle.std.proofs.lemmas.List.Elements.{All-contains, All-from_recursion, recursion_from_All}
-use Rattle.std.proofs.lemmas.List.FromFn.{length-map-range_with_len}
 use Rattle.std.proofs.lemmas.List.Kept.{AllPairs-cons}
 use Rattle.sim_base.specs.declared.config.Config.{Config}
 use Rattle.sim_base.specs.Counts.{source_in}
 use Rattle.sim_base.specs.MachineStep.{MachineStep}
 use Rattle.sim_base.specs.History.{commands, inbox, issued_commands}
-use Rattle.sim_base.specs.Machine.{next_command, next_step, run}
+use Rattle.sim_base.specs.Machine.{next_step, run}
 use Rattle.sim_base.specs.Scheduling.{request_in, source_of, is_queued, queue_in, queued_requests}
 use Rattle.sim_base.specs.declared.command.Command.{Command}
 use Rattle.sim_base.specs.declared.command.Command.TheVariants.{Act, Rd, Wr, Pre, Prea, Ref}
@@ -23,17 +22,17 @@ use Rattle.sim_base.specs.declared.message.Unit.TheVariants.{Channel}
 use Rattle.sim_base.specs.declared.trace.Entry.{Entry}
 use Rattle.sim_base.proofs.Each.{Each-append, Each-filter_map}
 use Rattle.sim_base.proofs.Ordered.{Each-weaker}
-use Rattle.sim_base.proofs.Spans.{length-run, step_of_channel-next}
+use Rattle.sim_base.proofs.Spans.{length-run}
 use Rattle.laws.specs.Commands.{channel_steps_of}
 use Rattle.laws.specs.Tables.{stands_before}
 use Rattle.laws.proofs.Chosen.{IfSome-weaker}
-use Rattle.laws.proofs.Legal.{chosen, channel_steps_of-at}
+use Rattle.laws.proofs.Legal.{channel_steps_of-at}
 use Rattle.laws.proofs.Named.{commands_name_the_queue}
 use Rattle.laws.proofs.Receivers.{Each-filter_passes}
-use Rattle.laws.proofs.Tabled.{rows_from, commands-more, tables_are_ordered}
+use Rattle.laws.proofs.Tabled.{rows_from, commands-more, tables_are_ordered, AreChosen, next-chosen}
 use Rattle.request_table.specs.Requests.{arrival_of, reply_cycle, replied_in, request_for, request_by, requests_of}
-use Rattle.request_table.specs.declared.times.Access.{Access}
-use Rattle.request_table.specs.declared.times.Access.TheVariants.{Read, Write}
+use Rattle.sim_base.specs.declared.message.Access.{Access}
+use Rattle.sim_base.specs.declared.message.Access.TheVariants.{Read, Write}
 use Rattle.laws.proofs.Dated.{requests_arrive_as_issued}
 use Rattle.table_laws.specs.Written.{SourceIsOf, CommandIsOf, RowIsOf}
 use Rattle.table_laws.proofs.InRange.{commands_are_in_range}
@@ -46,10 +45,6 @@ record IsDone (s : Config) (traces : List (List Entry)) (n : ℕ) (i : IssuedCom
   cycle : i.cycle < n
   command : get_or (channel_steps_of s traces n i.channel) i.cycle None ≡ Some i.command
 
--- what the channels from i on do in a cycle
-abbrev AreChosen : Config → List (List Entry) → ℕ → ℕ → List (Option Command) → Type 0
-AreChosen s traces cycle i os = (j k : ℕ) → j < length os → i + j ≡ k → (k < s.channels) × (get_or os j None ≡ chosen s traces cycle k)
-
 rows-done : (s : Config) (traces : List (List Entry)) (n cycle : ℕ) → cycle < n → (i : ℕ) (os : List (Option Command)) → AreChosen s traces cycle i os → Each (IsDone s traces n) (rows_from cycle i os)
 unfolding rows_from
 rows-done s traces n cycle h i [] at = tt
@@ -59,14 +54,6 @@ rows-done s traces n cycle h i (Some c ∷ os) at =
       record { channel = here.0; cycle = h; command = channel_steps_of-at s traces i here.0 n cycle h ∙ sym here.1 },
       rows-done s traces n cycle h (i + 1) os (λ j k l e. at (suc j) k (omega arith) (omega arith)),
     )
-
-next-chosen : (s : Config) (traces : List (List Entry)) (n : ℕ) → AreChosen s traces n 0 (next_step s traces (run s traces n)).commands
-unfolding next_step
-next-chosen s traces n j k l e =
-    let same : j ≡ k = omega arith in
-    let long = length-map-range_with_len (next_command s traces (run s traces n)) 0 s.channels in
-    let inside : k < s.channels = omega arith in
-    (inside, ap (λ i. get_or (next_step s traces (run s traces n)).commands i None) same ∙ step_of_channel-next s traces (run s traces n) k inside)
 
 commands-done : (s : Config) (traces : List (List Entry)) (n m : ℕ) → m ≤ n → Each (IsDone s traces n) (commands (run s traces m))
 unfolding run commands

@@ -1,7 +1,7 @@
 -- The statistics of a run are in their ranges.
-use Rattle.std.proofs.Common.{◌≡◌, ◌+◌, ◌*◌, ◌<◌, ◌≤◌, ◌^◌, ◌==◌, ◌∙◌, eqb, ℕ, zero, suc, Bool, true, false, cond, max, List, [], ◌∷◌, length, map, fold, All, Option, None, IfSome, refl, sym, subst, arith, inl, inr}
+use Rattle.std.proofs.Common.{◌≡◌, ◌+◌, ◌*◌, ◌<◌, ◌≤◌, ◌^◌, ◌==◌, ◌∙◌, eqb, ℕ, Bool, true, false, cond, max, List, [], ◌∷◌, length, map, fold, All, Option, None, IfSome, refl, sym, subst, arith, inl, inr}
 use Rattle.std.specs.Prelude.{count_by, filter}
-use Rattle.std.specs.List.{AllByRecursion as Each, IsDistinct, range_with_len, filter_map, cons_option}
+use Rattle.std.specs.List.{AllByRecursion as Each, IsDistinct, filter_map, cons_option}
 use Rattle.std.proofs.lemmas.Bool.{cases_Bool, cond_both, eqb-false}
 use Rattle.std.proofs.lemmas.List.Elements.{All-from_recursion, recursion_from_All}
 use Rattle.std.proofs.lemmas.Nat.{mul-le}
@@ -19,8 +19,8 @@ use Rattle.sim_base.specs.declared.message.Unit.TheVariants.{Core, Channel}
 use Rattle.sim_base.specs.declared.trace.Entry.{Entry}
 use Rattle.sim_base.proofs.Each.{IfSome-find}
 use Rattle.sim_base.proofs.Spans.{length-run}
+use Rattle.sim_base.proofs.Lists.{count-cons}
 use Rattle.laws.proofs.Answered.{reads_are_answered_once}
-use Rattle.laws.proofs.Counting.{count-cons}
 use Rattle.laws.proofs.Bounded.{queues_are_bounded}
 use Rattle.laws.proofs.Legal.{length-channel_steps_of}
 use Rattle.laws.specs.Commands.{channel_steps_of}
@@ -31,19 +31,9 @@ use Rattle.statistics.proofs.ChannelBounds.{channel_stats-fit}
 use Rattle.statistics.proofs.CoreBounds.{core_stats-fit, KeepsToTrace-run}
 use Rattle.statistics.proofs.Replies.{RepliesFollowReads-run, length-steps_of_core}
 use Rattle.statistics.proofs.ReplyBounds.{answered_entries, replies-le-issued}
-use Rattle.table_laws.proofs.InRange.{range-below}
+use Rattle.table_laws.proofs.InRange.{range-below, trace-short}
+use Rattle.table_laws.proofs.Lawful.{mapped-each, greatest-within}
 use Rattle.run_tables.specs.Stats.{CoreInRange, StatsFit}
-
--- no trace is longer than the longest may be
-trace-short : (traces : List (List Entry)) (core : ℕ) → Each (λ (t : List Entry). length t ≤ 2 ^ 62) traces → length (trace_of traces core) ≤ 2 ^ 62
-trace-short [] core h = omega arith
-trace-short (t ∷ ts) zero h = h.0
-trace-short (t ∷ ts) (suc core) h = trace-short ts core h.1
-
--- what holds of each unit holds of all
-mapped-each : {X : Type 0} (P : X → Type 0) (f : ℕ → X) (a n : ℕ) → ((k : ℕ) → k < a + n → P (f k)) → Each P (map f (range_with_len a n))
-mapped-each P f a zero h = tt
-mapped-each P f a (suc n) h = (h a (omega arith), mapped-each P f (a + 1) n (λ k l. h k (omega arith)))
 
 -- THE REPLIES TO A CORE
 
@@ -137,10 +127,6 @@ core-range s traces n core few short l =
       counts = core_stats-fit s core trace steps mail (omega (arith, long, few)) (omega (arith, issued, entries)) (omega (arith, issued, retired, entries)) (omega (arith, replied, issued, entries));
       finish = finish-range trace steps (omega (arith, long, few));
     }
-
-greatest-within : (a most : ℕ) (xs : List ℕ) → a ≤ most → Each (λ x. x ≤ most) xs → fold max a xs ≤ most
-greatest-within a most [] l h = l
-greatest-within a most (x ∷ xs) l h = greatest-within (max a x) most xs (let b = h.0 in omega arith) h.1
 
 channel-range : (s : Config) (traces : List (List Entry)) (n channel : ℕ) → n ≤ 2 ^ 62 → channel < s.channels → ChannelFits (stats_of_channel s traces (run s traces n) channel)
 unfolding stats_of_channel queued_max queue_lengths queue_length

@@ -5,7 +5,7 @@ use Rattle.std.specs.List.{AllByRecursion as Each}
 use Rattle.csv.specs.Reading.{strip_bom}
 use Rattle.csv.specs.declared.parser.State.TheVariants as st
 use Rattle.sim_base.proofs.Each.{Each-append}
-use Rattle.reports.specs.Rows.{numbered, optional, row_text, rows_text, table_text}
+use Rattle.reports.specs.Rows.{numbered, row_text, rows_text, table_text}
 use Rattle.reports.specs.Stats.{stats_header, stats_rows, stats_text, value_fields, draining_values, core_rows, channel_rows}
 use Rattle.rule_check.specs.Left.{records_after}
 use Rattle.rule_check.specs.Verdict.{records_of}
@@ -16,11 +16,7 @@ use Rattle.table_laws.proofs.Plain.{IsPlain, decimal-plain}
 use Rattle.table_laws.proofs.RowsBack.{IsPlainRow, rows-read}
 use Rattle.run_tables.specs.Stats.{StatsFit, IsStatsTable}
 use Rattle.run_tables.proofs.Units.{from}
-
--- a value is plain
-value-plain : (value : Option ℕ) → IsPlain (optional value)
-value-plain None = refl
-value-plain (Some n) = decimal-plain n
+use Rattle.run_tables.proofs.RequestsBack.{value-plain}
 
 -- so is the line of a count
 line : (scope : List ℕ) (id : ℕ) (name : List ℕ) (value : Option ℕ) → IsPlain scope → IsPlain name → IsPlainRow (value_fields scope id (name, value))

@@ -1,7 +1,7 @@
 -- A table that is no table of statistics is refused for its first record at fault.
-use Rattle.std.proofs.Common.{◌≡◌, ◌+◌, ◌<◌, ◌≤◌, ◌^◌, ◌==◌, ◌||◌, ◌∙◌, ◌⊎◌, ℕ, nat_lt, Bool, true, false, List, [], ◌∷◌, ◌++◌, length, drop, take, Some, None, Result, Ok, Err, refl, sym, ap, subst, arith, inl, inr, append-nil, append_assoc, length-append}
+use Rattle.std.proofs.Common.{◌≡◌, ◌+◌, ◌<◌, ◌≤◌, ◌^◌, ◌==◌, ◌∙◌, ◌⊎◌, ℕ, nat_lt, Bool, true, false, List, [], ◌∷◌, ◌++◌, length, drop, take, Some, None, Result, Ok, Err, refl, sym, ap, subst, arith, inl, inr, append-nil, append_assoc, length-append}
 use Rattle.std.specs.Prelude.{codes, IfOk, IfErr, MatchResult}
-use Rattle.std.proofs.lemmas.Bool.{eqb-true, ltb-true}
+use Rattle.std.proofs.lemmas.Bool.{eqb-true, ltb-true, or_cases}
 use Rattle.std.proofs.lemmas.List.{take_at, take-append-le, take-append-drop, length-drop, length-take, length-take-le}
 use Rattle.std.proofs.lemmas.List.Elements.{All-from_recursion}
 use Rattle.std.specs.List.{AllByRecursion as Each, slice_get}
@@ -27,10 +27,6 @@ use Rattle.run_tables.proofs.RowValues.{read_count}
 use Rattle.run_tables.proofs.StatsTables.{some_there, not_below, core_lines, channel_lines, front, table_read, read_table}
 use Rattle.run_tables.proofs.UnitRows.{core_reads, core_ok, row_of, count_small, channel_reads, channel_ok, channel_long, channel_least, channel_rows_size}
 use Rattle.run_tables.proofs.Units.{from, begins, end_after}
-
-or-true : (a b : Bool) → (a || b) ≡ true → (a ≡ true) ⊎ (b ≡ true)
-or-true true b h = inl refl
-or-true false b h = inr h
 
 not-both : (b : Bool) → b ≡ true → b ≡ false → ⊥
 not-both b h k = let both : true ≡ false = sym h ∙ k in cc both
@@ -232,7 +228,7 @@ cores_refused records cycles e header counted s =
             | inl more ↦ w.differs other more.0 more.1 agrees
             | inr ends ↦
                 let there = some_there (length t.0.cores) (has_text 0 (codes "core") (slice_get other o.row)) o.cores.ends in
-                elim (or-true (length xs == 0) (has_text 0 (codes "core") (slice_get records row)) s.goes) [
+                elim (or_cases (length xs == 0) (has_text 0 (codes "core") (slice_get records row)) s.goes) [
                   | inl none ↦ let some = there.0 in let zero = eqb-true (length xs) 0 none in let size = ap length ends.0 in omega (arith, some, zero, size)
                   | inr core ↦
                       not-both (has_text 0 (codes "core") (slice_get other o.row))
@@ -323,7 +319,7 @@ channels_refused records cycles cores start e header counted all s =
                 elim (channels-follow records other start row xs t.0.channels s.some.read a (agree_less (row + 1) (w.place + 1) other records (omega (arith, after)) agrees)) [
                   | inl one ↦ w.differs other one.0 one.1 agrees
                   | inr last ↦
-                      elim (or-true (length xs == 0) (nat_lt row (length records)) s.goes) [
+                      elim (or_cases (length xs == 0) (nat_lt row (length records)) s.goes) [
                         | inl none ↦ let some = whole.1 in let zero = eqb-true (length xs) 0 none in let same = ap length last.0 in omega (arith, some, zero, same)
                         | inr more ↦
                             let below = ltb-true row (length records) more in

@@ -1,7 +1,7 @@
 -- A table is read just where it is the table of statistics.
 use Rattle.std.proofs.Common.{◌≡◌, ◌+◌, ◌*◌, ◌<◌, ◌≤◌, ◌==◌, ◌||◌, ◌∙◌, ℕ, nat_lt, Bool, true, false, List, [], ◌∷◌, ◌++◌, length, drop, Some, Ok, refl, sym, ap, subst, arith, inl, inr, append-nil, length-append}
 use Rattle.std.specs.Prelude.{codes, ⊤}
-use Rattle.std.proofs.lemmas.Bool.{cases_lt, eqb-false, ne_eqb, lt-ltb, le-ltb}
+use Rattle.std.proofs.lemmas.Bool.{cases_lt, eqb-false, ne_eqb, lt-ltb, le-ltb, or_parts}
 use Rattle.std.proofs.lemmas.List.{append_cancel_left, drop_all, length-drop}
 use Rattle.std.proofs.lemmas.List.Elements.{All-from_recursion, recursion_from_All}
 use Rattle.std.specs.List.{AllByRecursion as Each, slice_get}
@@ -20,14 +20,10 @@ use Rattle.run_tables.proofs.Exact.{header_is, header_back}
 use Rattle.run_tables.proofs.UnitRows.{NoDraining, count_row, count_small, count_from, row_of, core_ok, core_from, core_long, channel_ok, channel_from, channel_long}
 use Rattle.run_tables.proofs.Units.{from, rows_of_units, units_of_rows, one_more}
 
-or-false : (a b : Bool) → (a || b) ≡ false → (a ≡ false) × (b ≡ false)
-or-false true b h = cc h
-or-false false b h = (refl, h)
-
 -- one is there, where no other must follow
 pub some_there : (count : ℕ) (b : Bool) → ((count == 0) || b) ≡ false → (0 < count) × (b ≡ false)
 some_there count b h =
-    let parts = or-false (count == 0) b h in
+    let parts = or_parts (count == 0) b h in
     let zero = eqb-false count 0 parts.0 in
     (elim (cases_lt 0 count) [ inl some ↦ some | inr none ↦ absurd (zero (omega (arith, none))) ], parts.1)
 

@@ -1,5 +1,5 @@
 -- Numbers and lines as they are written, and no others.
-use Rattle.std.proofs.Common.{◌≡◌, ◌≢◌, ◌+◌, ◌/◌, ◌%◌, ◌^◌, ◌<◌, ◌≤◌, ◌&&◌, ◌==◌, ◌∙◌, ℕ, Bool, true, false, not, nat_lt, List, [], ◌∷◌, ◌++◌, length, length-append, fold, get_or, Some, None, Result, Ok, Err, refl, sym, ap, arith, inl, inr}
+use Rattle.std.proofs.Common.{◌≡◌, ◌≢◌, ◌+◌, ◌/◌, ◌%◌, ◌^◌, ◌<◌, ◌≤◌, ◌&&◌, ◌==◌, ◌∙◌, ℕ, true, false, not, nat_lt, List, [], ◌∷◌, ◌++◌, length, length-append, fold, get_or, Some, None, Result, Ok, Err, refl, sym, ap, arith, inl, inr}
 use Rattle.std.specs.Char.{is_ascii_digit}
 use Rattle.std.specs.Fmt.{decimal}
 use Rattle.std.specs.List.{list_all}
@@ -13,6 +13,7 @@ use Rattle.std.proofs.lemmas.List.{get_or_append_left}
 use Rattle.std.proofs.lemmas.List.Folds.{list_all-append}
 use Rattle.std.proofs.lemmas.List.Sums.{fold-append}
 use Rattle.std.proofs.lemmas.Str.Parse.{IsNumeralModel, IsDigitsTest, FoldsDigits, numerals_by_fold, parse_digits}
+use Rattle.std.proofs.Math.Bool.{and-false}
 use Rattle.rule_check.specs.Numbers.{with_digit, value_of, is_number}
 use Rattle.run_tables.specs.Numbers.{has_leading_zero, wide_value, number_written}
 use Rattle.run_tables.proofs.Canonical.{canonical_is, digit-range}
@@ -88,10 +89,6 @@ digits-more n ds h d =
 
 digits-of : (n : ℕ) → n < 10 ^ 64 → Digits n (decimal n)
 digits-of = decimal_by_steps_wide Digits digits-one digits-more
-
-and-false : (b : Bool) → (b && false) ≡ false
-and-false true = refl
-and-false false = refl
 
 leading : (n : ℕ) (ds : List ℕ) → Digits n ds → has_leading_zero ds ≡ false
 leading n ds d =

@@ -10,8 +10,8 @@
 --     RequestsComeBack rows      the table of these rows is read as it was written
 use Rattle.std.specs.Prelude.{◌≡◌, ℕ, ◌+◌, ◌*◌, ◌^◌, ◌<◌, ◌≤◌, ⊤, false, List, ◌∷◌, map, IfSome, Option, Some, None, All}
 use Rattle.std.specs.List.{AllPairs}
-use Rattle.request_table.specs.declared.times.Access.{Access}
-use Rattle.request_table.specs.declared.times.Access.TheVariants.{Read, Write}
+use Rattle.sim_base.specs.declared.message.Access.{Access}
+use Rattle.sim_base.specs.declared.message.Access.TheVariants.{Read, Write}
 use Rattle.request_table.specs.declared.times.RequestTimes.{RequestTimes}
 use Rattle.reports.specs.Requests.{request_header, request_fields, requests_text}
 use Rattle.rule_check.specs.Verdict.{records_of}

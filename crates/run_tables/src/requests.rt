@@ -13,10 +13,10 @@ use crate::fields::is_at;
 use crate::numbers::number_in;
 use crate::records::Records;
 use csv::ByteRecord;
-use request_table::times::{Access, RequestTimes};
+use request_table::times::RequestTimes;
 use rule_check::fields::text_at;
 use sim_base::fault::Fault;
-use sim_base::message::{ChannelId, CoreId, Cycle};
+use sim_base::message::{Access, ChannelId, CoreId, Cycle};
 use std::alloc::Global;
 
 /// Each entry and each cycle of a table is below this one.

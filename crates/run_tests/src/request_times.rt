@@ -8,8 +8,8 @@
 use crate::expect::expect_at;
 use crate::outcomes::{Texts, always, outcome_of};
 use request_table::table::RequestTable;
-use request_table::times::{Access, RequestTimes};
-use sim_base::message::Cycle;
+use request_table::times::RequestTimes;
+use sim_base::message::{Access, Cycle};
 use std::alloc::Global;
 use std::process::Abort;
 use std::sync::Wait;

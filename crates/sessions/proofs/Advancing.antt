@@ -3,7 +3,7 @@ use Rattle.std.proofs.Common.{Option, ◌≡◌, ℕ, ◌+◌, ◌-◌, ◌^◌,
 use Rattle.std.specs.List.{AllByRecursion as Each}
 use Rattle.std.proofs.lemmas.List.{append_assoc, length-append}
 use Rattle.sim_base.proofs.Arrived.{NotBefore}
-use Rattle.sim_base.proofs.Each.{Each-append}
+use Rattle.sim_base.proofs.Each.{Each-append, Each-first, Each-last, Each-both}
 use Rattle.sim_base.proofs.Same.{Stamped}
 use Rattle.sim_base.specs.declared.config.Config.{Config}
 use Rattle.sim_base.specs.Counts.{queue_length}
@@ -22,7 +22,7 @@ use Rattle.channel_step.specs.declared.channel.Channel.{Channel}
 use Rattle.channel_step.proofs.Requests.{carries-stamped, requests-append, requests-arrived}
 use Rattle.channel_step.proofs.Spans.{length-channel_run, channel_run-more, channel_run-same}
 use Rattle.sessions.specs.Keeps.{steps_of, waiting, Keeps}
-use Rattle.sessions.proofs.Lists.{Each-first, Each-last, Each-both, age-first, age-last, differ-first, differ-across}
+use Rattle.sessions.proofs.Lists.{age-first, age-last, differ-first, differ-across}
 use Rattle.sessions.proofs.Naming.{run-unnamed}
 use Rattle.sessions.proofs.Sending.{steps-late}
 use Rattle.sessions.proofs.Waiting.{waits-left, room-left, queued-late}

@@ -1,41 +1,33 @@
 -- When a channel acts next, by what it knows itself and by what is on its way.
-use Rattle.std.proofs.Common.{◌≡◌, ◌⊎◌, inl, inr, ℕ, ◌+◌, ◌-◌, ◌<◌, ◌≤◌, Bool, true, false, leb, eqb, ◌||◌, List, [], ◌∷◌, ◌++◌, length, Option, Some, None, refl, sym, ap, subst, ◌∙◌, arith}
+use Rattle.std.proofs.Common.{◌≡◌, inl, inr, ℕ, ◌+◌, ◌-◌, ◌<◌, ◌≤◌, Bool, true, false, leb, eqb, ◌||◌, List, [], ◌∷◌, ◌++◌, length, Option, Some, None, refl, sym, ap, subst, ◌∙◌, arith}
 use Rattle.std.specs.Prelude.{is_some, replicate, min}
-use Rattle.std.specs.List.{AllByRecursion as Each, list_any}
-use Rattle.std.proofs.lemmas.Bool.{leb-true, leb-false}
+use Rattle.std.specs.List.{list_any}
+use Rattle.std.proofs.lemmas.Bool.{leb-true, leb-false, or_right}
 use Rattle.std.proofs.lemmas.Bool.Decides.{nat_tests}
 use Rattle.std.proofs.lemmas.List.{length-append, length-replicate}
-use Rattle.sim_base.proofs.Arrived.{NotBefore}
+use Rattle.sim_base.proofs.Arrived.{NotBefore, NotBefore-weaker}
 use Rattle.sim_base.proofs.Ordered.{Each-weaker}
 use Rattle.sim_base.proofs.Same.{choice-same}
 use Rattle.sim_base.specs.History.{is_before}
 use Rattle.sim_base.specs.Scheduling.{choice}
 use Rattle.sim_base.specs.declared.command.Command.{Command}
 use Rattle.sim_base.specs.declared.message.Message.{Message}
+use Rattle.sim_base.proofs.Lists.{none-is}
 use Rattle.statistics.proofs.ChannelMail.{AgreeUpTo-later}
-use Rattle.statistics.proofs.Messages.{NotBefore-sooner}
 use Rattle.channel_step.specs.Fit.{ComeByAge}
 use Rattle.channel_step.proofs.Requests.{carries-stamped}
 use Rattle.fr_fcfs.specs.Cycles.{IsFirstCycle, IsFirst}
-use Rattle.sessions.specs.Ahead.{command_then, arrives_then, first_arrival, earlier, IsNextAt, IsNextAct}
+use Rattle.sessions.specs.Ahead.{command_then, first_arrival, earlier, IsNextAt, IsNextAct}
 use Rattle.sessions.specs.Keeps.{steps_of}
 use Rattle.sessions.specs.Sessions.{Past, IsSession}
 use Rattle.sessions.specs.declared.channel_session.session.Session.{Session}
 use Rattle.sessions.proofs.Advancing.{keeps-at}
 use Rattle.sessions.proofs.Lists.{later-all}
 
-none-is : {X : Type 0} (o : Option X) → is_some o ≡ false → o ≡ None
-none-is None h = refl
-none-is (Some x) h = absurd (cc)
-
-later : (b other : Bool) → other ≡ true → (b || other) ≡ true
-later true other h = refl
-later false other h = h
-
 -- a message that was sent arrives in its cycle
 arrives : (at : ℕ) (mail : List Message) (m : Message) (ms : List Message) → m.arrival ≡ at → list_any (λ (n : Message). eqb n.arrival at) (mail ++ m ∷ ms) ≡ true
 arrives at [] m ms e = let same : eqb m.arrival at ≡ true = grind (arith, nat_tests) in ap (λ b. b || list_any (λ (n : Message). eqb n.arrival at) ms) same
-arrives at (x ∷ xs) m ms e = later (eqb x.arrival at) (list_any (λ (n : Message). eqb n.arrival at) (xs ++ m ∷ ms)) (arrives at xs m ms e)
+arrives at (x ∷ xs) m ms e = or_right (eqb x.arrival at) (list_any (λ (n : Message). eqb n.arrival at) (xs ++ m ∷ ms)) (arrives at xs m ms e)
 
 -- nothing that comes by age arrives before the first of it
 age-after : (m : Message) (ms : List Message) → ComeByAge (m ∷ ms) → NotBefore m.arrival (m ∷ ms)
@@ -82,7 +74,7 @@ alone session p h e (Some cycle) f =
 known-before : (session : Session) (p : Past) → (h : IsSession session p) → (m : Message) (ms : List Message) → session.coming.items ≡ m ∷ ms → (t : ℕ) → session.cycle ≤ t → t < m.arrival
     → command_then p session.cycle t ≡ known session p h t
 known-before session p h m ms e t l b =
-    same session p h t l (subst (NotBefore (t + 1)) (sym e) (NotBefore-sooner (t + 1) m.arrival (omega arith) (m ∷ ms) (age-after m ms (subst ComeByAge e h.keeps.by_age))))
+    same session p h t l (subst (NotBefore (t + 1)) (sym e) (NotBefore-weaker (t + 1) m.arrival (omega arith) (m ∷ ms) (age-after m ms (subst ComeByAge e h.keeps.by_age))))
 
 -- where a message is the next to arrive, and nothing is issued before that
 arrival-next : (session : Session) (p : Past) → (h : IsSession session p) → (m : Message) (ms : List Message) → session.coming.items ≡ m ∷ ms

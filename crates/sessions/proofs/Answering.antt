@@ -1,7 +1,7 @@
 -- What a session answers, by what it keeps.
 use Rattle.std.proofs.Common.{◌≡◌, ℕ, ◌+◌, ◌≤◌, Bool, true, false, cond, List, [], ◌∷◌, ◌++◌, length, take, drop, Option, Some, None, refl, sym, ap, ap₂, subst, ◌∙◌, arith}
-use Rattle.std.specs.Prelude.{not, take_while, nat_lt, option_to_list, slice_get, Result, Ok, Err, IfErr, IfSome, OnOk, OnErr}
-use Rattle.std.proofs.lemmas.Bool.{and_parts, ltb-false, leb-true, leb-false, eqb-true}
+use Rattle.std.specs.Prelude.{take_while, nat_lt, option_to_list, slice_get, Result, Ok, Err, IfErr, IfSome, OnOk, OnErr}
+use Rattle.std.proofs.lemmas.Bool.{and_parts, ltb-false, leb-true, leb-false, eqb-true, not-false}
 use Rattle.std.proofs.lemmas.List.{append_assoc, length-append, take-append-drop, drop-append-le}
 use Rattle.std.proofs.lemmas.List.Folds.{length-prefix_len}
 use Rattle.sim_base.proofs.Arrived.{NotBefore}
@@ -11,7 +11,7 @@ use Rattle.sim_base.specs.Machine.{channel_run}
 use Rattle.sim_base.specs.Scheduling.{queued_requests}
 use Rattle.sim_base.specs.declared.command.IssuedCommand.{IssuedCommand}
 use Rattle.sim_base.specs.declared.message.Message.{Message}
-use Rattle.sim_base.specs.declared.message.Request.{Request}
+use Rattle.sim_base.proofs.Each.{Each-last}
 use Rattle.statistics.specs.Channels.{channel_stats}
 use Rattle.statistics.proofs.ChannelMail.{channel_stats-later}
 use Rattle.channel_step.specs.Channels.{StandsFor}
@@ -30,7 +30,7 @@ use Rattle.sessions.specs.declared.channel_session.held.HeldReplies.{HeldReplies
 use Rattle.sessions.specs.declared.channel_session.requests.SentRequest.{SentRequest}
 use Rattle.sessions.specs.declared.channel_session.session.Session.{Session}
 use Rattle.sessions.proofs.Advancing.{IsCut, HasGone, keeps-at, waits-arrived}
-use Rattle.sessions.proofs.Lists.{Each-last, due, due-early, due-late}
+use Rattle.sessions.proofs.Lists.{due, due-early, due-late}
 use Rattle.sessions.proofs.Sending.{MaySend, steps-late, sent-stamped, keeps-first, keeps-sent}
 
 -- the statistics are those for all that was sent
@@ -58,10 +58,6 @@ passed : (b : Bool) (fault : SessionFault) (o : Option SessionFault) → cond b 
 passed true fault o e = absurd (cc)
 passed false fault o e = (refl, e)
 
-held : (b : Bool) → not b ≡ false → b ≡ true
-held true e = refl
-held false e = absurd (cc)
-
 -- a request that is not refused may be sent
 may-send : (session : Session) (waits : ℕ) (r : SentRequest) → refusal session waits r ≡ None
     → MaySend session.config session.number session.cycle session.firsts.items waits session.coming.items r
@@ -72,12 +68,12 @@ may-send session waits r e =
     let d = passed _ _ _ c.1 in
     let f = passed _ _ _ d.1 in
     let g = passed _ _ _ f.1 in
-    let unasked = and_parts _ _ (and_parts _ _ (held _ f.0)).0 in
+    let unasked = and_parts _ _ (and_parts _ _ (not-false _ f.0)).0 in
     record {
       core = leb-false _ _ a.0;
-      place = eqb-true _ _ (held _ b.0);
+      place = eqb-true _ _ (not-false _ b.0);
       arrival = ltb-false _ _ c.0;
-      last = held _ d.0;
+      last = not-false _ d.0;
       new = leb-true _ _ unasked.1;
       credit = leb-false _ _ g.0;
     }

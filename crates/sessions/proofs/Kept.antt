@@ -1,5 +1,5 @@
 -- What the channels of a memory keep, when one of them is changed or all have run.
-use Rattle.std.proofs.Common.{◌≡◌, ℕ, ◌+◌, ◌<◌, ◌≤◌, ◌^◌, Bool, true, false, eqb, ltb, List, [], ◌++◌, length, take, drop, get_or, Option, Some, None, Result, Ok, Err, refl, sym, ap, ap₂, subst, ◌∙◌, arith}
+use Rattle.std.proofs.Common.{◌≡◌, ℕ, ◌+◌, ◌<◌, ◌≤◌, Bool, true, false, eqb, List, [], ◌++◌, length, take, drop, get_or, Option, Some, None, Result, Ok, Err, refl, sym, ap, ap₂, subst, ◌∙◌, arith}
 use Rattle.std.specs.Prelude.{slice_set, option_map, OnOk, OnErr, if◌then◌else◌}
 use Rattle.std.specs.Vec.{with_item}
 use Rattle.std.proofs.lemmas.Bool.{ltb-false, eqb-true}
@@ -10,9 +10,8 @@ use Rattle.sim_base.specs.declared.command.IssuedCommand.{IssuedCommand}
 use Rattle.sim_base.specs.declared.message.Message.{Message}
 use Rattle.sessions.specs.Sent.{message_of}
 use Rattle.sessions.specs.Keeps.{waiting}
-use Rattle.sessions.specs.Sessions.{Past, IsSession, IsOpen, with_sent, with_command, with_reply, refusal, end_refusal, IsAnswer}
+use Rattle.sessions.specs.Sessions.{Past, IsSession, with_sent, with_command, with_reply, refusal, end_refusal, IsAnswer}
 use Rattle.sessions.specs.declared.channel_session.fault.SessionFault.{SessionFault}
-use Rattle.sessions.specs.declared.channel_session.fault.SessionFault.TheVariants.{EndPassed, EndTooLate}
 use Rattle.sessions.specs.declared.channel_session.requests.SentRequest.{SentRequest}
 use Rattle.sessions.specs.declared.channel_session.session.Session.{Session}
 use Rattle.sessions.specs.Memories.{Pasts, IsChannelOf, IsMemory, IsOpenMemory, number_of, memory_refusal, with_past, with_request, with_command_of, with_reply_of, MayRun, HasRunTo}

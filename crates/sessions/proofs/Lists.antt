@@ -6,25 +6,13 @@ use Rattle.std.proofs.lemmas.Option.{slice_get_cases}
 use Rattle.std.specs.List.{AllByRecursion as Each, list_all, prefix_len}
 use Rattle.std.proofs.lemmas.Bool.{and_parts, ltb-true, ltb-false}
 use Rattle.std.proofs.lemmas.Bool.Decides.{nat_tests}
-use Rattle.sim_base.proofs.Each.{Each-all, Each-append}
+use Rattle.sim_base.proofs.Each.{Each-all, Each-append, Each-first, Each-last, Each-both}
 use Rattle.sim_base.proofs.Ordered.{Each-weaker}
 use Rattle.sim_base.specs.History.{is_before}
 use Rattle.sim_base.specs.declared.message.Message.{Message}
 use Rattle.sim_base.specs.declared.message.Request.{Request}
 use Rattle.channel_step.specs.Fit.{ComeByAge}
 use Rattle.channel_step.specs.Past.{IsOther, Differ}
-
-pub Each-first : {X : Type 0} (P : X → Type 0) (xs ys : List X) → Each P (xs ++ ys) → Each P xs
-Each-first P [] ys h = tt
-Each-first P (x ∷ xs) ys h = (h.0, Each-first P xs ys h.1)
-
-pub Each-last : {X : Type 0} (P : X → Type 0) (xs ys : List X) → Each P (xs ++ ys) → Each P ys
-Each-last P [] ys h = h
-Each-last P (x ∷ xs) ys h = Each-last P xs ys h.1
-
-pub Each-both : {X : Type 0} (P Q : X → Type 0) (xs : List X) → Each P xs → Each Q xs → Each (λ x. P x × Q x) xs
-Each-both P Q [] h k = tt
-Each-both P Q (x ∷ xs) h k = ((h.0, k.0), Each-both P Q xs h.1 k.1)
 
 -- each of these with each of those, the other way round
 pub each-turned : {X Y : Type 0} (R : X → Y → Type 0) (xs : List X) (ys : List Y) → Each (λ x. Each (R x) ys) xs → Each (λ y. Each (λ x. R x y) xs) ys

@@ -3,7 +3,7 @@ use Rattle.std.proofs.Common.{◌≡◌, ℕ, ◌<◌, Option, Some, None, refl,
 use Rattle.std.specs.Prelude.{option_map}
 use Rattle.sim_base.specs.declared.command.IssuedCommand.{IssuedCommand}
 use Rattle.sim_base.specs.declared.message.Message.{Message}
-use Rattle.sessions.specs.Sessions.{Past, next_command_of, next_reply_of}
+use Rattle.sessions.specs.Sessions.{next_command_of, next_reply_of}
 use Rattle.sessions.specs.Earliest.{IsEarliestAt, IsEarliest}
 use Rattle.sessions.specs.Memories.{Pasts, command_cycles, reply_arrivals, IsNextCommand, IsNextReply}
 

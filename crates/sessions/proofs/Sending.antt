@@ -3,7 +3,7 @@ use Rattle.std.proofs.Common.{◌≡◌, ℕ, ◌+◌, ◌<◌, ◌≤◌, true,
 use Rattle.std.specs.Prelude.{slice_index_or}
 use Rattle.std.specs.List.{AllByRecursion as Each, list_all}
 use Rattle.std.proofs.lemmas.List.{append_assoc, length-append, length-set}
-use Rattle.sim_base.proofs.Arrived.{NotBefore}
+use Rattle.sim_base.proofs.Arrived.{NotBefore, NotBefore-weaker}
 use Rattle.sim_base.proofs.Each.{Each-append}
 use Rattle.sim_base.proofs.Ordered.{Each-weaker}
 use Rattle.sim_base.proofs.Same.{Stamped}
@@ -15,7 +15,6 @@ use Rattle.sim_base.specs.Scheduling.{queued_requests}
 use Rattle.sim_base.specs.declared.message.Message.{Message}
 use Rattle.sim_base.specs.declared.message.Request.{Request}
 use Rattle.statistics.proofs.ChannelMail.{AgreeUpTo-later}
-use Rattle.statistics.proofs.Messages.{NotBefore-sooner}
 use Rattle.channel_step.specs.Channels.{StandsFor}
 use Rattle.channel_step.specs.Fit.{queue_room}
 use Rattle.channel_step.specs.Past.{requests_of, CarriesRequest, IsOther, Differ}
@@ -32,7 +31,7 @@ use Rattle.sessions.proofs.Waiting.{queued-late}
 -- what arrives from a cycle on changes nothing of the cycles before it
 pub steps-late : (s : Config) (channel : ℕ) (mail later : List Message) (now : ℕ) → Each Stamped mail → Each Stamped later → NotBefore now later
     → steps_of s channel (mail ++ later) now ≡ steps_of s channel mail now
-steps-late s channel mail later now h k late = channel_run-same s channel [] (mail ++ later) mail now (AgreeUpTo-later (0 + now) mail later h k (NotBefore-sooner (0 + now) now (omega arith) later late))
+steps-late s channel mail later now h k late = channel_run-same s channel [] (mail ++ later) mail now (AgreeUpTo-later (0 + now) mail later h k (NotBefore-weaker (0 + now) now (omega arith) later late))
 
 -- nor of how many requests wait at that cycle
 pub waiting-late : (s : Config) (channel : ℕ) (mail later : List Message) (now : ℕ) → Each Stamped mail → Each Stamped later → NotBefore now later

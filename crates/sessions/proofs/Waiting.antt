@@ -24,6 +24,7 @@ use Rattle.statistics.proofs.ChannelSteps.{issued_now}
 use Rattle.channel_step.specs.Past.{requests_of}
 use Rattle.channel_step.proofs.Requests.{requests-append, ArrivedBefore}
 use Rattle.channel_step.proofs.Spans.{length-channel_run, issued-after}
+use Rattle.channel_step.proofs.Waits.{requests-few}
 
 -- a run adds commands to those before it
 issued-more : (s : Config) (channel : ℕ) (steps : List (Option Command)) (mail : List Message) (n : ℕ)
@@ -53,14 +54,6 @@ filter-most p (r ∷ rs) = by (p r) (filter-most p rs)
     by true l = omega arith
     by false l = omega arith
 
-requests-most : (mail : List Message) → length (requests_of mail) ≤ length mail
-requests-most [] = omega arith
-requests-most (m ∷ ms) = by (request_in m.load) (requests-most ms)
-  where
-    by : (o : Option Request) → length (requests_of ms) ≤ length ms → length (cons_option o (requests_of ms)) ≤ length (m ∷ ms)
-    by None l = omega arith
-    by (Some r) l = omega arith
-
 -- what waits after a longer history waited before
 waited : (history more : List IssuedCommand) (until later : ℕ) (r : Request) → r.arrival < until → is_queued (history ++ more) later r ≡ true → is_queued history until r ≡ true
 unfolding is_served
@@ -89,7 +82,7 @@ waits-left s channel steps mail inbox n later h =
     let old : length (filter p (requests_of mail)) ≤ length (filter (is_queued history (length steps)) (requests_of mail)) =
     filter-fewer p (is_queued history (length steps)) (requests_of mail)
     (Each-weaker (ArrivedBefore (length steps)) (λ (r : Request). p r ≡ true → is_queued history (length steps) r ≡ true) (λ r l. waited history more.0 (length steps) later r l) (requests_of mail) h) in
-    let new : length (filter p (requests_of inbox)) ≤ length inbox = let a = filter-most p (requests_of inbox) in let b = requests-most inbox in omega arith in
+    let new : length (filter p (requests_of inbox)) ≤ length inbox = let a = filter-most p (requests_of inbox) in let b = requests-few inbox in omega arith in
     let sum : length (filter (is_queued (issued_commands channel (channel_run s channel steps all n)) later) (requests_of all)) ≡ length (filter p (requests_of mail)) + length (filter p (requests_of inbox)) =
     ap length parts ∙ length-append (filter p (requests_of mail)) (filter p (requests_of inbox)) in
     omega arith

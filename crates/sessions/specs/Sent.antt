@@ -18,7 +18,7 @@ abbrev pub request_of : Config → ℕ → SentRequest → Request
 request_of s channel sent =
     record {
       core = sent.core;
-      write = sent.write;
+      access = sent.access;
       entry = sent.entry;
       address = sent.address;
       place = place_of s sent.address;

@@ -7,6 +7,7 @@ use Rattle.std.specs.declared.vec.Vec.{Vec}
 use Rattle.std.specs.declared.alloc.Global.{Global}
 use Rattle.std.specs.declared.sync.Arc.{Arc}
 use Rattle.std.proofs.lemmas.List.Elements.{All-from_recursion, recursion_from_All}
+use Rattle.std.proofs.lemmas.List.{get_or_default}
 use Rattle.sim_base.specs.History.{insert_by_age}
 use Rattle.sim_base.specs.declared.message.Message.{Message}
 use Rattle.sim_base.specs.Locality.{TravelsFor}
@@ -26,7 +27,6 @@ use Rattle.units.proofs.Joining.{fresh-late}
 use Rattle.wake_words.proofs.Jumping.{some-unit, still-waits}
 use Rattle.wake_words.proofs.Lowering.{lowered-wait_all}
 use Rattle.wake_words.proofs.Sharing.{among-joins}
-use Rattle.units.proofs.Standing.{same-default}
 
 -- what was sent to the units of a shard arrives no sooner than what was sent to all
 pub inbound-later : (machine : Machine) (bounds : List ℕ) (index now : ℕ) (shard : Shard) (inbound : List (Vec Message Global)) → IsUpTo machine bounds index now shard inbound
@@ -105,7 +105,7 @@ job-ends machine bounds name wake before after inbound lists h shared same first
 pub gone-words : (machine : Machine) (first now until : ℕ) (units : List TimedUnit) (words : List ℕ) (links : InFlight) → HaveGone machine first now until units words links → All (λ w. until ≤ w) words
 gone-words machine first now until units words links h k d less =
     let i : k < length units = omega (arith, less, h.words_count) in
-    let e : get_or words k 0 ≡ get_or words k d = same-default words k 0 d less in
+    let e : get_or words k 0 ≡ get_or words k d = get_or_default words k 0 d less in
     subst (λ w. until ≤ w) e (h.between k (some-unit units (omega (arith, i))) i).ahead
 
 -- nor does what some units send in it arrive sooner

@@ -16,6 +16,7 @@ use Rattle.sim_base.specs.Locality.{TravelsFor}
 use Rattle.sim_base.proofs.Below.{flat_map_below_more}
 use Rattle.sim_base.proofs.Each.{Each-flat_map_below}
 use Rattle.sim_base.proofs.Ordered.{Each-weaker}
+use Rattle.sim_base.proofs.Lists.{filter-each}
 use Rattle.links.specs.InFlight.{InFlight}
 use Rattle.units.specs.declared.machine.Machine.{Machine}
 use Rattle.units.specs.Runs.{flight_at, sent_at}
@@ -31,7 +32,6 @@ use Rattle.shards.specs.declared.shard.Shard.{Shard}
 use Rattle.wake_words.specs.declared.timed_unit.TimedUnit.{TimedUnit}
 use Rattle.units.proofs.Joining.{flat-split, fresh-is}
 use Rattle.units.proofs.Due.{flight-each}
-use Rattle.units.proofs.Filters.{filter-all}
 use Rattle.wake_words.proofs.Jumping.{AllRest, all-none, asleep-until, sleep-on, some-unit}
 use Rattle.units.proofs.Travelling.{Goes}
 use Rattle.wake_words.proofs.Lowering.{lowered-waits}
@@ -257,7 +257,7 @@ none-in machine now = all-none (fresh machine now now) (unit_count machine.confi
 -- what is in flight is still to arrive
 late-now : (machine : Machine) (now : ℕ) → late now (flight_at machine now) ≡ flight_at machine now
 late-now machine now =
-    filter-all (λ (m : Message). not (ltb m.arrival now)) (flight_at machine now)
+    filter-each (λ (m : Message). not (ltb m.arrival now)) (flight_at machine now)
     (Each-weaker (λ (m : Message). Goes machine.config m × (now ≤ m.arrival)) (λ (m : Message). not (ltb m.arrival now) ≡ true) (λ m h. since m.arrival h.1) _ (flight-each machine.config machine.traces.items now))
   where
     since : (a : ℕ) → now ≤ a → not (ltb a now) ≡ true

@@ -8,10 +8,12 @@ use Rattle.std.proofs.lemmas.Bool.Decides.{nat_tests}
 use Rattle.std.proofs.lemmas.List.Folds.{list_any-append}
 use Rattle.std.proofs.lemmas.List.FromFn.{get_or-map-range_with_len}
 use Rattle.std.proofs.lemmas.Simd.{map-map}
+use Rattle.std.proofs.Math.Bool.{or-false, or-true}
 use Rattle.sim_base.specs.History.{below}
 use Rattle.sim_base.specs.declared.fault.MergeFault.{MergeFault}
 use Rattle.sim_base.specs.declared.fault.MergeFault.TheVariants.{Missing, Double, Stranger}
-use Rattle.units.proofs.Standing.{length-places}
+use Rattle.sim_base.proofs.Lists.{length-map_below}
+use Rattle.units.proofs.Lasting.{same-answer}
 use Rattle.shards.specs.Jobs.{JobView}
 use Rattle.shards.specs.Merging.{same_name, is_among, names_of, fault_at, first_of, first_fault, missing, result_at, results_at}
 use Rattle.shards.specs.Phases.{PhaseView, shard_count, name_of, job_of, jobs_of}
@@ -95,14 +97,6 @@ place-among p place l =
 pub name-place : (p : PhaseView) (i j : ℕ) → name_of p i ≡ name_of p j → i ≡ j
 name-place p i j e = ap (λ (n : JobName). n.shard) e
 
-or-false : (b : Bool) → (b || false) ≡ b
-or-false true = refl
-or-false false = refl
-
-pub or-true : (b : Bool) → (b || true) ≡ true
-or-true true = refl
-or-true false = refl
-
 among-more : (names : List JobName) (name other : JobName) → is_among (names ++ name ∷ []) other ≡ (is_among names other || same_name name other)
 among-more names name other =
     list_any-append (λ n. same_name n other) names (name ∷ []) ∙ ap (λ b. is_among names other || b) (or-false (same_name name other))
@@ -165,12 +159,6 @@ none-false b a (suc n) h =
     cond-false _ _ _ (ap not (subst (λ j. b j ≡ true) (add-zero a) (h 0 (omega arith))))
     ∙ none-false b (a + 1) n (λ i m. let u : a + suc i ≡ a + 1 + i = omega arith in subst (λ j. b j ≡ true) u (h (suc i) (omega arith)))
 
--- a test of two is the other where each follows from the other
-alike : (a b : Bool) → (a ≡ true → b ≡ true) → (b ≡ true → a ≡ true) → a ≡ b
-alike true b h k = sym (h refl)
-alike false true h k = k refl
-alike false false h k = refl
-
 -- a name is one of a phase where it has its number and cycles, and one of its shards
 abbrev is_of : PhaseView → JobName → Bool
 is_of p n = (eqb n.phase p.number && (eqb n.from p.from && eqb n.until p.until)) && ltb n.shard (shard_count p)
@@ -199,7 +187,7 @@ is_of-name p n e =
 -- which is to be one of its names
 pub among-is : (p : PhaseView) (n : JobName) → is_among (names_of p) n ≡ ((eqb n.phase p.number && (eqb n.from p.from && eqb n.until p.until)) && ltb n.shard (shard_count p))
 among-is p n =
-    alike (is_among (names_of p) n) (is_of p n)
+    same-answer (is_among (names_of p) n) (is_of p n)
     (λ e. let r = among-place p n e in subst (λ (m : JobName). is_of p m ≡ true) r.2 (is_of-own p r.0 r.1))
     (λ e. let r = is_of-name p n e in subst (λ (m : JobName). is_among (names_of p) m ≡ true) r.1 (place-among p n.shard r.0))
 
@@ -220,7 +208,7 @@ result-is p names by_shard place d e l =
 
 pub results-count : (p : PhaseView) (names : List JobName) → length (results_at p names) ≡ shard_count p
 unfolding results_at
-results-count p names = length-places (result_at p names) (shard_count p)
+results-count p names = length-map_below (result_at p names) (shard_count p)
 
 pub first-none_yet : (p : PhaseView) (earlier names : List JobName) (name : JobName) → fault_at p earlier name ≡ None
     → first_fault p earlier (name ∷ names) ≡ first_fault p (earlier ++ name ∷ []) names

@@ -6,7 +6,7 @@ use Rattle.std.specs.declared.alloc.Global.{Global}
 use Rattle.std.proofs.lemmas.Bool.{cases_lt}
 use Rattle.std.proofs.lemmas.Bool.Decides.{nat_tests}
 use Rattle.std.proofs.Math.ListN.{get_or-append}
-use Rattle.std.proofs.lemmas.List.{take_more, get_or-append-add}
+use Rattle.std.proofs.lemmas.List.{take_more, get_or-append-add, get_or_default}
 use Rattle.std.proofs.lemmas.List.Concat.{flat_map-append}
 use Rattle.std.proofs.lemmas.List.Sums.{fold-append}
 use Rattle.sim_base.specs.declared.config.Config.{Config}
@@ -14,15 +14,15 @@ use Rattle.sim_base.specs.declared.message.Message.{Message}
 use Rattle.sim_base.specs.declared.message.Unit.{Unit as MachineUnit}
 use Rattle.sim_base.specs.declared.message.Unit.TheVariants.{Core, Channel}
 use Rattle.sim_base.specs.History.{is_unit, insert_by_age}
+use Rattle.sim_base.proofs.Grows.{is_unit-own}
 use Rattle.links.specs.InFlight.{receiver_of}
 use Rattle.units.specs.Flight.{is_at_places, goes_among}
 use Rattle.shards.specs.Lists.{bound, lists_of}
 use Rattle.shards.specs.Shards.{IsSplit}
 use Rattle.units.specs.Units.{unit_at, unit_count}
 use Rattle.wake_words.specs.Wakes.{AreLowered}
-use Rattle.units.proofs.Due.{unit_is}
 use Rattle.wake_words.proofs.Sharing.{at-places, there}
-use Rattle.units.proofs.Standing.{core-at_place, channel-at_place, same-default}
+use Rattle.units.proofs.Standing.{core-at_place, channel-at_place}
 
 -- a later shard begins no sooner
 pub bounds-rise : (s : Config) (bounds : List ℕ) → IsSplit s bounds → (i n : ℕ) → i + n < length bounds → bound bounds i ≤ bound bounds (i + n)
@@ -83,13 +83,13 @@ no-unit s first past u none within false e = e
 no-unit s first past (Core core) none within true e =
     let l : core < s.cores = grind (arith, nat_tests) in
     let same = core-at_place s core l in
-    let bad : true ≡ false = sym (unit_is (Core core)) ∙ ap (is_unit (Core core)) (sym same) ∙ none core (omega arith) in
+    let bad : true ≡ false = sym (is_unit-own (Core core)) ∙ ap (is_unit (Core core)) (sym same) ∙ none core (omega arith) in
     cc
 no-unit s first past (Channel channel) none within true e =
     let m : s.cores + channel < past = grind (arith, nat_tests) in
     let l : channel < s.channels = omega (arith, m, within) in
     let same = channel-at_place s (s.cores + channel) channel refl in
-    let bad : true ≡ false = sym (unit_is (Channel channel)) ∙ ap (is_unit (Channel channel)) (sym same) ∙ none (s.cores + channel) (omega arith) in
+    let bad : true ≡ false = sym (is_unit-own (Channel channel)) ∙ ap (is_unit (Channel channel)) (sym same) ∙ none (s.cores + channel) (omega arith) in
     cc
 
 -- a message to no unit goes to no shard
@@ -111,7 +111,7 @@ dealt lists i index list e d m b l k items here others = by (eqb index i) refl
         ap (λ n. (get_or (set lists i list) n d).items) same
         ∙ ap (λ (v : Vec Message Global). v.items) (get_or-set_same lists i list d l)
         ∙ items
-        ∙ ap (λ (v : Vec Message Global). v.items ++ m ∷ []) (same-default lists i e d l)
+        ∙ ap (λ (v : Vec Message Global). v.items ++ m ∷ []) (get_or_default lists i e d l)
         ∙ ap (λ n. (get_or lists n d).items ++ m ∷ []) (sym same)
         ∙ ap (λ c. (get_or lists index d).items ++ cond c (m ∷ []) []) (sym (here same))
     by false f =

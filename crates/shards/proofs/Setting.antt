@@ -7,9 +7,9 @@ use Rattle.std.specs.declared.alloc.Global.{Global}
 use Rattle.std.specs.declared.boxed.Box.{Box}
 use Rattle.std.proofs.lemmas.List.{length-set}
 use Rattle.std.proofs.Math.Seq.{get_or-append_seam}
-use Rattle.statistics.proofs.Lists.{length-push_suc}
 use Rattle.sim_base.specs.declared.message.Message.{Message}
 use Rattle.sim_base.specs.History.{insert_by_age}
+use Rattle.sim_base.proofs.Added.{length-push_suc}
 use Rattle.shards.specs.Lists.{lists_of}
 use Rattle.shards.specs.Shards.{IsShard, IsUpTo}
 use Rattle.shards.specs.Jobs.{JobView, IsJob, IsOwnJob, job_view}

@@ -9,7 +9,6 @@ use Rattle.std.proofs.lemmas.Bool.Decides.{nat_tests}
 use Rattle.std.proofs.lemmas.List.{drop-drop, length-replicate, get_or-replicate, get_or_append_left}
 use Rattle.std.proofs.lemmas.Option.{slice_get-get_or}
 use Rattle.std.proofs.Math.Seq.{get_or-append_seam}
-use Rattle.statistics.proofs.Lists.{length-push_suc}
 use Rattle.sim_base.specs.declared.config.Config.{Config}
 use Rattle.sim_base.specs.History.{is_unit, insert_by_age}
 use Rattle.sim_base.specs.declared.message.Message.{Message}
@@ -18,6 +17,9 @@ use Rattle.sim_base.specs.declared.message.Unit.TheVariants.{Core, Channel}
 use Rattle.sim_base.proofs.Arrived.{puts, put, by_age-puts, fold-puts}
 use Rattle.sim_base.proofs.Each.{Each-all}
 use Rattle.sim_base.proofs.Ordered.{Sorted, Each-weaker, puts-swap}
+use Rattle.sim_base.proofs.Added.{length-push_suc}
+use Rattle.sim_base.proofs.Lists.{filter-agree}
+use Rattle.sim_base.proofs.Grows.{is_unit-own}
 use Rattle.span_laws.proofs.Lists.{Sorted-filter}
 use Rattle.span_laws.specs.Units.{Exists}
 use Rattle.links.specs.InFlight.{InFlight, receiver_of}
@@ -32,11 +34,12 @@ use Rattle.wake_words.specs.Wakes.{AreTimedUnits, IsAsleep, Waits, sleeper}
 use Rattle.units.specs.declared.part.UnitState.{UnitState}
 use Rattle.shards.specs.declared.shard.Shard.{Shard}
 use Rattle.wake_words.specs.declared.timed_unit.TimedUnit.{TimedUnit}
-use Rattle.units.proofs.Due.{place_of_unit, at-place, place-within, unit_is}
-use Rattle.units.proofs.Filters.{filter-filter, filter-same, Each-taken}
+use Rattle.units.proofs.Due.{place_of_unit, at-place, place-within}
+use Rattle.units.proofs.Filters.{filter-filter}
 use Rattle.wake_words.proofs.Sharing.{flight-sorted}
 use Rattle.units.proofs.Standing.{seam-within}
 use Rattle.wake_words.proofs.Waiting.{awake-waits}
+use Rattle.statistics.proofs.ChannelChoices.{passes}
 
 -- bounds that begin with 0, never fall, and end with a number
 pub record Climbs (xs : List ℕ) (last : ℕ) : Type 0 where
@@ -101,7 +104,7 @@ goes-none s first past m l h = by (goes_among s first past m) refl
     by true e =
         let u = receiver_of s.channels m.link in
         let exists = stands-exists s first past u l e in
-        let here : is_unit u (unit_at s (place_of_unit s u)) ≡ true = subst (λ v. is_unit u v ≡ true) (sym (at-place s u exists)) (unit_is u) in
+        let here : is_unit u (unit_at s (place_of_unit s u)) ≡ true = subst (λ v. is_unit u v ≡ true) (sym (at-place s u exists)) (is_unit-own u) in
         let bad : false ≡ true = sym (h (place_of_unit s u) (place-within s u exists)) ∙ here in
         cc
 
@@ -112,7 +115,7 @@ puts-sorted ms h = sym (by_age-puts ms) ∙ by_age-same ms h
 -- messages are of other links than those that do not pass a test, where it passes or fails all of a link
 apart-from : (p : Message → Bool) → ((m n : Message) → p m ≡ true → p n ≡ false → eqb n.link m.link ≡ false) → (n : Message) → p n ≡ false → (ms : List Message)
     → Each (λ (m : Message). eqb n.link m.link ≡ false) (filter p ms)
-apart-from p h n e ms = Each-weaker (λ (m : Message). p m ≡ true) (λ (m : Message). eqb n.link m.link ≡ false) (λ m f. h m n f e) (filter p ms) (Each-taken p ms)
+apart-from p h n e ms = Each-weaker (λ (m : Message). p m ≡ true) (λ (m : Message). eqb n.link m.link ≡ false) (λ m f. h m n f e) (filter p ms) (passes p ms)
 
 -- those that pass can be put in first
 puts-parted : (p : Message → Bool) → ((m n : Message) → p m ≡ true → p n ≡ false → eqb n.link m.link ≡ false) → (acc ms : List Message)
@@ -152,9 +155,9 @@ among-next s a b ms l h =
     let p = goes_among s 0 a in
     let all = among s 0 b ms in
     let before : filter p all ≡ among s 0 a ms =
-    filter-filter p (goes_among s 0 b) ms ∙ filter-same _ _ ms (Each-all _ (λ (m : Message). both-first s a b l (receiver_of s.channels m.link)) ms) in
+    filter-filter p (goes_among s 0 b) ms ∙ filter-agree _ _ ms (Each-all _ (λ (m : Message). both-first s a b l (receiver_of s.channels m.link)) ms) in
     let behind : filter (λ m. not (p m)) all ≡ among s a b ms =
-    filter-filter (λ m. not (p m)) (goes_among s 0 b) ms ∙ filter-same _ _ ms (Each-all _ (λ (m : Message). both-second s a b l (receiver_of s.channels m.link)) ms) in
+    filter-filter (λ m. not (p m)) (goes_among s 0 b) ms ∙ filter-agree _ _ ms (Each-all _ (λ (m : Message). both-second s a b l (receiver_of s.channels m.link)) ms) in
     fold-puts (among s 0 a ms) (among s a b ms)
     ∙ ap (λ z. puts z (among s a b ms)) (sym (puts-sorted (among s 0 a ms) (Sorted-filter p ms h)))
     ∙ ap₂ (λ y z. puts (puts [] y) z) (sym before) (sym behind)

@@ -10,7 +10,7 @@ use Rattle.std.specs.declared.vec.Vec.{Vec}
 use Rattle.std.specs.declared.alloc.Global.{Global}
 use Rattle.std.specs.declared.boxed.Box.{Box}
 use Rattle.sim_base.specs.declared.message.Message.{Message}
-use Rattle.statistics.proofs.Lists.{length-push_suc}
+use Rattle.sim_base.proofs.Added.{length-push_suc}
 use Rattle.units.specs.declared.machine.Machine.{Machine}
 use Rattle.shards.specs.Lists.{lists_of}
 use Rattle.shards.specs.Shards.{IsAtRest, sent_of_shard}

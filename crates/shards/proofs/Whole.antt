@@ -1,20 +1,20 @@
 -- Results of a phase of which there is one of each job: nothing is wrong with them.
 use Rattle.std.proofs.Common.{◌≡◌, ℕ, zero, suc, ◌+◌, ◌<◌, ◌≤◌, Bool, true, false, cond, not, ◌||◌, List, [], ◌∷◌, ◌++◌, get_or, map, None, IsPermutation, refl, sym, ap, ap₂, subst, ◌∙◌, append_assoc, zero-add, arith}
-use Rattle.std.specs.Prelude.{find, option_map, sum_by, All}
+use Rattle.std.specs.Prelude.{option_map, sum_by, All}
 use Rattle.std.specs.List.{range_with_len}
-use Rattle.std.proofs.lemmas.Bool.{cond-false}
 use Rattle.std.proofs.lemmas.List.Sorted.{All-permutation, IsPermutation-map, list_any-IsPermutation, sum_by-IsPermutation}
 use Rattle.std.proofs.lemmas.List.FromFn.{get_or-map-range_with_len}
 use Rattle.std.proofs.lemmas.List.Sums.{sum_by-cons, sum_by-append}
 use Rattle.std.proofs.lemmas.Simd.{map-map}
+use Rattle.std.proofs.Math.Bool.{or-true}
 use Rattle.sim_base.specs.History.{below}
-use Rattle.units.proofs.Standing.{length-places}
 use Rattle.shards.specs.Merging.{same_name, is_among, names_of, first_of, first_fault, missing, merge_fault, IsOf}
 use Rattle.shards.specs.Jobs.{JobView}
 use Rattle.shards.specs.Phases.{PhaseView, shard_count, name_of, job_of, jobs_of}
 use Rattle.shards.specs.declared.job.JobName.{JobName}
 use Rattle.sim_base.specs.declared.fault.MergeFault.TheVariants.{Missing}
-use Rattle.shards.proofs.Placing.{same_name-self, same_name-is, name-place, or-true, place-among, fault-none, first-none_yet, first-end}
+use Rattle.sim_base.proofs.Lists.{find-none, length-map_below}
+use Rattle.shards.proofs.Placing.{same_name-self, same_name-is, name-place, place-among, fault-none, first-none_yet, first-end}
 
 -- 1 for a name that is this one
 abbrev one : JobName → JobName → ℕ
@@ -93,15 +93,11 @@ no-first_fault p earlier (name ∷ names) single known =
         let most = single name in
         absurd (omega arith)
 
-none-found : (b : ℕ → Bool) (a n : ℕ) → ((i : ℕ) → i < a + n → b i ≡ false) → find b (range_with_len a n) ≡ None
-none-found b a zero h = refl
-none-found b a (suc n) h = cond-false _ _ _ (h a (omega arith)) ∙ none-found b (a + 1) n (λ i l. h i (omega arith))
-
 no-missing : (p : PhaseView) (names : List JobName) → ((place : ℕ) → place < shard_count p → is_among names (name_of p place) ≡ true) → missing p names ≡ None
 unfolding missing
 no-missing p names h =
     ap (option_map Missing)
-    (none-found (λ place. not (is_among names (name_of p place))) 0 (shard_count p) (λ i l. ap not (h i (omega arith))))
+    (find-none (λ place. not (is_among names (name_of p place))) 0 (shard_count p) (λ i l. ap not (h i (omega arith))))
 
 -- the names of results of which there is one of each job are those of the jobs, in some order
 moved : (p : PhaseView) (results : List JobView) → IsPermutation (jobs_of p) results → IsPermutation (names_of p) (map (λ (d : JobView). d.name) results)
@@ -132,7 +128,7 @@ whole-fits p results same = ap₂ first_of (whole-first p results same) (whole-m
 -- a job of a phase is of its machine
 all-own : (p : PhaseView) → All (IsOf p) (jobs_of p)
 all-own p i d l among =
-    let m : i < shard_count p = subst (λ n. i < n) (length-places (job_of p) (shard_count p)) l in
+    let m : i < shard_count p = subst (λ n. i < n) (length-map_below (job_of p) (shard_count p)) l in
     let is : get_or (jobs_of p) i d ≡ job_of p i = get_or-map-range_with_len (job_of p) 0 (shard_count p) i i d m (zero-add i) in
     (ap (λ (j : JobView). j.machine) is, ap (λ (j : JobView). j.bounds) is)
 

@@ -13,11 +13,12 @@ use Rattle.sim_base.specs.declared.config.Config.{Config}
 use Rattle.sim_base.specs.Config.{request_link, reply_link, credit_link}
 use Rattle.sim_base.specs.Places.{field_of, place_of}
 use Rattle.sim_base.specs.MachineStep.{MachineStep, step_of_core, step_of_channel}
-use Rattle.sim_base.specs.History.{below, trace_of, steps_of_core, steps_of_channel, issued_before, request, request_of, reply, credit, requests_between, requests_in, core_messages, messages_of, messages_at, messages_in, channel_messages, messages_of_core, messages_of_channel, messages, is_to, by_age, insert_by_age, inbox}
+use Rattle.sim_base.specs.History.{below, trace_of, steps_of_core, steps_of_channel, issued_before, request, request_of, reply, credit, requests_between, requests_in, core_messages, messages_of, messages_at, messages_in, channel_messages, messages_of_core, messages_of_channel, messages, is_to, is_unit, by_age, insert_by_age, inbox}
 use Rattle.sim_base.specs.Sends.{sender, core_sends, channel_sends, sends}
 use Rattle.sim_base.specs.declared.history.CoreStep.{CoreStep}
 use Rattle.sim_base.specs.declared.command.Command.{Command}
 use Rattle.sim_base.specs.declared.command.Command.TheVariants.{Act, Rd, Wr, Pre, Prea, Ref}
+use Rattle.sim_base.specs.declared.message.Access.{Access}
 use Rattle.sim_base.specs.declared.message.Message.{Message}
 use Rattle.sim_base.specs.declared.message.Unit.{Unit as MachineUnit}
 use Rattle.sim_base.specs.declared.message.Unit.TheVariants.{Core, Channel}
@@ -57,9 +58,9 @@ sender_credit s c k l =
     let f : (3 * x + 2) / 3 ≡ x = omega arith in
     cond-false _ _ _ e ∙ ap (λ y. Channel (y % s.channels)) f ∙ ap Channel (mod-mul-add c s.channels k l)
 
-request_by : (s : Config) (core cycle entry : ℕ) (write : Bool) (address : ℕ) → 0 < s.channels → sender s (request s core cycle entry write address).link ≡ Core core
+request_by : (s : Config) (core cycle entry : ℕ) (access : Access) (address : ℕ) → 0 < s.channels → sender s (request s core cycle entry access address).link ≡ Core core
 unfolding request place_of field_of
-request_by s core cycle entry write address h = sender_request s core _ (digit_below s s.fields _ h)
+request_by s core cycle entry access address h = sender_request s core _ (digit_below s s.fields _ h)
 
 request_of-by : (s : Config) (core cycle : ℕ) → 0 < s.channels → (e : ℕ × Entry) → IfSome (request_of s core cycle e.0 e.1) (λ (m : Message). sender s m.link ≡ Core core)
 request_of-by s core cycle h (entry, Plain) = tt
@@ -100,13 +101,13 @@ links_differ s a b h x y e f = by (eqb x y) refl
         let same : x ≡ y = grind (arith, nat_tests) in
         absurd (h (sym e ∙ ap (sender s) same ∙ f))
 
-apart : (s : Config) (a b : MachineUnit) → (a ≡ b → ⊥) → (xs ys : List Message) → SentBy s a xs → SentBy s b ys → Apart xs ys
+pub apart : (s : Config) (a b : MachineUnit) → (a ≡ b → ⊥) → (xs ys : List Message) → SentBy s a xs → SentBy s b ys → Apart xs ys
 apart s a b h xs ys j k =
     Each-weaker _ (λ (x : Message). Each (λ (y : Message). eqb x.link y.link ≡ false) ys)
     (λ x e. Each-weaker _ (λ (y : Message). eqb x.link y.link ≡ false) (λ y f. links_differ s a b h x.link y.link e f) ys k) xs j
 
 -- what units of one kind send can be put in before or after what they sent
-grow : (s : Config) (unit : ℕ → MachineUnit) → ((i j : ℕ) → i < j → unit i ≡ unit j → ⊥) → (f g : ℕ → List Message) (acc : List Message) (n : ℕ)
+pub grow : (s : Config) (unit : ℕ → MachineUnit) → ((i j : ℕ) → i < j → unit i ≡ unit j → ⊥) → (f g : ℕ → List Message) (acc : List Message) (n : ℕ)
     → ((i : ℕ) → i < n → SentBy s (unit i) (f i)) → ((i : ℕ) → i < n → SentBy s (unit i) (g i))
     → puts acc (flat_map (λ i. f i ++ g i) (below n)) ≡ puts (puts acc (flat_map f (below n))) (flat_map g (below n))
 grow s unit differ f g acc zero hf hg = refl
@@ -123,10 +124,10 @@ grow s unit differ f g acc (suc n) hf hg =
     ∙ sym (puts-append (puts (puts acc old) (f n)) new (g n))
     ∙ ap₂ (λ y z. puts y z) (sym (puts-append acc old (f n)) ∙ ap (puts acc) (sym (flat_map_below_more f n))) (sym (flat_map_below_more g n))
 
-cores_differ : (i j : ℕ) → i < j → Core i ≡ Core j → ⊥
+pub cores_differ : (i j : ℕ) → i < j → Core i ≡ Core j → ⊥
 cores_differ i j l e = let same : i ≡ j = cc in omega arith
 
-channels_differ : (i j : ℕ) → i < j → Channel i ≡ Channel j → ⊥
+pub channels_differ : (i j : ℕ) → i < j → Channel i ≡ Channel j → ⊥
 channels_differ i j l e = let same : i ≡ j = cc in omega arith
 
 pub core_channel_differ : (i j : ℕ) → Core i ≡ Channel j → ⊥
@@ -173,7 +174,7 @@ pub channel_sends-by : (s : Config) (history : List MachineStep) (machine_step :
 unfolding channel_sends
 channel_sends-by s history machine_step channel l = messages_at-by s channel (length history) l (step_of_channel channel machine_step)
 
-has_channels : (s : Config) → 0 < s.channels
+pub has_channels : (s : Config) → 0 < s.channels
 has_channels s = s.machine_in_range.channels_in.0
 
 pub of_core-by : (s : Config) (traces : List (List Entry)) (history : List MachineStep) (core : ℕ) → SentBy s (Core core) (messages_of_core s traces history core)
@@ -243,3 +244,8 @@ pub inbox-grows : (s : Config) (traces : List (List Entry)) (history : List Mach
     → inbox s traces (history ++ machine_step ∷ []) unit ≡ fold insert_by_age (inbox s traces history unit) (filter (is_to s unit) (sends s traces history machine_step))
 unfolding inbox
 inbox-grows s traces history machine_step unit = by_age-filter-grows s traces history machine_step (is_to s unit)
+
+-- a unit is itself
+pub is_unit-own : (a : MachineUnit) → is_unit a a ≡ true
+is_unit-own (Core a) = grind (arith, nat_tests)
+is_unit-own (Channel a) = grind (arith, nat_tests)

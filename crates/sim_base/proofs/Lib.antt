@@ -1,6 +1,9 @@
+pub mod Accesses
 pub mod LinkNumbers
 pub mod Below
 pub mod Each
+pub mod Lists
+pub mod OpenRows
 pub mod Arrived
 pub mod Made
 pub mod Added

@@ -10,16 +10,16 @@ use Rattle.sim_base.specs.declared.message.Message.{Message}
 use Rattle.sim_base.proofs.Each.{Each-filter}
 use Rattle.sim_base.proofs.Arrived.{put, puts, by_age-puts, Each-put}
 
-before_trans : (a b c : Message) → is_before a b ≡ true → is_before b c ≡ true → is_before a c ≡ true
+pub before_trans : (a b c : Message) → is_before a b ≡ true → is_before b c ≡ true → is_before a c ≡ true
 before_trans a b c h k = grind (arith, nat_tests)
 
-before_asym : (a b : Message) → is_before a b ≡ true → is_before b a ≡ false
+pub before_asym : (a b : Message) → is_before a b ≡ true → is_before b a ≡ false
 before_asym a b h = grind (arith, nat_tests)
 
 before_no_later : (m n y : Message) → is_before m n ≡ true → is_before y n ≡ false → is_before m y ≡ true
 before_no_later m n y h k = grind (arith, nat_tests)
 
-not_before_sooner : (m n y : Message) → is_before m n ≡ true → is_before y n ≡ false → is_before y m ≡ false
+pub not_before_sooner : (m n y : Message) → is_before m n ≡ true → is_before y n ≡ false → is_before y m ≡ false
 not_before_sooner m n y h k = grind (arith, nat_tests)
 
 before_other : (a b : Message) → eqb a.link b.link ≡ false → is_before a b ≡ false → is_before b a ≡ true
@@ -34,7 +34,7 @@ abbrev pub Sorted : List Message → Type 0
 Sorted [] = Unit {0}
 Sorted (m ∷ ms) = Each (λ (y : Message). is_before y m ≡ false) ms × Sorted ms
 
-Sorted-put : (m : Message) (ns : List Message) → Sorted ns → Sorted (put m ns)
+pub Sorted-put : (m : Message) (ns : List Message) → Sorted ns → Sorted (put m ns)
 Sorted-put m [] k = (tt, tt)
 Sorted-put m (n ∷ ns) k =
     cond_both (is_before m n) _ _ Sorted
@@ -79,7 +79,7 @@ filter-puts p acc (m ∷ ms) k =
 pub filter-by_age : (p : Message → Bool) (ms : List Message) → filter p (by_age ms) ≡ by_age (filter p ms)
 filter-by_age p ms = ap (filter p) (by_age-puts ms) ∙ filter-puts p [] ms tt ∙ sym (by_age-puts (filter p ms))
 
-put-before : (m n : Message) (ns : List Message) → is_before m n ≡ true → put m (put n ns) ≡ put n (put m ns)
+pub put-before : (m n : Message) (ns : List Message) → is_before m n ≡ true → put m (put n ns) ≡ put n (put m ns)
 put-before m n [] e = cond-true _ _ _ e ∙ sym (cond-false _ _ _ (before_asym m n e))
 put-before m n (x ∷ xs) e =
     cond_both (is_before n x) (n ∷ x ∷ xs) (x ∷ put n xs) (λ y. put m y ≡ put n (put m (x ∷ xs)))

@@ -8,7 +8,7 @@
 --     receiver s link      the unit that a link leads to
 --     by_age ms      messages in order of arrival, and then of link
 --     inbox s traces history unit      what was sent to a unit, by age
-use Rattle.std.specs.Prelude.{ℕ, not, insert, take_while, fold, ◌+◌, ◌-◌, length, sum_by, ◌/◌, ◌%◌, ◌==◌, nat_lt, Bool, true, false, ◌&&◌, ◌||◌, List, [], ◌∷◌, ◌++◌, map, filter, filter_map, flat_map, take, drop, slice_index_or, Option, Some, None, if◌then◌else◌}
+use Rattle.std.specs.Prelude.{ℕ, not, insert, take_while, fold, ◌+◌, ◌-◌, length, sum_by, ◌/◌, ◌%◌, ◌==◌, nat_lt, Bool, false, ◌&&◌, ◌||◌, List, [], ◌∷◌, ◌++◌, map, filter, filter_map, flat_map, take, drop, slice_index_or, Option, Some, None, if◌then◌else◌}
 use Rattle.std.specs.List.{enumerate_from, range_with_len}
 use Rattle.sim_base.specs.declared.config.Config.{Config}
 use Rattle.sim_base.specs.Config.{request_link, reply_link, credit_link, latency}
@@ -19,6 +19,8 @@ use Rattle.sim_base.specs.declared.command.Command.TheVariants.{Act, Rd, Wr, Pre
 use Rattle.sim_base.specs.declared.command.IssuedCommand.{IssuedCommand}
 use Rattle.sim_base.specs.declared.command.Source.{Source}
 use Rattle.sim_base.specs.declared.history.CoreStep.{CoreStep}
+use Rattle.sim_base.specs.declared.message.Access.{Access}
+use Rattle.sim_base.specs.declared.message.Access.TheVariants as access
 use Rattle.sim_base.specs.declared.message.Load.TheVariants as load
 use Rattle.sim_base.specs.declared.message.Message.{Message}
 use Rattle.sim_base.specs.declared.message.Unit.{Unit as MachineUnit}
@@ -56,22 +58,22 @@ unfoldable pub commands : List MachineStep → List IssuedCommand
 commands history = flat_map (λ e. commands_in e.0 e.1) (enumerate_from 0 history)
 
 -- a request that leaves in a cycle
-unfoldable pub request : Config → ℕ → ℕ → ℕ → Bool → ℕ → Message
-request s core cycle entry write address =
+unfoldable pub request : Config → ℕ → ℕ → ℕ → Access → ℕ → Message
+request s core cycle entry access address =
     let place = place_of s address in
     let link = request_link s core place.channel in
     let arrival = cycle + latency s link in
     record {
       link = link;
       arrival = arrival;
-      load = load.Request (record { core = core; entry = entry; write = write; address = address; place = place; arrival = arrival; link = link });
+      load = load.Request (record { core = core; entry = entry; access = access; address = address; place = place; arrival = arrival; link = link });
     }
 
 -- the request of an entry that issues in a cycle, if it has one
 abbrev pub request_of : Config → ℕ → ℕ → ℕ → Entry → Option Message
 request_of s core cycle entry Plain = None
-request_of s core cycle entry (Read address) = Some (request s core cycle entry false address)
-request_of s core cycle entry (Write address) = Some (request s core cycle entry true address)
+request_of s core cycle entry (Read address) = Some (request s core cycle entry access.Read address)
+request_of s core cycle entry (Write address) = Some (request s core cycle entry access.Write address)
 
 -- how many entries were retired
 unfoldable pub retired_before : List CoreStep → ℕ
@@ -101,15 +103,15 @@ reply s channel cycle source =
     record { link = link; arrival = cycle + s.timing.n_cl + 4 + latency s link; load = load.Reply source.entry }
 
 -- the credit for a request that is served in a cycle
-unfoldable pub credit : Config → ℕ → ℕ → Bool → Source → Message
-credit s channel cycle write source =
+unfoldable pub credit : Config → ℕ → ℕ → Access → Source → Message
+credit s channel cycle access source =
     let link = credit_link s source.core channel in
-    record { link = link; arrival = cycle + latency s link; load = load.Credit write source.entry }
+    record { link = link; arrival = cycle + latency s link; load = load.Credit access source.entry }
 
 -- what a channel sends for a command that it issues in a cycle
 unfoldable pub messages_of : Config → ℕ → ℕ → Command → List Message
-messages_of s channel cycle (Rd bank row column source) = reply s channel cycle source ∷ credit s channel cycle false source ∷ []
-messages_of s channel cycle (Wr bank row column source) = credit s channel cycle true source ∷ []
+messages_of s channel cycle (Rd bank row column source) = reply s channel cycle source ∷ credit s channel cycle access.Read source ∷ []
+messages_of s channel cycle (Wr bank row column source) = credit s channel cycle access.Write source ∷ []
 messages_of s channel cycle (Act bank row source) = []
 messages_of s channel cycle (Pre bank source) = []
 messages_of s channel cycle (Prea rank) = []

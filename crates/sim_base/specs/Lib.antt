@@ -6,6 +6,7 @@ pub mod Config
 pub mod Values
 pub mod KeyRanges
 pub mod Places
+pub mod Access
 pub mod MachineStep
 pub mod History
 pub mod Sends

@@ -42,11 +42,31 @@ impl fmt::Debug for Unit {
     }
 }
 
+/// What a request asks of the memory.
+#[derive(Clone, Copy, PartialEq, Eq, Debug)]
+pub enum Access {
+    Read,
+    Write,
+}
+
+impl Access {
+    ghost use Rattle.std.specs.Prelude.{◌≡◌};
+    ghost use Rattle.sim_base.specs.Access.{is_access};
+
+    /// Whether another access is the same.
+    #[inline(always)]
+    pub fn is_access(self, other: Access) -> bool
+        ensures { result ≡ is_access self other }
+    {
+        self == other
+    }
+}
+
 /// A memory request.
 #[derive(Clone, Copy, PartialEq, Eq, Debug)]
 pub struct Request {
     pub core: CoreId,
-    pub write: bool,
+    pub access: Access,
     pub entry: u64,
     pub address: u64,
     pub place: Place,
@@ -78,20 +98,19 @@ impl Request {
         let source = self.source();
         let row = self.place.row;
         let column = self.place.column;
-        if self.write {
-            Command::Wr {
+        match self.access {
+            Access::Read => Command::Rd {
                 bank,
                 row,
                 column,
                 source,
-            }
-        } else {
-            Command::Rd {
+            },
+            Access::Write => Command::Wr {
                 bank,
                 row,
                 column,
                 source,
-            }
+            },
         }
     }
 
@@ -125,7 +144,7 @@ impl Request {
 pub enum Load {
     Request(Request),
     Reply(u64),
-    Credit { write: bool, entry: u64 },
+    Credit { access: Access, entry: u64 },
 }
 
 /// A message in flight.

@@ -13,7 +13,8 @@ use Rattle.sim_base.proofs.Arrived.{arrived, arrived-none, by_age-puts}
 use Rattle.sim_base.proofs.Each.{Each-all, Each-filter}
 use Rattle.sim_base.proofs.Ordered.{Sorted, Sorted-puts, filter-by_age}
 use Rattle.sim_base.proofs.Same.{Stamped, AgreeUpTo}
-use Rattle.sim_base.proofs.Spans.{inbox-run, inbox-stamped, has_channels}
+use Rattle.sim_base.proofs.Spans.{inbox-run, inbox-stamped}
+use Rattle.sim_base.proofs.Grows.{has_channels}
 use Rattle.statistics.proofs.Messages.{filter-arrived, arrived-arrived}
 use Rattle.statistics.proofs.RunSteps.{travels}
 use Rattle.laws.proofs.Counting.{count-weaker}

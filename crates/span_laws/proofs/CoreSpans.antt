@@ -25,7 +25,8 @@ use Rattle.span_laws.specs.Cores.{core_steps_of, MessagesFitSpans, CoresRunAlone
 use Rattle.span_laws.specs.Mail.{mail_before, mail_in}
 use Rattle.span_laws.proofs.Arrivals.{inbox-sorted, arrived-agree, spans-join}
 use Rattle.span_laws.proofs.Dues.{ComesTo, comes-due}
-use Rattle.span_laws.proofs.Lists.{no_sooner, Sorted-filter, arriving-within, before-within}
+use Rattle.span_laws.proofs.Lists.{Sorted-filter, arriving-within, before-within}
+use Rattle.links.proofs.Next.{not_sooner}
 
 -- the first cycles of a span
 core-alone : (s : Config) (traces : List (List Entry)) (from until core : ℕ) → core < s.cores → (n : ℕ) → from + n ≤ until
@@ -60,7 +61,7 @@ cores-run_alone s traces from until core k l =
 
 by-arrival : (ms : List Message) → Sorted ms → IsByArrival ms
 by-arrival [] h = tt
-by-arrival (m ∷ ms) h = (Each-weaker (λ (y : Message). is_before y m ≡ false) (λ (y : Message). m.arrival ≤ y.arrival) (λ y k. no_sooner m y k) ms h.0, by-arrival ms h.1)
+by-arrival (m ∷ ms) h = (Each-weaker (λ (y : Message). is_before y m ≡ false) (λ (y : Message). m.arrival ≤ y.arrival) (λ y k. not_sooner m y k) ms h.0, by-arrival ms h.1)
 
 at-split : (P : Message → Type 0) (xs ys : List Message) (m : Message) → Each P (xs ++ m ∷ ys) → P m
 at-split P [] ys m h = h.0

@@ -1,5 +1,5 @@
 -- A core that stands for its part of a run, from span to span.
-use Rattle.std.proofs.Common.{◌≡◌, ℕ, ◌+◌, ◌-◌, ◌<◌, ◌≤◌, Bool, true, false, eqb, ltb, ◌&&◌, List, [], ◌++◌, length, sym, ap, ap₂, subst, ◌∙◌, arith}
+use Rattle.std.proofs.Common.{◌≡◌, ℕ, ◌+◌, ◌-◌, ◌<◌, ◌≤◌, eqb, ltb, ◌&&◌, List, [], ◌++◌, length, sym, ap, ap₂, subst, ◌∙◌, arith}
 use Rattle.std.specs.Prelude.{count_by}
 use Rattle.std.proofs.lemmas.Bool.{and_parts, and_from}
 use Rattle.sim_base.specs.declared.config.Config.{Config}
@@ -14,6 +14,8 @@ use Rattle.sim_base.specs.declared.message.Unit.TheVariants.{Core}
 use Rattle.sim_base.specs.declared.trace.Entry.{Entry}
 use Rattle.sim_base.proofs.Arrived.{arrived}
 use Rattle.sim_base.proofs.Spans.{length-run}
+use Rattle.sim_base.specs.declared.message.Access.{Access}
+use Rattle.sim_base.specs.declared.message.Access.TheVariants as access
 use Rattle.statistics.specs.Cores.{core_stats}
 use Rattle.statistics.specs.Runs.{stats_of_core, credits_of, core_last, last_of_core}
 use Rattle.statistics.proofs.CoreMail.{core_stats-same}
@@ -67,28 +69,28 @@ cores-go_on s traces from until core before after sent k l h runs =
       ap (core_messages s core trace) (sym steps) ∙ was.1,
     )
 
-length-core_steps_of : (s : Config) (traces : List (List Entry)) (n core : ℕ) → length (core_steps_of s traces n core) ≡ n
+pub length-core_steps_of : (s : Config) (traces : List (List Entry)) (n core : ℕ) → length (core_steps_of s traces n core) ≡ n
 length-core_steps_of s traces n core = length-steps_of_core core (run s traces n) ∙ length-run s traces n
 
 -- what has not arrived is no credit
-credits-arrived : (link : ℕ) (write : Bool) (until : ℕ) (ms : List Message) → count_by (is_credit_on link write until) (arrived ms until) ≡ count_by (is_credit_on link write until) ms
-credits-arrived link write until ms =
+credits-arrived : (link : ℕ) (access : Access) (until : ℕ) (ms : List Message) → count_by (is_credit_on link access until) (arrived ms until) ≡ count_by (is_credit_on link access until) ms
+credits-arrived link access until ms =
     let p = λ (m : Message). ltb m.arrival until in
-    let q = is_credit_on link write until in
+    let q = is_credit_on link access until in
     let a : count_by q (arrived ms until) ≡ count_by (λ m. p m && q m) ms = count-filter p q ms in
     let b = count-weaker (λ m. p m && q m) q (λ m h. (and_parts (p m) (q m) h).1) ms in
-    let c = count-weaker q (λ m. p m && q m) (λ m h. and_from (p m) (q m) (and_parts (eqb m.link link && is_credit write m.load) (p m) h).1 h) ms in
+    let c = count-weaker q (λ m. p m && q m) (λ m h. and_from (p m) (q m) (and_parts (eqb m.link link && is_credit access m.load) (p m) h).1 h) ms in
     omega arith
 
 credits-alike : (s : Config) (core now : ℕ) (trace : List Entry) (steps : List CoreStep) (ms : List Message) (channel : ℕ) → length steps ≡ now
     → credits_of s core trace steps (arrived ms now) channel ≡ credits_of s core trace steps ms channel
 unfolding credits_of credits_left held
 credits-alike s core now trace steps ms channel e =
-    let left = λ (write : Bool) (n : ℕ). credit_cap s write + n - count_by (λ m. is_request_for channel write m.load) (core_messages s core trace steps) in
-    let same : (write : Bool) → count_by (is_credit_on (credit_link s core channel) write (length steps)) (arrived ms now) ≡ count_by (is_credit_on (credit_link s core channel) write (length steps)) ms =
-    λ write. subst (λ u. count_by (is_credit_on (credit_link s core channel) write (length steps)) (arrived ms u) ≡ count_by (is_credit_on (credit_link s core channel) write (length steps)) ms) e
-    (credits-arrived (credit_link s core channel) write (length steps) ms) in
-    ap₂ (λ r w. record { read = left false r; write = left true w }) (same false) (same true)
+    let left = λ (access : Access) (n : ℕ). credit_cap s access + n - count_by (λ m. is_request_for channel access m.load) (core_messages s core trace steps) in
+    let same : (access : Access) → count_by (is_credit_on (credit_link s core channel) access (length steps)) (arrived ms now) ≡ count_by (is_credit_on (credit_link s core channel) access (length steps)) ms =
+    λ access. subst (λ u. count_by (is_credit_on (credit_link s core channel) access (length steps)) (arrived ms u) ≡ count_by (is_credit_on (credit_link s core channel) access (length steps)) ms) e
+    (credits-arrived (credit_link s core channel) access (length steps) ms) in
+    ap₂ (λ r w. record { read = left access.Read r; write = left access.Write w }) (same access.Read) (same access.Write)
 
 stats-alike : (s : Config) (traces : List (List Entry)) (now core : ℕ)
     → core_stats s core (trace_of traces core) (core_steps_of s traces now core) (mail_before s traces now (Core core) now) ≡ stats_of_core s traces (run s traces now) core

@@ -1,5 +1,5 @@
 -- What arrives at a core of a run in a cycle of a span: a reply to a Read that waits for it, or a credit that the core spent.
-use Rattle.std.proofs.Common.{◌≡◌, ℕ, zero, suc, ◌+◌, ◌<◌, ◌≤◌, ◌⊎◌, inl, inr, Bool, true, false, cond, not, eqb, ltb, ◌||◌, List, [], ◌∷◌, ◌++◌, take, refl, sym, ap, ap₂, subst, ◌∙◌, arith}
+use Rattle.std.proofs.Common.{◌≡◌, ℕ, zero, suc, ◌+◌, ◌<◌, ◌≤◌, ◌⊎◌, inl, inr, Bool, true, false, cond, eqb, ltb, ◌||◌, List, [], ◌∷◌, ◌++◌, take, refl, sym, ap, ap₂, subst, ◌∙◌, arith}
 use Rattle.std.specs.Prelude.{filter, count_by, map}
 use Rattle.std.specs.List.{AllByRecursion as Each, list_any}
 use Rattle.std.proofs.lemmas.Bool.{cases_lt, and_from, eq-eqb, lt-ltb}
@@ -19,13 +19,15 @@ use Rattle.sim_base.specs.declared.trace.Entry.{Entry}
 use Rattle.sim_base.proofs.Arrived.{arrived}
 use Rattle.sim_base.proofs.Ordered.{Each-weaker}
 use Rattle.sim_base.proofs.Spans.{length-run}
+use Rattle.sim_base.specs.declared.message.Access.{Access}
+use Rattle.sim_base.proofs.Accesses.{is_access-own}
+use Rattle.sim_base.proofs.Lists.{count-cons, filter-each}
 use Rattle.laws.specs.Credits.{requests_sent}
 use Rattle.laws.specs.Messages.{FitsCore}
 use Rattle.laws.specs.Requests.{AnswersReadAs}
 use Rattle.laws.proofs.Answered.{reads_are_answered_once}
 use Rattle.laws.proofs.Conserved.{served, conserved, credits-served}
-use Rattle.laws.proofs.Counting.{count-cons, count-append}
-use Rattle.channel_step.proofs.Requests.{filter-each}
+use Rattle.laws.proofs.Counting.{count-append}
 use Rattle.core_window.specs.Fit.{IsDueLoad, IsDue}
 use Rattle.core_window.specs.Stands.{is_credit_from}
 use Rattle.core_window.specs.Outstanding.{is_read_in, is_answered}
@@ -72,18 +74,14 @@ reply-first entry mail after m e h =
     let b : count_by p (m ∷ after) ≡ 1 + count_by p after = count-cons p m after ∙ ap (λ x. cond x 1 0 + count_by p after) (own_reply entry m.load e) in
     none-any p mail (each-none p mail (omega arith))
 
-own_credit : (write : Bool) → cond write write (not write) ≡ true
-own_credit true = refl
-own_credit false = refl
-
 -- a credit that has come by a cycle is for a request that was sent before
-credits-sent : (s : Config) (traces : List (List Entry)) (n core channel : ℕ) (write : Bool) → channel < s.channels
-    → count_by (is_credit_from (credit_link s core channel) write) (inbox s traces (run s traces n) (Core core)) ≤ requests_sent s traces n core channel write
-credits-sent s traces n core channel write l =
-    let p = is_credit_from (credit_link s core channel) write in
+credits-sent : (s : Config) (traces : List (List Entry)) (n core channel : ℕ) (access : Access) → channel < s.channels
+    → count_by (is_credit_from (credit_link s core channel) access) (inbox s traces (run s traces n) (Core core)) ≤ requests_sent s traces n core channel access
+credits-sent s traces n core channel access l =
+    let p = is_credit_from (credit_link s core channel) access in
     let a = count-mine p s traces (run s traces n) (Core core) in
-    let b : count_by p (messages s traces (run s traces n)) ≤ served s traces n core channel write = credits-served s traces core channel write l n in
-    let c = conserved s traces core channel write l n in
+    let b : count_by p (messages s traces (run s traces n)) ≤ served s traces n core channel access = credits-served s traces core channel access l n in
+    let c = conserved s traces core channel access l n in
     omega arith
 
 -- no more of them come before a message, and with it, than there are up to its cycle
@@ -115,20 +113,20 @@ replied-once s traces until core entry mail after m l h e =
     let c : count_by p (mail_before s traces until (Core core) until) ≡ count_by p (mail ++ m ∷ after) = ap (count_by p) h.whole in
     reply-first entry mail after m e (omega arith)
 
-credit-owed : (s : Config) (traces : List (List Entry)) (until core channel : ℕ) (write : Bool) (entry : ℕ) (mail after : List Message) (m : Message) → channel < s.channels
-    → ComesTo s traces until core mail after m → m.load ≡ load.Credit write entry → m.link ≡ credit_link s core channel
-    → count_by (is_credit_from (credit_link s core channel) write) mail < requests_sent s traces m.arrival core channel write
-credit-owed s traces until core channel write entry mail after m l h e f =
-    let p = is_credit_from (credit_link s core channel) write in
+credit-owed : (s : Config) (traces : List (List Entry)) (until core channel : ℕ) (access : Access) (entry : ℕ) (mail after : List Message) (m : Message) → channel < s.channels
+    → ComesTo s traces until core mail after m → m.load ≡ load.Credit access entry → m.link ≡ credit_link s core channel
+    → count_by (is_credit_from (credit_link s core channel) access) mail < requests_sent s traces m.arrival core channel access
+credit-owed s traces until core channel access entry mail after m l h e f =
+    let p = is_credit_from (credit_link s core channel) access in
     let now = m.arrival in
     let then = inbox s traces (run s traces now) (Core core) in
-    let mine : p m ≡ true = and_from (eqb m.link (credit_link s core channel)) (is_credit write m.load) (eq-eqb m.link (credit_link s core channel) f) (ap (is_credit write) e ∙ own_credit write) in
+    let mine : p m ≡ true = and_from (eqb m.link (credit_link s core channel)) (is_credit access m.load) (eq-eqb m.link (credit_link s core channel) f) (ap (is_credit access) e ∙ is_access-own access) in
     let same : arrived (mail ++ m ∷ after) (now + 1) ≡ arrived then (now + 1) =
     ap (λ x. arrived x (now + 1)) (sym h.whole) ∙ (arrived-agree s traces now until (Core core) h.in_time).same (now + 1) (omega arith) in
     let a = counted-arrived p mail after m h.no_later mine in
     let b : count_by p (arrived (mail ++ m ∷ after) (now + 1)) ≡ count_by p (arrived then (now + 1)) = ap (count_by p) same in
     let c : count_by p (arrived then (now + 1)) ≤ count_by p then = count-kept (λ (n : Message). ltb n.arrival (now + 1)) p then in
-    let d = credits-sent s traces now core channel write l in
+    let d = credits-sent s traces now core channel access l in
     omega arith
 
 -- each message to a core may come in its cycle
@@ -146,10 +144,10 @@ comes-due s traces until core mail after m l h fits answers = by m.load refl fit
           is_issued = subst (λ steps. entry < issued_before steps) (take-steps_of_core s traces until m.arrival core (omega (arith, h.in_time))) a.1;
           is_first = replied-once s traces until core entry mail after m l h e;
         }
-    by (load.Credit write entry) e f a =
+    by (load.Credit access entry) e f a =
         record {
           channel = f.0;
           exists = f.1;
           on_its_link = f.2;
-          has_room = let k = credit-owed s traces until core f.0 write entry mail after m f.1 h e f.2 in omega arith;
+          has_room = let k = credit-owed s traces until core f.0 access entry mail after m f.1 h e f.2 in omega arith;
         }

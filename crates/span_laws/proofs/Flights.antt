@@ -2,7 +2,7 @@
 use Rattle.std.proofs.Common.{◌≡◌, ℕ, ◌<◌, ◌≤◌, Bool, true, false, not, ltb, leb, eqb, ◌&&◌, ◌||◌, List, [], ◌∷◌, ◌++◌, length, refl, sym, ap, ap₂, subst, ◌∙◌, ◌⊎◌, inl, inr, arith}
 use Rattle.std.specs.Prelude.{filter, fold, flat_map}
 use Rattle.std.specs.List.{list_any}
-use Rattle.std.proofs.lemmas.Bool.{cases_lt, lt-ltb, le-ltb, le-leb, lt-leb, leb-true, eqb-true}
+use Rattle.std.proofs.lemmas.Bool.{cases_lt, lt-ltb, le-ltb, le-leb, lt-leb, leb-true, eqb-true, or_parts}
 use Rattle.std.proofs.lemmas.List.Elements.{recursion_from_All, All-from_recursion}
 use Rattle.sim_base.specs.declared.config.Config.{Config}
 use Rattle.sim_base.specs.Counts.{is_in_flight, in_flight}
@@ -16,9 +16,9 @@ use Rattle.sim_base.proofs.Arrived.{puts, by_age-puts, fold-puts, NotBefore, Eac
 use Rattle.sim_base.proofs.Each.{Each-all, Each-append, Each-flat_map_below}
 use Rattle.sim_base.proofs.Ordered.{Each-weaker, filter-by_age, filter-puts, Sorted-puts}
 use Rattle.sim_base.proofs.Spans.{length-run}
+use Rattle.sim_base.proofs.Lists.{filter-both, filter-each, filter-agree}
 use Rattle.laws.proofs.Receivers.{Each-filter_passes}
 use Rattle.laws.proofs.Sent.{messages-none}
-use Rattle.channel_step.proofs.Requests.{filter-both, filter-each, filter-agree}
 use Rattle.links.specs.InFlight.{is_due, receiver_of}
 use Rattle.span_laws.specs.Flight.{has_unit, left_after, LinksStart, LinksBring, SentIsLate, LinksGoOn}
 use Rattle.span_laws.specs.Mail.{mail_in}
@@ -26,14 +26,14 @@ use Rattle.span_laws.proofs.Arrivals.{mail-sent}
 use Rattle.span_laws.proofs.Later.{IsOfMachine, IsReceived, messages-received, core-sent_late, channel-sent_late, messages-more}
 
 -- a message arrives in a span
-abbrev in_span : ℕ → ℕ → Message → Bool
+abbrev pub in_span : ℕ → ℕ → Message → Bool
 in_span from until m = leb from m.arrival && ltb m.arrival until
 
 -- what has not arrived before a cycle
 abbrev pub not_before : ℕ → Message → Bool
 not_before cycle m = leb cycle m.arrival
 
-not-lt : (a b : ℕ) → not (ltb a b) ≡ leb b a
+pub not-lt : (a b : ℕ) → not (ltb a b) ≡ leb b a
 not-lt a b = go (cases_lt a b)
   where
     go : (a < b) ⊎ (b ≤ a) → not (ltb a b) ≡ leb b a
@@ -55,7 +55,7 @@ unfolding run by_age
 links-start s traces =
     record { channels_are = refl; messages_are = sym (in_flight-late s traces 0 ∙ ap (λ ms. by_age (filter (λ (m : Message). leb 0 m.arrival) ms)) (messages-none s traces)) }
 
-and-swap : (a b c : Bool) → (a && (b && c)) ≡ (b && (a && (b && c)))
+pub and-swap : (a b c : Bool) → (a && (b && c)) ≡ (b && (a && (b && c)))
 and-swap true true c = refl
 and-swap true false c = refl
 and-swap false true c = refl
@@ -93,17 +93,12 @@ other-due r u v w x h = by (is_unit r u) (is_unit r v) w x (λ a b. one-unit r v
     by true false w x k = refl
     by true true w x k = let e : is_unit u v ≡ true = k refl refl in cc
 
-or-parts : (a b : Bool) → (a || b) ≡ false → (a ≡ false) × (b ≡ false)
-or-parts true b h = cc
-or-parts false true h = cc
-or-parts false false h = (refl, refl)
-
 -- taking out what is due elsewhere in a span leaves it, whenever it arrives
 pub due-left : (channels from until a b : ℕ) (unit : MachineUnit) (units : List MachineUnit) (ms : List Message) → has_unit units unit ≡ false
     → filter (is_due channels unit a b) (left_after channels from until units ms) ≡ filter (is_due channels unit a b) ms
 due-left channels from until a b unit [] ms h = refl
 due-left channels from until a b unit (u ∷ units) ms h =
-    let both = or-parts (is_unit unit u) (has_unit units unit) h in
+    let both = or_parts (is_unit unit u) (has_unit units unit) h in
     let due = is_due channels unit a b in
     let stays = λ (m : Message). not (is_due channels u from until m) in
     due-left channels from until a b unit units (filter stays ms) both.1
@@ -168,7 +163,7 @@ left-late s traces from until units has =
     (Each-weaker P (λ (m : Message). stays m ≡ not_before until m) (λ m h. stays-late s from until units has m (leb-true from m.arrival h.0) h.1) flight
     (Each-by_age P (filter (not_before from) sent) (Each-filter_passes (IsReceived s) (not_before from) sent (messages-received s traces from))))
 
-later-both : (from until : ℕ) → from ≤ until → (m : Message) → not_before until m ≡ (not_before from m && not_before until m)
+pub later-both : (from until : ℕ) → from ≤ until → (m : Message) → not_before until m ≡ (not_before from m && not_before until m)
 later-both from until l m = go (cases_lt m.arrival until)
   where
     go : (m.arrival < until) ⊎ (until ≤ m.arrival) → not_before until m ≡ (not_before from m && not_before until m)

@@ -1,6 +1,6 @@
 -- What the units of a run send in a span that is no longer than each message travels arrives after it, and the messages by age
 -- grow by it in any order of units.
-use Rattle.std.proofs.Common.{◌≡◌, ℕ, zero, suc, ◌+◌, ◌-◌, ◌<◌, ◌≤◌, false, eqb, List, [], ◌∷◌, ◌++◌, length, Option, Some, None, refl, sym, ap, ap₂, subst, ◌∙◌, add-zero, add-suc, append_assoc, arith}
+use Rattle.std.proofs.Common.{◌≡◌, ℕ, zero, suc, ◌+◌, ◌-◌, ◌<◌, ◌≤◌, false, eqb, List, [], ◌∷◌, ◌++◌, length, Option, Some, None, sym, ap, ap₂, subst, ◌∙◌, add-zero, add-suc, append_assoc, arith}
 use Rattle.std.specs.Prelude.{flat_map}
 use Rattle.std.specs.Option.{IfSome}
 use Rattle.std.specs.List.{AllByRecursion as Each}
@@ -22,12 +22,12 @@ use Rattle.sim_base.specs.declared.trace.Entry.{Entry}
 use Rattle.sim_base.specs.declared.trace.Entry.TheVariants.{Plain, Read, Write}
 use Rattle.sim_base.proofs.Added.{ServesCoreBelow, core_messages-push, channel_messages-push, requests_late, channel_late}
 use Rattle.sim_base.proofs.Arrived.{puts, NotBefore}
-use Rattle.sim_base.proofs.Below.{flat_map_below_more, flat_map_below_same}
+use Rattle.sim_base.proofs.Below.{flat_map_below_same}
 use Rattle.sim_base.proofs.Each.{Each-append, Each-flat_map_below}
-use Rattle.sim_base.proofs.Grows.{SentBy, links_differ, core_channel_differ, of_core-by, of_channel-by}
+use Rattle.sim_base.proofs.Grows.{SentBy, links_differ, core_channel_differ, of_core-by, of_channel-by, grow, cores_differ, channels_differ, has_channels}
 use Rattle.sim_base.proofs.Ordered.{Apart, Each-weaker, puts-swap, puts-append}
 use Rattle.sim_base.proofs.Served.{choice-below, inbox-below}
-use Rattle.sim_base.proofs.Spans.{length-run, step_of_channel-next, has_channels}
+use Rattle.sim_base.proofs.Spans.{length-run, step_of_channel-next}
 use Rattle.statistics.proofs.Replies.{length-steps_of_core}
 use Rattle.statistics.proofs.RunSteps.{steps_of_core-next}
 use Rattle.laws.specs.Commands.{channel_steps_of}
@@ -37,20 +37,20 @@ use Rattle.laws.proofs.Sent.{Each-messages, issues-each, sends-each, messages-no
 use Rattle.span_laws.specs.Cores.{core_steps_of}
 
 -- what a channel does serves a core of the machine
-chosen-below : (s : Config) (traces : List (List Entry)) (n channel : ℕ) → IfSome (chosen s traces n channel) (ServesCoreBelow s.cores)
+pub chosen-below : (s : Config) (traces : List (List Entry)) (n channel : ℕ) → IfSome (chosen s traces n channel) (ServesCoreBelow s.cores)
 chosen-below s traces n channel =
     choice-below s channel (channel_steps_of s traces n channel) (inbox s traces (run s traces n) (Channel channel)) (inbox-below s traces (run s traces n) (Channel channel))
 
 -- a list is one with more, which arrives no sooner than a cycle
-record GrowsLate (u : ℕ) (old all : List Message) : Type 0 where
-  more : List Message
-  is_more : all ≡ old ++ more
-  late : NotBefore u more
+pub record GrowsLate (u : ℕ) (old all : List Message) : Type 0 where
+  pub more : List Message
+  pub is_more : all ≡ old ++ more
+  pub late : NotBefore u more
 
-grows-none : (u : ℕ) (old all : List Message) → all ≡ old → GrowsLate u old all
+pub grows-none : (u : ℕ) (old all : List Message) → all ≡ old → GrowsLate u old all
 grows-none u old all e = record { more = []; is_more = e ∙ sym (append-nil old); late = tt }
 
-grows-again : (u : ℕ) (old mid all next : List Message) → GrowsLate u old mid → all ≡ mid ++ next → NotBefore u next → GrowsLate u old all
+pub grows-again : (u : ℕ) (old mid all next : List Message) → GrowsLate u old mid → all ≡ mid ++ next → NotBefore u next → GrowsLate u old all
 grows-again u old mid all next g e h =
     record {
       more = g.more ++ next;
@@ -59,7 +59,7 @@ grows-again u old mid all next g e h =
     }
 
 -- so that any such more does
-grows-late : (u : ℕ) (old all more : List Message) → GrowsLate u old all → all ≡ old ++ more → NotBefore u more
+pub grows-late : (u : ℕ) (old all more : List Message) → GrowsLate u old all → all ≡ old ++ more → NotBefore u more
 grows-late u old all more g e = subst (NotBefore u) (append_cancel_left old g.more more (sym g.is_more ∙ e)) g.late
 
 -- what a core sends in the first cycles of a span
@@ -154,36 +154,7 @@ messages-received s traces (suc n) =
     (λ c l. issues-each (IsReceived s) s traces history c l (λ j e b f g. request-received s c (length history) _ e))
     (λ k l. command-received s k (length history) l (step_of_channel k machine_step) (subst (λ o. IfSome o (ServesCoreBelow s.cores)) (sym (step_of_channel-next s traces history k l)) (chosen-below s traces n k))))
 
-apart : (s : Config) (a b : MachineUnit) → (a ≡ b → ⊥) → (xs ys : List Message) → SentBy s a xs → SentBy s b ys → Apart xs ys
-apart s a b h xs ys j k =
-    Each-weaker _ (λ (x : Message). Each (λ (y : Message). eqb x.link y.link ≡ false) ys)
-    (λ x e. Each-weaker _ (λ (y : Message). eqb x.link y.link ≡ false) (λ y f. links_differ s a b h x.link y.link e f) ys k) xs j
-
--- what units of one kind send can be put in before or after what they sent
-grow : (s : Config) (unit : ℕ → MachineUnit) → ((i j : ℕ) → i < j → unit i ≡ unit j → ⊥) → (f g : ℕ → List Message) (acc : List Message) (n : ℕ)
-    → ((i : ℕ) → i < n → SentBy s (unit i) (f i)) → ((i : ℕ) → i < n → SentBy s (unit i) (g i))
-    → puts acc (flat_map (λ i. f i ++ g i) (below n)) ≡ puts (puts acc (flat_map f (below n))) (flat_map g (below n))
-grow s unit differ f g acc zero hf hg = refl
-grow s unit differ f g acc (suc n) hf hg =
-    let old = flat_map f (below n) in
-    let new = flat_map g (below n) in
-    let far : Apart new (f n) =
-    Each-flat_map_below _ g n (λ i l. apart s (unit i) (unit n) (differ i n l) (g i) (f n) (hg i (omega arith)) (hf n (omega arith))) in
-    ap (puts acc) (flat_map_below_more (λ i. f i ++ g i) n)
-    ∙ puts-append acc (flat_map (λ i. f i ++ g i) (below n)) (f n ++ g n)
-    ∙ puts-append _ (f n) (g n)
-    ∙ ap (λ z. puts (puts z (f n)) (g n)) (grow s unit differ f g acc n (λ i l. hf i (omega arith)) (λ i l. hg i (omega arith)))
-    ∙ ap (λ z. puts z (g n)) (puts-swap (puts acc old) new (f n) far)
-    ∙ sym (puts-append (puts (puts acc old) (f n)) new (g n))
-    ∙ ap₂ (λ y z. puts y z) (sym (puts-append acc old (f n)) ∙ ap (puts acc) (sym (flat_map_below_more f n))) (sym (flat_map_below_more g n))
-
-cores_differ : (i j : ℕ) → i < j → Core i ≡ Core j → ⊥
-cores_differ i j l e = let same : i ≡ j = cc in omega arith
-
-channels_differ : (i j : ℕ) → i < j → Channel i ≡ Channel j → ⊥
-channels_differ i j l e = let same : i ≡ j = cc in omega arith
-
-each-right : (P : Message → Type 0) (xs ys : List Message) → Each P (xs ++ ys) → Each P ys
+pub each-right : (P : Message → Type 0) (xs ys : List Message) → Each P (xs ++ ys) → Each P ys
 each-right P [] ys h = h
 each-right P (x ∷ xs) ys h = each-right P xs ys h.1
 

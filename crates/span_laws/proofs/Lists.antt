@@ -9,14 +9,13 @@ use Rattle.sim_base.specs.declared.message.Message.{Message}
 use Rattle.sim_base.proofs.Arrived.{arrived, NotBefore, arrived-none}
 use Rattle.sim_base.proofs.Each.{Each-filter}
 use Rattle.sim_base.proofs.Ordered.{Each-weaker, Sorted}
-use Rattle.laws.proofs.Counting.{count-cons, count-filter, count-weaker}
+use Rattle.sim_base.proofs.Lists.{count-cons}
+use Rattle.laws.proofs.Counting.{count-filter, count-weaker}
 use Rattle.laws.proofs.Receivers.{Each-filter_passes}
 use Rattle.laws.specs.Links.{arrives_on}
 use Rattle.channel_step.specs.Fit.{ComeByAge}
 use Rattle.span_laws.specs.Mail.{arriving}
-
-pub no_sooner : (m y : Message) → is_before y m ≡ false → m.arrival ≤ y.arrival
-no_sooner m y h = grind (arith, nat_tests)
+use Rattle.links.proofs.Next.{not_sooner}
 
 -- where all arrive at the start of a span or later, those that arrive in it are those that arrive by its end
 arriving-late : (from until : ℕ) (ms : List Message) → NotBefore from ms → arriving from until ms ≡ arrived ms until
@@ -35,7 +34,7 @@ arriving-more from until l (m ∷ ms) h =
     ap (λ x. (m ∷ arrived ms from) ++ x) (cond-false _ _ _ b) ∙ ap (λ x. m ∷ x) (arriving-more from until l ms h.1) ∙ sym (cond-true _ _ _ c))
     (λ e.
     let a : from ≤ m.arrival = ltb-false _ _ e in
-    let rest : NotBefore from ms = Each-weaker (λ (y : Message). is_before y m ≡ false) (λ (y : Message). from ≤ y.arrival) (λ y k. let d = no_sooner m y k in omega arith) ms h.0 in
+    let rest : NotBefore from ms = Each-weaker (λ (y : Message). is_before y m ≡ false) (λ (y : Message). from ≤ y.arrival) (λ y k. let d = not_sooner m y k in omega arith) ms h.0 in
     ap (λ x. x ++ arriving from until (m ∷ ms)) (arrived-none from ms rest) ∙ arriving-late from until (m ∷ ms) (a, rest))
 
 -- each message of a span arrives in it

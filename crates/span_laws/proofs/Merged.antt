@@ -26,11 +26,11 @@ unfolding run commands
 tables-start s traces = refl
 
 -- each row stands before those after it
-abbrev Ordered : List IssuedCommand → Type 0
+abbrev pub Ordered : List IssuedCommand → Type 0
 Ordered [] = Unit {0}
 Ordered (x ∷ xs) = Each (λ y. stands_before x y ≡ true) xs × Ordered xs
 
-ordered-pairs : (xs : List IssuedCommand) → IsOrdered xs → Ordered xs
+pub ordered-pairs : (xs : List IssuedCommand) → IsOrdered xs → Ordered xs
 ordered-pairs [] h = tt
 ordered-pairs (x ∷ xs) h = (
   recursion_from_All (λ y. stands_before x y ≡ true) xs (All-from_get_or (λ y. stands_before x y ≡ true) xs x (λ i l. h 0 (suc i) x (omega arith) (omega arith))),

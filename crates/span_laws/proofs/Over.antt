@@ -241,7 +241,7 @@ not-sooner s traces n m h l =
     let e : (n - 1) + 1 ≡ n = omega arith in
     false_from_ne_true (ends_before s traces m) (λ k. false≢true (sym (h (n - 1) e) ∙ ends-stay s traces m (n - 1) (omega arith) k))
 
-cycles-next : (s : Config) (traces : List (List Entry)) (n : ℕ) → cycles_run s traces (suc n) ≡ cond (ends_before s traces (cycles_run s traces n)) (cycles_run s traces n) (suc n)
+pub cycles-next : (s : Config) (traces : List (List Entry)) (n : ℕ) → cycles_run s traces (suc n) ≡ cond (ends_before s traces (cycles_run s traces n)) (cycles_run s traces n) (suc n)
 unfolding cycles_run
 cycles-next s traces n = refl
 

@@ -58,7 +58,7 @@ asks core entry m = is_request_of core entry m.load
 other_in : (r : Request) (l : Load) → is_request_of r.core r.entry l ≡ false → IfSome (request_in l) (IsOther r)
 other_in r (load.Request q) h = h
 other_in r (load.Reply entry) h = tt
-other_in r (load.Credit write entry) h = tt
+other_in r (load.Credit access entry) h = tt
 
 others : (r : Request) (ms : List Message) → count_by (asks r.core r.entry) ms ≡ 0 → Each (IsOther r) (requests_of ms)
 others r ms h =
@@ -77,7 +77,7 @@ differ-once (m ∷ ms) h = by m.load refl (differ-once ms (λ core entry. let e 
     by : (l : Load) → m.load ≡ l → Differ (requests_of ms) → Differ (cons_option (request_in l) (requests_of ms))
     by (load.Request r) e rest = (others r ms (count-others (asks r.core r.entry) m ms (ap (is_request_of r.core r.entry) e ∙ own_entry r) (h r.core r.entry)), rest)
     by (load.Reply entry) e rest = rest
-    by (load.Credit write entry) e rest = rest
+    by (load.Credit access entry) e rest = rest
 
 -- those that arrive at a channel are
 pub mail-differ : (s : Config) (traces : List (List Entry)) (n channel cycle : ℕ) → Differ (requests_of (mail_before s traces n (Channel channel) cycle))

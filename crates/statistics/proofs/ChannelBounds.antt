@@ -41,7 +41,7 @@ pub hits-le : (history : List IssuedCommand) → hits history ≤ length history
 unfolding hits
 hits-le history = count_by-le-length (λ (i : IssuedCommand). is_hit history i.command) history
 
-fold-max-le : (m : ℕ) (xs : List ℕ) → m ≤ fold max m xs
+pub fold-max-le : (m : ℕ) (xs : List ℕ) → m ≤ fold max m xs
 fold-max-le m [] = omega arith
 fold-max-le m (x ∷ xs) = omega (arith, fold-max-le (max m x) xs)
 

@@ -18,9 +18,10 @@ use Rattle.sim_base.specs.declared.command.Command.TheVariants.{Act, Rd, Wr, Pre
 use Rattle.sim_base.specs.declared.command.IssuedCommand.{IssuedCommand}
 use Rattle.sim_base.specs.declared.message.Message.{Message}
 use Rattle.sim_base.specs.declared.message.Request.{Request}
+use Rattle.sim_base.proofs.Accesses.{column_both}
 use Rattle.statistics.specs.Channels.{moves_data_of, is_late_act}
 
-passes : {X : Type 0} (p : X → Bool) (xs : List X) → Each (λ x. p x ≡ true) (filter p xs)
+pub passes : {X : Type 0} (p : X → Bool) (xs : List X) → Each (λ x. p x ≡ true) (filter p xs)
 passes p [] = tt
 passes p (x ∷ xs) = cond_both (p x) (x ∷ filter p xs) (filter p xs) (Each (λ y. p y ≡ true)) (λ e. (e, passes p xs)) (λ e. passes p xs)
 
@@ -59,8 +60,7 @@ unfolding is_served
 needed_at-not_late history r h None = moved-served r history ∙ h
 needed_at-not_late history r h (Some row) =
     cond_both (eqb row r.place.row) (column_command r) (Pre (bank_in r.place) (source_of r)) (λ c. is_late_act history (Some c) ≡ false)
-    (λ e. cond_both r.write (Wr (bank_in r.place) r.place.row r.place.column (source_of r)) (Rd (bank_in r.place) r.place.row r.place.column (source_of r))
-    (λ c. is_late_act history (Some c) ≡ false) (λ f. refl) (λ f. refl))
+    (λ e. column_both (λ c. is_late_act history (Some c) ≡ false) r.access _ _ _ _ (λ f. refl) (λ f. refl))
     (λ e. refl)
 
 needed-not_late : (history : List IssuedCommand) (o : Option Request) → IfSome o (Unserved history) → is_late_act history (option_map (needed history) o) ≡ false

@@ -1,7 +1,7 @@
 -- What arrives after its cycles does not change the statistics of a channel.
 use Rattle.std.proofs.Common.{◌≡◌, ℕ, suc, ◌+◌, List, [], ◌∷◌, ◌++◌, length, refl, ap, ap₂, Option, arith}
 use Rattle.std.specs.List.{AllByRecursion as Each}
-use Rattle.sim_base.proofs.Arrived.{NotBefore}
+use Rattle.sim_base.proofs.Arrived.{NotBefore, NotBefore-weaker}
 use Rattle.sim_base.proofs.Each.{Each-append}
 use Rattle.sim_base.proofs.Same.{Stamped, AgreeUpTo, sooner, queue-same, drains-same}
 use Rattle.sim_base.specs.declared.config.Config.{Config}
@@ -10,9 +10,10 @@ use Rattle.sim_base.specs.History.{issued_commands}
 use Rattle.sim_base.specs.Scheduling.{drains}
 use Rattle.sim_base.specs.declared.command.Command.{Command}
 use Rattle.sim_base.specs.declared.message.Message.{Message}
+use Rattle.sim_base.proofs.Kept.{arrived-added}
+use Rattle.sim_base.proofs.Added.{length-push_suc}
 use Rattle.statistics.specs.Channels.{channel_stats, channel_cycle_with, channel_cycle, channel_joined, channel_stretch}
-use Rattle.statistics.proofs.Lists.{length-push_suc, map_below_same, count_below_same}
-use Rattle.statistics.proofs.Messages.{arrived-later, NotBefore-sooner}
+use Rattle.statistics.proofs.Lists.{map_below_same, count_below_same}
 
 queue_length-same : (channel : ℕ) (steps : List (Option Command)) (a b : List Message) (cycle : ℕ) → AgreeUpTo (cycle + 1) a b
     → queue_length channel steps a cycle ≡ queue_length channel steps b cycle
@@ -62,7 +63,7 @@ AgreeUpTo-later until mail later h k l =
     record {
       one = Each-append Stamped mail later h k;
       other = h;
-      same = λ u b. arrived-later u mail later (NotBefore-sooner u until b later l);
+      same = λ u b. arrived-added u mail later (NotBefore-weaker u until b later l);
     }
 
 pub channel_stats-later : (s : Config) (channel : ℕ) (steps : List (Option Command)) (mail later : List Message) → Each Stamped mail → Each Stamped later

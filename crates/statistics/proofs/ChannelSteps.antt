@@ -8,6 +8,7 @@ use Rattle.std.proofs.lemmas.List.{append-nil}
 use Rattle.std.proofs.lemmas.List.Elements.{filter_map-append}
 use Rattle.std.proofs.lemmas.List.Folds.{list_any-append}
 use Rattle.std.proofs.lemmas.List.Sums.{sum_by-cons, sum_by_push, fold_push}
+use Rattle.std.proofs.Math.Bool.{or-false}
 use Rattle.sim_base.proofs.Each.{Each-all}
 use Rattle.sim_base.specs.declared.config.Config.{Config}
 use Rattle.sim_base.specs.Counts.{is_act_for, is_hit_of, is_hit, hits, issued_of_kind, queue_length, queue_lengths, queued, queued_max, idle, has_refresh_due, refreshing, draining}
@@ -22,10 +23,13 @@ use Rattle.sim_base.specs.declared.command.IssuedCommand.{IssuedCommand}
 use Rattle.sim_base.specs.declared.command.Source.{Source}
 use Rattle.sim_base.specs.declared.message.Message.{Message}
 use Rattle.sim_base.specs.declared.place.BankId.{BankId}
+use Rattle.sim_base.specs.declared.message.Access.TheVariants as access
+use Rattle.sim_base.specs.Access.{is_access}
+use Rattle.sim_base.proofs.Added.{length-push_suc}
 use Rattle.statistics.specs.Counts.{one_if}
 use Rattle.statistics.specs.Channels.{draining_of, channel_stats, issues, moves_hit, channel_cycle_with, channel_cycle, channel_joined, is_entry, moves_data_of, is_late_act}
 use Rattle.statistics.specs.Counts.{sum_of_counts}
-use Rattle.statistics.proofs.Lists.{length-push_suc, take-push, map_below_more, map_below_same, count_below_more, count_below_same, sum_push}
+use Rattle.statistics.proofs.Lists.{take-push, map_below_more, map_below_same, count_below_more, count_below_same, sum_push}
 
 enumerate_from-push : {X : Type 0} (n : ℕ) (xs : List X) (x : X) → enumerate_from n (xs ++ x ∷ []) ≡ enumerate_from n xs ++ (n + length xs, x) ∷ []
 enumerate_from-push n [] x = ap (λ k. (k, x) ∷ []) (sym (add-zero n))
@@ -58,7 +62,7 @@ issued_of_kind-push kind channel steps o =
     by None = ap (count_by (λ (i : IssuedCommand). is_kind (kind_of i.command) kind)) (append-nil (issued_commands channel steps)) ∙ sym (add-zero _)
     by (Some command) = sum_by_push (λ (i : IssuedCommand). one_if (is_kind (kind_of i.command) kind)) (issued_commands channel steps) _
 
-queue_in-push : (channel : ℕ) (steps : List (Option Command)) (o : Option Command) (inbox : List Message) (cycle : ℕ) → cycle ≤ length steps
+pub queue_in-push : (channel : ℕ) (steps : List (Option Command)) (o : Option Command) (inbox : List Message) (cycle : ℕ) → cycle ≤ length steps
     → queue_in channel (steps ++ o ∷ []) inbox cycle ≡ queue_in channel steps inbox cycle
 unfolding queue_in
 queue_in-push channel steps o inbox cycle l = ap (λ x. queued_requests (issued_commands channel x) inbox (cycle + 1)) (take-push steps o cycle l)
@@ -111,12 +115,12 @@ refreshing-push s channel steps o =
     (count_below_same after (has_refresh_due s channel steps) (length steps) (λ k l. has_refresh_due-push s channel steps o k (omega arith)))
     (has_refresh_due-push s channel steps o (length steps) (omega arith))
 
-drains_before-push : (s : Config) (channel : ℕ) (steps : List (Option Command)) (o : Option Command) (inbox : List Message) (n : ℕ) → n ≤ suc (length steps)
+pub drains_before-push : (s : Config) (channel : ℕ) (steps : List (Option Command)) (o : Option Command) (inbox : List Message) (n : ℕ) → n ≤ suc (length steps)
     → drains_before s channel (steps ++ o ∷ []) inbox n ≡ drains_before s channel steps inbox n
 unfolding drains_before writes_in
 drains_before-push s channel steps o inbox zero l = refl
 drains_before-push s channel steps o inbox (suc n) l =
-    ap₂ (λ d q. drains_with s d (count_by (λ r. r.write) q))
+    ap₂ (λ d q. drains_with s d (count_by (λ r. is_access access.Write r.access) q))
     (drains_before-push s channel steps o inbox n (omega arith))
     (queue_in-push channel steps o inbox n (omega arith))
 
@@ -132,7 +136,7 @@ draining-push s channel steps o inbox =
     (drains_before-push s channel steps o inbox (length steps + 1) (omega arith))
 
 -- a command is an ACT for the entry whose data another moves
-abbrev opens_for : Command → Command → Bool
+abbrev pub opens_for : Command → Command → Bool
 opens_for command (Rd bank row column source) = is_act_for source command
 opens_for command (Wr bank row column source) = is_act_for source command
 opens_for command (Act bank row source) = false
@@ -140,18 +144,14 @@ opens_for command (Pre bank source) = false
 opens_for command (Prea rank) = false
 opens_for command (Ref rank) = false
 
-or-false : (x : Bool) → (x || false) ≡ x
-or-false true = refl
-or-false false = refl
-
-no_act_added : (history : List IssuedCommand) (i : IssuedCommand) (source : Source) → is_act_for source i.command ≡ false
+pub no_act_added : (history : List IssuedCommand) (i : IssuedCommand) (source : Source) → is_act_for source i.command ≡ false
     → is_hit_of (history ++ i ∷ []) (Some source) ≡ is_hit_of history (Some source)
 no_act_added history i source e =
     let p = λ (j : IssuedCommand). is_act_for source j.command in
     ap not (list_any-append p history (i ∷ []) ∙ ap (λ b. list_any p history || (b || false)) e ∙ or-false (list_any p history))
 
 -- one command more leaves a hit a hit, if it is no ACT for its entry
-is_hit-push : (history : List IssuedCommand) (i : IssuedCommand) (command : Command) → opens_for i.command command ≡ false → is_hit (history ++ i ∷ []) command ≡ is_hit history command
+pub is_hit-push : (history : List IssuedCommand) (i : IssuedCommand) (command : Command) → opens_for i.command command ≡ false → is_hit (history ++ i ∷ []) command ≡ is_hit history command
 is_hit-push history i (Rd bank row column source) e = no_act_added history i source e
 is_hit-push history i (Wr bank row column source) e = no_act_added history i source e
 is_hit-push history i (Act bank row source) e = refl
@@ -159,7 +159,7 @@ is_hit-push history i (Pre bank source) e = refl
 is_hit-push history i (Prea rank) e = refl
 is_hit-push history i (Ref rank) e = refl
 
-opens_for-itself : (command : Command) → opens_for command command ≡ false
+pub opens_for-itself : (command : Command) → opens_for command command ≡ false
 opens_for-itself (Rd bank row column source) = refl
 opens_for-itself (Wr bank row column source) = refl
 opens_for-itself (Act bank row source) = refl
@@ -167,7 +167,7 @@ opens_for-itself (Pre bank source) = refl
 opens_for-itself (Prea rank) = refl
 opens_for-itself (Ref rank) = refl
 
-opens_none : (command : Command) → ((source : Source) → is_act_for source command ≡ false) → (other : Command) → opens_for command other ≡ false
+pub opens_none : (command : Command) → ((source : Source) → is_act_for source command ≡ false) → (other : Command) → opens_for command other ≡ false
 opens_none command h (Rd bank row column source) = h source
 opens_none command h (Wr bank row column source) = h source
 opens_none command h (Act bank row source) = refl
@@ -175,10 +175,10 @@ opens_none command h (Pre bank source) = refl
 opens_none command h (Prea rank) = refl
 opens_none command h (Ref rank) = refl
 
-entries_swap : (a b : Source) → is_entry a b ≡ false → is_entry b a ≡ false
+pub entries_swap : (a b : Source) → is_entry a b ≡ false → is_entry b a ≡ false
 entries_swap a b h = grind (arith, nat_tests)
 
-opens_for-act : (bank : BankId) (row : ℕ) (source : Source) (other : Command) → moves_data_of source other ≡ false → opens_for (Act bank row source) other ≡ false
+pub opens_for-act : (bank : BankId) (row : ℕ) (source : Source) (other : Command) → moves_data_of source other ≡ false → opens_for (Act bank row source) other ≡ false
 opens_for-act bank row source (Rd b r c x) h = entries_swap source x h
 opens_for-act bank row source (Wr b r c x) h = entries_swap source x h
 opens_for-act bank row source (Act b r x) h = refl
@@ -186,14 +186,14 @@ opens_for-act bank row source (Pre b x) h = refl
 opens_for-act bank row source (Prea rank) h = refl
 opens_for-act bank row source (Ref rank) h = refl
 
-acts_for_none : (bank : BankId) (row : ℕ) (source : Source) (history : List IssuedCommand) → list_any (λ i. moves_data_of source i.command) history ≡ false
+pub acts_for_none : (bank : BankId) (row : ℕ) (source : Source) (history : List IssuedCommand) → list_any (λ i. moves_data_of source i.command) history ≡ false
     → Each (λ (i : IssuedCommand). opens_for (Act bank row source) i.command ≡ false) history
 acts_for_none bank row source [] h = tt
 acts_for_none bank row source (i ∷ history) h =
     let parts = or_parts (moves_data_of source i.command) (list_any (λ i. moves_data_of source i.command) history) h in
     (opens_for-act bank row source i.command parts.0, acts_for_none bank row source history parts.1)
 
-not_late : (history : List IssuedCommand) (command : Command) → is_late_act history (Some command) ≡ false
+pub not_late : (history : List IssuedCommand) (command : Command) → is_late_act history (Some command) ≡ false
     → Each (λ (i : IssuedCommand). opens_for command i.command ≡ false) history
 not_late history (Act bank row source) h = acts_for_none bank row source history h
 not_late history (Rd bank row column source) h = Each-all _ (λ i. opens_none (Rd bank row column source) (λ x. refl) i.command) history

@@ -8,10 +8,10 @@ use Rattle.sim_base.specs.declared.config.Config.{Config}
 use Rattle.sim_base.specs.History.{issued_commands}
 use Rattle.sim_base.specs.declared.command.Command.{Command}
 use Rattle.sim_base.specs.declared.message.Message.{Message}
+use Rattle.sim_base.proofs.Added.{length-push_suc}
 use Rattle.statistics.specs.declared.channels.ChannelStats.{ChannelStats}
 use Rattle.statistics.specs.Channels.{channel_stats, channel_cycle, channel_none, channel_joined, channel_stretch, is_late_act, ActsComeFirst}
 use Rattle.statistics.specs.Counts.{sum_of_counts}
-use Rattle.statistics.proofs.Lists.{length-push_suc}
 use Rattle.statistics.proofs.ChannelSteps.{channel_stats-push}
 
 sum_of_counts-assoc : (a b c : Option ℕ) → sum_of_counts (sum_of_counts a b) c ≡ sum_of_counts a (sum_of_counts b c)

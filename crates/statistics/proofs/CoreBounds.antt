@@ -20,12 +20,13 @@ use Rattle.sim_base.specs.declared.message.Unit.TheVariants.{Core}
 use Rattle.sim_base.specs.declared.trace.Entry.{Entry}
 use Rattle.sim_base.specs.declared.trace.Stop.{Stop}
 use Rattle.sim_base.specs.declared.trace.Stop.TheVariants as stop
+use Rattle.sim_base.proofs.Grows.{issued_before-push}
 use Rattle.statistics.specs.Cores.{core_stats, CoreFits}
-use Rattle.statistics.proofs.CoreSteps.{issued_before-push, retired_before-push}
+use Rattle.statistics.proofs.CoreSteps.{retired_before-push}
 use Rattle.statistics.proofs.Lists.{find_below_more}
 use Rattle.statistics.proofs.RunSteps.{steps_of_core-next}
 
-count-take-le : (p : Entry → Bool) (n : ℕ) (trace : List Entry) → count_by p (take n trace) ≤ n
+pub count-take-le : (p : Entry → Bool) (n : ℕ) (trace : List Entry) → count_by p (take n trace) ≤ n
 count-take-le p n trace = omega (arith, count_by-le-length p (take n trace), length-take n trace)
 
 wait_of-le : (steps : List CoreStep) (arrival : ℕ) (o : Option ℕ) → wait_of steps arrival o ≤ arrival

@@ -11,9 +11,11 @@ use Rattle.sim_base.specs.Windows.{step}
 use Rattle.sim_base.specs.declared.history.CoreStep.{CoreStep}
 use Rattle.sim_base.specs.declared.message.Message.{Message}
 use Rattle.sim_base.specs.declared.trace.Entry.{Entry}
+use Rattle.sim_base.proofs.Kept.{arrived-added}
+use Rattle.sim_base.proofs.Added.{length-push_suc}
 use Rattle.statistics.specs.Cores.{is_reply_in, replies_in, core_stats, core_cycle_with, core_cycle, core_joined, core_stretch}
-use Rattle.statistics.proofs.Lists.{length-push_suc, map_below_same}
-use Rattle.statistics.proofs.Messages.{filter-arrived, arrived-sooner, arrived-later}
+use Rattle.statistics.proofs.Lists.{map_below_same}
+use Rattle.statistics.proofs.Messages.{filter-arrived, arrived-sooner}
 
 replies-arrived : (steps : List CoreStep) (inbox : List Message) → replies steps (arrived inbox (length steps)) ≡ replies steps inbox
 unfolding replies
@@ -74,4 +76,4 @@ core_stretch-same s core trace steps a b (row ∷ more) h =
 -- messages that arrive after these cycles
 pub core_stats-later : (s : Config) (core : ℕ) (trace : List Entry) (steps : List CoreStep) (mail later : List Message) → NotBefore (length steps) later
     → core_stats s core trace steps (mail ++ later) ≡ core_stats s core trace steps mail
-core_stats-later s core trace steps mail later h = core_stats-same s core trace steps (mail ++ later) mail (arrived-later (length steps) mail later h)
+core_stats-later s core trace steps mail later h = core_stats-same s core trace steps (mail ++ later) mail (arrived-added (length steps) mail later h)

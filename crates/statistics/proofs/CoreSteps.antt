@@ -20,13 +20,11 @@ use Rattle.sim_base.specs.declared.message.Message.{Message}
 use Rattle.sim_base.specs.declared.trace.Entry.{Entry}
 use Rattle.sim_base.specs.declared.trace.Stop.{Stop}
 use Rattle.sim_base.specs.declared.trace.Stop.TheVariants as stop
+use Rattle.sim_base.proofs.Added.{length-push_suc}
+use Rattle.sim_base.proofs.Grows.{issued_before-push}
 use Rattle.statistics.specs.Cores.{issued_in, is_reply_in, replies_in, waited, finish_in, core_stats, core_cycle_with, core_cycle, core_joined, RepliesFollowReads}
 use Rattle.statistics.specs.Counts.{one_if}
-use Rattle.statistics.proofs.Lists.{length-push_suc, take-push, map_below_more, map_below_same, find_below_more, find_below_same, option_or-none, prefix_len-append_stop}
-
-pub issued_before-push : (steps : List CoreStep) (core_step : CoreStep) → issued_before (steps ++ core_step ∷ []) ≡ issued_before steps + core_step.issued
-unfolding issued_before
-issued_before-push steps core_step = sum_by_push (λ (r : CoreStep). r.issued) steps core_step
+use Rattle.statistics.proofs.Lists.{take-push, map_below_more, map_below_same, find_below_more, find_below_same, option_or-none, prefix_len-append_stop}
 
 pub retired_before-push : (steps : List CoreStep) (core_step : CoreStep) → retired_before (steps ++ core_step ∷ []) ≡ retired_before steps + core_step.retired
 unfolding retired_before
@@ -103,7 +101,7 @@ replies-push steps core_step inbox =
     ∙ sum_by-replies_before (λ m. 1) (length steps) inbox
     ∙ ap₂ (λ a b. a + b) (sym (length-sum_by (filter (is_reply_before (length steps)) inbox))) (sym (length-sum_by (filter (is_reply_in (length steps)) inbox)))
 
-issue_cycle-prefix_len : (steps : List CoreStep) (entry : ℕ) → issue_cycle steps entry ≡ prefix_len (is_unissued_after steps entry) (below (length steps))
+pub issue_cycle-prefix_len : (steps : List CoreStep) (entry : ℕ) → issue_cycle steps entry ≡ prefix_len (is_unissued_after steps entry) (below (length steps))
 unfolding issue_cycle
 issue_cycle-prefix_len steps entry = length-prefix_len (is_unissued_after steps entry) (below (length steps))
 

@@ -1,10 +1,8 @@
 -- The messages that arrived before a cycle decide what arrived before an earlier one.
-use Rattle.std.proofs.Common.{◌≡◌, ℕ, ◌≤◌, Bool, false, cond, ltb, List, [], ◌∷◌, ◌++◌, refl, sym, ap, ◌∙◌, arith}
+use Rattle.std.proofs.Common.{◌≡◌, ℕ, ◌≤◌, Bool, false, cond, ltb, List, [], ◌∷◌, refl, sym, ap, ◌∙◌, arith}
 use Rattle.std.specs.Prelude.{filter}
 use Rattle.std.proofs.lemmas.Bool.{cond_both, cond-false, ltb-false, le-ltb}
-use Rattle.std.proofs.lemmas.List.{append-nil}
-use Rattle.std.proofs.lemmas.List.Elements.{filter-append}
-use Rattle.sim_base.proofs.Arrived.{arrived, NotBefore, arrived-none}
+use Rattle.sim_base.proofs.Arrived.{arrived}
 use Rattle.sim_base.specs.declared.message.Message.{Message}
 
 -- what passes a test only if it arrived can be looked for among what arrived
@@ -21,11 +19,3 @@ arrived-arrived soon until l ms = filter-arrived (λ m. ltb m.arrival soon) unti
 
 pub arrived-sooner : (soon until : ℕ) → soon ≤ until → (a b : List Message) → arrived a until ≡ arrived b until → arrived a soon ≡ arrived b soon
 arrived-sooner soon until l a b h = sym (arrived-arrived soon until l a) ∙ ap (λ x. arrived x soon) h ∙ arrived-arrived soon until l b
-
--- what arrives later does not count
-pub arrived-later : (until : ℕ) (mail later : List Message) → NotBefore until later → arrived (mail ++ later) until ≡ arrived mail until
-arrived-later until mail later h = filter-append _ mail later ∙ ap (λ x. arrived mail until ++ x) (arrived-none until later h) ∙ append-nil _
-
-pub NotBefore-sooner : (soon until : ℕ) → soon ≤ until → (ms : List Message) → NotBefore until ms → NotBefore soon ms
-NotBefore-sooner soon until l [] h = tt
-NotBefore-sooner soon until l (m ∷ ms) h = (omega arith, NotBefore-sooner soon until l ms h.1)

@@ -37,9 +37,12 @@ use Rattle.sim_base.specs.declared.message.Unit.{Unit as MachineUnit}
 use Rattle.sim_base.specs.declared.message.Unit.TheVariants.{Core, Channel}
 use Rattle.sim_base.specs.declared.trace.Entry.{Entry}
 use Rattle.sim_base.specs.declared.trace.Entry.TheVariants.{Plain, Read, Write}
+use Rattle.sim_base.specs.declared.message.Access.{Access}
+use Rattle.sim_base.proofs.Accesses.{column_both}
+use Rattle.sim_base.proofs.Added.{length-push_suc}
 use Rattle.statistics.specs.Cores.{FollowsItsRead, RepliesFollowReads}
 use Rattle.statistics.proofs.CoreSteps.{issued_before-take-le}
-use Rattle.statistics.proofs.Lists.{length-push_suc, take-push}
+use Rattle.statistics.proofs.Lists.{take-push}
 
 -- each message travels for a cycle at least
 pub latency_positive : (s : Config) (link : ℕ) → 1 ≤ latency s link
@@ -72,7 +75,7 @@ numbered end zero a xs h = tt
 numbered end (suc k) a [] h = tt
 numbered end (suc k) a (x ∷ xs) h = (omega arith, numbered end k (a + 1) xs (omega arith))
 
-drop-enumerate_from : {X : Type 0} (n a : ℕ) (xs : List X) → drop n (enumerate_from a xs) ≡ enumerate_from (a + n) (drop n xs)
+pub drop-enumerate_from : {X : Type 0} (n a : ℕ) (xs : List X) → drop n (enumerate_from a xs) ≡ enumerate_from (a + n) (drop n xs)
 drop-enumerate_from zero a xs = ap (λ k. enumerate_from k xs) (sym (add-zero a))
 drop-enumerate_from (suc n) a [] = refl
 drop-enumerate_from (suc n) a (x ∷ xs) =
@@ -93,10 +96,10 @@ RequestIssued history r = r.entry < issued_before (take r.arrival (steps_of_core
 abbrev pub CarriesIssued : List MachineStep → Message → Type 0
 CarriesIssued history m = IfSome (request_in m.load) (RequestIssued history)
 
-request-issued : (s : Config) (history : List MachineStep) (core cycle entry : ℕ) (write : Bool) (address : ℕ)
-    → entry < issued_before (take (cycle + 1) (steps_of_core core history)) → CarriesIssued history (request s core cycle entry write address)
+request-issued : (s : Config) (history : List MachineStep) (core cycle entry : ℕ) (access : Access) (address : ℕ)
+    → entry < issued_before (take (cycle + 1) (steps_of_core core history)) → CarriesIssued history (request s core cycle entry access address)
 unfolding request
-request-issued s history core cycle entry write address h =
+request-issued s history core cycle entry access address h =
     let link = request_link s core (place_of s address).channel in
     let l : 1 ≤ latency s link = latency_positive s link in
     let m : issued_before (take (cycle + 1) (steps_of_core core history)) ≤ issued_before (take (cycle + latency s link) (steps_of_core core history)) =
@@ -126,7 +129,7 @@ of_core-issued s traces history core =
 of_channel-issued : (s : Config) (history : List MachineStep) (channel : ℕ) → channel < s.channels → Each (CarriesIssued history) (messages_of_channel s history channel)
 unfolding messages_of_channel reply credit
 of_channel-issued s history channel l =
-    channel-each s (CarriesIssued history) ((λ k cycle source b. tt), (λ k cycle write source b. tt)) channel l (steps_of_channel channel history)
+    channel-each s (CarriesIssued history) ((λ k cycle source b. tt), (λ k cycle access source b. tt)) channel l (steps_of_channel channel history)
 
 pub inbox-issued : (s : Config) (traces : List (List Entry)) (history : List MachineStep) (unit : MachineUnit) → Each (CarriesIssued history) (inbox s traces history unit)
 unfolding inbox messages
@@ -152,8 +155,7 @@ needed_at-moves : (P : Source → Type 0) (r : Request) → P (source_of r) → 
 needed_at-moves P r h None = tt
 needed_at-moves P r h (Some row) =
     cond_both (eqb row r.place.row) (column_command r) (Pre (bank_in r.place) (source_of r)) (λ c. IfSome (moved_in (Some c)) P)
-    (λ e. cond_both r.write (Wr (bank_in r.place) r.place.row r.place.column (source_of r)) (Rd (bank_in r.place) r.place.row r.place.column (source_of r))
-    (λ c. IfSome (moved_in (Some c)) P) (λ f. h) (λ f. h))
+    (λ e. column_both (λ c. IfSome (moved_in (Some c)) P) r.access _ _ _ _ (λ f. h) (λ f. h))
     (λ e. tt)
 
 needed-moves : (P : Source → Type 0) (history : List IssuedCommand) (o : Option Request) → IfSome o (λ r. P (source_of r)) → IfSome (moved_in (option_map (needed history) o)) P
@@ -296,7 +298,7 @@ of_channel-answer s history channel l h =
 of_core-answer : (s : Config) (traces : List (List Entry)) (history : List MachineStep) (core : ℕ) → core < s.cores → Each (AnswersIssued s history) (messages_of_core s traces history core)
 unfolding messages_of_core request
 of_core-answer s traces history core l =
-    requests-each s (AnswersIssued s history) (λ c cycle entry write address b. tt) core l (trace_of traces core) (steps_of_core core history)
+    requests-each s (AnswersIssued s history) (λ c cycle entry access address b. tt) core l (trace_of traces core) (steps_of_core core history)
 
 messages-answer : (s : Config) (traces : List (List Entry)) (n : ℕ) → Each (AnswersIssued s (run s traces n)) (messages s traces (run s traces n))
 unfolding messages

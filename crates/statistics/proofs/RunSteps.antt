@@ -5,7 +5,7 @@ use Rattle.std.proofs.Math.Seq.{get_or-append_seam, take-append_seam}
 use Rattle.std.proofs.lemmas.Bool.{cases_lt}
 use Rattle.sim_base.proofs.Arrived.{arrived}
 use Rattle.sim_base.proofs.Same.{AgreeUpTo}
-use Rattle.sim_base.proofs.Spans.{length-run, step_of_core-next, step_of_channel-next, inbox-run, inbox-stamped, has_channels}
+use Rattle.sim_base.proofs.Spans.{length-run, step_of_core-next, step_of_channel-next, inbox-run, inbox-stamped}
 use Rattle.sim_base.specs.declared.config.Config.{Config}
 use Rattle.sim_base.specs.History.{trace_of, steps_of_core, steps_of_channel, issued_commands, inbox}
 use Rattle.sim_base.specs.Locality.{TravelsFor}
@@ -18,6 +18,8 @@ use Rattle.sim_base.specs.declared.message.Message.{Message}
 use Rattle.sim_base.specs.declared.message.Unit.{Unit as MachineUnit}
 use Rattle.sim_base.specs.declared.message.Unit.TheVariants.{Core, Channel}
 use Rattle.sim_base.specs.declared.trace.Entry.{Entry}
+use Rattle.sim_base.proofs.Added.{length-push_suc}
+use Rattle.sim_base.proofs.Grows.{has_channels}
 use Rattle.statistics.specs.Channels.{channel_stats, channel_cycle, channel_joined, is_late_act, ActsComeFirst}
 use Rattle.statistics.specs.Cores.{core_stats, core_cycle, core_joined, RepliesFollowReads}
 use Rattle.statistics.specs.Runs.{stats_of_core, stats_of_channel}
@@ -26,7 +28,7 @@ use Rattle.statistics.proofs.ChannelMail.{channel_stats-same}
 use Rattle.statistics.proofs.ChannelSteps.{channel_stats-push}
 use Rattle.statistics.proofs.CoreMail.{core_stats-same, core_cycle-same}
 use Rattle.statistics.proofs.CoreSteps.{core_stats-push}
-use Rattle.statistics.proofs.Lists.{length-push_suc, take-push}
+use Rattle.statistics.proofs.Lists.{take-push}
 use Rattle.statistics.proofs.Messages.{arrived-sooner}
 use Rattle.statistics.proofs.Replies.{latency_positive, length-steps_of_core, length-steps_of_channel, steps_of_core-push, steps_of_channel-push, RepliesFollowReads-run}
 

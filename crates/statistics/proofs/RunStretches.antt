@@ -5,7 +5,7 @@ use Rattle.std.proofs.Math.Seq.{take-length}
 use Rattle.std.proofs.lemmas.List.{take-append-drop}
 use Rattle.sim_base.proofs.Arrived.{arrived}
 use Rattle.sim_base.proofs.Same.{AgreeUpTo}
-use Rattle.sim_base.proofs.Spans.{length-run, inbox-run, inbox-stamped, has_channels}
+use Rattle.sim_base.proofs.Spans.{length-run, inbox-run, inbox-stamped}
 use Rattle.sim_base.specs.declared.config.Config.{Config}
 use Rattle.sim_base.specs.History.{trace_of, steps_of_core, steps_of_channel, inbox}
 use Rattle.sim_base.specs.Machine.{run}
@@ -13,6 +13,7 @@ use Rattle.sim_base.specs.declared.message.Message.{Message}
 use Rattle.sim_base.specs.declared.message.Unit.{Unit as MachineUnit}
 use Rattle.sim_base.specs.declared.message.Unit.TheVariants.{Core, Channel}
 use Rattle.sim_base.specs.declared.trace.Entry.{Entry}
+use Rattle.sim_base.proofs.Grows.{has_channels}
 use Rattle.statistics.specs.Channels.{channel_stats, channel_joined, channel_stretch, ActsComeFirst}
 use Rattle.statistics.specs.Cores.{core_stats, core_joined, core_stretch, RepliesFollowReads}
 use Rattle.statistics.specs.Joining.{stretch_of_core, stretch_of_channel, CoresJoin, ChannelsJoin, CoreStepsJoin, ChannelStepsJoin, CoreCyclesMultiply, ChannelCyclesMultiply}

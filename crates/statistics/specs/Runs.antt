@@ -4,7 +4,7 @@
 --     final_of s traces history      the state before the cycle after a history
 --     outcome_after s traces history      both, with the commands
 --     outcome_of s traces cycles      the same, for the run of this many cycles
-use Rattle.std.specs.Prelude.{ℕ, true, false, List, length, map, filter_map, option_map, Option}
+use Rattle.std.specs.Prelude.{ℕ, List, length, map, filter_map, option_map, Option}
 use Rattle.sim_base.specs.declared.config.Config.{Config}
 use Rattle.sim_base.specs.Counts.{in_flight}
 use Rattle.sim_base.specs.Final.{credits_left, due_left, banks, queue_left}
@@ -19,6 +19,7 @@ use Rattle.sim_base.specs.declared.message.Message.{Message}
 use Rattle.sim_base.specs.declared.message.Unit.TheVariants.{Core, Channel}
 use Rattle.sim_base.specs.declared.place.BankId.{BankId}
 use Rattle.sim_base.specs.declared.trace.Entry.{Entry}
+use Rattle.sim_base.specs.declared.message.Access.TheVariants as access
 use Rattle.statistics.specs.Channels.{channel_stats}
 use Rattle.statistics.specs.Cores.{core_stats}
 use Rattle.statistics.specs.Values.{RunStats, LastCore, LastChannel, LastState, RunOutcome}
@@ -47,7 +48,7 @@ stats_of s traces history =
 -- the credits that a core holds for a channel after these steps
 unfoldable pub credits_of : Config → ℕ → List Entry → List CoreStep → List Message → ℕ → Credits
 credits_of s core trace steps inbox channel =
-    record { read = credits_left s core trace steps inbox false channel; write = credits_left s core trace steps inbox true channel }
+    record { read = credits_left s core trace steps inbox access.Read channel; write = credits_left s core trace steps inbox access.Write channel }
 
 -- the state of a core after these steps
 unfoldable pub core_last : Config → ℕ → List Entry → List CoreStep → List Message → LastCore

@@ -25,6 +25,7 @@ use Rattle.sim_base.proofs.Each.{Each-append, IfSome-find}
 use Rattle.sim_base.proofs.Ordered.{Each-weaker}
 use Rattle.sim_base.proofs.Served.{or_else-each, candidates-each}
 use Rattle.sim_base.proofs.Spans.{length-run, step_of_channel-next}
+use Rattle.sim_base.proofs.Accesses.{column_both}
 use Rattle.address_map.proofs.Peeled.{place_of-in_range}
 use Rattle.laws.specs.Commands.{channel_steps_of}
 use Rattle.laws.proofs.Chosen.{IfSome-option_map}
@@ -54,7 +55,7 @@ needed_at-of : (s : Config) (r : Request) (o : Option ℕ) → RequestIsOf s r �
 needed_at-of s r None h = (bank-of s r h, h.place.row, source-of s r h)
 needed_at-of s r (Some row) h =
     cond_both (eqb row r.place.row) (column_command r) _ (CommandIsOf s)
-    (λ e. cond_both r.write _ _ (CommandIsOf s) (λ f. (bank-of s r h, h.place.row, h.place.column, source-of s r h)) (λ f. (bank-of s r h, h.place.row, h.place.column, source-of s r h)))
+    (λ e. column_both (CommandIsOf s) r.access _ _ _ _ (λ f. (bank-of s r h, h.place.row, h.place.column, source-of s r h)) (λ f. (bank-of s r h, h.place.row, h.place.column, source-of s r h)))
     (λ e. (bank-of s r h, source-of s r h))
 
 needed-of : (s : Config) (history : List IssuedCommand) (r : Request) → RequestIsOf s r → CommandIsOf s (needed history r)
@@ -90,7 +91,7 @@ choice-of s channel rows inbox h =
     (candidates-each (RequestIsOf s) s (drains s channel rows inbox now) (queue_in channel rows inbox now) h) (lowest-below s history now)
 
 -- no trace is longer than the longest may be
-trace-short : (traces : List (List Entry)) (core : ℕ) → Each (λ (t : List Entry). length t ≤ 2 ^ 62) traces → length (trace_of traces core) ≤ 2 ^ 62
+pub trace-short : (traces : List (List Entry)) (core : ℕ) → Each (λ (t : List Entry). length t ≤ 2 ^ 62) traces → length (trace_of traces core) ≤ 2 ^ 62
 trace-short [] core h = omega arith
 trace-short (t ∷ ts) zero h = h.0
 trace-short (t ∷ ts) (suc core) h = trace-short ts core h.1

@@ -1,5 +1,5 @@
 -- The laws of the one-clock machine, for the outcome of a run.
-use Rattle.std.proofs.Common.{◌≡◌, ℕ, zero, suc, ◌+◌, ◌-◌, ◌*◌, ◌<◌, ◌≤◌, Bool, true, false, ◌&&◌, cond, leb, max, List, [], ◌∷◌, length, take, map, Option, Some, None, sym, subst, ◌∙◌, arith}
+use Rattle.std.proofs.Common.{◌≡◌, ℕ, zero, suc, ◌+◌, ◌-◌, ◌*◌, ◌<◌, ◌≤◌, ◌&&◌, cond, leb, max, List, [], ◌∷◌, length, take, map, Option, Some, None, sym, subst, ◌∙◌, arith}
 use Rattle.std.specs.Prelude.{All, count_by, filter_map, fold}
 use Rattle.std.specs.List.{AllByRecursion as Each, enumerate_from, range_with_len}
 use Rattle.std.proofs.lemmas.Bool.{and_from, le-leb}
@@ -18,6 +18,9 @@ use Rattle.sim_base.specs.Machine.{run}
 use Rattle.sim_base.specs.Scheduling.{refreshes}
 use Rattle.sim_base.specs.Windows.{held, credit_cap, is_credit_on}
 use Rattle.sim_base.proofs.Spans.{length-run}
+use Rattle.sim_base.specs.declared.message.Access.{Access}
+use Rattle.sim_base.specs.declared.message.Access.TheVariants as access
+use Rattle.sim_base.proofs.Lists.{count-cons}
 use Rattle.statistics.specs.Channels.{channel_stats}
 use Rattle.statistics.specs.Runs.{stats_of_channel, last_of_core, last_of_channel, core_last, channel_last, credits_of, stats_of, final_of}
 use Rattle.statistics.specs.Values.{LastCore, LastChannel}
@@ -32,7 +35,7 @@ use Rattle.laws.specs.Tables.{rows_on}
 use Rattle.laws.proofs.Bounded.{queued_requests-bound, queues_are_bounded}
 use Rattle.laws.proofs.Burst.{data_bus_is_shared}
 use Rattle.laws.proofs.Conserved.{credits_come_back_once}
-use Rattle.laws.proofs.Counting.{count-cons, bit_le}
+use Rattle.laws.proofs.Counting.{bit_le}
 use Rattle.laws.proofs.Legal.{length-channel_steps_of}
 use Rattle.laws.proofs.Spent.{credits_are_never_overspent}
 use Rattle.laws.proofs.Tabled.{rows_on-commands}
@@ -83,14 +86,14 @@ is_refreshed s traces n channel rank m l b some soon =
     subst (λ t. m ≤ refreshes_until rank last t) (sym (rows_are s traces n channel l)) (omega arith)
 
 -- what holds for each number holds of each element that is made of one
-mapped-each : {X : Type 0} (P : X → Type 0) (f : ℕ → X) (a n : ℕ) → ((k : ℕ) → k < a + n → P (f k)) → Each P (map f (range_with_len a n))
+pub mapped-each : {X : Type 0} (P : X → Type 0) (f : ℕ → X) (a n : ℕ) → ((k : ℕ) → k < a + n → P (f k)) → Each P (map f (range_with_len a n))
 mapped-each P f a zero h = tt
 mapped-each P f a (suc n) h = (h a (omega arith), mapped-each P f (a + 1) n (λ k l. h k (omega arith)))
 
 all-below : {X : Type 0} (P : X → Type 0) (f : ℕ → X) (n : ℕ) → ((k : ℕ) → k < n → P (f k)) → All P (map f (below n))
 all-below P f n h = All-from_recursion P (map f (below n)) (mapped-each P f 0 n (λ k l. h k (omega arith)))
 
-greatest-within : (a most : ℕ) (xs : List ℕ) → a ≤ most → Each (λ x. x ≤ most) xs → fold max a xs ≤ most
+pub greatest-within : (a most : ℕ) (xs : List ℕ) → a ≤ most → Each (λ x. x ≤ most) xs → fold max a xs ≤ most
 greatest-within a most [] l h = l
 greatest-within a most (x ∷ xs) l h = greatest-within (max a x) most xs (let b = h.0 in omega arith) h.1
 
@@ -126,15 +129,15 @@ length-core_steps s traces n core = length-map (run s traces n) _ ∙ length-run
 held-within : (cap back sent : ℕ) → back ≤ sent → cap + back - sent ≤ cap
 held-within cap back sent l = omega arith
 
-held-few : (s : Config) (traces : List (List Entry)) (n core channel : ℕ) (write : Bool) → core < s.cores → channel < s.channels
-    → credits_left s core (trace_of traces core) (steps_of_core core (run s traces n)) (inbox s traces (run s traces n) (Core core)) write channel ≤ credit_cap s write
+held-few : (s : Config) (traces : List (List Entry)) (n core channel : ℕ) (access : Access) → core < s.cores → channel < s.channels
+    → credits_left s core (trace_of traces core) (steps_of_core core (run s traces n)) (inbox s traces (run s traces n) (Core core)) access channel ≤ credit_cap s access
 unfolding credits_left held
-held-few s traces n core channel write c l =
+held-few s traces n core channel access c l =
     let long : n ≡ length (steps_of_core core (run s traces n)) = sym (length-core_steps s traces n core) in
     let link = credit_link s core channel in
     let mail = inbox s traces (run s traces n) (Core core) in
-    held-within (credit_cap s write) (count_by (is_credit_on link write (length (steps_of_core core (run s traces n)))) mail) (requests_sent s traces n core channel write)
-    (subst (λ i. count_by (is_credit_on link write i) mail ≤ requests_sent s traces n core channel write) long (credits_come_back_once s traces n core channel write c l))
+    held-within (credit_cap s access) (count_by (is_credit_on link access (length (steps_of_core core (run s traces n)))) mail) (requests_sent s traces n core channel access)
+    (subst (λ i. count_by (is_credit_on link access i) mail ≤ requests_sent s traces n core channel access) long (credits_come_back_once s traces n core channel access c l))
 
 credits-few : (s : Config) (traces : List (List Entry)) (n core : ℕ) → core < s.cores
     → All (λ (held : Credits). held.read ≤ s.read_credits × held.write ≤ s.write_credits) (last_of_core s traces (run s traces n) core).credits
@@ -142,7 +145,7 @@ unfolding last_of_core core_last credits_of
 credits-few s traces n core c =
     all-below (λ (held : Credits). held.read ≤ s.read_credits × held.write ≤ s.write_credits)
     (credits_of s core (trace_of traces core) (steps_of_core core (run s traces n)) (inbox s traces (run s traces n) (Core core))) s.channels
-    (λ k l. (held-few s traces n core k false c l, held-few s traces n core k true c l))
+    (λ k l. (held-few s traces n core k access.Read c l, held-few s traces n core k access.Write c l))
 
 pub holds_few_credits : (tables : Tables) (s : Config) (traces : List (List Entry)) (n : ℕ) → HoldsFewCredits s (outcome_of tables s traces n)
 unfolding outcome_of outcome_after final_of

@@ -1,12 +1,12 @@
 -- A table that is ordered, legal and refreshed breaks no rule.
-use Rattle.std.proofs.Common.{◌≡◌, ℕ, zero, suc, ◌+◌, ◌<◌, ◌≤◌, ◌∙◌, ◌&&◌, ◌||◌, Bool, true, false, not, List, [], ◌∷◌, ◌++◌, length, get_or, take, map, max, Some, None, refl, sym, ap, arith, eqb, ltb, leb, inl, inr}
+use Rattle.std.proofs.Common.{◌≡◌, ℕ, zero, suc, ◌+◌, ◌<◌, ◌≤◌, ◌∙◌, ◌&&◌, ◌||◌, Bool, true, false, not, List, [], ◌∷◌, length, get_or, take, map, max, refl, sym, ap, arith, eqb, ltb, leb, inl, inr}
 use Rattle.std.specs.Prelude.{filter, fold}
 use Rattle.std.specs.List.{AllByRecursion as Each, list_any}
 use Rattle.std.proofs.Math.Seq.{take-suc}
 use Rattle.std.proofs.lemmas.Bool.{false≢true, cond_both, cases_Bool, and_parts, and_left, and_right, or_cases, or_parts, not-true, not_from_true, false_from_ne_true, ltb-true, leb-true, le-ltb}
 use Rattle.std.proofs.lemmas.List.Elements.{All-from_recursion, recursion_from_All}
 use Rattle.std.proofs.lemmas.List.Folds.{list_any_none}
-use Rattle.std.proofs.lemmas.List.Sums.{fold-append, AllPass-from_list_all}
+use Rattle.std.proofs.lemmas.List.Sums.{AllPass-from_list_all}
 use Rattle.sim_base.specs.declared.config.Config.{Config}
 use Rattle.sim_base.specs.declared.timing.Timing.{Timing}
 use Rattle.sim_base.specs.declared.rule.Rule.{Rule}
@@ -21,20 +21,18 @@ use Rattle.laws.specs.Tables.{IsOrdered, IsLegalTable, IsRefreshedTable}
 use Rattle.laws.proofs.Tabled.{tables_are_ordered, tables_are_legal, tables_are_refreshed}
 use Rattle.rule_check.specs.Broken.{rows_on, stands_before, last_row, stands_wrongly, breaks_order, is_too_close, breaks_distance, breaks_window, is_overdue, breaks_refresh, breaks_in_channel, breaks}
 use Rattle.rule_check.specs.Verdict.{KeepsRules}
+use Rattle.rule_check.proofs.Passing.{last_row-more}
 use Rattle.table_laws.proofs.InRange.{range-below}
+use Rattle.statistics.proofs.ChannelBounds.{fold-max-le}
 
 -- RULES 3 TO 15, 17 AND 19 TO 21: THE DISTANCES
-
-max-start : (a : ℕ) (xs : List ℕ) → a ≤ fold max a xs
-max-start a [] = omega arith
-max-start a (x ∷ xs) = let h = max-start (max a x) xs in omega arith
 
 -- the greatest distance of the rules that pass a test is as far as each of theirs
 far-each : (p : Rule → Bool) (a m : ℕ) (rs : List Rule) → fold max a (map (λ (r : Rule). r.cycles) (filter p rs)) ≤ m → Each (λ r. p r ≡ true → r.cycles ≤ m) rs
 far-each p a m [] h = tt
 far-each p a m (r ∷ rs) h =
     cond_both (p r) (r ∷ filter p rs) (filter p rs) (λ l. fold max a (map (λ (x : Rule). x.cycles) l) ≤ m → Each (λ x. p x ≡ true → x.cycles ≤ m) (r ∷ rs))
-    (λ e k. (λ t. let b = max-start (max a r.cycles) (map (λ (x : Rule). x.cycles) (filter p rs)) in omega arith, far-each p (max a r.cycles) m rs k))
+    (λ e k. (λ t. let b = fold-max-le (max a r.cycles) (map (λ (x : Rule). x.cycles) (filter p rs)) in omega arith, far-each p (max a r.cycles) m rs k))
     (λ e k. (λ t. absurd (false≢true (sym e ∙ t)), far-each p a m rs k)) h
 
 none-each : (p : Rule → Bool) (rs : List Rule) → list_any p rs ≡ false → Each (λ r. p r ≡ false) rs
@@ -147,10 +145,6 @@ keeps-channel s history row number a f =
 
 -- RULE 1: THE ORDER
 
-last_row-push : (rows : List IssuedCommand) (row : IssuedCommand) → last_row (rows ++ row ∷ []) ≡ Some row
-unfolding last_row
-last_row-push rows row = fold-append (λ last (i : IssuedCommand). Some i) None rows (row ∷ [])
-
 keeps-order : (rows : List IssuedCommand) (i : ℕ) (d : IssuedCommand) → IsOrdered rows → i < length rows → breaks_order (take i rows) (get_or rows i d) ≡ false
 unfolding last_row
 keeps-order rows zero d h l = refl
@@ -158,7 +152,7 @@ keeps-order rows (suc i) d h l =
     let before = get_or rows i d in
     let row = get_or rows (suc i) d in
     ap (λ t. stands_wrongly (last_row t) row) (take-suc rows i d (omega arith))
-    ∙ ap (λ o. stands_wrongly o row) (last_row-push (take i rows) before)
+    ∙ ap (λ o. stands_wrongly o row) (last_row-more (take i rows) before)
     ∙ not_from_true (stands_before before row) (h i (suc i) d (omega arith) l)
 
 -- EVERY RULE

@@ -13,17 +13,20 @@ use Rattle.sim_base.specs.declared.message.Unit.{Unit as MachineUnit}
 use Rattle.sim_base.specs.declared.message.Unit.TheVariants.{Core, Channel}
 use Rattle.sim_base.specs.declared.trace.Entry.{Entry}
 use Rattle.sim_base.proofs.Arrived.{Each-by_age}
-use Rattle.sim_base.proofs.Each.{Each-all, Each-filter}
+use Rattle.sim_base.proofs.Each.{Each-both, Each-all, Each-filter}
 use Rattle.sim_base.proofs.Ordered.{Each-weaker}
 use Rattle.sim_base.proofs.Spans.{length-run}
+use Rattle.sim_base.proofs.Lists.{filter-each, filter-agree}
+use Rattle.sim_base.proofs.Grows.{is_unit-own}
 use Rattle.links.specs.InFlight.{is_due}
 use Rattle.span_laws.specs.Units.{Exists}
 use Rattle.units.specs.Units.{unit_count, unit_at}
 use Rattle.units.specs.Parts.{late}
 use Rattle.units.specs.Flight.{left}
-use Rattle.units.proofs.Filters.{filter-filter, filter-same, filter-all, Each-taken, Each-both}
+use Rattle.units.proofs.Filters.{filter-filter}
 use Rattle.units.proofs.Standing.{core-at_place, channel-at_place}
 use Rattle.units.proofs.Travelling.{Goes, all-go}
+use Rattle.statistics.proofs.ChannelChoices.{passes}
 
 -- a message is not due at any of the first units
 spared : Config → ℕ → ℕ → ℕ → Message → Bool
@@ -32,7 +35,7 @@ spared s from until (suc k) m = spared s from until k m && not (is_due s.channel
 
 left-spared : (s : Config) (from until k : ℕ) (ms : List Message) → left s from until k ms ≡ filter (spared s from until k) ms
 unfolding left spared
-left-spared s from until zero ms = sym (filter-all _ ms (Each-all _ (λ m. refl) ms))
+left-spared s from until zero ms = sym (filter-each _ ms (Each-all _ (λ m. refl) ms))
 left-spared s from until (suc k) ms =
     ap (filter _) (left-spared s from until k ms) ∙ filter-filter _ (spared s from until k) ms
 
@@ -41,10 +44,6 @@ same_unit (Core a) (Core b) e = let f : a ≡ b = grind (arith, nat_tests) in ap
 same_unit (Channel a) (Channel b) e = let f : a ≡ b = grind (arith, nat_tests) in ap Channel f
 same_unit (Core a) (Channel b) e = cc
 same_unit (Channel a) (Core b) e = cc
-
-pub unit_is : (a : MachineUnit) → is_unit a a ≡ true
-unit_is (Core a) = grind (arith, nat_tests)
-unit_is (Channel a) = grind (arith, nat_tests)
 
 -- the place of a unit
 pub place_of_unit : Config → MachineUnit → ℕ
@@ -113,7 +112,7 @@ left-late s from until m goes l = by (ltb m.arrival until) refl
     by false e = spared-all s from until m e (unit_count s) ∙ sym (ap not e)
     by true e =
         let u = receiver s m.link in
-        let here : is_unit u (unit_at s (place_of_unit s u)) ≡ true = subst (λ v. is_unit u v ≡ true) (sym (at-place s u goes)) (unit_is u) in
+        let here : is_unit u (unit_at s (place_of_unit s u)) ≡ true = subst (λ v. is_unit u v ≡ true) (sym (at-place s u goes)) (is_unit-own u) in
         let since : leb from m.arrival ≡ true = grind (arith, nat_tests) in
         let due : is_due s.channels (unit_at s (place_of_unit s u)) from until m ≡ true =
         ap (λ b. b && (leb from m.arrival && ltb m.arrival until)) here ∙ ap (λ b. b && ltb m.arrival until) since ∙ e in
@@ -128,7 +127,7 @@ flight-each s traces from =
     Each-by_age _ _
     (Each-both (Goes s) (λ m. from ≤ m.arrival) (filter (is_in_flight history) ms)
     (Each-filter (Goes s) (is_in_flight history) ms (all-go s traces from))
-    (Each-weaker _ (λ m. from ≤ m.arrival) (λ m e. since m (subst (λ n. not (ltb m.arrival n) ≡ true) (length-run s traces from) e)) _ (Each-taken (is_in_flight history) ms)))
+    (Each-weaker _ (λ m. from ≤ m.arrival) (λ m e. since m (subst (λ n. not (ltb m.arrival n) ≡ true) (length-run s traces from) e)) _ (passes (is_in_flight history) ms)))
   where
     since : (m : Message) → not (ltb m.arrival from) ≡ true → from ≤ m.arrival
     since m e = grind (arith, nat_tests)
@@ -138,7 +137,7 @@ pub left-all : (s : Config) (traces : List (List Entry)) (from until : ℕ)
 left-all s traces from until =
     let ms = in_flight s traces (run s traces from) in
     left-spared s from until (unit_count s) ms
-    ∙ filter-same _ _ ms (Each-weaker _ _ (λ m h. left-late s from until m h.0 h.1) ms (flight-each s traces from))
+    ∙ filter-agree _ _ ms (Each-weaker _ _ (λ m h. left-late s from until m h.0 h.1) ms (flight-each s traces from))
 
 pub left-none : (s : Config) (from until : ℕ) (ms : List Message) → left s from until 0 ms ≡ ms
 unfolding left

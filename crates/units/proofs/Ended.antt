@@ -1,11 +1,10 @@
 -- The state in which units are left.
-use Rattle.std.proofs.Common.{◌≡◌, ℕ, ◌+◌, ◌<◌, List, [], ◌∷◌, ◌++◌, length, map, slice_get, Option, Some, None, refl, sym, ap, ap₂, ◌∙◌, add-one, zero-add, arith}
+use Rattle.std.proofs.Common.{◌≡◌, ℕ, ◌+◌, ◌<◌, List, [], ◌∷◌, ◌++◌, length, map, slice_get, Option, Some, sym, ap, ap₂, ◌∙◌, zero-add, arith}
 use Rattle.std.specs.Prelude.{filter_map, flat_map}
-use Rattle.std.specs.List.{cons_option}
 use Rattle.std.specs.Option.{option_to_list}
 use Rattle.std.proofs.lemmas.List.Elements.{filter_map-append}
 use Rattle.std.proofs.lemmas.List.{ext_get_or}
-use Rattle.std.proofs.lemmas.List.FromFn.{map-range_with_len_more, length-map-range_with_len, get_or-map-range_with_len}
+use Rattle.std.proofs.lemmas.List.FromFn.{length-map-range_with_len, get_or-map-range_with_len}
 use Rattle.std.proofs.lemmas.Option.{get_or_from_slice_get}
 use Rattle.sim_base.specs.Final.{due_left, banks, queue_left}
 use Rattle.sim_base.specs.Scheduling.{queued_requests, due}
@@ -20,7 +19,6 @@ use Rattle.span_laws.proofs.ChannelsOn.{channels-end_alike}
 use Rattle.sim_base.specs.declared.config.Config.{Config}
 use Rattle.sim_base.specs.declared.trace.Entry.{Entry}
 use Rattle.sim_base.specs.History.{below, trace_of}
-use Rattle.sim_base.proofs.Below.{flat_map_below_more}
 use Rattle.statistics.specs.Runs.{credits_of, core_last, row_of_bank, open_rows_left, channel_last, last_of_core, last_of_channel}
 use Rattle.statistics.specs.Values.{LastCore, LastChannel, LastState, RunStats}
 use Rattle.request_table.specs.declared.times.RequestTimes.{RequestTimes}
@@ -33,25 +31,16 @@ use Rattle.span_laws.specs.Mail.{mail_before}
 use Rattle.span_laws.proofs.CoresOn.{cores-end_alike}
 use Rattle.sim_base.specs.Machine.{run}
 use Rattle.sim_base.specs.declared.message.Unit.TheVariants as unit
-
-pub map_more : {X : Type 0} (f : ℕ → X) (n : ℕ) → map f (below (n + 1)) ≡ map f (below n) ++ f n ∷ []
-map_more f n = map-range_with_len_more f 0 n n (zero-add n)
-
-pub flat_map_more : {X : Type 0} (f : ℕ → List X) (n : ℕ) → flat_map f (below (n + 1)) ≡ flat_map f (below n) ++ f n
-flat_map_more f n = ap (λ k. flat_map f (below k)) (add-one n) ∙ flat_map_below_more f n
-
-as_list : {X : Type 0} (r : Option X) → cons_option r [] ≡ option_to_list r
-as_list None = refl
-as_list (Some r) = refl
+use Rattle.sim_base.proofs.Lists.{flat_map_below-more, cons_option-none, map_below-more}
 
 -- what a function gives of the elements so far, with one more
 pub given_more : {X Y : Type 0} (g : X → Option Y) (f : ℕ → X) (n : ℕ) → filter_map g (map f (below (n + 1))) ≡ filter_map g (map f (below n)) ++ option_to_list (g (f n))
 given_more g f n =
-    ap (filter_map g) (map_more f n) ∙ filter_map-append g (map f (below n)) (f n ∷ []) ∙ ap (λ z. filter_map g (map f (below n)) ++ z) (as_list (g (f n)))
+    ap (filter_map g) (map_below-more f n) ∙ filter_map-append g (map f (below n)) (f n ∷ []) ∙ ap (λ z. filter_map g (map f (below n)) ++ z) (cons_option-none (g (f n)))
 
 -- and with one more list
 pub given_list : {X Y : Type 0} (g : X → Option Y) (f : ℕ → List X) (n : ℕ) → filter_map g (flat_map f (below (n + 1))) ≡ filter_map g (flat_map f (below n)) ++ filter_map g (f n)
-given_list g f n = ap (filter_map g) (flat_map_more f n) ∙ filter_map-append g (flat_map f (below n)) (f n)
+given_list g f n = ap (filter_map g) (flat_map_below-more f n) ∙ filter_map-append g (flat_map f (below n)) (f n)
 
 -- a list that has this at each place
 pub placed : {X : Type 0} (f : ℕ → X) (n : ℕ) (xs : List X) → length xs ≡ n → ((i : ℕ) → i < n → slice_get xs i ≡ Some (f i)) → xs ≡ map f (below n)

@@ -1,5 +1,5 @@
 -- The messages in flight at the end of a phase: those that were left at its beginning, and what all units sent in it.
-use Rattle.std.proofs.Common.{◌≡◌, ℕ, zero, suc, ◌+◌, ◌-◌, ◌<◌, ◌≤◌, true, false, eqb, ltb, not, List, [], ◌∷◌, ◌++◌, length, drop, refl, sym, ap, ap₂, subst, ◌∙◌, append_assoc, append-nil, add-suc, add-zero, arith}
+use Rattle.std.proofs.Common.{◌≡◌, ℕ, zero, suc, ◌+◌, ◌-◌, ◌<◌, ◌≤◌, true, ltb, not, List, [], ◌∷◌, ◌++◌, length, drop, refl, sym, ap, ap₂, subst, ◌∙◌, append_assoc, append-nil, add-suc, add-zero, arith}
 use Rattle.std.specs.Prelude.{filter, flat_map, fold}
 use Rattle.std.specs.List.{AllByRecursion as Each}
 use Rattle.std.proofs.lemmas.Bool.Decides.{nat_tests}
@@ -15,16 +15,17 @@ use Rattle.sim_base.specs.declared.message.Unit.TheVariants.{Core, Channel}
 use Rattle.sim_base.specs.declared.trace.Entry.{Entry}
 use Rattle.sim_base.proofs.Arrived.{puts, by_age-puts, fold-puts}
 use Rattle.sim_base.proofs.Below.{flat_map_below_more, flat_map_below_same}
-use Rattle.sim_base.proofs.Each.{Each-all, Each-flat_map_below}
-use Rattle.sim_base.proofs.Grows.{SentBy, links_differ, of_core-by, of_channel-by}
+use Rattle.sim_base.proofs.Each.{Each-all, Each-flat_map_below, Each-last}
+use Rattle.sim_base.proofs.Grows.{SentBy, of_core-by, of_channel-by, apart}
 use Rattle.sim_base.proofs.Ordered.{Apart, Sorted, Each-weaker, puts-swap, puts-append, Sorted-puts, filter-puts, filter-by_age}
 use Rattle.sim_base.proofs.Spans.{length-run}
+use Rattle.sim_base.proofs.Lists.{filter-each, filter-agree}
 use Rattle.span_laws.specs.Units.{Exists, sent_of}
 use Rattle.units.specs.Flight.{fresh}
 use Rattle.units.specs.Parts.{late}
 use Rattle.units.specs.Units.{unit_at, unit_count}
 use Rattle.units.proofs.Due.{place-at, place_of_unit, exists-at}
-use Rattle.units.proofs.Filters.{filter-filter, filter-same, filter-all, implied}
+use Rattle.units.proofs.Filters.{filter-filter, implied}
 use Rattle.units.proofs.Standing.{core-at_place, channel-at_place}
 use Rattle.units.specs.declared.machine.Machine.{Machine}
 use Rattle.units.specs.Runs.{run_of, flight_at, sent_at}
@@ -76,21 +77,12 @@ sent-by : (s : Config) (traces : List (List Entry)) (n : ℕ) (u : MachineUnit) 
 sent-by s traces n (Core core) l = of_core-by s traces (run s traces n) core
 sent-by s traces n (Channel channel) l = of_channel-by s (run s traces n) channel l
 
-Each-behind : {X : Type 0} (P : X → Type 0) (xs ys : List X) → Each P (xs ++ ys) → Each P ys
-Each-behind P [] ys h = h
-Each-behind P (x ∷ xs) ys h = Each-behind P xs ys h.1
-
 fresh-by : (machine : Machine) (from until place : ℕ) → place < unit_count machine.config → from ≤ until → TravelsFor machine.config (until - from)
     → SentBy machine.config (unit_at machine.config place) (fresh machine from until place)
 fresh-by machine from until place l k t =
     let u = unit_at machine.config place in
-    Each-behind _ (sent_at machine from u) (fresh machine from until place)
+    Each-last _ (sent_at machine from u) (fresh machine from until place)
     (subst (SentBy machine.config u) (fresh-grows machine from until place l k t) (sent-by machine.config machine.traces.items until u (exists-at machine.config place l)))
-
-apart : (s : Config) (a b : MachineUnit) → (a ≡ b → ⊥) → (xs ys : List Message) → SentBy s a xs → SentBy s b ys → Apart xs ys
-apart s a b h xs ys j k =
-    Each-weaker _ (λ (x : Message). Each (λ (y : Message). eqb x.link y.link ≡ false) ys)
-    (λ x e. Each-weaker _ (λ (y : Message). eqb x.link y.link ≡ false) (λ y f. links_differ s a b h x.link y.link e f) ys k) xs j
 
 places-differ : (s : Config) (i j : ℕ) → i < j → unit_at s i ≡ unit_at s j → ⊥
 places-differ s i j l e =
@@ -141,7 +133,7 @@ since a until l = grind (arith, nat_tests)
 late-late : (from until : ℕ) → from ≤ until → (ms : List Message) → late until (late from ms) ≡ late until ms
 late-late from until l ms =
     filter-filter (λ m. not (ltb m.arrival until)) (λ m. not (ltb m.arrival from)) ms
-    ∙ filter-same _ _ ms (Each-all _ (λ m. implied (not (ltb m.arrival from)) (not (ltb m.arrival until)) (later m.arrival from until l)) ms)
+    ∙ filter-agree _ _ ms (Each-all _ (λ m. implied (not (ltb m.arrival from)) (not (ltb m.arrival until)) (later m.arrival from until l)) ms)
 
 pub join-flight : (machine : Machine) (from until : ℕ) → from ≤ until → TravelsFor machine.config (until - from)
     → fold insert_by_age (late until (flight_at machine from)) (flat_map (fresh machine from until) (below (unit_count machine.config))) ≡ flight_at machine until
@@ -156,7 +148,7 @@ join-flight machine from until k t =
     fold-puts (late until (flight_at machine from)) new
     ∙ ap (λ z. puts (late until z) new) (flight-late machine.config machine.traces.items from)
     ∙ ap (λ z. puts z new) (late-late from until k old)
-    ∙ ap (puts (late until old)) (sym (filter-all p new all))
+    ∙ ap (puts (late until old)) (sym (filter-each p new all))
     ∙ sym (filter-puts p old new (subst Sorted (sym (by_age-puts (messages machine.config machine.traces.items (run_of machine from)))) (Sorted-puts [] (messages machine.config machine.traces.items (run_of machine from)) tt)))
     ∙ ap (late until) (sym (all-grow machine from until k t))
     ∙ sym (flight-late machine.config machine.traces.items until)

@@ -1,20 +1,17 @@
 -- The table of all requests: those that the channels served, read by cycle.
-use Rattle.std.proofs.Common.{◌≡◌, ℕ, ◌+◌, ◌<◌, Bool, true, false, cond, eqb, List, [], ◌∷◌, ◌++◌, length, map, Option, Some, None, IfSome, refl, sym, ap, ap₂, subst, ◌∙◌}
+use Rattle.std.proofs.Common.{◌≡◌, ℕ, ◌<◌, Bool, true, false, cond, eqb, List, [], ◌∷◌, ◌++◌, length, map, Option, Some, None, IfSome, refl, sym, ap, ap₂, subst, ◌∙◌}
 use Rattle.std.specs.Prelude.{All, filter_map, flat_map, Vec}
-use Rattle.std.specs.List.{AllByRecursion as Each, cons_option, enumerate_from}
+use Rattle.std.specs.List.{AllByRecursion as Each, cons_option}
 use Rattle.std.specs.declared.alloc.Global.{Global}
 use Rattle.std.proofs.lemmas.Bool.{cond-true, cond-false}
 use Rattle.std.proofs.lemmas.List.{append-nil}
 use Rattle.std.proofs.lemmas.List.Elements.{All-from_recursion, recursion_from_All, filter-append, filter_map-append}
 use Rattle.sim_base.specs.declared.config.Config.{Config}
-use Rattle.sim_base.specs.declared.command.Command.{Command}
 use Rattle.sim_base.specs.declared.command.IssuedCommand.{IssuedCommand}
 use Rattle.sim_base.specs.declared.message.Message.{Message}
 use Rattle.sim_base.specs.declared.message.Request.{Request}
 use Rattle.sim_base.specs.declared.message.Unit.TheVariants as unit
-use Rattle.sim_base.specs.declared.trace.Entry.{Entry}
-use Rattle.sim_base.specs.History.{below, issued_at, issued_commands, inbox, commands}
-use Rattle.sim_base.specs.Machine.{run}
+use Rattle.sim_base.specs.History.{below, issued_commands, inbox, commands}
 use Rattle.sim_base.specs.MachineStep.{MachineStep}
 use Rattle.sim_base.specs.Scheduling.{request_in, source_of}
 use Rattle.sim_base.proofs.Each.{Each-filter}
@@ -23,7 +20,7 @@ use Rattle.command_table.specs.Tables.{rows_in}
 use Rattle.command_table.proofs.Rising.{by_cycle-same}
 use Rattle.channel_step.specs.Channels.{KeepsServed}
 use Rattle.channel_step.specs.Past.{requests_of as requests_in}
-use Rattle.laws.specs.Commands.{history_of, channel_steps_of}
+use Rattle.laws.specs.Commands.{channel_steps_of}
 use Rattle.laws.proofs.Legal.{length-channel_steps_of}
 use Rattle.request_table.specs.Served.{served_in, served_requests}
 use Rattle.request_table.specs.declared.served_requests.ServedRequest.{ServedRequest}
@@ -35,6 +32,7 @@ use Rattle.request_table.proofs.Reading.{own-table}
 use Rattle.laws.specs.Timed.{served_in_run}
 use Rattle.laws.proofs.Dated.{requests_arrive_as_issued}
 use Rattle.laws.proofs.Serving.{KeepsCycles, run-keeps, are_timed, are_by_cycle, channel_by_cycle}
+use Rattle.laws.proofs.Summing.{of-channel}
 use Rattle.span_laws.specs.Mail.{mail_before}
 use Rattle.units.specs.Kept.{served_of}
 use Rattle.units.specs.declared.machine.Machine.{Machine}
@@ -71,14 +69,6 @@ at-serving f h t (x ∷ xs) = by (eqb x.cycle t) refl (at-serving f h t xs)
     by : (b : Bool) → eqb x.cycle t ≡ b → at t (filter_map f xs) ≡ filter_map f (rows_in t xs) → at t (filter_map f (x ∷ xs)) ≡ filter_map f (rows_in t (x ∷ xs))
     by true e k = at-cons t (f x) (filter_map f xs) true x.cycle (h x) e ∙ ap (cons_option (f x)) k ∙ ap (filter_map f) (sym (cond-true _ _ _ e))
     by false e k = at-cons t (f x) (filter_map f xs) false x.cycle (h x) e ∙ k ∙ ap (filter_map f) (sym (cond-false _ _ _ e))
-
--- commands of one channel
-of-channel : (g : ℕ → IssuedCommand → Option ServedRequest) (channel cycle : ℕ) (steps : List (Option Command))
-    → filter_map (λ i. g i.channel i) (filter_map (λ (e : ℕ × Option Command). issued_at channel e.0 e.1) (enumerate_from cycle steps))
-    ≡ filter_map (g channel) (filter_map (λ (e : ℕ × Option Command). issued_at channel e.0 e.1) (enumerate_from cycle steps))
-of-channel g channel cycle [] = refl
-of-channel g channel cycle (None ∷ steps) = of-channel g channel (cycle + 1) steps
-of-channel g channel cycle (Some c ∷ steps) = ap (cons_option (g channel (record { cycle = cycle; channel = channel; command = c }))) (of-channel g channel (cycle + 1) steps)
 
 -- what a channel serves
 own-serving : (machine : Machine) (now channel : ℕ) → filter_map (served_in_run machine.config (run_of machine now)) (commands_at machine now channel) ≡ served_of machine now channel

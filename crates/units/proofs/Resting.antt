@@ -1,5 +1,5 @@
 -- What a unit tells of itself when it is asked.
-use Rattle.std.proofs.Common.{◌≡◌, ℕ, ◌+◌, ◌-◌, Bool, true, false, List, ◌++◌, length, replicate, Option, Some, None, is_some, refl, sym, ap, subst, ◌∙◌, arith}
+use Rattle.std.proofs.Common.{◌≡◌, ℕ, ◌+◌, ◌-◌, Bool, true, false, List, ◌++◌, length, replicate, Option, Some, None, is_some, sym, ap, subst, ◌∙◌, arith}
 use Rattle.std.proofs.lemmas.Bool.{false≢true}
 use Rattle.std.proofs.lemmas.List.{append-nil}
 use Rattle.sim_base.specs.declared.config.Config.{Config}
@@ -11,10 +11,9 @@ use Rattle.sim_base.specs.declared.message.Unit.{Unit as MachineUnit}
 use Rattle.sim_base.specs.declared.message.Unit.TheVariants as unit
 use Rattle.sim_base.specs.declared.trace.Entry.{Entry}
 use Rattle.sim_base.specs.History.{trace_of}
-use Rattle.sim_base.specs.Machine.{run, core_run}
+use Rattle.sim_base.specs.Machine.{core_run}
 use Rattle.sim_base.specs.Scheduling.{choice}
-use Rattle.sim_base.proofs.Spans.{length-run}
-use Rattle.statistics.proofs.Replies.{length-steps_of_core}
+use Rattle.sim_base.proofs.Lists.{none-is}
 use Rattle.laws.specs.Commands.{channel_steps_of}
 use Rattle.laws.proofs.Legal.{length-channel_steps_of}
 use Rattle.fr_fcfs.specs.Cycles.{IsFirstCycle}
@@ -27,21 +26,15 @@ use Rattle.core_window.specs.declared.core_unit.Core.{Core}
 use Rattle.span_laws.specs.Cores.{core_steps_of}
 use Rattle.span_laws.specs.Mail.{mail_before}
 use Rattle.span_laws.specs.Quiet.{RestsAlone}
+use Rattle.span_laws.proofs.CoresOn.{length-core_steps_of}
 use Rattle.units.specs.Parts.{IsPart}
 use Rattle.units.specs.Quiet.{IsNextActOf}
 use Rattle.units.specs.declared.machine.Machine.{Machine}
 use Rattle.units.specs.declared.part.UnitState.TheVariants as part
 
-pub core-rows_length : (s : Config) (traces : List (List Entry)) (now core : ℕ) → length (core_steps_of s traces now core) ≡ now
-core-rows_length s traces now core = length-steps_of_core core (run s traces now) ∙ length-run s traces now
-
 rests-none : (s : Config) (core : ℕ) (trace : List Entry) (rows : List CoreStep) (mail : List Message) → Rests s core trace rows mail 0
 unfolding core_run
 rests-none s core trace rows mail = sym (append-nil rows)
-
-none-from : {X : Type 0} (o : Option X) → is_some o ≡ false → o ≡ None
-none-from None e = refl
-none-from (Some x) e = absurd (false≢true (sym e))
 
 some-not : {X : Type 0} (o : Option X) → is_some o ≡ true → o ≡ None → ⊥
 some-not o e f = false≢true (sym (ap is_some f) ∙ e)
@@ -59,11 +52,11 @@ channel-next_act machine channel from next = go next
     moved k b e = let same : from + k - from ≡ k = omega arith in subst (λ i. is_some (at i) ≡ b) same e
 
     go : (o : Option ℕ) → IsFirstCycle (λ cycle. is_some (at (cycle - from))) from o → IsNextActOf machine (unit.Channel channel) from o
-    go None h = λ until l k m. none-from (at k) (moved k false (h (from + k) (omega arith)))
+    go None h = λ until l k m. none-is (at k) (moved k false (h (from + k) (omega arith)))
     go (Some act) h =
         record {
           since = h.from_now;
-          rests = λ until l m k below. none-from (at k) (moved k false (h.not_before (from + k) (omega arith) (omega (arith, l, m, below))));
+          rests = λ until l m k below. none-is (at k) (moved k false (h.not_before (from + k) (omega arith) (omega (arith, l, m, below))));
           acts = λ idle. some-not (at (act - from)) h.holds_then (idle (act - from) (omega (arith, h.from_now)));
         }
 
@@ -74,7 +67,7 @@ core-may_rest machine (unit.Core core) c now h =
 core-may_rest machine (unit.Channel channel) c now h = absurd h
 
 pub core-cycle : (machine : Machine) (u : MachineUnit) (c : Core) (now : ℕ) → IsPart machine u now (part.Core c) → c.cycle ≡ now
-core-cycle machine (unit.Core core) c now h = h.now ∙ core-rows_length machine.config machine.traces.items now core
+core-cycle machine (unit.Core core) c now h = h.now ∙ length-core_steps_of machine.config machine.traces.items now core
 core-cycle machine (unit.Channel channel) c now h = absurd h
 
 -- a channel of a simulator may be asked

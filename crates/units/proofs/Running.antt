@@ -1,11 +1,8 @@
 -- A unit that is run over a span.
 use Rattle.std.proofs.Common.{◌≡◌, ℕ, List, ◌++◌, Option, Some, None, IfSome, sym, ap, subst, ◌∙◌}
-use Rattle.sim_base.specs.declared.config.Config.{Config}
-use Rattle.sim_base.specs.Machine.{run}
 use Rattle.sim_base.specs.declared.message.Message.{Message}
 use Rattle.sim_base.specs.declared.message.Unit.{Unit as MachineUnit}
 use Rattle.sim_base.specs.declared.message.Unit.TheVariants as unit
-use Rattle.sim_base.specs.declared.trace.Entry.{Entry}
 use Rattle.sim_base.specs.declared.command.IssuedCommand.{IssuedCommand}
 use Rattle.sim_base.proofs.Spans.{length-run}
 use Rattle.statistics.proofs.Replies.{length-steps_of_core}

@@ -1,9 +1,8 @@
 -- Units in their order, each of which stands for its part of a run.
-use Rattle.std.proofs.Common.{◌≡◌, ℕ, zero, suc, ◌+◌, ◌-◌, ◌<◌, ltb, true, false, List, [], ◌∷◌, ◌++◌, length, get_or, Option, Some, None, IfSome, ◌⊎◌, inl, inr, refl, sym, ap, subst, ◌∙◌, zero-add, add-one, arith}
+use Rattle.std.proofs.Common.{◌≡◌, ℕ, suc, ◌+◌, ◌-◌, ◌<◌, ltb, true, false, List, [], ◌∷◌, ◌++◌, length, get_or, Option, Some, None, IfSome, ◌⊎◌, inl, inr, refl, sym, ap, subst, ◌∙◌, zero-add, add-one, arith}
 use Rattle.std.specs.Prelude.{slice_get, map}
-use Rattle.std.proofs.lemmas.List.{length-map, length-append, append-nil}
-use Rattle.std.proofs.lemmas.List.FromFn.{get_or-map-range_with_len, map-range_with_len_more, length-range_with_len}
-use Rattle.std.proofs.lemmas.Option.{get_or_from_slice_get, slice_get-get_or}
+use Rattle.std.proofs.lemmas.List.{length-append, append-nil}
+use Rattle.std.proofs.lemmas.List.FromFn.{get_or-map-range_with_len, map-range_with_len_more}
 use Rattle.std.proofs.Math.Seq.{get_or-append_seam}
 use Rattle.std.proofs.lemmas.Bool.{cond-true, cond-false}
 use Rattle.std.proofs.lemmas.Bool.Decides.{nat_tests}
@@ -13,6 +12,7 @@ use Rattle.sim_base.specs.declared.message.Unit.TheVariants as unit
 use Rattle.sim_base.specs.declared.trace.Entry.{Entry}
 use Rattle.sim_base.specs.History.{below, trace_of, issued_commands, steps_of_channel}
 use Rattle.sim_base.specs.Machine.{run}
+use Rattle.sim_base.proofs.Lists.{get-push, length-map_below}
 use Rattle.laws.specs.Commands.{history_of}
 use Rattle.channel_step.specs.Channels.{StandsFor as ChannelStandsFor}
 use Rattle.channel_step.specs.declared.channel.Channel.{Channel}
@@ -27,20 +27,6 @@ use Rattle.units.specs.declared.part.UnitState.{UnitState}
 use Rattle.units.specs.declared.machine.Machine.{Machine}
 use Rattle.units.specs.Runs.{commands_at}
 use Rattle.units.specs.declared.part.UnitState.TheVariants as part
-
-pub get-push : {X : Type 0} (xs : List X) (x : X) (i : ℕ) (y : X) → slice_get (xs ++ x ∷ []) i ≡ Some y → (slice_get xs i ≡ Some y) ⊎ ((i ≡ length xs) × (x ≡ y))
-get-push [] x zero y e = inr (refl, cc)
-get-push [] x (suc i) y e = cc
-get-push (z ∷ xs) x zero y e = inl e
-get-push (z ∷ xs) x (suc i) y e = step (get-push xs x i y e)
-  where
-    step : (slice_get xs i ≡ Some y) ⊎ ((i ≡ length xs) × (x ≡ y)) → (slice_get (z ∷ xs) (suc i) ≡ Some y) ⊎ ((suc i ≡ length (z ∷ xs)) × (x ≡ y))
-    step (inl f) = inl f
-    step (inr f) = inr (ap suc f.0, f.1)
-
--- an element of a list is the same, whatever stands for one that is not there
-pub same-default : {X : Type 0} (xs : List X) (i : ℕ) (d e : X) → i < length xs → get_or xs i d ≡ get_or xs i e
-same-default xs i d e l = sym (get_or_from_slice_get xs i (get_or xs i d) e (slice_get-get_or xs i d l))
 
 pub stand-none : (machine : Machine) (now : ℕ) → StandAt machine now []
 stand-none machine now place p e = cc
@@ -98,9 +84,6 @@ pub stand-seam : (machine : Machine) (now : ℕ) (parts ys rest : List UnitState
     → ys ++ p ∷ rest ≡ parts → IsPart machine (unit_at machine.config (length ys)) now p
 stand-seam machine now parts ys rest p h e = h (length ys) p (ap (λ z. slice_get z (length ys)) (sym e) ∙ get-seam ys rest p)
 
-pub length-places : {X : Type 0} (f : ℕ → X) (n : ℕ) → length (map f (below n)) ≡ n
-length-places f n = length-map (below n) f ∙ length-range_with_len 0 n
-
 pub places-more : {X : Type 0} (f : ℕ → X) (n : ℕ) → map f (below n) ++ f n ∷ [] ≡ map f (below (suc n))
 places-more f n = sym (map-range_with_len_more f 0 n n (zero-add n)) ∙ ap (λ i. map f (below i)) (add-one n)
 
@@ -115,5 +98,5 @@ all-yielded ys rest xs e h = sym (append-nil ys) ∙ ap (λ z. ys ++ z) (sym (no
 -- the element after some of a list that has one for each place
 pub seam-is : {X : Type 0} (f : ℕ → X) (n : ℕ) (ys rest : List X) (x : X) → ys ++ x ∷ rest ≡ map f (below n) → x ≡ f (length ys)
 seam-is f n ys rest x e =
-    let l = seam-within (map f (below n)) ys rest x n e (length-places f n) in
+    let l = seam-within (map f (below n)) ys rest x n e (length-map_below f n) in
     sym (get_or-append_seam ys x rest x) ∙ ap (λ z. get_or z (length ys) x) e ∙ get_or-map-range_with_len f 0 n (length ys) (length ys) x l (zero-add (length ys))

@@ -5,15 +5,11 @@ use Rattle.sim_base.specs.declared.config.Config.{Config}
 use Rattle.sim_base.specs.declared.trace.Entry.{Entry}
 use Rattle.sim_base.specs.Machine.{cycles_run}
 use Rattle.span_laws.specs.Ends.{ends_before}
-use Rattle.span_laws.proofs.Over.{cycles-are_counted}
+use Rattle.span_laws.proofs.Over.{cycles-are_counted, cycles-next}
 use Rattle.units.specs.Drained.{NotEnded}
 use Rattle.units.specs.Stops.{stop_of}
 use Rattle.units.specs.Runs.{ends_at}
 use Rattle.units.specs.Views.{SimView}
-
-cycles-next : (s : Config) (traces : List (List Entry)) (n : ℕ) → cycles_run s traces (suc n) ≡ cond (ends_before s traces (cycles_run s traces n)) (cycles_run s traces n) (suc n)
-unfolding cycles_run
-cycles-next s traces n = refl
 
 cycles-none : (s : Config) (traces : List (List Entry)) → cycles_run s traces 0 ≡ 0
 unfolding cycles_run

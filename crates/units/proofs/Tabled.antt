@@ -6,34 +6,23 @@ use Rattle.std.proofs.lemmas.Bool.{cond-true, cond-false, lt-ltb}
 use Rattle.std.proofs.lemmas.Bool.Decides.{nat_tests}
 use Rattle.std.proofs.lemmas.List.{append-nil}
 use Rattle.std.proofs.lemmas.List.Concat.{flat_map-append}
-use Rattle.std.proofs.lemmas.List.Elements.{All-from_get_or, All-from_recursion, recursion_from_All, filter-append}
+use Rattle.std.proofs.lemmas.List.Elements.{All-from_recursion, filter-append}
 use Rattle.sim_base.specs.declared.config.Config.{Config}
 use Rattle.sim_base.specs.declared.command.IssuedCommand.{IssuedCommand}
 use Rattle.sim_base.specs.declared.trace.Entry.{Entry}
 use Rattle.sim_base.specs.History.{below, commands}
 use Rattle.sim_base.specs.Machine.{run}
 use Rattle.sim_base.proofs.Ordered.{Each-weaker}
+use Rattle.sim_base.proofs.Lists.{filter-each}
 use Rattle.command_table.specs.Tables.{IsRising, rows_in, HaveSameCycles, table_of}
 use Rattle.command_table.proofs.Rising.{rising-pairs, by_cycle-is}
 use Rattle.laws.specs.Commands.{history_of}
-use Rattle.laws.specs.Tables.{rows_on, stands_before, IsOrdered}
+use Rattle.laws.specs.Tables.{rows_on, stands_before}
 use Rattle.laws.proofs.Legal.{cycles_ascend}
 use Rattle.laws.proofs.Tabled.{rows_on-commands, tables_are_ordered}
-use Rattle.span_laws.proofs.Merged.{commands-within}
-use Rattle.units.proofs.Filters.{filter-filter, filter-all}
+use Rattle.span_laws.proofs.Merged.{commands-within, Ordered, ordered-pairs}
+use Rattle.units.proofs.Filters.{filter-filter}
 use Rattle.units.proofs.Standing.{places-more}
-
--- each row stands before those after it
-abbrev Ordered : List IssuedCommand → Type 0
-Ordered [] = Unit {0}
-Ordered (x ∷ xs) = Each (λ y. stands_before x y ≡ true) xs × Ordered xs
-
-ordered-pairs : (xs : List IssuedCommand) → IsOrdered xs → Ordered xs
-ordered-pairs [] h = tt
-ordered-pairs (x ∷ xs) h = (
-  recursion_from_All (λ y. stands_before x y ≡ true) xs (All-from_get_or (λ y. stands_before x y ≡ true) xs x (λ i l. h 0 (suc i) x (omega arith) (omega arith))),
-  ordered-pairs xs (λ i j d a b. h (suc i) (suc j) d (omega arith) (omega arith)),
-)
 
 -- no row of the table of a run is of an earlier cycle than one before it
 table-rises : (s : Config) (traces : List (List Entry)) (now : ℕ) → IsRising (commands (run s traces now))
@@ -148,5 +137,5 @@ table-is s traces now =
 
     whole : lower s.channels all ≡ all
     whole =
-        filter-all (λ (x : IssuedCommand). ltb x.channel s.channels) all
+        filter-each (λ (x : IssuedCommand). ltb x.channel s.channels) all
         (Each-weaker (λ (x : IssuedCommand). (x.cycle < now) × (x.channel < s.channels)) (λ (x : IssuedCommand). ltb x.channel s.channels ≡ true) (λ x h. lt-ltb x.channel s.channels h.1) all (commands-within s traces now))

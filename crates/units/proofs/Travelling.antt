@@ -1,5 +1,5 @@
 -- What units send in the cycles of a run from one on.
-use Rattle.std.proofs.Common.{◌≡◌, ℕ, zero, suc, ◌+◌, ◌-◌, ◌<◌, ◌≤◌, Bool, List, [], ◌∷◌, ◌++◌, length, Option, Some, None, sym, ap, subst, ◌∙◌, append_assoc, append-nil, add-suc, add-zero, arith}
+use Rattle.std.proofs.Common.{◌≡◌, ℕ, zero, suc, ◌+◌, ◌-◌, ◌<◌, ◌≤◌, List, [], ◌∷◌, ◌++◌, length, Option, Some, None, sym, ap, subst, ◌∙◌, append_assoc, append-nil, add-zero, arith}
 use Rattle.std.specs.Option.{IfSome}
 use Rattle.std.specs.List.{AllByRecursion as Each}
 use Rattle.std.proofs.lemmas.List.{map-append}
@@ -22,7 +22,9 @@ use Rattle.sim_base.proofs.Added.{core_messages-push, channel_messages-push, req
 use Rattle.sim_base.proofs.Each.{Each-append, Each-flat_map_below}
 use Rattle.sim_base.proofs.Made.{requests-each}
 use Rattle.sim_base.proofs.Served.{choice-below, inbox-below}
-use Rattle.sim_base.proofs.Spans.{length-run, step_of_channel-next, has_channels}
+use Rattle.sim_base.proofs.Spans.{length-run, step_of_channel-next, run-next}
+use Rattle.sim_base.specs.declared.message.Access.{Access}
+use Rattle.sim_base.proofs.Grows.{has_channels}
 use Rattle.statistics.proofs.Replies.{length-steps_of_core}
 use Rattle.laws.proofs.Legal.{length-channel_steps_of}
 use Rattle.laws.proofs.Receivers.{receiver_request, receiver_reply, receiver_credit, place_in}
@@ -45,10 +47,6 @@ added-then P a b c xs h e k =
       are = e ∙ ap (λ z. z ++ xs) h.are ∙ append_assoc a h.more xs;
       each = Each-append P h.more xs h.each k;
     }
-
-run-on : (s : Config) (traces : List (List Entry)) (from m : ℕ) → run s traces (from + suc m) ≡ run s traces (from + m) ++ next_step s traces (run s traces (from + m)) ∷ []
-unfolding run
-run-on s traces from m = ap (λ i. run s traces i) (add-suc from m)
 
 -- a command is in the name of a core of the machine
 serves : (s : Config) (traces : List (List Entry)) (n channel : ℕ) → channel < s.channels
@@ -76,7 +74,7 @@ core-added s traces P from core h (suc m) =
     let rows = steps_of_core core history in
     let e : length rows ≡ from + m = length-steps_of_core core history ∙ length-run s traces (from + m) in
     added-then P _ _ _ (requests_in s core (trace_of traces core) (rows ++ step_of_core core machine_step ∷ []) (length rows)) (core-added s traces P from core h m)
-    (ap (λ x. messages_of_core s traces x core) (run-on s traces from m) ∙ core-pushed s traces core history machine_step)
+    (ap (λ x. messages_of_core s traces x core) (run-next s traces from m) ∙ core-pushed s traces core history machine_step)
     (h (rows ++ step_of_core core machine_step ∷ []) (length rows) (omega (arith, e)))
 
 channel-pushed : (s : Config) (channel : ℕ) (history : List MachineStep) (machine_step : MachineStep) → messages_of_channel s (history ++ machine_step ∷ []) channel
@@ -97,7 +95,7 @@ channel-added s traces P from channel l h (suc m) =
     let steps = steps_of_channel channel history in
     let e : length steps ≡ from + m = length-channel_steps_of s traces (from + m) channel in
     added-then P _ _ _ (messages_at s channel (length steps) (step_of_channel channel machine_step)) (channel-added s traces P from channel l h m)
-    (ap (λ x. messages_of_channel s x channel) (run-on s traces from m) ∙ channel-pushed s channel history machine_step)
+    (ap (λ x. messages_of_channel s x channel) (run-next s traces from m) ∙ channel-pushed s channel history machine_step)
     (h (length steps) (step_of_channel channel machine_step) (omega (arith, e)) (serves s traces (from + m) channel l))
 
 -- what a unit sends in a span that is no longer than each message travels arrives after it
@@ -116,9 +114,9 @@ late-added s traces from until (unit.Channel channel) l k t =
 abbrev pub Goes : Config → Message → Type 0
 Goes s m = Exists s (receiver s m.link)
 
-request-goes : (s : Config) (core cycle entry : ℕ) (write : Bool) (address : ℕ) → core < s.cores → Goes s (request s core cycle entry write address)
+request-goes : (s : Config) (core cycle entry : ℕ) (access : Access) (address : ℕ) → core < s.cores → Goes s (request s core cycle entry access address)
 unfolding request
-request-goes s core cycle entry write address l =
+request-goes s core cycle entry access address l =
     subst (Exists s) (sym (receiver_request s core (place_of s address).channel (place_in s address))) (place_in s address)
 
 reply-goes : (s : Config) (channel cycle : ℕ) → channel < s.channels → (o : Option Command) → IfSome o (ServesCoreBelow s.cores) → Each (Goes s) (messages_at s channel cycle o)
@@ -142,7 +140,7 @@ channel-goes s traces n channel l =
 core-goes : (s : Config) (traces : List (List Entry)) (n core : ℕ) → core < s.cores → Each (Goes s) (messages_of_core s traces (run s traces n) core)
 unfolding messages_of_core
 core-goes s traces n core l =
-    requests-each s (Goes s) (λ c cycle entry write address k. request-goes s c cycle entry write address k) core l (trace_of traces core) (steps_of_core core (run s traces n))
+    requests-each s (Goes s) (λ c cycle entry access address k. request-goes s c cycle entry access address k) core l (trace_of traces core) (steps_of_core core (run s traces n))
 
 pub all-go : (s : Config) (traces : List (List Entry)) (n : ℕ) → Each (Goes s) (messages s traces (run s traces n))
 unfolding messages

@@ -1,8 +1,9 @@
 //! Numbers, shares, scales and axes, with what they print worked out by hand.
 
 use crate::expect::{expect, expect_at, expect_parts};
-use request_pictures::drawing::axes::{Quantity, put_cycle_ticks, put_value_ticks};
-use request_pictures::drawing::markup::{LegendEntry, Piece, put, put_legend};
+use request_pictures::drawing::axes::Quantity;
+use request_pictures::drawing::markup::{LegendEntry, Piece};
+use request_pictures::drawing::page_text::Markup;
 use request_pictures::drawing::scales::{axis_end, share_of, tick_step};
 
 static PIECES: [(Piece, &str); 9] = [
@@ -20,8 +21,9 @@ static PIECES: [(Piece, &str); 9] = [
 #[test]
 fn pieces_print(rt: HostRuntime) {
     for (piece, want) in &PIECES {
-        let mut text = String::new(rt.alloc());
-        put(&[*piece], &mut text).expect(&rt, "memory");
+        let mut markup = Markup::new(rt.alloc());
+        markup.fill("{}", &[*piece]);
+        let text = markup.finish().expect(&rt, "memory");
         expect(&rt, &text.as_str(), want);
     }
 }
@@ -78,21 +80,22 @@ const PUT: &str = r#"<i class="y" style="bottom:41.67%"><b>1.0</b></i>
 
 #[test]
 fn ticks_have_one_unit(rt: HostRuntime) {
-    let mut text = String::new(rt.alloc());
+    let mut markup = Markup::new(rt.alloc());
     // Up to 2.4 %, and up to 80 %.
     for (quantity, end) in [
         (Quantity::Percent, 24),
         (Quantity::Percent, 800),
         (Quantity::Count, 20),
     ] {
-        put_value_ticks(quantity, end, &mut text).expect(&rt, "memory");
+        markup.put_value_ticks(quantity, end);
     }
-    put_cycle_ticks(0, 2_500_000, &mut text).expect(&rt, "memory");
-    put_cycle_ticks(1_100, 200, &mut text).expect(&rt, "memory");
+    markup.put_cycle_ticks(0, 2_500_000);
+    markup.put_cycle_ticks(1_100, 200);
     let entry = LegendEntry {
         class: "act",
         text: "ACT",
     };
-    put_legend(&[entry], &mut text).expect(&rt, "memory");
+    markup.put_legend(&[entry]);
+    let text = markup.finish().expect(&rt, "memory");
     expect_parts(&rt, text.as_str(), PUT, true);
 }

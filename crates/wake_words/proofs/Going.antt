@@ -4,6 +4,7 @@ use Rattle.std.proofs.lemmas.Bool.{cond-true, cond-false}
 use Rattle.std.proofs.lemmas.Bool.Decides.{nat_tests}
 use Rattle.std.proofs.lemmas.List.Folds.{list_any-append}
 use Rattle.std.specs.Prelude.{filter}
+use Rattle.std.proofs.Math.Bool.{or-false}
 use Rattle.sim_base.specs.declared.config.Config.{Config}
 use Rattle.sim_base.specs.History.{is_unit}
 use Rattle.sim_base.specs.declared.message.Message.{Message}
@@ -20,10 +21,6 @@ use Rattle.wake_words.specs.Wakes.{Sleeper, Waits, IsBrought, units_from, links_
 use Rattle.wake_words.proofs.Sharing.{at-places, not_there}
 use Rattle.units.specs.declared.machine.Machine.{Machine}
 use Rattle.wake_words.proofs.Waiting.{untouched-none, none-taken}
-
-or-false : (b : Bool) → (b || false) ≡ b
-or-false true = refl
-or-false false = refl
 
 -- one place more
 more-places : (s : Config) (first k : ℕ) (u : MachineUnit) → (is_at_places s first (first + k) u || is_unit u (unit_at s (first + k))) ≡ is_at_places s first (first + suc k) u

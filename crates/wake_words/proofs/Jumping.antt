@@ -2,10 +2,9 @@
 use Rattle.std.proofs.Common.{◌≡◌, ℕ, zero, suc, ◌+◌, ◌-◌, ◌<◌, ◌≤◌, List, [], ◌∷◌, ◌++◌, length, replicate, get_or, ◌⊎◌, inl, inr, refl, sym, ap, ap₂, subst, ◌∙◌, add-zero, append-nil, arith}
 use Rattle.std.specs.Prelude.{filter, flat_map, fold, All}
 use Rattle.std.proofs.lemmas.Bool.{cases_lt}
-use Rattle.std.proofs.lemmas.List.{length-replicate, get_or-replicate, get_or_append_left}
+use Rattle.std.proofs.lemmas.List.{length-replicate, get_or-replicate, get_or_append_left, get_or_default}
 use Rattle.std.proofs.lemmas.Option.{slice_get-get_or}
 use Rattle.std.proofs.Math.Seq.{get_or-append_seam}
-use Rattle.statistics.proofs.Lists.{length-push_suc}
 use Rattle.sim_base.specs.History.{below, by_age, insert_by_age, is_to, messages}
 use Rattle.sim_base.specs.declared.message.Unit.{Unit as MachineUnit}
 use Rattle.span_laws.proofs.Arrivals.{mail-sent}
@@ -13,6 +12,7 @@ use Rattle.span_laws.specs.Mail.{arriving}
 use Rattle.sim_base.specs.Locality.{TravelsFor}
 use Rattle.sim_base.specs.declared.message.Message.{Message}
 use Rattle.sim_base.proofs.Below.{flat_map_below_more, flat_map_below_same}
+use Rattle.sim_base.proofs.Added.{length-push_suc}
 use Rattle.statistics.proofs.RunSteps.{travels}
 use Rattle.links.specs.InFlight.{InFlight, is_due}
 use Rattle.units.specs.Flight.{fresh, left, among}
@@ -24,7 +24,6 @@ use Rattle.units.proofs.Joining.{all-sent, fresh-is, join-flight}
 use Rattle.wake_words.specs.Wakes.{IsAsleep, IsStill, HasGoneOn, AreTimedUnits, Sleeper, Waits, sleeper, sleeper_at}
 use Rattle.wake_words.specs.declared.timed_unit.TimedUnit.{TimedUnit}
 use Rattle.wake_words.proofs.Sharing.{among-all}
-use Rattle.units.proofs.Standing.{same-default}
 use Rattle.units.specs.declared.machine.Machine.{Machine}
 use Rattle.units.specs.Runs.{run_of, flight_at, sent_at}
 use Rattle.wake_words.proofs.Waiting.{awake-waits, due-flight, known-phase, none-taken, untouched, untouched-none}
@@ -124,7 +123,7 @@ sleep-on machine now then h l =
 pub asleep-until : (machine : Machine) (first now : ℕ) (units : List TimedUnit) (words : List ℕ) (links : InFlight) → IsAsleep machine first now units words links → All (λ w. now ≤ w) words
 asleep-until machine first now units words links h k d less =
     let i : k < length units = omega (arith, less, h.words_count) in
-    let e : get_or words k 0 ≡ get_or words k d = same-default words k 0 d less in
+    let e : get_or words k 0 ≡ get_or words k d = get_or_default words k 0 d less in
     subst (λ w. now ≤ w) e (h.wait k (some-unit units (omega (arith, i))) i).ahead
 
 none-first_of : (k : ℕ) → 0 + k ≡ k

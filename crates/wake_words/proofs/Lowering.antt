@@ -11,6 +11,7 @@ use Rattle.sim_base.specs.declared.message.Unit.{Unit as MachineUnit}
 use Rattle.sim_base.proofs.Arrived.{puts, fold-puts}
 use Rattle.sim_base.proofs.Each.{Each-all, Each-filter, Each-flat_map_below}
 use Rattle.sim_base.proofs.Ordered.{filter-puts}
+use Rattle.sim_base.proofs.Lists.{filter-agree}
 use Rattle.links.specs.InFlight.{is_due, receiver_of, arrives_within}
 use Rattle.span_laws.specs.Mail.{mail_in}
 use Rattle.span_laws.specs.Quiet.{IsSilent}
@@ -20,7 +21,7 @@ use Rattle.units.specs.Parts.{late, IsPart}
 use Rattle.units.specs.Units.{unit_at, unit_count}
 use Rattle.wake_words.specs.Wakes.{Sleeper, Waits, WaitAll, AreLowered, sleeper_at, sent_in}
 use Rattle.wake_words.specs.declared.timed_unit.TimedUnit.{TimedUnit}
-use Rattle.units.proofs.Filters.{filter-filter, filter-same, implied}
+use Rattle.units.proofs.Filters.{filter-filter, implied}
 use Rattle.units.proofs.Joining.{join-flight, fresh-late}
 use Rattle.wake_words.proofs.Sharing.{due-among, filters-commute, flight-sorted}
 use Rattle.span_laws.proofs.Silent.{silent-sooner, none-part, none-first}
@@ -100,7 +101,7 @@ taken-later channels from until word u ms =
     let p = is_due channels u until word in
     let q = λ (m : Message). not (is_due channels u from until m) in
     filter-filter p q ms
-    ∙ filter-same (λ m. q m && p m) p ms
+    ∙ filter-agree (λ m. q m && p m) p ms
     (Each-all _ (λ m. implied (q m) (p m) (λ e. late-kept from until word m.arrival (is_unit (receiver_of channels m.link) u) (is_unit (receiver_of channels m.link) u) e)) ms)
 
 none-after : (from word least a : ℕ) → least ≤ a → word ≤ max least from → (leb from a && ltb a word) ≡ false

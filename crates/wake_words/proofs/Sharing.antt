@@ -3,6 +3,7 @@ use Rattle.std.proofs.Common.{◌≡◌, ℕ, ◌+◌, ◌-◌, ◌<◌, ◌≤�
 use Rattle.std.specs.Prelude.{filter, fold}
 use Rattle.std.proofs.lemmas.Bool.{cond-true, cond-false, and_parts}
 use Rattle.std.proofs.lemmas.Bool.Decides.{nat_tests}
+use Rattle.std.proofs.Math.Bool.{and_comm}
 use Rattle.sim_base.specs.declared.config.Config.{Config}
 use Rattle.sim_base.specs.Counts.{in_flight}
 use Rattle.sim_base.specs.History.{is_unit, insert_by_age, messages}
@@ -15,6 +16,7 @@ use Rattle.sim_base.specs.declared.trace.Entry.{Entry}
 use Rattle.sim_base.proofs.Arrived.{by_age-puts, fold-puts}
 use Rattle.sim_base.proofs.Each.{Each-all}
 use Rattle.sim_base.proofs.Ordered.{Sorted, Sorted-puts, Each-weaker, filter-puts}
+use Rattle.sim_base.proofs.Lists.{filter-each, filter-agree}
 use Rattle.span_laws.proofs.Flights.{not_before, in_flight-late}
 use Rattle.span_laws.proofs.Lists.{Sorted-filter}
 use Rattle.span_laws.specs.Units.{Exists}
@@ -24,7 +26,7 @@ use Rattle.units.specs.Parts.{late}
 use Rattle.units.specs.Units.{unit_at, unit_count}
 use Rattle.units.proofs.Due.{same_unit, flight-each}
 use Rattle.wake_words.specs.Wakes.{sent_in}
-use Rattle.units.proofs.Filters.{filter-filter, filter-same, filter-all, implied}
+use Rattle.units.proofs.Filters.{filter-filter, implied}
 use Rattle.units.proofs.Joining.{join-flight}
 use Rattle.units.specs.declared.machine.Machine.{Machine}
 use Rattle.units.specs.Runs.{flight_at}
@@ -60,18 +62,12 @@ pub due-among : (s : Config) (first past a b k : ℕ) (ms : List Message) → fi
     → filter (is_due s.channels (unit_at s k) a b) (among s first past ms) ≡ filter (is_due s.channels (unit_at s k) a b) ms
 due-among s first past a b k ms l m =
     filter-filter (is_due s.channels (unit_at s k) a b) (goes_among s first past) ms
-    ∙ filter-same _ _ ms (Each-all _ (λ x. implied (goes_among s first past x) _ (λ e. due-goes s first past a b k x e ∙ there first past k l m)) ms)
-
-and-swap : (a b : Bool) → (a && b) ≡ (b && a)
-and-swap true true = refl
-and-swap true false = refl
-and-swap false true = refl
-and-swap false false = refl
+    ∙ filter-agree _ _ ms (Each-all _ (λ x. implied (goes_among s first past x) _ (λ e. due-goes s first past a b k x e ∙ there first past k l m)) ms)
 
 -- two tests can be made in any order
 pub filters-commute : (p q : Message → Bool) (ms : List Message) → filter p (filter q ms) ≡ filter q (filter p ms)
 filters-commute p q ms =
-    filter-filter p q ms ∙ filter-same _ _ ms (Each-all _ (λ m. and-swap (q m) (p m)) ms) ∙ sym (filter-filter q p ms)
+    filter-filter p q ms ∙ filter-agree _ _ ms (Each-all _ (λ m. and_comm (q m) (p m)) ms) ∙ sym (filter-filter q p ms)
 
 goes-all : (s : Config) (u : MachineUnit) → Exists s u → is_at_places s 0 (unit_count s) u ≡ true
 goes-all s (Core core) l = grind (arith, nat_tests)
@@ -81,7 +77,7 @@ goes-all s (Channel channel) l = grind (arith, nat_tests)
 pub among-all : (s : Config) (traces : List (List Entry)) (now : ℕ) → among s 0 (unit_count s) (in_flight s traces (run s traces now)) ≡ in_flight s traces (run s traces now)
 among-all s traces now =
     let ms = in_flight s traces (run s traces now) in
-    filter-all (goes_among s 0 (unit_count s)) ms
+    filter-each (goes_among s 0 (unit_count s)) ms
     (Each-weaker (λ (m : Message). Goes s m × (now ≤ m.arrival)) (λ (m : Message). goes_among s 0 (unit_count s) m ≡ true) (λ m h. goes-all s (receiver_of s.channels m.link) h.0) ms (flight-each s traces now))
 
 pub flight-sorted : (s : Config) (traces : List (List Entry)) (now : ℕ) → Sorted (in_flight s traces (run s traces now))

@@ -14,7 +14,8 @@ use Rattle.sim_base.specs.declared.message.Unit.{Unit as MachineUnit}
 use Rattle.sim_base.specs.declared.message.Unit.TheVariants.{Core, Channel}
 use Rattle.sim_base.specs.declared.trace.Entry.{Entry}
 use Rattle.sim_base.proofs.Arrived.{arrived}
-use Rattle.sim_base.proofs.Spans.{inbox-run, has_channels}
+use Rattle.sim_base.proofs.Spans.{inbox-run}
+use Rattle.sim_base.proofs.Grows.{has_channels}
 use Rattle.laws.specs.Commands.{channel_steps_of}
 use Rattle.channel_step.proofs.Stretches.{idle-messages, idle-run}
 use Rattle.core_window.specs.CoreViews.{view_of}
@@ -33,10 +34,11 @@ use Rattle.horizon_laws.proofs.Bringing.{unit-due}
 use Rattle.span_laws.proofs.Silent.{silent-sooner, none-part, none-first, silent-sent}
 use Rattle.span_laws.proofs.Idle.{rest-messages, rests-sooner}
 use Rattle.span_laws.specs.Units.{Exists}
+use Rattle.span_laws.proofs.CoresOn.{length-core_steps_of}
 use Rattle.units.specs.Parts.{IsPart, IsReadyFor, HasRun}
 use Rattle.units.specs.Quiet.{IsNextActOf}
 use Rattle.units.specs.declared.part.UnitState.TheVariants as part
-use Rattle.units.proofs.Resting.{core-rows_length, rests-in_none}
+use Rattle.units.proofs.Resting.{rests-in_none}
 use Rattle.units.specs.declared.machine.Machine.{Machine}
 use Rattle.units.specs.Runs.{run_of, sent_at}
 use Rattle.wake_words.specs.Wakes.{Sleeper, Waits, IsKnown, HasGoneOn}
@@ -171,7 +173,7 @@ CoreKeepsSilent c until =
 
 pub core-silent : (machine : Machine) (u : MachineUnit) (c : CoreUnit) (from until : ℕ) → IsPart machine u from (part.Core c) → CoreKeepsSilent c until → IsSilent machine.config machine.traces.items from until u
 core-silent machine (Core core) c from until h keeps = λ n l.
-    keeps machine.config core (trace_of machine.traces.items core) (core_steps_of machine.config machine.traces.items from core) (mail_before machine.config machine.traces.items from (Core core) from) h n (omega (arith, core-rows_length machine.config machine.traces.items from core, l))
+    keeps machine.config core (trace_of machine.traces.items core) (core_steps_of machine.config machine.traces.items from core) (mail_before machine.config machine.traces.items from (Core core) from) h n (omega (arith, length-core_steps_of machine.config machine.traces.items from core, l))
 core-silent machine (Channel channel) c from until h keeps = absurd h
 
 -- where none passes, none is taken out

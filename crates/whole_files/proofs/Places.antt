@@ -1,16 +1,16 @@
 -- Paths in a folder, and what several steps change.
-use Rattle.std.proofs.Common.{◌≡◌, ◌≢◌, ℕ, zero, suc, ◌+◌, ◌-◌, ◌<◌, ◌≤◌, Bool, true, false, List, [], ◌∷◌, ◌++◌, ◌⊎◌, length, map, take, drop, get_or, codes, Option, Some, None, string_bytes, refl, sym, ap, ap₂, subst, ◌∙◌, inl, inr, add-one, arith}
-use Rattle.std.specs.Prelude.{is_some, option_map}
+use Rattle.std.proofs.Common.{◌≡◌, ◌≢◌, ℕ, zero, suc, ◌+◌, ◌<◌, ◌≤◌, Bool, true, false, List, [], ◌∷◌, ◌++◌, length, map, take, drop, get_or, codes, Option, Some, None, refl, sym, ap, subst, ◌∙◌, inl, inr, add-one, arith}
+use Rattle.std.specs.Prelude.{is_some}
 use Rattle.std.specs.List.{AllByRecursion as Each, flat_map}
 use Rattle.std.specs.Str.{bytes_eq}
 use Rattle.std.proofs.lemmas.List.{append_cancel_left, append_assoc, append-nil, take_more, map-append, length-map}
 use Rattle.std.proofs.lemmas.Slice.Eq.{bytes_eq-Decides}
 use Rattle.std.proofs.lemmas.Bool.{false≢true}
-use Rattle.sim_base.proofs.Each.{Each-append}
+use Rattle.sim_base.proofs.Each.{Each-append, Each-map, Each-first, Each-last}
 use Rattle.sim_base.proofs.Ordered.{Each-weaker}
 use Rattle.run_outcome.specs.Values.{RunOutcome}
-use Rattle.whole_files.specs.Files.{Held, SameFiles, SameBut, SameButTwo, IsRenamed}
-use Rattle.whole_files.specs.Tables.{path_in, commands_name, stats_name, final_name, requests_name, part_name, NamedText, table_named, commands_of, stats_of, final_of, requests_of, tables_in, name_unless, others_in, PlannedText, planned_in, plan_in, from_paths, paths_of, SameOutside, IsApartFrom, AreApart, AreStaged, AreGone, AreRemoved, IsMoved, IsWaiting, ArePlaced, ArePartlyPlaced, IsIn, IsBeside, ArePut, AreTorn, AreKeptBack, IsLeftUnplaced, other_paths, IsWritten, IsUnplaced, IsLeftBy}
+use Rattle.whole_files.specs.Files.{Held, SameFiles, SameBut, IsRenamed}
+use Rattle.whole_files.specs.Tables.{path_in, commands_name, stats_name, final_name, requests_name, part_name, NamedText, table_named, commands_of, stats_of, final_of, requests_of, tables_in, name_unless, others_in, PlannedText, planned_in, plan_in, from_paths, paths_of, SameOutside, IsApartFrom, AreApart, AreStaged, AreGone, AreRemoved, IsMoved, IsWaiting, ArePlaced, ArePartlyPlaced, IsIn, IsBeside, ArePut, AreTorn, AreKeptBack, IsLeftUnplaced, other_paths, IsWritten, IsLeftBy}
 use Rattle.whole_files.specs.Planned.{planned_of}
 use Rattle.whole_files.specs.declared.tables.Planned.{Planned}
 use Rattle.refusal.specs.declared.refusal.Refusal.{Refusal}
@@ -24,14 +24,6 @@ pub apart : (folder a b : List ℕ) → bytes_eq a b ≡ false → path_in folde
 apart folder a b differ e = false≢true (sym differ ∙ (bytes_eq-Decides a b).1 (same_name folder a b e))
 
 -- ---- parts of lists
-
-Each-left : {X : Type 0} (P : X → Type 0) (xs ys : List X) → Each P (xs ++ ys) → Each P xs
-Each-left P [] ys h = tt
-Each-left P (x ∷ xs) ys h = (h.0, Each-left P xs ys h.1)
-
-Each-right : {X : Type 0} (P : X → Type 0) (xs ys : List X) → Each P (xs ++ ys) → Each P ys
-Each-right P [] ys h = h
-Each-right P (x ∷ xs) ys h = Each-right P xs ys h.1
 
 Each-take : {X : Type 0} (P : X → Type 0) (xs : List X) (k : ℕ) → Each P xs → Each P (take k xs)
 Each-take P [] zero h = tt
@@ -48,10 +40,6 @@ Each-drop P (x ∷ xs) (suc k) h = Each-drop P xs k h.1
 Each-two : {X : Type 0} (P Q R : X → Type 0) → ((x : X) → P x → Q x → R x) → (xs : List X) → Each P xs → Each Q xs → Each R xs
 Each-two P Q R f [] h k = tt
 Each-two P Q R f (x ∷ xs) h k = (f x h.0 k.0, Each-two P Q R f xs h.1 k.1)
-
-Each-map : {X Y : Type 0} (P : Y → Type 0) (f : X → Y) (xs : List X) → Each (λ x. P (f x)) xs → Each P (map f xs)
-Each-map P f [] h = tt
-Each-map P f (x ∷ xs) h = (h.0, Each-map P f xs h.1)
 
 -- what holds of each holds of the one at a place
 Each-here : {X Y : Type 0} (P : Y → Type 0) (f : X → Y) (xs : List X) (i : ℕ) (x : X) → i < length xs → x ≡ get_or xs i x → Each P (map f xs) → P (f x)
@@ -202,7 +190,7 @@ pub outside-placed : (planned : List Planned) (i : ℕ) (p : Planned) (z a b : H
 outside-placed planned i p z a b l e r h = λ path w.
     let froms = from_paths (map planned_of planned) in
     let tos = map (λ (q : PlannedText). q.to) (map planned_of planned) in
-    r.others path (outside-from path planned i p l e (Each-left (λ q. path ≢ q) froms tos w)) (outside-to path planned i p l e (Each-right (λ q. path ≢ q) froms tos w)) ∙ h path w
+    r.others path (outside-from path planned i p l e (Each-first (λ q. path ≢ q) froms tos w)) (outside-to path planned i p l e (Each-last (λ q. path ≢ q) froms tos w)) ∙ h path w
 
 -- none has its place yet
 waits-all : (planned : List Planned) (a : Held) → Each (IsWaiting a a) (map planned_of planned)
@@ -272,7 +260,7 @@ pub put : (ps : List PlannedText) (z a b c : Held) → SameOutside (from_paths p
 put ps z a b c before whole same placed =
     record {
       in_place = Each-two (IsMoved b c) (λ (p : PlannedText). a p.from ≡ Some p.text) (IsIn c) (λ p is text. (is.0 ∙ same p.from ∙ text, is.1)) ps placed.moved whole;
-      others = λ path w. placed.others path w ∙ same path ∙ before path (Each-left (λ q. path ≢ q) (from_paths ps) (map (λ (p : PlannedText). p.to) ps) w);
+      others = λ path w. placed.others path w ∙ same path ∙ before path (Each-first (λ q. path ≢ q) (from_paths ps) (map (λ (p : PlannedText). p.to) ps) w);
     }
 
 -- the place of a table is no path under which one is written
@@ -298,7 +286,7 @@ torn ps z a b c apart before whole same partly =
           (Each-take (λ (p : PlannedText). a p.from ≡ Some p.text) ps partly.count whole);
       beside = Each-two (IsWaiting b c) (λ (p : PlannedText). (a p.to ≡ z p.to) × (a p.from ≡ Some p.text)) (IsBeside z c) (λ p is was. (is.0 ∙ same p.to ∙ was.0, is.1 ∙ same p.from ∙ was.1)) (drop partly.count ps) partly.left
           (Each-drop (λ (p : PlannedText). (a p.to ≡ z p.to) × (a p.from ≡ Some p.text)) ps partly.count both);
-      others = λ path w. partly.others path w ∙ same path ∙ before path (Each-left (λ q. path ≢ q) (from_paths ps) (map (λ (p : PlannedText). p.to) ps) w);
+      others = λ path w. partly.others path w ∙ same path ∙ before path (Each-first (λ q. path ≢ q) (from_paths ps) (map (λ (p : PlannedText). p.to) ps) w);
     }
 
 -- tables that were written, and removed
@@ -436,5 +424,5 @@ written folder run z a b put removed after =
       none_else = removed;
       others = λ path w.
           let planned = paths_of (plan_in folder run) in
-          after path (Each-right (λ q. path ≢ q) planned (other_paths folder run) w) ∙ put.others path (Each-left (λ q. path ≢ q) planned (other_paths folder run) w);
+          after path (Each-last (λ q. path ≢ q) planned (other_paths folder run) w) ∙ put.others path (Each-first (λ q. path ≢ q) planned (other_paths folder run) w);
     }

@@ -17,7 +17,7 @@
 --     IsKeptBack folder run old new      no table is in its place
 --     LeavesAll refusal old new before after      a refusal leaves everything as it was
 --     IsUnplaced, IsLeftBy refusal folder run old new      what a refusal leaves
-use Rattle.std.specs.Prelude.{◌≡◌, ◌≢◌, ◌⊎◌, ℕ, ◌<◌, Bool, List, [], ◌∷◌, ◌++◌, length, map, flat_map, take, drop, codes, is_some, option_map, Option, Some, None, string_bytes, if◌then◌else◌}
+use Rattle.std.specs.Prelude.{◌≡◌, ◌≢◌, ◌⊎◌, ℕ, ◌<◌, Bool, List, [], ◌∷◌, ◌++◌, length, map, take, drop, codes, is_some, option_map, Option, Some, None, string_bytes, if◌then◌else◌}
 use Rattle.std.specs.List.{AllByRecursion as Each}
 use Rattle.run_outcome.specs.Outcomes.{if_asked}
 use Rattle.run_outcome.specs.Values.{RunOutcome}

@@ -3,7 +3,8 @@
 ghost use Rattle.std.specs.Prelude.{◌≡◌};
 ghost use Rattle.measures.specs.Tally.{replies, latency, reads, writes, hits, part, told};
 
-use request_table::times::{Access, RequestTimes};
+use request_table::times::RequestTimes;
+use sim_base::message::Access;
 use statistics::stats::Stats;
 
 /// A count of a core or of a channel, by its number.

@@ -3,8 +3,8 @@
 ghost use Rattle.std.specs.Prelude.{◌≡◌, ◌-◌, ◌<◌, ◌^◌};
 ghost use Rattle.measures.specs.Waiting.{is_in_class, is_of, waited, counted, waited_in, channel_waits};
 
-use request_table::times::{Access, RequestTimes};
-use sim_base::message::ChannelId;
+use request_table::times::RequestTimes;
+use sim_base::message::{Access, ChannelId};
 
 /// Some of the requests of a channel.
 #[derive(Clone, Copy)]

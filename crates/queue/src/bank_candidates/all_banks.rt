@@ -10,7 +10,7 @@ use crate::bank_candidates::places::{Departure, Places};
 use crate::bank_candidates::sets::BankSet;
 use crate::request_log::RequestLog;
 use crate::request_log::words::bank_number;
-use sim_base::message::Request;
+use sim_base::message::{Access, Request};
 use sim_base::place::BankId;
 use std::alloc::{AllocError, Global};
 
@@ -32,8 +32,9 @@ pub struct BankCandidates {
 
 impl BankCandidates {
     ghost use Rattle.std.specs.Prelude.{ℕ, ◌≡◌, ◌<◌, ◌≤◌, ◌-◌, ◌^◌, ◌++◌, ◌∷◌, not, true, [], List, length, take, drop, All, Option, None, Some, is_some, IfOk, IfSome};
+    ghost use Rattle.sim_base.specs.Access.{is_access};
     ghost use Rattle.sim_base.specs.Rules.{open_row};
-    ghost use Rattle.sim_base.specs.Scheduling.{asks_for_line, is_favoured};
+    ghost use Rattle.sim_base.specs.Scheduling.{asks_for_line};
     ghost use Rattle.sim_base.specs.declared.command.IssuedCommand.{IssuedCommand};
     ghost use Rattle.queue.specs.declared.request_log.Arrived.{Arrived};
     ghost use Rattle.queue.specs.Log.{waiting, waiting_requests};
@@ -73,18 +74,18 @@ impl BankCandidates {
     {
         CandidatesOfBank {
             row: self.rows[bank],
-            reads: self.places.of_access(bank, false),
-            writes: self.places.of_access(bank, true),
+            reads: self.places.of_access(bank, Access::Read),
+            writes: self.places.of_access(bank, Access::Write),
         }
     }
 
     /// The candidates of a bank to write, or to read.
     #[inline(always)]
-    pub fn of_access(&self, bank: usize, write: bool) -> AccessCandidates
+    pub fn of_access(&self, bank: usize, access: Access) -> AccessCandidates
         requires { bank < bank_count self.now }
-        ensures { result ≡ candidates_to self.now bank write }
+        ensures { result ≡ candidates_to self.now bank access }
     {
-        self.places.of_access(bank, write)
+        self.places.of_access(bank, access)
     }
 
     /// The first request of a bank that may be served, to read or to write, where there is one.
@@ -127,32 +128,32 @@ impl BankCandidates {
 
     /// The banks for which a request to write, or to read, may be served.
     #[inline(always)]
-    pub fn banks_with_candidate(&self, write: bool) -> BankSet
+    pub fn banks_with_candidate(&self, access: Access) -> BankSet
         ensures within { (bank : ℕ) → is_in result bank ≡ true → bank < bank_count self.now }
         ensures each { (bank : ℕ) → bank < bank_count self.now
-            → is_in result bank ≡ is_some (candidates_to self.now bank write).oldest }
+            → is_in result bank ≡ is_some (candidates_to self.now bank access).oldest }
     {
-        self.places.banks(write, false)
+        self.places.banks(access, false)
     }
 
     /// The banks whose open row an eligible request to write, or to read, asks for.
     #[inline(always)]
-    pub fn hit(&self, write: bool) -> BankSet
+    pub fn hit(&self, access: Access) -> BankSet
         ensures within { (bank : ℕ) → is_in result bank ≡ true → bank < bank_count self.now }
         ensures each { (bank : ℕ) → bank < bank_count self.now
-            → is_in result bank ≡ is_some (candidates_to self.now bank write).hit }
+            → is_in result bank ≡ is_some (candidates_to self.now bank access).hit }
     {
-        self.places.banks(write, true)
+        self.places.banks(access, true)
     }
 
     /// Whether some request to write, or to read, may be served.
     #[inline(always)]
-    pub fn has_access(&self, write: bool) -> bool
+    pub fn has_access(&self, access: Access) -> bool
         ensures { (log : List Arrived) (open_rows : ℕ → Option ℕ)
             → StandsFor self.now log open_rows
-            → result ≡ is_some (first_place (is_favoured write) log) }
+            → result ≡ is_some (first_place (λ r. is_access access r.access) log) }
     {
-        !self.banks_with_candidate(write).is_empty()
+        !self.banks_with_candidate(access).is_empty()
     }
 
     /// Takes note of a request at a place after all others, which may be served or not.
@@ -167,11 +168,11 @@ impl BankCandidates {
             → StandsFor self.old older open_rows → StandsFor self.new (older ++ a ∷ []) open_rows }
     {
         let bank = bank_number(request.place);
-        let access = access_number(bank, request.write);
-        self.counts[access] = self.counts[access].saturating_add(1);
+        let number = access_number(bank, request.access);
+        self.counts[number] = self.counts[number].saturating_add(1);
         if eligible {
             let hit = is_open(self.rows[bank], request.place.row);
-            self.places.join(bank, request.write, slot, hit);
+            self.places.join(bank, request.access, slot, hit);
         }
     }
 
@@ -204,14 +205,14 @@ impl BankCandidates {
     {
         let request = &log.log()[slot].request;
         let bank = bank_number(request.place);
-        let write = request.write;
-        let access = access_number(bank, write);
-        let left = self.counts[access].saturating_sub(1);
-        self.counts[access] = left;
+        let access = request.access;
+        let number = access_number(bank, access);
+        let left = self.counts[number].saturating_sub(1);
+        self.counts[number] = left;
         let departure = Departure {
             slot,
             bank,
-            write,
+            access,
             empty: left == 0,
         };
         self.places.leave(log, departure, self.rows[bank]);
@@ -230,7 +231,7 @@ impl BankCandidates {
         let request = &log.log()[next].request;
         let bank = bank_number(request.place);
         let hit = is_open(self.rows[bank], request.place.row);
-        self.places.unblock(bank, request.write, next, hit);
+        self.places.unblock(bank, request.access, next, hit);
     }
 
     /// Takes note of a request that was served, and of the one that may be served since then, if there is one.
@@ -261,8 +262,8 @@ impl BankCandidates {
         let _short = log.len();
         for bank in 0..self.rows.len() {
             let row = self.rows[bank];
-            self.places.renew(log, bank, false, row);
-            self.places.renew(log, bank, true, row);
+            self.places.renew(log, bank, Access::Read, row);
+            self.places.renew(log, bank, Access::Write, row);
         }
     }
 
@@ -280,8 +281,8 @@ impl BankCandidates {
         let number = number_of(bank);
         self.rows[number] = Some(row);
         self.open_banks = self.open_banks.with(number);
-        self.places.open(number, false, row, log);
-        self.places.open(number, true, row, log);
+        self.places.open(number, Access::Read, row, log);
+        self.places.open(number, Access::Write, row, log);
     }
 
     /// Takes note of a bank, by its number, that has been closed.

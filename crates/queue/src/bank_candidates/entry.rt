@@ -4,6 +4,8 @@ ghost use Rattle.std.specs.Prelude.{◌≡◌, ◌<◌};
 ghost use Rattle.sim_base.specs.Rules.{is_row};
 ghost use Rattle.queue.specs.Candidates.{number_of, access_number};
 
+use crate::request_log::words::write_bit;
+use sim_base::message::Access;
 use sim_base::place::BankId;
 
 /// The first requests of a bank that may be served, to read or to write: their places in the log.
@@ -25,11 +27,11 @@ pub struct CandidatesOfBank {
 
 /// The number of a bank and an access: twice that of the bank, plus one for a write.
 #[inline(always)]
-pub(crate) fn access_number(bank: usize, write: bool) -> usize
+pub(crate) fn access_number(bank: usize, access: Access) -> usize
     requires { bank < 64 }
-    ensures { result ≡ access_number bank write }
+    ensures { result ≡ access_number bank access }
 {
-    bank * 2 + usize::from(write)
+    bank * 2 + write_bit(access)
 }
 
 /// The number of a bank.

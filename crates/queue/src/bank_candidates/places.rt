@@ -8,6 +8,8 @@ use crate::bank_candidates::entry::AccessCandidates;
 use crate::bank_candidates::search::{first_from, first_hit, first_open_hit};
 use crate::bank_candidates::sets::BankSet;
 use crate::request_log::RequestLog;
+use crate::request_log::words::write_bit;
+use sim_base::message::Access;
 use std::alloc::{AllocError, Global};
 
 /// The places of the candidates of all banks: of each bank and access the first request that may be served, and the first of these that
@@ -84,11 +86,11 @@ fn earlier_of(candidate: Option<usize>, slot: usize) -> Option<usize>
 
 /// Which word of a bank, and which set.
 #[inline(always)]
-fn column(write: bool, hit: bool) -> usize
-    ensures value { result ≡ column write hit }
+fn column(access: Access, hit: bool) -> usize
+    ensures value { result ≡ column access hit }
     ensures few { result < 4 }
 {
-    2 * usize::from(write) + usize::from(hit)
+    2 * write_bit(access) + usize::from(hit)
 }
 
 /// A request of a bank and an access that has been served.
@@ -96,7 +98,7 @@ fn column(write: bool, hit: bool) -> usize
 pub(crate) struct Departure {
     pub(crate) slot: usize,
     pub(crate) bank: usize,
-    pub(crate) write: bool,
+    pub(crate) access: Access,
     /// Whether it is known that no other one waits.
     pub(crate) empty: bool,
 }
@@ -126,25 +128,25 @@ impl Places {
 
     /// A candidate of a bank to write, or to read: the first hit, or the oldest.
     #[inline(always)]
-    pub(crate) fn candidate(&self, bank: usize, write: bool, hit: bool) -> Option<usize>
+    pub(crate) fn candidate(&self, bank: usize, access: Access, hit: bool) -> Option<usize>
         requires { HasBank self.now bank }
-        ensures candidate { result ≡ candidate_at self.now bank write hit }
+        ensures candidate { result ≡ candidate_at self.now bank access hit }
         ensures short { IsShort result }
     {
-        candidate_of(self.words[4 * bank + column(write, hit)])
+        candidate_of(self.words[4 * bank + column(access, hit)])
     }
 
     /// The candidates of a bank to write, or to read.
     #[inline(always)]
-    pub(crate) fn of_access(&self, bank: usize, write: bool) -> AccessCandidates
+    pub(crate) fn of_access(&self, bank: usize, access: Access) -> AccessCandidates
         requires { HasBank self.now bank }
-        ensures candidates { result ≡ candidates_at self.now bank write }
+        ensures candidates { result ≡ candidates_at self.now bank access }
         ensures oldest { IsShort result.oldest }
         ensures hit { IsShort result.hit }
     {
         AccessCandidates {
-            oldest: self.candidate(bank, write, false),
-            hit: self.candidate(bank, write, true),
+            oldest: self.candidate(bank, access, false),
+            hit: self.candidate(bank, access, true),
         }
     }
 
@@ -156,30 +158,30 @@ impl Places {
         ensures { Some result ≡ first_at self.now bank }
     {
         first_of(
-            self.words[4 * bank + column(false, false)],
-            self.words[4 * bank + column(true, false)],
+            self.words[4 * bank + column(Access::Read, false)],
+            self.words[4 * bank + column(Access::Write, false)],
         )
     }
 
     /// The banks with a candidate: the first hit or the oldest, to write or to read.
     #[inline(always)]
-    pub(crate) fn banks(&self, write: bool, hit: bool) -> BankSet
-        ensures { (bank : ℕ) → is_in result bank ≡ is_some (candidate_at self.now bank write hit) }
+    pub(crate) fn banks(&self, access: Access, hit: bool) -> BankSet
+        ensures { (bank : ℕ) → is_in result bank ≡ is_some (candidate_at self.now bank access hit) }
     {
-        self.sets[column(write, hit)]
+        self.sets[column(access, hit)]
     }
 
     /// Writes a candidate of a bank.
     #[inline(always)]
-    pub(crate) fn set(&mut self, bank: usize, write: bool, hit: bool, candidate: Option<usize>)
+    pub(crate) fn set(&mut self, bank: usize, access: Access, hit: bool, candidate: Option<usize>)
         requires bank { HasBank self.old bank }
         requires short { IsShort candidate }
         ensures room { SameRoom self.old self.new }
-        ensures same { candidate_at self.new bank write hit ≡ candidate }
-        ensures beside { SameCandidate self.old self.new bank write (not hit) }
-        ensures others { SameOthers self.old self.new bank write }
+        ensures same { candidate_at self.new bank access hit ≡ candidate }
+        ensures beside { SameCandidate self.old self.new bank access (not hit) }
+        ensures others { SameOthers self.old self.new bank access }
     {
-        let column = column(write, hit);
+        let column = column(access, hit);
         self.words[4 * bank + column] = word_of(candidate);
         let set = self.sets[column];
         self.sets[column] = if candidate.is_some() {
@@ -191,18 +193,18 @@ impl Places {
 
     /// Takes note of a request after all others, which may be served and asks for the open row or not.
     #[inline(always)]
-    pub(crate) fn join(&mut self, bank: usize, write: bool, slot: usize, hit: bool)
+    pub(crate) fn join(&mut self, bank: usize, access: Access, slot: usize, hit: bool)
         requires bank { HasBank self.old bank }
         requires short { slot < 2 ^ 16 - 1 }
         ensures room { SameRoom self.old self.new }
-        ensures joined { HasJoined self.old self.new bank write slot hit }
-        ensures others { SameOthers self.old self.new bank write }
+        ensures joined { HasJoined self.old self.new bank access slot hit }
+        ensures others { SameOthers self.old self.new bank access }
     {
-        if self.candidate(bank, write, false).is_none() {
-            self.set(bank, write, false, Some(slot));
+        if self.candidate(bank, access, false).is_none() {
+            self.set(bank, access, false, Some(slot));
         }
-        if hit && self.candidate(bank, write, true).is_none() {
-            self.set(bank, write, true, Some(slot));
+        if hit && self.candidate(bank, access, true).is_none() {
+            self.set(bank, access, true, Some(slot));
         }
     }
 
@@ -214,35 +216,35 @@ impl Places {
         ensures own { IsClosed self.old self.new bank }
         ensures others { SameOtherBanks self.old self.new bank }
     {
-        self.set(bank, false, true, None);
-        self.set(bank, true, true, None);
+        self.set(bank, Access::Read, true, None);
+        self.set(bank, Access::Write, true, None);
     }
 
     /// Whether a candidate of a bank is the request at a place.
     #[inline(always)]
-    pub(crate) fn is_at(&self, bank: usize, write: bool, hit: bool, slot: usize) -> bool
+    pub(crate) fn is_at(&self, bank: usize, access: Access, hit: bool, slot: usize) -> bool
         requires bank { HasBank self.now bank }
         requires short { slot < 2 ^ 16 - 1 }
-        ensures there { result ≡ true → candidate_at self.now bank write hit ≡ Some slot }
-        ensures elsewhere { result ≡ false → candidate_at self.now bank write hit ≢ Some slot }
+        ensures there { result ≡ true → candidate_at self.now bank access hit ≡ Some slot }
+        ensures elsewhere { result ≡ false → candidate_at self.now bank access hit ≢ Some slot }
     {
-        tells(self.words[4 * bank + column(write, hit)], slot)
+        tells(self.words[4 * bank + column(access, hit)], slot)
     }
 
     /// Takes note of a row that is open in a bank, for its requests to write, or to read.
     #[inline(always)]
-    pub(crate) fn open(&mut self, bank: usize, write: bool, row: u32, log: &RequestLog)
+    pub(crate) fn open(&mut self, bank: usize, access: Access, row: u32, log: &RequestLog)
         requires bank { HasBank self.old bank }
         requires log { length log.now.log < 2 ^ 16 - 1 }
         ensures room { SameRoom self.old self.new }
         ensures own { (old : Option ℕ)
-            → AreFirst log.now.log bank write old (candidates_at self.old bank write)
-            → AreFirst log.now.log bank write (Some row) (candidates_at self.new bank write) }
-        ensures others { SameOthers self.old self.new bank write }
+            → AreFirst log.now.log bank access old (candidates_at self.old bank access)
+            → AreFirst log.now.log bank access (Some row) (candidates_at self.new bank access) }
+        ensures others { SameOthers self.old self.new bank access }
     {
-        if let Some(oldest) = self.candidate(bank, write, false) {
-            let hit = first_hit(log, oldest, bank, write, row);
-            self.set(bank, write, true, hit);
+        if let Some(oldest) = self.candidate(bank, access, false) {
+            let hit = first_hit(log, oldest, bank, access, row);
+            self.set(bank, access, true, hit);
         }
     }
 
@@ -255,22 +257,22 @@ impl Places {
         requires log { length log.now.log < 2 ^ 16 - 1 }
         ensures room { SameRoom self.old self.new }
         ensures kept { candidate_for self.old departure hit ≢ Some departure.slot
-            → SameCandidate self.old self.new departure.bank departure.write hit }
+            → SameCandidate self.old self.new departure.bank departure.access hit }
         ensures found { candidate_for self.old departure hit ≡ Some departure.slot
             → IsFirstFrom (wants_like departure row) log.now.log (departure.slot + 1)
             (candidate_for self.new departure hit) }
-        ensures beside { SameCandidate self.old self.new departure.bank departure.write (not hit) }
-        ensures others { SameOthers self.old self.new departure.bank departure.write }
+        ensures beside { SameCandidate self.old self.new departure.bank departure.access (not hit) }
+        ensures others { SameOthers self.old self.new departure.bank departure.access }
     {
         let Departure {
             slot,
             bank,
-            write,
+            access,
             ..
         } = departure;
-        if self.is_at(bank, write, hit, slot) {
-            let next = first_from(log, slot + 1, bank, write, row);
-            self.set(bank, write, hit, next);
+        if self.is_at(bank, access, hit, slot) {
+            let next = first_from(log, slot + 1, bank, access, row);
+            self.set(bank, access, hit, next);
         }
     }
 
@@ -283,16 +285,16 @@ impl Places {
         ensures room { SameRoom self.old self.new }
         ensures own { (earlier : List Arrived) (unblocked : Option ℕ)
             → IsServed earlier departure.slot unblocked log.now.log
-            → (departure.empty ≡ true → NoneWaits log.now.log departure.bank departure.write)
-            → AreFirst earlier departure.bank departure.write row
+            → (departure.empty ≡ true → NoneWaits log.now.log departure.bank departure.access)
+            → AreFirst earlier departure.bank departure.access row
             (candidates_for self.old departure)
             → AreFirstWithout departure log.now.log row unblocked
             (candidates_for self.new departure) }
-        ensures others { SameOthers self.old self.new departure.bank departure.write }
+        ensures others { SameOthers self.old self.new departure.bank departure.access }
     {
         if departure.empty {
-            self.set(departure.bank, departure.write, false, None);
-            self.set(departure.bank, departure.write, true, None);
+            self.set(departure.bank, departure.access, false, None);
+            self.set(departure.bank, departure.access, true, None);
             return;
         }
         self.replace(log, departure, false, None);
@@ -300,32 +302,32 @@ impl Places {
     }
 
     /// Takes note of a request that may be served now, and asks for the open row or not.
-    pub(crate) fn unblock(&mut self, bank: usize, write: bool, slot: usize, hit: bool)
+    pub(crate) fn unblock(&mut self, bank: usize, access: Access, slot: usize, hit: bool)
         requires bank { HasBank self.old bank }
         requires short { slot < 2 ^ 16 - 1 }
         ensures room { SameRoom self.old self.new }
-        ensures taken { HasTakenIn self.old self.new bank write slot hit }
-        ensures others { SameOthers self.old self.new bank write }
+        ensures taken { HasTakenIn self.old self.new bank access slot hit }
+        ensures others { SameOthers self.old self.new bank access }
     {
-        let oldest = earlier_of(self.candidate(bank, write, false), slot);
-        self.set(bank, write, false, oldest);
+        let oldest = earlier_of(self.candidate(bank, access, false), slot);
+        self.set(bank, access, false, oldest);
         if hit {
-            let first = earlier_of(self.candidate(bank, write, true), slot);
-            self.set(bank, write, true, first);
+            let first = earlier_of(self.candidate(bank, access, true), slot);
+            self.set(bank, access, true, first);
         }
     }
 
     /// Looks for the candidates of a bank to write, or to read, in the whole log.
-    pub(crate) fn renew(&mut self, log: &RequestLog, bank: usize, write: bool, row: Option<u32>)
+    pub(crate) fn renew(&mut self, log: &RequestLog, bank: usize, access: Access, row: Option<u32>)
         requires bank { HasBank self.old bank }
         requires log { length log.now.log < 2 ^ 16 - 1 }
         ensures room { SameRoom self.old self.new }
-        ensures own { AreFirst log.now.log bank write row (candidates_at self.new bank write) }
-        ensures others { SameOthers self.old self.new bank write }
+        ensures own { AreFirst log.now.log bank access row (candidates_at self.new bank access) }
+        ensures others { SameOthers self.old self.new bank access }
     {
-        let oldest = first_from(log, 0, bank, write, None);
-        let hit = first_open_hit(log, oldest, bank, write, row);
-        self.set(bank, write, false, oldest);
-        self.set(bank, write, true, hit);
+        let oldest = first_from(log, 0, bank, access, None);
+        let hit = first_open_hit(log, oldest, bank, access, row);
+        self.set(bank, access, false, oldest);
+        self.set(bank, access, true, hit);
     }
 }

@@ -8,14 +8,14 @@ ghost use Rattle.queue.specs.Places.{IsShort};
 use crate::request_log::RequestLog;
 use crate::request_log::words::{bank_number, tag_word};
 use memchr::memchr;
-use sim_base::message::Request;
+use sim_base::message::{Access, Request};
 
 /// Whether a request is of a bank and an access, and asks for a row if one is given.
 #[inline(always)]
-fn is_wanted(request: &Request, bank: usize, write: bool, row: Option<u32>) -> bool
-    ensures { result ≡ wants bank write row request.now }
+fn is_wanted(request: &Request, bank: usize, access: Access, row: Option<u32>) -> bool
+    ensures { result ≡ wants bank access row request.now }
 {
-    let same_bank = bank_number(request.place) == bank && request.write == write;
+    let same_bank = bank_number(request.place) == bank && request.access.is_access(access);
     match row {
         Some(row) => same_bank && request.place.row == row,
         None => same_bank,
@@ -32,11 +32,11 @@ fn asks_for_row(request: &Request, row: u32) -> bool
 
 /// Whether some request that waits may be of a bank and an access, and ask for a row if one is given: false only where none is and does.
 #[inline(always)]
-fn may_be_wanted(log: &RequestLog, bank: usize, write: bool, row: Option<u32>) -> bool
-    ensures { result ≡ false → NonePasses (wants bank write row) log.now.log }
+fn may_be_wanted(log: &RequestLog, bank: usize, access: Access, row: Option<u32>) -> bool
+    ensures { result ≡ false → NonePasses (wants bank access row) log.now.log }
 {
     match row {
-        Some(row) => log.may_ask(bank, write, row),
+        Some(row) => log.may_ask(bank, access, row),
         None => true,
     }
 }
@@ -47,25 +47,25 @@ pub(crate) fn first_from(
     log: &RequestLog,
     from: usize,
     bank: usize,
-    write: bool,
+    access: Access,
     row: Option<u32>,
 ) -> Option<usize>
-    ensures first { IsFirstFrom (wants bank write row) log.now.log from result }
+    ensures first { IsFirstFrom (wants bank access row) log.now.log from result }
     ensures within { IfSome result (λ k. k < length log.now.log) }
 {
-    if !may_be_wanted(log, bank, write, row) {
+    if !may_be_wanted(log, bank, access, row) {
         return None;
     }
     let arrived = log.log();
     let tags = log.tags();
-    let tag = tag_word(true, write, bank as u64);
+    let tag = tag_word(true, access, bank as u64);
     let mut at = from;
     while at < tags.len() {
         let Some(next) = memchr(tag, &tags[at..]) else {
             return None;
         };
         at += next;
-        if is_wanted(&arrived[at].request, bank, write, row) {
+        if is_wanted(&arrived[at].request, bank, access, row) {
             return Some(at);
         }
         at += 1;
@@ -78,18 +78,18 @@ pub(crate) fn first_hit(
     log: &RequestLog,
     oldest: usize,
     bank: usize,
-    write: bool,
+    access: Access,
     row: u32,
 ) -> Option<usize>
     requires short { oldest < 2 ^ 16 - 1 }
-    ensures first { IsFirstHit log.now.log bank write (Some row) (Some oldest) result }
+    ensures first { IsFirstHit log.now.log bank access (Some row) (Some oldest) result }
     ensures within { IfSome result (λ k. k < length log.now.log) }
 {
     let arrived = log.log();
     if oldest < arrived.len() && asks_for_row(&arrived[oldest].request, row) {
         return Some(oldest);
     }
-    first_from(log, oldest + 1, bank, write, Some(row))
+    first_from(log, oldest + 1, bank, access, Some(row))
 }
 
 /// The first such request that asks for the open row, if one is open, where the first of them all is known, if there is one.
@@ -97,15 +97,15 @@ pub(crate) fn first_open_hit(
     log: &RequestLog,
     oldest: Option<usize>,
     bank: usize,
-    write: bool,
+    access: Access,
     row: Option<u32>,
 ) -> Option<usize>
     requires short { IsShort oldest }
-    ensures first { IsFirstHit log.now.log bank write row oldest result }
+    ensures first { IsFirstHit log.now.log bank access row oldest result }
     ensures within { IfSome result (λ k. k < length log.now.log) }
 {
     match (row, oldest) {
-        (Some(row), Some(oldest)) => first_hit(log, oldest, bank, write, row),
+        (Some(row), Some(oldest)) => first_hit(log, oldest, bank, access, row),
         _ => None,
     }
 }

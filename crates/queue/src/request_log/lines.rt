@@ -9,6 +9,7 @@ ghost use Rattle.queue.specs.Lines.{IsFirstTold};
 use crate::request_log::Arrived;
 use crate::request_log::words::{bank_number, tag_word};
 use memchr::memchr2;
+use sim_base::message::Access;
 use sim_base::place::Place;
 use std::alloc::{AllocError, Global};
 
@@ -34,8 +35,8 @@ pub(crate) fn next_for_line(
     ensures { IsFirstTold eligible place log.now tags.now from result }
 {
     let bank = bank_number(place) as u64;
-    let read = tag_word(eligible, false, bank);
-    let write = tag_word(eligible, true, bank);
+    let read = tag_word(eligible, Access::Read, bank);
+    let write = tag_word(eligible, Access::Write, bank);
     let mut at = from;
     while at < tags.len() {
         let Some(next) = memchr2(read, write, &tags[at..]) else {

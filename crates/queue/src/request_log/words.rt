@@ -1,9 +1,10 @@
 //! The words of a request beside the log.
 
 ghost use Rattle.std.specs.Prelude.{◌≡◌, ◌<◌, ◌≤◌, ◌^◌};
-ghost use Rattle.queue.specs.Marks.{mark};
+ghost use Rattle.queue.specs.Marks.{mark, write_bit};
 ghost use Rattle.queue.specs.Columns.{bank_number, tag_word, line_slot, row_slot};
 
+use sim_base::message::Access;
 use sim_base::place::Place;
 
 /// The tag of a request that was served: no request that may be served has it.
@@ -27,13 +28,25 @@ fn mark(test: bool) -> u64
     if test { 1 } else { 0 }
 }
 
+/// 1 for a write, 0 for a read.
+#[inline(always)]
+pub(crate) fn write_bit(access: Access) -> usize
+    ensures value { result ≡ write_bit access }
+    ensures small { result < 2 }
+{
+    match access {
+        Access::Read => 0,
+        Access::Write => 1,
+    }
+}
+
 /// A tag of these parts: bit 7 says whether a request may be served, bit 6 whether it writes, and bits 0 to 5 have the number of
 /// its bank modulo 64.
 #[inline(always)]
-pub fn tag_word(eligible: bool, write: bool, bank: u64) -> u8
-    ensures { result ≡ tag_word eligible write bank }
+pub fn tag_word(eligible: bool, access: Access, bank: u64) -> u8
+    ensures { result ≡ tag_word eligible access bank }
 {
-    let flags = mark(eligible) * 2 + mark(write);
+    let flags = mark(eligible) * 2 + write_bit(access) as u64;
     (flags * 64 + bank % 64) as u8
 }
 
@@ -53,11 +66,11 @@ pub(crate) fn line_slot(place: Place, mask: usize) -> usize
 /// counter behind that of those to read.
 #[tactic(auto, unfolding(crate::specs::Columns::row_slot))]
 #[inline(always)]
-pub(crate) fn row_slot(bank: usize, write: bool, row: u32, mask: usize) -> usize
-    ensures value { result ≡ row_slot mask bank write row }
+pub(crate) fn row_slot(bank: usize, access: Access, row: u32, mask: usize) -> usize
+    ensures value { result ≡ row_slot mask bank access row }
     ensures within { result ≤ mask }
 {
     let row = (u64::from(row) * 128).wrapping_add(bank as u64);
-    let slot = (row.wrapping_mul(11_400_714_819_323_198_485) >> 32) + mark(write);
+    let slot = (row.wrapping_mul(11_400_714_819_323_198_485) >> 32) + write_bit(access) as u64;
     slot as usize & mask
 }

@@ -63,7 +63,11 @@ fn put_tick(
 }
 
 /// Appends the ticks of the values from 0 up to `top`: at most five above 0.
-pub fn put_value_ticks(quantity: Quantity, top: u64, out: &mut String) -> Result<(), AllocError> {
+pub(crate) fn put_value_ticks(
+    quantity: Quantity,
+    top: u64,
+    out: &mut String,
+) -> Result<(), AllocError> {
     let step = tick_step(top, 5);
     for tick in 0..=top / step {
         let value = tick.saturating_mul(step);
@@ -79,7 +83,7 @@ pub fn put_value_ticks(quantity: Quantity, top: u64, out: &mut String) -> Result
 }
 
 /// Appends the ticks of the cycles of a picture that shows the `span` cycles from `from` on: at most six.
-pub fn put_cycle_ticks(from: u64, span: u64, out: &mut String) -> Result<(), AllocError> {
+pub(crate) fn put_cycle_ticks(from: u64, span: u64, out: &mut String) -> Result<(), AllocError> {
     let step = tick_step(span, 5);
     let end = from.saturating_add(span);
     for tick in from.div_ceil(step)..=end / step {

@@ -52,15 +52,7 @@ fn put_piece(piece: Piece, out: &mut String) -> Result<(), AllocError> {
     }
 }
 
-/// Appends pieces to a text. The only error is out of memory.
-pub fn put(pieces: &[Piece], out: &mut String) -> Result<(), AllocError> {
-    for piece in pieces {
-        put_piece(*piece, out)?;
-    }
-    Ok(())
-}
-
-/// Appends a form to a text, with pieces in place of its `{}`, in turn.
+/// Appends a form to a text, with pieces in place of its `{}`, in turn. The only error is out of memory.
 pub(crate) fn fill(form: &str, pieces: &[Piece], out: &mut String) -> Result<(), AllocError> {
     let mut pieces = pieces.iter();
     for words in form.split_inclusive("{}") {
@@ -97,7 +89,7 @@ fn put_entry(entry: &LegendEntry, out: &mut String) -> Result<(), AllocError> {
 }
 
 /// Appends a legend as a list.
-pub fn put_legend(entries: &[LegendEntry], out: &mut String) -> Result<(), AllocError> {
+pub(crate) fn put_legend(entries: &[LegendEntry], out: &mut String) -> Result<(), AllocError> {
     out.push_str("<ul class=\"legend\">")?;
     for entry in entries {
         put_entry(entry, out)?;

@@ -15,7 +15,9 @@ pub struct Markup {
 
 impl Markup {
     /// No text yet.
-    pub fn new(alloc: Global) -> Markup {
+    pub fn new(alloc: Global) -> Markup
+        ensures { result.was_refused ≡ false }
+    {
         Markup {
             text: String::new(alloc),
             was_refused: false,
@@ -40,31 +42,41 @@ impl Markup {
     }
 
     /// Appends a form, with pieces in place of its `{}`, in turn.
-    pub fn fill(&mut self, form: &str, pieces: &[Piece]) {
+    pub fn fill(&mut self, form: &str, pieces: &[Piece])
+        ensures kept { self.old.was_refused ≡ true → self.new.was_refused ≡ true }
+    {
         let answer = fill(form, pieces, &mut self.text);
         self.note(answer);
     }
 
     /// Appends words, or markup.
-    pub fn push_str(&mut self, words: &str) {
+    pub fn push_str(&mut self, words: &str)
+        ensures kept { self.old.was_refused ≡ true → self.new.was_refused ≡ true }
+    {
         let answer = self.text.push_str(words);
         self.note(answer);
     }
 
     /// Appends a legend as a list.
-    pub fn put_legend(&mut self, entries: &[LegendEntry]) {
+    pub fn put_legend(&mut self, entries: &[LegendEntry])
+        ensures kept { self.old.was_refused ≡ true → self.new.was_refused ≡ true }
+    {
         let answer = put_legend(entries, &mut self.text);
         self.note(answer);
     }
 
     /// Appends the ticks of an axis of cycles.
-    pub fn put_cycle_ticks(&mut self, from: u64, span: u64) {
+    pub fn put_cycle_ticks(&mut self, from: u64, span: u64)
+        ensures kept { self.old.was_refused ≡ true → self.new.was_refused ≡ true }
+    {
         let answer = put_cycle_ticks(from, span, &mut self.text);
         self.note(answer);
     }
 
     /// Appends the ticks of an axis of values.
-    pub fn put_value_ticks(&mut self, quantity: Quantity, top: u64) {
+    pub fn put_value_ticks(&mut self, quantity: Quantity, top: u64)
+        ensures kept { self.old.was_refused ≡ true → self.new.was_refused ≡ true }
+    {
         let answer = put_value_ticks(quantity, top, &mut self.text);
         self.note(answer);
     }

@@ -5,18 +5,17 @@ ghost use Rattle.sim_base.specs.Places.{place_of};
 ghost use Rattle.sessions.specs.Sent.{request_of, message_of};
 
 use sim_base::config::Config;
-use sim_base::message::{ChannelId, CoreId, Cycle, Load, Message, Request};
+use sim_base::message::{Access, ChannelId, CoreId, Cycle, Load, Message, Request};
 use sim_base::place::Place;
 
-/// A request as it is sent: a Read or Write of the line of 64 bytes at an address, for an entry of a core's trace, and
+/// A request as it is sent: an access to the line of 64 bytes at an address, for an entry of a core's trace, and
 /// the cycle in which it arrives at the channel.
 #[derive(Clone, Copy)]
 pub struct SentRequest {
     pub core: CoreId,
     /// The entry's number in the trace, below 2^64 - 1.
     pub entry: u64,
-    /// Whether it is a Write.
-    pub write: bool,
+    pub access: Access,
     /// The address of a byte of the line.
     pub address: u64,
     /// The cycle in which the channel may first serve it.
@@ -30,7 +29,7 @@ fn request_of(config: &Config, number: ChannelId, sent: &SentRequest, place: Pla
 {
     Request {
         core: sent.core,
-        write: sent.write,
+        access: sent.access,
         entry: sent.entry,
         address: sent.address,
         place,

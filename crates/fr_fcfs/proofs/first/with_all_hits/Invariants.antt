@@ -17,7 +17,7 @@ invariant-loop-bank l = record {
   so_far : (s : Config) (history : List IssuedCommand) (log : List Arrived) (hits rows : ℕ → Option ℕ)
       → StandForLog l.bank_candidates l.banks s history log
       → IsBestSoFar (length log) l.commands.now hits rows l.fn.best
-      → IsBestSoFar (length log) l.commands.now (λ cycle. earlier (hits cycle) (place_beside (λ k. is_in l.rest k) (hits_now s history (only l.commands.write) cycle) log)) rows l.best;
+      → IsBestSoFar (length log) l.commands.now (λ cycle. earlier (hits cycle) (place_beside (λ k. is_in l.rest k) (hits_now s history (only l.commands.access) cycle) log)) rows l.best;
 }
 
 abbrev pub decreases-loop-bank : goal.decreases-loop-bank

@@ -1,5 +1,6 @@
 -- What opens or closes a row, and then the row hits of each kind that goes.
-use Rattle.std.proofs.Common.{ℕ, true, false, ◌&&◌, None, refl, length}
+use Rattle.std.proofs.Common.{ℕ, ◌&&◌, None, refl, length}
+use Rattle.sim_base.specs.declared.message.Access.TheVariants as access
 use Rattle.queue.specs.Candidates.{first_place}
 use Rattle.queue.specs.Moves.{earlier}
 use Rattle.fr_fcfs.specs.Offers.{only, hits_now, rows_now}
@@ -11,8 +12,8 @@ pub returns : goal.returns
 returns c s history log known before =
     let accesses = c.args.accesses in
     let rows = λ (cycle : ℕ). first_place (rows_now s history log accesses cycle) log in
-    let reads = λ (cycle : ℕ). first_place (λ r. accesses.reads && hits_now s history (only false) cycle r) log in
-    let writes = λ (cycle : ℕ). first_place (λ r. accesses.writes && hits_now s history (only true) cycle r) log in
+    let reads = λ (cycle : ℕ). first_place (λ r. accesses.reads && hits_now s history (only access.Read) cycle r) log in
+    let writes = λ (cycle : ℕ). first_place (λ r. accesses.writes && hits_now s history (only access.Write) cycle r) log in
     so_far_same (length log) c.args.now (λ cycle. earlier (reads cycle) (writes cycle)) rows (λ cycle. first_place (hits_now s history accesses cycle) log) rows c.with_hits-2.new.best
     (λ cycle late. both_hits s history log accesses cycle) (λ cycle late. refl)
     (c.with_hits-2.ensures s history log known reads rows

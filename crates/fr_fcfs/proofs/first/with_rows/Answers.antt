@@ -2,6 +2,7 @@
 use Rattle.std.proofs.Common.{◌≡◌, ℕ, Bool, true, false, not, ◌&&◌, ◌||◌, Option, None, Some, refl, sym, ap, length, ◌∙◌}
 use Rattle.std.proofs.lemmas.Bool.{and_parts}
 use Rattle.std.specs.Option.{is_some}
+use Rattle.std.proofs.Math.Bool.{or-false}
 use Rattle.sim_base.specs.declared.command.Kind.TheVariants as kind
 use Rattle.queue.specs.Candidates.{first_place}
 use Rattle.queue.specs.Sets.{is_in}
@@ -9,7 +10,6 @@ use Rattle.queue.specs.Stands.{bank_count, candidates_of_bank, row_of_bank}
 use Rattle.fr_fcfs.specs.Offers.{rows_now, rows_beside, row_kind}
 use Rattle.fr_fcfs.proofs.Beside.{beside_all, beside_same, beside_nothing}
 use Rattle.fr_fcfs.proofs.BankMore.{row_none}
-use Rattle.fr_fcfs.proofs.Booleans.{or_false}
 use Rattle.fr_fcfs.proofs.SoFar.{so_far_same}
 use Rattle.fr_fcfs.proofs.first.with_rows.Goals as goal
 
@@ -100,7 +100,7 @@ returns c s history log hits known before =
     let rest =
     so_far_same (length log) now hits (rows_beside s history log accesses (λ k. is_in closed k)) hits (rows_beside s history log accesses (λ k. is_in closed k || false)) c.with_rows_of.new.best
     (λ cycle late. refl)
-    (λ cycle late. beside_same (λ k. is_in closed k) (λ k. is_in closed k || false) (rows_now s history log accesses cycle) log (λ k. sym (or_false (is_in closed k)))) half in
+    (λ cycle late. beside_same (λ k. is_in closed k) (λ k. is_in closed k || false) (rows_now s history log accesses cycle) log (λ k. sym (or-false (is_in closed k)))) half in
     so_far_same (length log) now hits (rows_beside s history log accesses (λ k. false)) hits (λ cycle. first_place (rows_now s history log accesses cycle) log) c.with_rows_of-2.new.best
     (λ cycle late. refl) (λ cycle late. beside_all (λ k. false) (rows_now s history log accesses cycle) log (λ k. refl))
     (c.with_rows_of-2.ensures s history log hits (λ k. false) known (λ k there. refl) rest)

@@ -3,14 +3,13 @@ use Rattle.std.proofs.Common.{ap, ◌∙◌}
 use Rattle.fr_fcfs.specs.Offers.{only, going}
 use Rattle.fr_fcfs.proofs.offers.first_of_one_access.Goals as goal
 
-pub returns-then-access_that_goes-clause-first : goal.returns-then-access_that_goes-clause-first
-returns-then-access_that_goes-clause-first c s history banks bank_candidates high =
+pub returns-in-Read-clause-first : goal.returns-in-Read-clause-first
+returns-in-Read-clause-first c s history banks bank_candidates high =
     let log = c.args.queue.now.log in
-    c.first_of.ensures.first s history banks bank_candidates
-    (c.access_that_goes.ensures s _ high bank_candidates ∙ ap (λ b. going (only b) log) c.if-access_that_goes.true)
+    c.first_of.ensures.first s history banks bank_candidates (c.access_that_goes.ensures s _ high bank_candidates ∙ ap (λ access. going (only access) log) c.in-Read.is)
 
-pub returns-else-access_that_goes-clause-first : goal.returns-else-access_that_goes-clause-first
-returns-else-access_that_goes-clause-first c s history banks bank_candidates high =
+pub returns-in-Write-clause-first : goal.returns-in-Write-clause-first
+returns-in-Write-clause-first c s history banks bank_candidates high =
     let log = c.args.queue.now.log in
-    c.first_of-else-access_that_goes.ensures.first s history banks bank_candidates
-    (c.access_that_goes.ensures s _ high bank_candidates ∙ ap (λ b. going (only b) log) c.if-access_that_goes.false)
+    c.first_of-in-Write.ensures.first s history banks bank_candidates
+    (c.access_that_goes.ensures s _ high bank_candidates ∙ ap (λ access. going (only access) log) c.in-Write.is)

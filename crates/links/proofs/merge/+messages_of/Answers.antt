@@ -3,8 +3,9 @@ use Rattle.std.specs.Prelude.{IfOk}
 use Rattle.std.specs.List.{AllByRecursion as Each}
 use Rattle.sim_base.specs.History.{by_age}
 use Rattle.links.specs.Rings.{contents}
-use Rattle.links.proofs.Merging.{messages_of_halves, messages_of_none, by_age-again, in_order-take, in_order-drop}
+use Rattle.links.proofs.Merging.{messages_of_halves, messages_of_none, in_order-take, in_order-drop}
 use Rattle.links.proofs.merge.+messages_of.Goals as goal
+use Rattle.links.proofs.Ages.{by_age-twice}
 
 pub messages_of-requires : goal.messages_of-requires
 messages_of-requires t c = (
@@ -21,7 +22,7 @@ messages_of-requires-in_default t c = (
 pub merged-requires : goal.merged-requires
 merged-requires t c =
     let e = c.deref-in_default.ensures.value ∙ c.in_ok-second-in_default.ensures in
-    ap by_age e ∙ by_age-again _ ∙ sym e
+    ap by_age e ∙ by_age-twice _ ∙ sym e
 
 pub returns-in-empty : goal.returns-in-empty
 returns-in-empty t c = c.new.ensures.items ∙ messages_of_none _ c.in-empty.len_below

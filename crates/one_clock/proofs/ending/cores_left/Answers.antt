@@ -1,7 +1,8 @@
 -- Each core is where the lists have it.
 use Rattle.std.proofs.Common.{[], ◌∷◌, ◌++◌, sym, ap₂, ◌∙◌}
-use Rattle.one_clock.proofs.Units.{at_unit_of, below_units, map_below_more}
+use Rattle.one_clock.proofs.Units.{at_unit_of, below_units}
 use Rattle.one_clock.proofs.ending.cores_left.Goals as goal
+use Rattle.sim_base.proofs.Lists.{map_below-more}
 
 pub bounds-cores-core : goal.bounds-cores-core
 bounds-cores-core c = below_units _ _ _ _ c.requires.cores c.loop-core-test.true
@@ -13,4 +14,4 @@ pub loop-core-preserved : goal.loop-core-preserved
 loop-core-preserved c =
     (c.in_ok-push.ensures {u = tt}).items
     ∙ ap₂ (λ xs x. xs ++ x ∷ []) c.loop-core.invariant (c.in_ok-core_left.ensures {u = tt})
-    ∙ sym (map_below_more _ c.loop-core.core)
+    ∙ sym (map_below-more _ c.loop-core.core)

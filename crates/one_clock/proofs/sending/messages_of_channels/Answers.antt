@@ -5,16 +5,18 @@ use Rattle.sim_base.specs.declared.trace.Entry.{Entry}
 use Rattle.sim_base.specs.History.{messages_at}
 use Rattle.sim_base.specs.Machine.{run, next_step}
 use Rattle.sim_base.specs.Sends.{channel_sends}
+use Rattle.sim_base.proofs.Spans.{length-run}
+use Rattle.sim_base.proofs.Lists.{flat_map_below-more}
 use Rattle.plain_steps.specs.Plain.{channel_step_of}
 use Rattle.plain_steps.specs.declared.scheduling.ChannelStep.{ChannelStep}
-use Rattle.one_clock.proofs.Next.{channel_step_is, length_run}
-use Rattle.one_clock.proofs.Units.{at_unit_of, below_units, flat_map_below_more}
+use Rattle.one_clock.proofs.Next.{channel_step_is}
+use Rattle.one_clock.proofs.Units.{at_unit_of, below_units}
 use Rattle.one_clock.proofs.sending.messages_of_channels.Goals as goal
 
 sends_of_step : (s : Config) (traces : List (List Entry)) (n k : ℕ) → k < s.channels
     → messages_at s k n (channel_step_of s traces (run s traces n) k).command ≡ channel_sends s (run s traces n) (next_step s traces (run s traces n)) k
 unfolding channel_sends
-sends_of_step s traces n k l = ap₂ (λ m o. messages_at s k m o) (sym (length_run s traces n)) (sym (channel_step_is s traces (run s traces n) k l))
+sends_of_step s traces n k l = ap₂ (λ m o. messages_at s k m o) (sym (length-run s traces n)) (sym (channel_step_is s traces (run s traces n) k l))
 
 pub bounds-steps-channel : goal.bounds-steps-channel
 bounds-steps-channel c = below_units _ _ _ _ c.requires.steps (omega arith)
@@ -29,4 +31,4 @@ loop-channel-preserved c =
     ∙ c.in_ok-more.ensures {u = tt}
     ∙ ap (λ (x : ChannelStep). messages_at c.args.cycle.now.config.now here c.args.cycle.now.number x.command) (at_unit_of _ _ _ here _ c.requires.steps l)
     ∙ sends_of_step c.args.cycle.now.config.now c.args.cycle.now.traces.now c.args.cycle.now.number here l)
-    ∙ sym (flat_map_below_more _ here)
+    ∙ sym (flat_map_below-more _ here)

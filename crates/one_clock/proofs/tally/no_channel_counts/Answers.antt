@@ -1,11 +1,11 @@
 -- One channel more counts nothing.
 use Rattle.std.proofs.Common.{[], ◌∷◌, ◌++◌, sym, ap₂, ◌∙◌}
 use Rattle.one_clock.proofs.Joined.{channel_stats_none}
-use Rattle.one_clock.proofs.Units.{map_below_more}
 use Rattle.one_clock.proofs.tally.no_channel_counts.Goals as goal
+use Rattle.sim_base.proofs.Lists.{map_below-more}
 
 pub loop-channel-preserved : goal.loop-channel-preserved
 loop-channel-preserved c =
     (c.in_ok-push.ensures {u = tt}).items
     ∙ ap₂ (λ xs x. xs ++ x ∷ []) c.loop-channel.invariant (c.no_channel_stats.ensures ∙ channel_stats_none c.args.cycle.now.config.now c.args.cycle.now.traces.now c.args.cycle.now.number c.loop-channel.channel c.requires)
-    ∙ sym (map_below_more _ c.loop-channel.channel)
+    ∙ sym (map_below-more _ c.loop-channel.channel)

@@ -1,4 +1,6 @@
 use Rattle.std.proofs.Common.{◌≡◌, ◌+◌, ◌-◌, ◌<◌, ℕ, Bool, true, false, cond, List, length, get_or, sym, ap, ◌∙◌, arith}
+use Rattle.sim_base.specs.Access.{is_access}
+use Rattle.sim_base.specs.declared.message.Access.TheVariants as access
 use Rattle.queue.specs.declared.request_log.Arrived.{Arrived}
 use Rattle.queue.specs.Log.{absent, waiting_requests, waits_at}
 use Rattle.queue.specs.Columns.{write_count}
@@ -15,13 +17,13 @@ waits : (c : After-serve-unblocked) → waits_at c.self.inside.log.log c.args.sl
 waits c = ap (λ v. waits_at v.log c.args.slot) c.self.view_is ∙ c.requires.waits
 
 -- whether the request is a write
-write_is : (c : After-serve-unblocked) (log : List Arrived) (write : Bool) → log ≡ c.self.inside.log.log → (get_or log c.args.slot absent).request.write ≡ write
-    → cond {A = ℕ} (get_or c.self.inside.log.log c.args.slot absent).request.write 1 0 ≡ cond write 1 0
-write_is c log write same is = ap (λ (l : List Arrived). cond {A = ℕ} (get_or l c.args.slot absent).request.write 1 0) (sym same) ∙ ap (λ b. cond {A = ℕ} b 1 0) is
+write_is : (c : After-serve-unblocked) (log : List Arrived) (write : Bool) → log ≡ c.self.inside.log.log → is_access access.Write (get_or log c.args.slot absent).request.access ≡ write
+    → cond {A = ℕ} (is_access access.Write (get_or c.self.inside.log.log c.args.slot absent).request.access) 1 0 ≡ cond write 1 0
+write_is c log write same is = ap (λ (l : List Arrived). cond {A = ℕ} (is_access access.Write (get_or l c.args.slot absent).request.access) 1 0) (sym same) ∙ ap (λ b. cond {A = ℕ} b 1 0) is
 
 -- the request is served, with these counts of what writes
 served : (c : After-serve-unblocked) (writes : ℕ) (drains : Bool)
-    → writes + cond (get_or c.self.inside.log.log c.args.slot absent).request.write 1 0 ≡ c.self.inside.writes
+    → writes + cond (is_access access.Write (get_or c.self.inside.log.log c.args.slot absent).request.access) 1 0 ≡ c.self.inside.writes
     → drains ≡ drains_by c.self.inside.high c.self.inside.low c.self.inside.drain_decided writes
     → AreKept (record c.self.inside { drains = drains; waiting = c.self.inside.waiting - 1; writes = writes; log = c.serve-unblocked.new.self })
 served c writes drains writes_is drains_is =
@@ -46,21 +48,21 @@ overflow_sub-self whole =
     let c = (goal.at.overflow_sub-self whole).After-serve-unblocked in
     omega (arith, c.self.invariant.waiting_are, length_served c.self.inside.log.log c.args.slot (within c) (waits c))
 
-pub overflow_sub-self-then-write : goal.overflow_sub-self-then-write
-overflow_sub-self-then-write whole =
-    let c = (goal.at.overflow_sub-self-then-write whole).After-serve-unblocked in
-    let one = write_is c whole.log.result.now true whole.log.ensures.log whole.if-write.true in
+pub overflow_sub-self-then-is_access : goal.overflow_sub-self-then-is_access
+overflow_sub-self-then-is_access whole =
+    let c = (goal.at.overflow_sub-self-then-is_access whole).After-serve-unblocked in
+    let one = write_is c whole.log.result.now true whole.log.ensures.log (sym whole.is_access.ensures ∙ whole.if-is_access.true) in
     omega (arith, one, c.self.invariant.writes_are, writes_served c.self.inside.log.log c.args.slot (within c) (waits c))
 
 pub invariant_of-self : goal.invariant_of-self
 invariant_of-self whole =
     let c = (goal.at.invariant_of-self whole).After-serve-unblocked in
-    let one = write_is c whole.log.result.now true whole.log.ensures.log whole.if-write.true in
+    let one = write_is c whole.log.result.now true whole.log.ensures.log (sym whole.is_access.ensures ∙ whole.if-is_access.true) in
     let some = writes_served c.self.inside.log.log c.args.slot (within c) (waits c) in
     served c (c.self.inside.writes - 1) whole.drains-self-inside.result (omega (arith, one, some, c.self.invariant.writes_are)) whole.drains-self-inside.ensures
 
-pub invariant_of-self-else-write : goal.invariant_of-self-else-write
-invariant_of-self-else-write whole =
-    let c = (goal.at.invariant_of-self-else-write whole).After-serve-unblocked in
-    let none = write_is c whole.log.result.now false whole.log.ensures.log whole.if-write.false in
+pub invariant_of-self-else-is_access : goal.invariant_of-self-else-is_access
+invariant_of-self-else-is_access whole =
+    let c = (goal.at.invariant_of-self-else-is_access whole).After-serve-unblocked in
+    let none = write_is c whole.log.result.now false whole.log.ensures.log (sym whole.is_access.ensures ∙ whole.if-is_access.false) in
     served c c.self.inside.writes c.self.inside.drains (omega (arith, none)) c.self.invariant.drains_are

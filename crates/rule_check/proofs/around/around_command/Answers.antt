@@ -13,7 +13,7 @@ use Rattle.rule_check.specs.declared.state.Bank.{Bank}
 use Rattle.rule_check.specs.declared.state.Group.{Group}
 use Rattle.rule_check.specs.declared.state.Rank.{Rank}
 use Rattle.rule_check.specs.declared.state.Channel.{Channel}
-use Rattle.rule_check.proofs.Keeping.{latest_of-nothing}
+use Rattle.rule_check.proofs.Near.{latest_of-nothing}
 use Rattle.rule_check.proofs.around.around_command.Goals as goal
 
 -- the latest of what stands at a place, or of what is new

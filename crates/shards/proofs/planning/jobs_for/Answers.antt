@@ -5,9 +5,9 @@ use Rattle.std.specs.Vec.{vec_len}
 use Rattle.std.specs.Vec.Iter.{into_iter_items}
 use Rattle.std.specs.declared.vec.Vec.{Vec}
 use Rattle.std.specs.declared.alloc.Global.{Global}
-use Rattle.statistics.proofs.Lists.{length-push_suc}
 use Rattle.sim_base.specs.History.{below}
 use Rattle.sim_base.specs.declared.message.Message.{Message}
+use Rattle.sim_base.proofs.Added.{length-push_suc}
 use Rattle.shards.specs.Jobs.{JobView, IsJob, IsOwnJob, job_view}
 use Rattle.shards.specs.Phases.{PhaseView, job_of, name_of}
 use Rattle.shards.specs.declared.job.JobName.{JobName}

@@ -3,8 +3,8 @@ use Rattle.std.proofs.Common.{◌≡◌, ◌∙◌, ◌∷◌, ◌++◌, [], suc
 use Rattle.std.specs.Arc.{arc_value}
 use Rattle.std.specs.declared.vec.Vec.{Vec}
 use Rattle.std.specs.declared.alloc.Global.{Global}
-use Rattle.statistics.proofs.Lists.{length-push_suc}
 use Rattle.sim_base.specs.declared.message.Message.{Message}
+use Rattle.sim_base.proofs.Added.{length-push_suc}
 use Rattle.links.specs.InFlight.{InFlight}
 use Rattle.shards.specs.Lists.{lists_of, with_lists}
 use Rattle.shards.specs.Shards.{IsShard, IsWithin}

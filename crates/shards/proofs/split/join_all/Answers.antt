@@ -1,7 +1,6 @@
 use Rattle.std.proofs.Common.{◌≡◌, ◌+◌, ◌∙◌, ◌∷◌, [], ◌++◌, rules, length, refl, sym, ap, subst, append_assoc, arith}
 use Rattle.std.specs.Arc.{arc_value}
 use Rattle.std.specs.Vec.Iter.{into_iter_items}
-use Rattle.statistics.proofs.Lists.{length-push_suc}
 use Rattle.links.specs.InFlight.{InFlight}
 use Rattle.units.specs.Parts.{StandAt}
 use Rattle.units.specs.Runs.{flight_at}
@@ -11,6 +10,7 @@ use Rattle.wake_words.proofs.Sharing.{among-all}
 use Rattle.shards.proofs.Splitting.{among-nothing, shard-seam}
 use Rattle.units.proofs.Standing.{stand-none, all-yielded}
 use Rattle.shards.proofs.split.join_all.Goals as goal
+use Rattle.sim_base.proofs.Added.{length-push_suc}
 
 pub loop-shard-init : goal.loop-shard-init
 loop-shard-init c =

@@ -1,10 +1,10 @@
 use Rattle.std.proofs.Common.{◌≡◌, ◌+◌, ◌-◌, ◌≤◌, ◌∙◌, suc, drop, length, length-drop, sym, ap, subst, arith}
 use Rattle.std.specs.Arc.{arc_value}
-use Rattle.statistics.proofs.Lists.{length-push_suc}
 use Rattle.shards.specs.Lists.{bound}
 use Rattle.shards.specs.Shards.{IsShard}
 use Rattle.shards.proofs.Splitting.{AreMade, front-count, front-rest, front-waits, made-none, made-push, split-within}
 use Rattle.shards.proofs.split.shards_from.Goals as goal
+use Rattle.sim_base.proofs.Added.{length-push_suc}
 
 pub loop-index-init : goal.loop-index-init
 loop-index-init c =

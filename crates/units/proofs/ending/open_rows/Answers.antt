@@ -1,4 +1,4 @@
-use Rattle.std.proofs.Common.{◌≡◌, ◌<◌, ◌++◌, sym, ap, ◌∙◌, arith}
+use Rattle.std.proofs.Common.{◌≡◌, ◌++◌, sym, ap, ◌∙◌, arith}
 use Rattle.std.specs.Prelude.{filter_map, flat_map}
 use Rattle.sim_base.specs.Final.{banks, banks_of_rank}
 use Rattle.sim_base.specs.History.{below}

@@ -2,7 +2,7 @@ use Rattle.std.proofs.Common.{rules, ◌≡◌, ◌+◌, ◌-◌, ◌<◌, ◌�
 use Rattle.std.specs.Vec.Iter.{into_iter_items}
 use Rattle.laws.specs.Commands.{history_of}
 use Rattle.sim_base.specs.History.{below}
-use Rattle.statistics.proofs.Lists.{length-push_suc}
+use Rattle.sim_base.proofs.Added.{length-push_suc}
 use Rattle.units.specs.Kept.{AreHeld, served_of}
 use Rattle.units.specs.Units.{unit_count}
 use Rattle.units.specs.declared.tables.Kept.{Kept}

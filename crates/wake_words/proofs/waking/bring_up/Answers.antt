@@ -1,12 +1,12 @@
 use Rattle.std.proofs.Common.{rules, ◌≡◌, ◌+◌, ◌∷◌, [], ◌++◌, length, get_or, refl, sym, ap, subst, ◌∙◌, append_assoc, arith}
 use Rattle.std.proofs.Math.Seq.{get_or-append_seam}
-use Rattle.statistics.proofs.Lists.{length-push_suc}
 use Rattle.units.specs.Units.{unit_at}
 use Rattle.units.specs.Parts.{IsPart, StandAt}
 use Rattle.units.proofs.Standing.{seam-within, stand-push}
 use Rattle.wake_words.specs.Wakes.{Waits, sleeper, sleeper_at}
 use Rattle.wake_words.specs.declared.timed_unit.TimedUnit.{TimedUnit}
 use Rattle.wake_words.proofs.waking.bring_up.Goals as goal
+use Rattle.sim_base.proofs.Added.{length-push_suc}
 
 pub brought_up-requires-clause-waits : goal.brought_up-requires-clause-waits
 brought_up-requires-clause-waits c =

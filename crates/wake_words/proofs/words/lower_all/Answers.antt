@@ -1,10 +1,10 @@
 use Rattle.std.proofs.Common.{◌≡◌, ◌+◌, ◌<◌, ◌≤◌, ℕ, true, length, get_or, ◌⊎◌, inl, inr, sym, subst, ◌∙◌, arith}
 use Rattle.std.proofs.lemmas.Bool.{cases_lt}
+use Rattle.std.proofs.lemmas.List.{get_or_default}
 use Rattle.sim_base.specs.History.{is_unit}
 use Rattle.sim_base.specs.declared.message.Message.{Message}
 use Rattle.links.specs.InFlight.{receiver_of}
 use Rattle.units.specs.Units.{unit_at}
-use Rattle.units.proofs.Standing.{same-default}
 use Rattle.wake_words.proofs.words.lower_all.Goals as goal
 
 pub loop-message-preserved : goal.loop-message-preserved
@@ -35,5 +35,5 @@ loop-message-preserved c = record {
         let less : c.loop-message.message-index < length c.args.sent.now = omega (arith, c.loop-message-test.true) in
         let unit : is_unit (receiver_of c.args.config.now.channels (get_or c.args.sent.now c.loop-message.message-index d).link) (unit_at c.args.config.now (c.args.first + k)) ≡ true =
         subst (λ n. is_unit (receiver_of c.args.config.now.channels (get_or c.args.sent.now n d).link) (unit_at c.args.config.now (c.args.first + k)) ≡ true) at to in
-        let here : get_or c.lower.new.words k 0 ≤ (get_or c.args.sent.now c.loop-message.message-index d).arrival = grind (arith, c.lower.ensures.arrival k i, same-default, unit, less) in
+        let here : get_or c.lower.new.words k 0 ≤ (get_or c.args.sent.now c.loop-message.message-index d).arrival = grind (arith, c.lower.ensures.arrival k i, get_or_default, unit, less) in
         subst (λ n. get_or c.lower.new.words k 0 ≤ (get_or c.args.sent.now n d).arrival) (sym at) here

@@ -1,4 +1,4 @@
-use Rattle.std.proofs.Common.{◌≡◌, map, None, string_bytes, refl, ap, sym, subst, ◌∙◌}
+use Rattle.std.proofs.Common.{◌≡◌, map, None, string_bytes, refl, subst, ◌∙◌}
 use Rattle.whole_files.specs.Files.{SameBut}
 use Rattle.whole_files.specs.Tables.{AreRemoved}
 use Rattle.whole_files.proofs.Places.{none-removed, removed-more, outside-removed, all_taken}

@@ -1,6 +1,5 @@
 use Rattle.std.proofs.Common.{refl, sym, subst}
 use Rattle.refusal.specs.Refusals.{IsTornRefusal}
-use Rattle.std.proofs.lemmas.Result.{on_ok_weaker}
 use Rattle.whole_files.proofs.Places.{put, torn, kept_back}
 use Rattle.whole_files.proofs.tables.write_planned.Goals as goal
 

@@ -1,5 +1,5 @@
-use Rattle.std.proofs.Common.{◌≡◌, ◌++◌, map, string_bytes, inr, sym, ap, subst, ◌∙◌}
-use Rattle.whole_files.specs.Tables.{path_in, from_paths, plan_in, other_paths, AreApart, ArePut, AreRemoved, SameOutside, IsLeftUnplaced}
+use Rattle.std.proofs.Common.{◌++◌, map, string_bytes, sym, ap, subst, ◌∙◌}
+use Rattle.whole_files.specs.Tables.{from_paths, AreApart, ArePut, AreRemoved, SameOutside}
 use Rattle.whole_files.specs.Planned.{planned_of}
 use Rattle.whole_files.proofs.Places.{plan-apart, written}
 use Rattle.whole_files.proofs.tables.write_tables.Goals as goal

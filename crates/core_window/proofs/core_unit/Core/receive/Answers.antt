@@ -27,5 +27,5 @@ returns-in-Reply c s core trace steps mail h now due =
 pub returns-in-Credit : goal.returns-in-Credit
 returns-in-Credit c s core trace steps mail h now due =
     let owed = subst (IsDueLoad s core trace steps mail c.args.message.link) c.in-Credit.is due in
-    credit-stands s core trace steps mail c.args.message (view_of c.args.self.now) (view_of c.take_credit_on.new.self) c.in-Credit.write c.in-Credit.entry h now c.in-Credit.is owed
+    credit-stands s core trace steps mail c.args.message (view_of c.args.self.now) (view_of c.take_credit_on.new.self) c.in-Credit.access c.in-Credit.entry h now c.in-Credit.is owed
     c.take_credit_on.ensures.rest c.take_credit_on.ensures.len c.take_credit_on.ensures.credits

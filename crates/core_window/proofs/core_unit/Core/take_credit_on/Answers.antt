@@ -19,8 +19,8 @@ pub returns-clause-credits : goal.returns-clause-credits
 returns-clause-credits c =
     let old = c.args.self.now.credits in
     let new = c.add_credit_at.new.credits in
-    let write = c.args.write in
+    let access = c.args.access in
     let kept : (with_items old new).items ≡ new = with_items_is old new (c.add_credit_at.auto.credits ∙ c.deref_mut.ensures.len) in
-    subst (λ (credits : List Credits). IsCreditedAt (c.args.link / 3 % c.args.self.now.config.channels) write old.items credits) (sym kept)
-    (subst (λ (channel : ℕ). IsCreditedAt channel write old.items new) c.channel_of-channel.ensures
-    (subst (λ (credits : List Credits). IsCreditedAt c.channel_of-channel.result write credits new) c.deref_mut.ensures.value c.add_credit_at.ensures))
+    subst (λ (credits : List Credits). IsCreditedAt (c.args.link / 3 % c.args.self.now.config.channels) access old.items credits) (sym kept)
+    (subst (λ (channel : ℕ). IsCreditedAt channel access old.items new) c.channel_of-channel.ensures
+    (subst (λ (credits : List Credits). IsCreditedAt c.channel_of-channel.result access credits new) c.deref_mut.ensures.value c.add_credit_at.ensures))

@@ -1,5 +1,5 @@
 -- The percentiles of the same values in ascending order.
-use Rattle.std.proofs.Common.{◌≡◌, ◌∙◌, sym, vec_len, length, rules}
+use Rattle.std.proofs.Common.{◌≡◌, ◌∙◌, sym, length, rules}
 use Rattle.std.proofs.lemmas.List.Sorted.{length_permutation}
 use Rattle.measures.specs.Latency.{read_latencies}
 use Rattle.measures.proofs.Ordered.{summary_same}

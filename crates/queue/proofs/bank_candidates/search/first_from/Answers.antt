@@ -15,7 +15,7 @@ never false = refl
 -- none is found where none may be wanted
 pub returns-then-not-may_be_wanted-clause-first : goal.returns-then-not-may_be_wanted-clause-first
 returns-then-not-may_be_wanted-clause-first c before =
-    none_waits (wants c.args.bank c.args.write c.args.row) c.args.log.now.log (c.may_be_wanted.ensures c.if-not-may_be_wanted.true)
+    none_waits (wants c.args.bank c.args.access c.args.row) c.args.log.now.log (c.may_be_wanted.ensures c.if-not-may_be_wanted.true)
 
 pub offset_bounds-arrived-at : goal.offset_bounds-arrived-at
 offset_bounds-arrived-at c =
@@ -45,14 +45,14 @@ returns-then-is_wanted-clause-first c before =
     let at = c.loop-at.at in
     let next = c.in-Some.next in
     let slot = at + next in
-    let test = wants c.args.bank c.args.write c.args.row in
+    let test = wants c.args.bank c.args.access c.args.row in
     let m = c.in-Some.ensures {u = tt} in
     let within : slot < length log = omega (arith, m.0.high, ap length (left_is tags at), length-drop at tags, same_length tags log c.tags-tags.ensures) in
-    let none = none_tagged c.args.bank c.args.write c.args.row log tags _ _ at next c.tags-tags.ensures (left_is tags at) c.tag_word-tag.ensures (c.loop-at.invariant before) m.0.before in
+    let none = none_tagged c.args.bank c.args.access c.args.row log tags _ _ at next c.tags-tags.ensures (left_is tags at) c.tag_word-tag.ensures (c.loop-at.invariant before) m.0.before in
     found_here test log slot within none
     (λ d.
     tested test log c.log-arrived.result.now slot _ c.is_wanted.result d within c.log-arrived.ensures.log c.is_wanted.ensures
-    ∙ ap (λ b. b && c.is_wanted.result) (marked_tag c.args.bank c.args.write log tags _ _ at next c.tags-tags.ensures (left_is tags at) c.tag_word-tag.ensures within m.1)
+    ∙ ap (λ b. b && c.is_wanted.result) (marked_tag c.args.bank c.args.access log tags _ _ at next c.tags-tags.ensures (left_is tags at) c.tag_word-tag.ensures within m.1)
     ∙ c.if-is_wanted.true)
 
 pub loop-at-preserved : goal.loop-at-preserved
@@ -62,9 +62,9 @@ loop-at-preserved c before =
     let at = c.loop-at.at in
     let next = c.in-Some.next in
     let slot = at + next in
-    let test = wants c.args.bank c.args.write c.args.row in
+    let test = wants c.args.bank c.args.access c.args.row in
     let m = c.in-Some.ensures {u = tt} in
-    let none = none_tagged c.args.bank c.args.write c.args.row log tags _ _ at next c.tags-tags.ensures (left_is tags at) c.tag_word-tag.ensures (c.loop-at.invariant before) m.0.before in
+    let none = none_tagged c.args.bank c.args.access c.args.row log tags _ _ at next c.tags-tags.ensures (left_is tags at) c.tag_word-tag.ensures (c.loop-at.invariant before) m.0.before in
     none_more test log slot none
     (λ d within.
     tested test log c.log-arrived.result.now slot _ c.is_wanted.result d within c.log-arrived.ensures.log c.is_wanted.ensures
@@ -77,13 +77,13 @@ returns-in_default-clause-first c before =
     let tags = c.tags-tags.result.now in
     let at = c.loop-at.at in
     let left = take (length tags - at) (drop at tags) in
-    let test = wants c.args.bank c.args.write c.args.row in
+    let test = wants c.args.bank c.args.access c.args.row in
     let none =
-    none_tagged c.args.bank c.args.write c.args.row log tags left _ at (length left) c.tags-tags.ensures (left_is tags at) c.tag_word-tag.ensures (c.loop-at.invariant before)
+    none_tagged c.args.bank c.args.access c.args.row log tags left _ at (length left) c.tags-tags.ensures (left_is tags at) c.tag_word-tag.ensures (c.loop-at.invariant before)
     (c.in_default.ensures {u = tt}) in
     found_none test log (at + length left) (omega (arith, ap length (left_is tags at), length-drop at tags, same_length tags log c.tags-tags.ensures)) none
 
 pub returns-clause-first : goal.returns-clause-first
 returns-clause-first c before =
     let log = c.args.log.now.log in
-    found_none (wants c.args.bank c.args.write c.args.row) log c.loop-at.at (omega (arith, same_length c.tags-tags.result.now log c.tags-tags.ensures)) (c.loop-at.invariant before)
+    found_none (wants c.args.bank c.args.access c.args.row) log c.loop-at.at (omega (arith, same_length c.tags-tags.result.now log c.tags-tags.ensures)) (c.loop-at.invariant before)

@@ -7,14 +7,14 @@ use Rattle.queue.proofs.bank_candidates.search.first_hit.Goals.{else-oldest-arri
 
 pub returns-then-asks_for_row-clause-first : goal.returns-then-asks_for_row-clause-first
 returns-then-asks_for_row-clause-first c is =
-    hit_here c.args.log.now.log c.log-arrived.result.now c.args.oldest c.args.bank c.args.row c.args.write _ (omega (arith, ap length c.log-arrived.ensures.log, c.if-oldest-arrived.true))
+    hit_here c.args.log.now.log c.log-arrived.result.now c.args.oldest c.args.bank c.args.row c.args.access _ (omega (arith, ap length c.log-arrived.ensures.log, c.if-oldest-arrived.true))
     c.log-arrived.ensures.log is (sym c.asks_for_row.ensures ∙ c.if-asks_for_row.true)
 
 pub returns-clause-first : goal.returns-clause-first
 returns-clause-first c is =
     let log = c.args.log.now.log in
     c.first_from.ensures.first
-    (hit_behind log c.args.oldest c.args.bank c.args.row c.args.write is
+    (hit_behind log c.args.oldest c.args.bank c.args.row c.args.access is
     (λ within. elim c.else-oldest-arrived.branch [
       | else-oldest-arrived-via-then-oldest-arrived+else-asks_for_row w ↦
           row_at log c.log-arrived.result.now c.args.oldest _ absent c.args.row within c.log-arrived.ensures.log ∙ sym w.asks_for_row.ensures ∙ w.if-asks_for_row.false

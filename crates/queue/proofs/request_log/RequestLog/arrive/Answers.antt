@@ -2,12 +2,13 @@
 use Rattle.std.proofs.Common.{◌≡◌, ◌+◌, ◌<◌, ◌++◌, ◌∷◌, [], not, cond, List, length, get_or, sym, ap, ◌∙◌, arith}
 use Rattle.std.proofs.lemmas.List.{length_push, length-set, get_or_default}
 use Rattle.sim_base.specs.Scheduling.{asks_for_line}
+use Rattle.sim_base.proofs.Lists.{bit}
 use Rattle.queue.specs.declared.request_log.Arrived.{Arrived}
 use Rattle.queue.specs.Log.{arrived_now, waiting_requests}
 use Rattle.queue.specs.Columns.{slot_of_line, slot_of_row, tag_word, bank_number, tag_column, blocked_count}
 use Rattle.queue.proofs.Tags.{length-tags}
 use Rattle.queue.proofs.TagsChanged.{tag_push, blocked_push}
-use Rattle.queue.proofs.Counted.{none_asks, few_counted, counted_push, requests_push, requests_few, blocked_few, byte_is, byte_small}
+use Rattle.queue.proofs.Counted.{none_asks, few_counted, counted_push, requests_push, requests_few, blocked_few, byte_is}
 use Rattle.queue.proofs.request_log.RequestLog.arrive.Goals as goal
 
 pub is_line_asked-asked-requires-clause-alike : goal.is_line_asked-asked-requires-clause-alike
@@ -48,7 +49,7 @@ overflow_add-others c =
 pub overflow_add-self : goal.overflow_add-self
 overflow_add-self c =
     let k = c.self.invariant in
-    omega (arith, k.within, k.short, k.blocked_are, blocked_few c.self.inside.log.items, c.from.ensures ∙ byte_is c.is_line_asked-asked.result, byte_small c.is_line_asked-asked.result)
+    omega (arith, k.within, k.short, k.blocked_are, blocked_few c.self.inside.log.items, c.from.ensures ∙ byte_is c.is_line_asked-asked.result, bit c.is_line_asked-asked.result)
 
 pub invariant_of-self : goal.invariant_of-self
 invariant_of-self c =
@@ -70,7 +71,7 @@ invariant_of-self c =
     record {
       tags_are =
           c.push_reserved.ensures.items
-          ∙ (λ i. k.tags_are i ++ (c.tag_of.ensures ∙ ap (λ b. tag_word (not b) r.write (bank_number r.place)) asked) i ∷ [])
+          ∙ (λ i. k.tags_are i ++ (c.tag_of.ensures ∙ ap (λ b. tag_word (not b) r.access (bank_number r.place)) asked) i ∷ [])
           ∙ sym (tag_push log r)
           ∙ ap tag_column (sym more);
       blocked_are = (λ i. k.blocked_are i + (c.from.ensures ∙ byte_is c.is_line_asked-asked.result ∙ ap (λ b. cond b 1 0) asked) i) ∙ sym (blocked_push log r) ∙ ap blocked_count (sym more);

@@ -267,7 +267,7 @@ invariant_of-self-2 whole =
     whole.index-4.ensures
     ∙ ap (λ (log : List Arrived). get_or log place whole.index-4.result.now) (log_is c)
     ∙ get_or_default (served_at q.log.items slot) place whole.index-4.result.now absent below in
-    let tag = whole.tag_of.ensures ∙ ap (λ (a : Arrived). tag_word true a.request.write (bank_number a.request.place)) read in
+    let tag = whole.tag_of.ensures ∙ ap (λ (a : Arrived). tag_word true a.request.access (bank_number a.request.place)) read in
     let fewer = blocked_fewer q.log.items slot place (within c) (waits c) mark next in
     left d (with_item (with_item q.tags slot left_tag) place whole.tag_of.result) (q.blocked - 1) (within c) (waits c) (request_is c) (log_is c)
     (tags_next q.log.items q.tags.items slot place whole.tag_of.result (within c) (waits c) mark next c.self.invariant.tags_are tag) refl

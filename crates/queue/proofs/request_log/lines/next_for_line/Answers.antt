@@ -1,5 +1,6 @@
-use Rattle.std.proofs.Common.{◌+◌, ◌-◌, true, false, length, take, drop, ap, ◌∙◌, sym, arith}
+use Rattle.std.proofs.Common.{◌+◌, ◌-◌, length, take, drop, ap, ◌∙◌, sym, arith}
 use Rattle.std.proofs.lemmas.List.{take_rest, length-drop}
+use Rattle.sim_base.specs.declared.message.Access.TheVariants as access
 use Rattle.queue.specs.Columns.{tag_word}
 use Rattle.queue.specs.Lines.{NoneTold}
 use Rattle.queue.proofs.Told.{none_told, none_further}
@@ -12,7 +13,7 @@ returns-in_default c k low high =
     let left = take (length tags - at) (drop at tags) in
     let n = c.bank_number-bank.ensures.number in
     none_told c.args.eligible c.args.place c.args.log.now tags left c.args.from at (length left) c.tag_word-read.result c.tag_word-write.result (take_rest tags at)
-    (c.tag_word-read.ensures ∙ ap (tag_word c.args.eligible false) n) (c.tag_word-write.ensures ∙ ap (tag_word c.args.eligible true) n) c.loop-at.invariant.1
+    (c.tag_word-read.ensures ∙ ap (tag_word c.args.eligible access.Read) n) (c.tag_word-write.ensures ∙ ap (tag_word c.args.eligible access.Write) n) c.loop-at.invariant.1
     (c.in_default.ensures {u = tt}) k low
     (omega (arith, high, c.requires, ap length (take_rest tags at), length-drop at tags))
 
@@ -29,7 +30,7 @@ returns-then-is_for c =
       waits = sym c.is_for.ensures ∙ c.if-is_for.true;
       none_before =
           none_told c.args.eligible c.args.place c.args.log.now tags left c.args.from at c.in-Some.next c.tag_word-read.result c.tag_word-write.result (take_rest tags at)
-          (c.tag_word-read.ensures ∙ ap (tag_word c.args.eligible false) n) (c.tag_word-write.ensures ∙ ap (tag_word c.args.eligible true) n) c.loop-at.invariant.1
+          (c.tag_word-read.ensures ∙ ap (tag_word c.args.eligible access.Read) n) (c.tag_word-write.ensures ∙ ap (tag_word c.args.eligible access.Write) n) c.loop-at.invariant.1
           m.0.before;
     }
 
@@ -43,6 +44,6 @@ loop-at-preserved c =
     let n = c.bank_number-bank.ensures.number in
     let none : NoneTold c.args.eligible c.args.place c.args.log.now tags c.args.from (at + next) =
     none_told c.args.eligible c.args.place c.args.log.now tags left c.args.from at next c.tag_word-read.result c.tag_word-write.result (take_rest tags at)
-    (c.tag_word-read.ensures ∙ ap (tag_word c.args.eligible false) n) (c.tag_word-write.ensures ∙ ap (tag_word c.args.eligible true) n) c.loop-at.invariant.1
+    (c.tag_word-read.ensures ∙ ap (tag_word c.args.eligible access.Read) n) (c.tag_word-write.ensures ∙ ap (tag_word c.args.eligible access.Write) n) c.loop-at.invariant.1
     m.0.before in
     (omega (arith, c.loop-at.invariant.0), none_further c.args.eligible c.args.place c.args.log.now tags c.args.from (at + next) none (sym c.is_for.ensures ∙ c.if-is_for.false))

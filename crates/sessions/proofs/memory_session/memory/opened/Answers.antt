@@ -1,6 +1,5 @@
-use Rattle.std.proofs.Common.{◌≡◌, ◌+◌, ◌++◌, ◌∷◌, [], ◌∙◌, ℕ, length, refl, sym, ap, subst, arith}
+use Rattle.std.proofs.Common.{◌≡◌, ◌+◌, ◌∷◌, [], ◌∙◌, length, refl, sym, ap, subst}
 use Rattle.std.proofs.lemmas.List.{length-append}
-use Rattle.sessions.specs.declared.channel_session.session.Session.{Session}
 use Rattle.sessions.specs.Memories.{IsChannelOf, no_pasts}
 use Rattle.sessions.proofs.Changed.{AreChannels, one-more}
 use Rattle.sessions.proofs.memory_session.memory.opened.Goals as goal

@@ -1,7 +1,6 @@
-use Rattle.std.proofs.Common.{◌≡◌, ◌<◌, ◌≤◌, ◌∙◌, length, get_or, refl, sym, subst, arith}
+use Rattle.std.proofs.Common.{◌≡◌, ◌<◌, ◌∙◌, length, get_or, refl, sym, subst, arith}
 use Rattle.std.proofs.lemmas.List.{get_or_default}
 use Rattle.sessions.specs.Sessions.{IsOpen}
-use Rattle.sessions.specs.declared.channel_session.session.Session.{Session}
 use Rattle.sessions.specs.Memories.{HasRunTo}
 use Rattle.sessions.proofs.Kept.{ran-more, left-more}
 use Rattle.sessions.proofs.memory_session.memory.run_all.Goals as goal

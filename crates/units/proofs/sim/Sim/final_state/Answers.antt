@@ -1,9 +1,7 @@
-use Rattle.std.proofs.Common.{ap, sym, subst, ◌∙◌}
-use Rattle.std.specs.Arc.{arc_value}
+use Rattle.std.proofs.Common.{ap, ◌∙◌}
 use Rattle.links.specs.InFlight.{InFlight}
-use Rattle.units.specs.Parts.{StandAt}
 use Rattle.units.specs.Runs.{each_core_last, each_channel_last}
-use Rattle.units.specs.Views.{SimView, last_now}
+use Rattle.units.specs.Views.{last_now}
 use Rattle.units.specs.declared.machine.Machine.{Machine}
 use Rattle.statistics.specs.Runs.{final_of}
 use Rattle.units.proofs.Ended.{state_of}

@@ -1,4 +1,4 @@
-use Rattle.std.proofs.Common.{◌∙◌, map, sym, ap, ap₂, subst}
+use Rattle.std.proofs.Common.{◌∙◌, sym, ap, ap₂, subst}
 use Rattle.std.specs.Arc.{arc_value}
 use Rattle.statistics.specs.Values.{RunStats}
 use Rattle.units.specs.Parts.{StandAt}

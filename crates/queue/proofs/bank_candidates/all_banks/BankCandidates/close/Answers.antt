@@ -1,5 +1,6 @@
 -- No request is for the open row where none is open.
-use Rattle.std.proofs.Common.{Bool, None, ap, ◌∙◌}
+use Rattle.std.proofs.Common.{None, ap, ◌∙◌}
+use Rattle.sim_base.specs.declared.message.Access.{Access}
 use Rattle.queue.specs.Candidates.{hits, AreFirst, access_number}
 use Rattle.queue.specs.Places.{access_in}
 use Rattle.queue.proofs.OneBank.{never_hits}
@@ -13,10 +14,10 @@ returns-clause-stands c log open_rows stands =
     let number = c.args.number in
     let words = c.close.new.self.words.items in
     let parts = to_parts old log open_rows stands in
-    let own : (write : Bool) → AreFirst log number write None (access_in words (access_number number write)) = λ write. record {
-      oldest_is = ap (λ h. h.oldest) (c.close.ensures.own write) ∙ (parts.first number write c.requires).oldest_is;
-      hit_is = ap (λ h. h.hit) (c.close.ensures.own write) ∙ none_everywhere (hits number write None) log (never_hits number write);
+    let own : (access : Access) → AreFirst log number access None (access_in words (access_number number access)) = λ access. record {
+      oldest_is = ap (λ h. h.oldest) (c.close.ensures.own access) ∙ (parts.first number access c.requires).oldest_is;
+      hit_is = ap (λ h. h.hit) (c.close.ensures.own access) ∙ none_everywhere (hits number access None) log (never_hits number access);
     } in
     from_parts _ log _
-    (row_stand old.rows.items old.places.words.items words log open_rows number None c.requires own (λ other write apart. c.close.ensures.others other write apart) parts)
+    (row_stand old.rows.items old.places.words.items words log open_rows number None c.requires own (λ other access apart. c.close.ensures.others other access apart) parts)
     stands.counts_are

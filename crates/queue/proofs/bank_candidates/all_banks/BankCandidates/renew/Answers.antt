@@ -1,12 +1,14 @@
 -- The candidates of one bank more are found, and then all.
-use Rattle.std.proofs.Common.{◌≡◌, ◌<◌, Bool, true, false, None, get_or, length, sym, ap, subst, ◌∙◌, inl, inr, arith}
-use Rattle.std.proofs.lemmas.Bool.{cases_lt, false≢true}
+use Rattle.std.proofs.Common.{◌≡◌, ◌<◌, None, get_or, length, sym, ap, subst, ◌∙◌, inl, inr, arith}
+use Rattle.std.proofs.lemmas.Bool.{cases_lt}
 use Rattle.std.proofs.lemmas.List.{get_or_default}
+use Rattle.sim_base.specs.declared.message.Access.TheVariants as access
+use Rattle.sim_base.specs.declared.message.Access.{Access}
 use Rattle.queue.specs.Log.{waiting_requests}
 use Rattle.queue.specs.Candidates.{AreFirst, access_number}
 use Rattle.queue.specs.Places.{access_in}
 use Rattle.queue.proofs.BankCandidatesCounted.{AreCounted}
-use Rattle.queue.proofs.OneBank.{access_bank, access_write}
+use Rattle.queue.proofs.OneBank.{number_bank, numbers_apart}
 use Rattle.queue.proofs.Stood.{AreStanding, to_parts, from_parts, renewed_stand, counted_waiting}
 use Rattle.queue.proofs.bank_candidates.all_banks.BankCandidates.renew.Goals as goal
 
@@ -21,24 +23,24 @@ loop-bank-preserved c =
     let row = c.index-row.result.now in
     let exists : number < length rows = omega (arith, ap length c.loop-bank.invariant.rows, c.len-bank-end.ensures) in
     let row_is : row ≡ get_or rows number None = c.index-row.ensures ∙ get_or_default rows number row None exists in
-    let reads : AreFirst log number false row (access_in now (access_number number false)) =
-    subst (AreFirst log number false row) (sym (c.renew-in-loop-bank.ensures.others (access_number number false) (λ e. false≢true (access_write number number false true e)))) c.renew.ensures.own in
-    let own : (write : Bool) → AreFirst log number write row (access_in now (access_number number write)) =
-    λ write. elim write as (λ w. AreFirst log number w row (access_in now (access_number number w))) [ true ↦ c.renew-in-loop-bank.ensures.own | false ↦ reads ] in
+    let reads : AreFirst log number access.Read row (access_in now (access_number number access.Read)) =
+    subst (AreFirst log number access.Read row) (sym (c.renew-in-loop-bank.ensures.others (access_number number access.Read) (numbers_apart number))) c.renew.ensures.own in
+    let own : (access : Access) → AreFirst log number access row (access_in now (access_number number access)) =
+    λ a. elim a as (λ w. AreFirst log number w row (access_in now (access_number number w))) [ access.Write ↦ c.renew-in-loop-bank.ensures.own | access.Read ↦ reads ] in
     record {
       rows = c.loop-bank.invariant.rows;
       counts = c.loop-bank.invariant.counts;
-      found = λ bank write below. elim (cases_lt bank number) [
+      found = λ bank a below. elim (cases_lt bank number) [
         | inl sooner ↦
             let apart : bank ≡ number → ⊥ = λ same. omega arith in
-            subst (AreFirst log bank write (get_or rows bank None))
-            (sym (c.renew-in-loop-bank.ensures.others (access_number bank write) (λ e. apart (access_bank bank number write true e))
-            ∙ c.renew.ensures.others (access_number bank write) (λ e. apart (access_bank bank number write false e))))
-            (c.loop-bank.invariant.found bank write sooner)
+            subst (AreFirst log bank a (get_or rows bank None))
+            (sym (c.renew-in-loop-bank.ensures.others (access_number bank a) (λ e. apart (number_bank bank number a access.Write e))
+            ∙ c.renew.ensures.others (access_number bank a) (λ e. apart (number_bank bank number a access.Read e))))
+            (c.loop-bank.invariant.found bank a sooner)
         | inr late ↦
             let same : number ≡ bank = omega arith in
-            subst (λ n. AreFirst log n write (get_or rows n None) (access_in now (access_number n write))) same
-            (subst (λ o. AreFirst log number write o (access_in now (access_number number write))) row_is (own write))
+            subst (λ n. AreFirst log n a (get_or rows n None) (access_in now (access_number n a))) same
+            (subst (λ o. AreFirst log number a o (access_in now (access_number number a))) row_is (own a))
       ];
     }
 
@@ -51,5 +53,5 @@ returns-clause-stands c earlier open_rows log_is stands =
     let parts : AreStanding new.rows.items was earlier open_rows = subst (λ rows. AreStanding rows was earlier open_rows) (sym c.loop-bank.invariant.rows) (to_parts old earlier open_rows stands) in
     from_parts new log open_rows
     (renewed_stand new.rows.items was new.places.words.items earlier log open_rows log_is
-    (λ bank write exists. c.loop-bank.invariant.found bank write (omega (arith, exists, ap length c.loop-bank.invariant.rows, c.len-bank-end.ensures))) parts)
+    (λ bank access exists. c.loop-bank.invariant.found bank access (omega (arith, exists, ap length c.loop-bank.invariant.rows, c.len-bank-end.ensures))) parts)
     (subst (λ counts. AreCounted counts (waiting_requests log)) (sym c.loop-bank.invariant.counts) (counted_waiting old.counts.items earlier log log_is stands.counts_are))

@@ -8,4 +8,4 @@ pub returns : goal.returns
 returns c bank =
     let places = c.args.self.now in
     places.agree bank c.column.result _ c.column.ensures.few
-    ∙ ap (λ n. is_some (candidate_of (get_or places.words.items n 0))) (ap (λ n. 4 * bank + n) c.column.ensures.value ∙ index_is bank c.args.write c.args.hit)
+    ∙ ap (λ n. is_some (candidate_of (get_or places.words.items n 0))) (ap (λ n. 4 * bank + n) c.column.ensures.value ∙ index_is bank c.args.access c.args.hit)

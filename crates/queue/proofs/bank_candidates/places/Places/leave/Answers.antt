@@ -1,5 +1,6 @@
 -- Where none is left there is no candidate, and else each is the first with the one that may be served now.
-use Rattle.std.proofs.Common.{◌≡◌, ℕ, ◌+◌, ◌≢◌, Bool, List, Option, Some, None, sym, ◌∙◌}
+use Rattle.std.proofs.Common.{◌≡◌, ℕ, ◌+◌, ◌≢◌, List, Option, Some, None, sym, ◌∙◌}
+use Rattle.sim_base.specs.declared.message.Access.{Access}
 use Rattle.queue.specs.declared.request_log.Arrived.{Arrived}
 use Rattle.queue.specs.Candidates.{asks, hits, wants, first_place}
 use Rattle.queue.specs.Moves.{earlier, NoneBefore}
@@ -11,35 +12,35 @@ use Rattle.queue.proofs.BankCandidatesServed.{left_candidate, no_candidate}
 use Rattle.queue.proofs.bank_candidates.places.Places.leave.Goals as goal
 
 -- the first hit that is left: no request hits where no row is open
-left_hit : (bank : ℕ) (write : Bool) (row : Option ℕ) (was log : List Arrived) (slot : ℕ) (unblocked : Option ℕ) (old new : Option ℕ) → IsServed was slot unblocked log
-    → old ≡ first_place (hits bank write row) was → (old ≢ Some slot → new ≡ old)
-    → (old ≡ Some slot → NoneBefore (wants bank write row) log (slot + 1) → new ≡ first_place (wants bank write row) log)
-    → earlier new (passing (hits bank write row) log unblocked) ≡ first_place (hits bank write row) log
-left_hit bank write None was log slot unblocked old new served is kept found =
-    let never : None ≡ old = none_everywhere (hits bank write None) was (never_hits bank write) ∙ sym is in
-    left_candidate (hits bank write None) was log slot unblocked old new served is kept (λ there. absurd (cc (never ∙ there)))
-left_hit bank write (Some row) was log slot unblocked old new served is kept found =
-    left_candidate (hits bank write (Some row)) was log slot unblocked old new served is kept found
+left_hit : (bank : ℕ) (access : Access) (row : Option ℕ) (was log : List Arrived) (slot : ℕ) (unblocked : Option ℕ) (old new : Option ℕ) → IsServed was slot unblocked log
+    → old ≡ first_place (hits bank access row) was → (old ≢ Some slot → new ≡ old)
+    → (old ≡ Some slot → NoneBefore (wants bank access row) log (slot + 1) → new ≡ first_place (wants bank access row) log)
+    → earlier new (passing (hits bank access row) log unblocked) ≡ first_place (hits bank access row) log
+left_hit bank access None was log slot unblocked old new served is kept found =
+    let never : None ≡ old = none_everywhere (hits bank access None) was (never_hits bank access) ∙ sym is in
+    left_candidate (hits bank access None) was log slot unblocked old new served is kept (λ there. absurd (cc (never ∙ there)))
+left_hit bank access (Some row) was log slot unblocked old new served is kept found =
+    left_candidate (hits bank access (Some row)) was log slot unblocked old new served is kept found
 
 pub returns-then-departure-clause-own : goal.returns-then-departure-clause-own
 returns-then-departure-clause-own c was unblocked served empty first =
     let bank = c.args.departure.bank in
-    let write = c.args.departure.write in
+    let access = c.args.departure.access in
     let row = c.args.row in
     let log = c.args.log.now.log in
     let slot = c.args.departure.slot in
-    let none = no_first log bank write (empty c.if-departure.true) in
+    let none = no_first log bank access (empty c.if-departure.true) in
     record {
-      oldest_is = no_candidate (asks bank write) was log slot unblocked _ served (c.set-then-departure.ensures.beside ∙ c.set.ensures.same) none;
+      oldest_is = no_candidate (asks bank access) was log slot unblocked _ served (c.set-then-departure.ensures.beside ∙ c.set.ensures.same) none;
       hit_is =
-          no_candidate (hits bank write row) was log slot unblocked _ served c.set-then-departure.ensures.same
-          (none_narrower_all (hits bank write row) (asks bank write) log (hits_narrower bank write row) none);
+          no_candidate (hits bank access row) was log slot unblocked _ served c.set-then-departure.ensures.same
+          (none_narrower_all (hits bank access row) (asks bank access) log (hits_narrower bank access row) none);
     }
 
 pub returns-clause-own : goal.returns-clause-own
 returns-clause-own c was unblocked served empty first =
     let bank = c.args.departure.bank in
-    let write = c.args.departure.write in
+    let access = c.args.departure.access in
     let row = c.args.row in
     let log = c.args.log.now.log in
     let slot = c.args.departure.slot in
@@ -47,8 +48,8 @@ returns-clause-own c was unblocked served empty first =
     let hit = c.replace-2.ensures in
     record {
       oldest_is =
-          left_candidate (asks bank write) was log slot unblocked _ _ served first.oldest_is (λ apart. hit.beside ∙ oldest.kept apart)
+          left_candidate (asks bank access) was log slot unblocked _ _ served first.oldest_is (λ apart. hit.beside ∙ oldest.kept apart)
           (λ there none. hit.beside ∙ oldest.found there none);
       hit_is =
-          left_hit bank write row was log slot unblocked _ _ served (oldest.beside ∙ first.hit_is) hit.kept hit.found;
+          left_hit bank access row was log slot unblocked _ _ served (oldest.beside ∙ first.hit_is) hit.kept hit.found;
     }

@@ -9,11 +9,11 @@ pub returns-in_default-clause-own : goal.returns-in_default-clause-own
 returns-in_default-clause-own c old first =
     let log = c.args.log.now.log in
     let bank = c.args.bank in
-    let write = c.args.write in
-    let none : None ≡ first_place (asks bank write) log = sym c.in_default.is ∙ c.candidate.ensures.candidate ∙ first.oldest_is in
+    let access = c.args.access in
+    let none : None ≡ first_place (asks bank access) log = sym c.in_default.is ∙ c.candidate.ensures.candidate ∙ first.oldest_is in
     record {
       oldest_is = first.oldest_is;
       hit_is =
-          first.hit_is ∙ sym (none_narrower_all (hits bank write old) (asks bank write) log (hits_narrower bank write old) none)
-          ∙ none_narrower_all (hits bank write (Some c.args.row)) (asks bank write) log (hits_narrower bank write (Some c.args.row)) none;
+          first.hit_is ∙ sym (none_narrower_all (hits bank access old) (asks bank access) log (hits_narrower bank access old) none)
+          ∙ none_narrower_all (hits bank access (Some c.args.row)) (asks bank access) log (hits_narrower bank access (Some c.args.row)) none;
     }

@@ -35,18 +35,18 @@ pub returns-clause-same : goal.returns-clause-same
 returns-clause-same c =
     let words = c.args.self.now.words.items in
     let bank = c.args.bank in
-    (λ i. candidate_in (set words (4 * bank + c.column-column.ensures.value i) (c.word_of.ensures i)) (access_number bank c.args.write) c.args.hit)
-    ∙ read_same words bank c.args.write c.args.hit c.args.candidate c.requires.bank
+    (λ i. candidate_in (set words (4 * bank + c.column-column.ensures.value i) (c.word_of.ensures i)) (access_number bank c.args.access) c.args.hit)
+    ∙ read_same words bank c.args.access c.args.hit c.args.candidate c.requires.bank
 
 pub returns-clause-beside : goal.returns-clause-beside
 returns-clause-beside c =
     let words = c.args.self.now.words.items in
-    let access = access_number c.args.bank c.args.write in
-    (λ i. candidate_in (set words (4 * c.args.bank + c.column-column.ensures.value i) c.word_of.result) access (not c.args.hit))
-    ∙ read_beside words c.args.bank c.args.write c.args.hit c.word_of.result
+    let number = access_number c.args.bank c.args.access in
+    (λ i. candidate_in (set words (4 * c.args.bank + c.column-column.ensures.value i) c.word_of.result) number (not c.args.hit))
+    ∙ read_beside words c.args.bank c.args.access c.args.hit c.word_of.result
 
 pub returns-clause-others : goal.returns-clause-others
-returns-clause-others c access apart =
+returns-clause-others c number apart =
     let words = c.args.self.now.words.items in
-    (λ i. access_in (set words (4 * c.args.bank + c.column-column.ensures.value i) c.word_of.result) access)
-    ∙ read_other words c.args.bank c.args.write c.args.hit c.word_of.result access apart
+    (λ i. access_in (set words (4 * c.args.bank + c.column-column.ensures.value i) c.word_of.result) number)
+    ∙ read_other words c.args.bank c.args.access c.args.hit c.word_of.result number apart

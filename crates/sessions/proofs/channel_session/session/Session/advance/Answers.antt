@@ -1,4 +1,4 @@
-use Rattle.std.proofs.Common.{◌≡◌, ◌++◌, ◌∙◌, take, drop, refl, sym, subst, ap}
+use Rattle.std.proofs.Common.{◌≡◌, ◌∙◌, take, drop, refl, sym, subst, ap}
 use Rattle.channel_step.specs.Fit.{IsFit}
 use Rattle.channel_step.specs.Runs.{CanRun, IsDone}
 use Rattle.sessions.specs.Keeps.{steps_of}

@@ -1,5 +1,4 @@
 -- The earliest of the channels so far.
-use Rattle.std.proofs.Common.{ℕ}
 use Rattle.sessions.specs.Earliest.{IsEarliest}
 use Rattle.sessions.specs.Memories.{Pasts, IsMemory, command_cycles}
 use Rattle.sessions.proofs.memory_session.memory.MemorySession.first_command.Given as goal

@@ -2,7 +2,6 @@ use Rattle.std.proofs.Common.{◌≡◌, ◌+◌, ◌<◌, ◌∙◌, length, sy
 use Rattle.std.specs.Prelude.{slice_set}
 use Rattle.std.proofs.lemmas.List.{set-get_or}
 use Rattle.sessions.specs.Ahead.{IsNextAct}
-use Rattle.sessions.specs.Sessions.{IsOpen}
 use Rattle.sessions.specs.Memories.{IsNextActOf}
 use Rattle.sessions.proofs.Acts.{acts-next}
 use Rattle.sessions.proofs.Kept.{channel-in, same-memory}

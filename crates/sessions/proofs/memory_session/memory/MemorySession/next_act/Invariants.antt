@@ -1,5 +1,5 @@
 -- The next cycle in which one of the channels so far acts; none is changed.
-use Rattle.std.proofs.Common.{◌≡◌, ℕ}
+use Rattle.std.proofs.Common.{◌≡◌}
 use Rattle.sessions.specs.Memories.{Pasts, IsMemory, IsNextActOf}
 use Rattle.sessions.proofs.memory_session.memory.MemorySession.next_act.Given as goal
 

@@ -1,7 +1,7 @@
 //! The states in which small runs end, found by hand.
 
 use crate::written::{Report, assert_report};
-use sim_base::message::{Load, Message, Request};
+use sim_base::message::{Access, Load, Message, Request};
 use sim_base::place::{BankId, Place};
 use statistics::final_state::{ChannelState, CoreState, Credits, FinalState, OpenRow};
 use std::alloc::Global;
@@ -22,7 +22,7 @@ const OTHER: BankId = BankId {
 const READ: Request = Request {
     core: 0,
     entry: 0,
-    write: false,
+    access: Access::Read,
     address: 0,
     place: Place {
         channel: 0,
@@ -40,7 +40,7 @@ const READ: Request = Request {
 const WRITE: Request = Request {
     core: 1,
     entry: 9,
-    write: true,
+    access: Access::Write,
     address: 18446744073709551615,
     place: Place {
         channel: 1,
@@ -196,7 +196,7 @@ const RANKS: Case<'static> = Case {
             link: 5,
             arrival: 50,
             load: Load::Credit {
-                write: false,
+                access: Access::Read,
                 entry: 3,
             },
         },
@@ -209,7 +209,7 @@ const RANKS: Case<'static> = Case {
             link: 8,
             arrival: 51,
             load: Load::Credit {
-                write: true,
+                access: Access::Write,
                 entry: 4,
             },
         },
