@@ -1,12 +1,12 @@
 -- Where a field stands in a line's number: behind as many bits as the fields before it take.
-use Rattle.std.proofs.Common.{◌≡◌, ℕ, suc, ◌+◌, ◌-◌, ◌*◌, ◌/◌, ◌%◌, ◌^◌, ◌<◌, ◌≤◌, true, false, [], ◌∷◌, length, get_or, drop, refl, add-one, drop-cons, arith, ◌∙◌, sym, ap, ⊎_elim}
+use Rattle.std.proofs.Common.{◌≡◌, ℕ, suc, ◌+◌, ◌-◌, ◌/◌, ◌%◌, ◌^◌, ◌<◌, ◌≤◌, true, false, [], ◌∷◌, length, get_or, drop, refl, add-one, drop-cons, arith, ◌∙◌, sym, ap, ⊎_elim}
 use Rattle.std.specs.Prelude.{IsTrue, bit_and}
 use Rattle.std.specs.Int.{is_power_of_two}
 use Rattle.std.specs.Int.Count.{ones}
 use Rattle.std.proofs.Math.ListN.{drop_of_length-le}
-use Rattle.std.proofs.lemmas.Bool.{eqb-true, cases_lt}
+use Rattle.std.proofs.lemmas.Bool.{cases_lt}
 use Rattle.std.proofs.lemmas.List.Sums.{sum_by-cons}
-use Rattle.std.proofs.lemmas.Nat.{ones_cat, zero_from_ones, and_mask, and_le_r, shr-shr, pow_below}
+use Rattle.std.proofs.lemmas.Nat.{and_mask, and_le_r, shr-shr, pow_below}
 use Rattle.sim_base.specs.declared.config.Config.{Config}
 use Rattle.sim_base.specs.declared.place.Field.{Field}
 use Rattle.sim_base.specs.declared.place.Field.TheVariants.{Channel, Column, Rank, Group, Bank, Row}
@@ -15,21 +15,6 @@ use Rattle.sim_base.specs.Places.{digit_of, field_size}
 use Rattle.address_map.proofs.Fields.{is_field-same}
 use Rattle.address_map.proofs.Joined.{width_of, width_of_all, width_of_all-most, field_size-room}
 use Rattle.address_map.proofs.Peeled.{digit_of-here, digit_of-later}
-
-ones-one : ones 1 ≡ 1
-unfolding ones
-ones-one = refl
-
--- a power of two by the place of its highest bit
-pub power_from_log : (n r : ℕ) → IsTrue (is_power_of_two n) → 2 ^ r ≤ n → n < 2 * 2 ^ r → n ≡ 2 ^ r
-power_from_log n r power low high =
-    let q : ℕ = n - 2 ^ r in
-    let e : n ≡ 1 * 2 ^ r + q = omega arith in
-    let cat : ones (1 * 2 ^ r + q) ≡ ones 1 + ones q = ones_cat r 1 q (omega arith) in
-    let all : ones n ≡ 1 = eqb-true (ones n) 1 power in
-    let none : ones q ≡ 0 = omega (arith, ap ones e, cat, all, ones-one) in
-    let zero_left : q ≡ 0 = zero_from_ones q none in
-    omega arith
 
 pub is_power : (s : Config) (f : Field) → IsTrue (is_power_of_two (field_size s f))
 unfolding ones

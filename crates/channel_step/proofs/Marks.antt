@@ -7,15 +7,14 @@ use Rattle.std.proofs.Math.Bool.{or-false}
 use Rattle.sim_base.proofs.Ordered.{Each-weaker}
 use Rattle.sim_base.specs.Counts.{is_act_for, is_hit}
 use Rattle.sim_base.specs.Places.{bank_in}
-use Rattle.sim_base.specs.Scheduling.{is_source, source_of, serves, column_command_to, column_command}
+use Rattle.sim_base.specs.Scheduling.{is_source, source_of, serves, column_command}
 use Rattle.sim_base.specs.declared.command.Command.{Command}
 use Rattle.sim_base.specs.declared.command.Command.TheVariants.{Act, Rd, Wr, Pre, Prea, Ref}
 use Rattle.sim_base.specs.declared.command.IssuedCommand.{IssuedCommand}
 use Rattle.sim_base.specs.declared.command.Source.{Source}
-use Rattle.sim_base.specs.declared.message.Access.{Access}
-use Rattle.sim_base.specs.declared.message.Access.TheVariants as access
 use Rattle.sim_base.specs.declared.message.Request.{Request}
 use Rattle.sim_base.specs.declared.place.BankId.{BankId}
+use Rattle.sim_base.proofs.Accesses.{column_both}
 use Rattle.sim_base.proofs.Each.{Each-all}
 use Rattle.sim_base.proofs.Lists.{filter-each, filter-agree}
 use Rattle.channel_step.specs.Past.{Differ, is_named}
@@ -85,11 +84,7 @@ marks-act history i rs bank row source e =
 -- what holds of its RD and of its WR holds of the command that moves the data of a request
 pub column_either : (P : Command → Type 0) (r : Request) → P (Rd (bank_in r.place) r.place.row r.place.column (source_of r)) → P (Wr (bank_in r.place) r.place.row r.place.column (source_of r))
     → P (column_command r)
-column_either P r rd wr = of r.access
-  where
-    of : (access : Access) → P (column_command_to access (bank_in r.place) r.place.row r.place.column (source_of r))
-    of access.Read = rd
-    of access.Write = wr
+column_either P r rd wr = column_both P r.access _ _ _ _ (λ f. rd) (λ f. wr)
 
 -- a command that moves the data of a request serves the requests of its entry
 pub serves-column : (q r : Request) → serves q (column_command r) ≡ is_source q (source_of r)

@@ -5,6 +5,7 @@ use Rattle.std.proofs.lemmas.Bool.{cond-true, cond-false, eqb-true, eqb-false, e
 use Rattle.std.proofs.lemmas.List.Elements.{All-from_get_or, recursion_from_All}
 use Rattle.sim_base.specs.declared.command.IssuedCommand.{IssuedCommand}
 use Rattle.sim_base.proofs.Each.{Each-filter}
+use Rattle.sim_base.proofs.Lists.{nonempty, heads, tails}
 use Rattle.command_table.specs.Tables.{IsRising, rows_in, HaveSameCycles, put, by_cycle}
 
 -- no row is of an earlier cycle than one before it
@@ -24,15 +25,6 @@ own-cycle x xs k e = cond-true _ _ _ (eq-eqb x.cycle k e)
 
 pub other-cycle : (x : IssuedCommand) (xs : List IssuedCommand) (k : ℕ) → (x.cycle ≡ k → ⊥) → rows_in k (x ∷ xs) ≡ rows_in k xs
 other-cycle x xs k e = cond-false _ _ _ (ne_eqb x.cycle k e)
-
-nonempty : (x : IssuedCommand) (xs : List IssuedCommand) → [] ≡ x ∷ xs → ⊥
-nonempty x xs e = cc
-
-heads : (x y : IssuedCommand) (xs ys : List IssuedCommand) → x ∷ xs ≡ y ∷ ys → x ≡ y
-heads x y xs ys e = cc
-
-tails : (x y : IssuedCommand) (xs ys : List IssuedCommand) → x ∷ xs ≡ y ∷ ys → xs ≡ ys
-tails x y xs ys e = cc
 
 -- a row that is among those of one cycle of others is no earlier than what none of these is earlier than
 among : (x y : IssuedCommand) (ys rest : List IssuedCommand) (k : ℕ) → Each (λ (z : IssuedCommand). y.cycle ≤ z.cycle) ys → x ∷ rest ≡ rows_in k ys → y.cycle ≤ x.cycle

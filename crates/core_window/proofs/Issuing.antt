@@ -35,7 +35,8 @@ use Rattle.core_window.specs.Stands.{FollowsItsEntry, credits_had, credits_spent
 use Rattle.core_window.specs.OneCycle.{IsAmong, IsIssued, reads_issued, requests_issued, less_credit, credit_after_entry, credit_after}
 use Rattle.core_window.specs.Outstanding.{is_read_in, is_read_at, is_answered, outstanding_read, outstanding_reads}
 use Rattle.core_window.proofs.Ranges.{range-add, filter_map_range-more, filter_map_range-same, filter_map_range-none, prefix_len_range}
-use Rattle.core_window.proofs.Segments.{request_at, requests_between_none, requests_between_more, one_of_segment}
+use Rattle.sim_base.proofs.Requested.{requests_between_none, requests_between_more}
+use Rattle.core_window.proofs.Segments.{request_at, one_of_segment}
 
 -- the other entries that issue are Plain
 pub plain_others : (trace : List Entry) (first m : ℕ) (e : MemoryEntry) → IsAmong trace first m e → (k : ℕ) → k < m → (first + k ≡ e.number → ⊥) → slice_get trace (first + k) ≡ Some Plain

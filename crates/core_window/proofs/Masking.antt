@@ -4,7 +4,7 @@ use Rattle.std.specs.Prelude.{IsTrue, bit_and}
 use Rattle.std.specs.Int.{is_power_of_two}
 use Rattle.std.proofs.Math.Nat.{pow-succ'}
 use Rattle.std.proofs.lemmas.Nat.{and_mask, leading_top}
-use Rattle.address_map.proofs.Shifted.{power_from_log}
+use Rattle.sim_base.proofs.Powers.{power_from_log}
 
 pub masked : (n x : ℕ) → 0 < n → n < 2 ^ 32 → IsTrue (is_power_of_two n) → bit_and x (n - 1) ≡ x % n
 masked n x positive small power =

@@ -52,19 +52,19 @@ issued-within s core trace steps mail l (suc n) =
     omega (arith, issues-le s core trace before mail (issued-within s core trace steps mail l n), issued_before-push before (step s core trace before mail).0)
 
 -- where none but Plain entries are issued, nothing is sent
-silent-by : (s : Config) (core : ℕ) (trace : List Entry) (steps : List CoreStep) (mail : List Message) (one n : ℕ) → IsPlainBetween trace (issued_before steps) one
-    → ((m : ℕ) → m ≤ n → issued_before (core_run s core trace steps mail m) ≤ one)
+silent-by : (s : Config) (core : ℕ) (trace : List Entry) (steps : List CoreStep) (mail : List Message) (first_at n : ℕ) → IsPlainBetween trace (issued_before steps) first_at
+    → ((m : ℕ) → m ≤ n → issued_before (core_run s core trace steps mail m) ≤ first_at)
     → core_messages s core trace (core_run s core trace steps mail n) ≡ core_messages s core trace steps
 unfolding core_run
-silent-by s core trace steps mail one zero plain within = refl
-silent-by s core trace steps mail one (suc n) plain within =
+silent-by s core trace steps mail first_at zero plain within = refl
+silent-by s core trace steps mail first_at (suc n) plain within =
     let before = core_run s core trace steps mail n in
     let core_step = (step s core trace before mail).0 in
     let more = issued-more s core trace steps mail n in
-    let l : issued_before before + core_step.issued ≤ one = omega (arith, within (suc n) (omega arith), issued_before-push before core_step) in
+    let l : issued_before before + core_step.issued ≤ first_at = omega (arith, within (suc n) (omega arith), issued_before-push before core_step) in
     messages-push s core trace before core_step None (λ k from to. plain k (omega arith) (omega arith))
     ∙ append-nil (core_messages s core trace before)
-    ∙ silent-by s core trace steps mail one n plain (λ m k. within m (omega arith))
+    ∙ silent-by s core trace steps mail first_at n plain (λ m k. within m (omega arith))
 
 idle-issued : (steps : List CoreStep) (n : ℕ) → issued_before (steps ++ replicate n idle_step) ≡ issued_before steps
 idle-issued steps zero = ap issued_before (append-nil steps)
@@ -80,29 +80,29 @@ rest-silent s core trace steps mail until h n l =
     (λ m k. let e : issued_before (core_run s core trace steps mail m) ≡ issued_before steps = ap issued_before (h.rests m) ∙ idle-issued steps m in omega (arith, e))
 
 -- a core sends nothing in the cycles that it takes to issue the Plain entries before its next Read or Write, each cycle its width of them
-pub plain-silent : (a : CoreView) (one two cycles until : ℕ) (entry : Entry) → IsSeen a.trace a.stats.issued one two entry
-    → (one < length a.trace → a.stats.issued + cycles * a.config.width ≤ one) → until ≤ a.now + cycles
+pub plain-silent : (a : CoreView) (first_at second_at cycles until : ℕ) (entry : Entry) → IsSeen a.trace a.stats.issued first_at second_at entry
+    → (first_at < length a.trace → a.stats.issued + cycles * a.config.width ≤ first_at) → until ≤ a.now + cycles
     → (s : Config) (core : ℕ) (trace : List Entry) (steps : List CoreStep) (mail : List Message) → StandsFor s core trace steps mail a → IsSilentUntil s core trace steps mail until
-plain-silent a one two cycles until entry seen few near s core trace steps mail h n l =
-    silent-by s core trace steps mail one n moved.0.ahead.first.is_plain_before (λ m k. bound m (omega (arith, here.now)))
+plain-silent a first_at second_at cycles until entry seen few near s core trace steps mail h n l =
+    silent-by s core trace steps mail first_at n moved.0.ahead.first.is_plain_before (λ m k. bound m (omega (arith, here.now)))
   where
     here : StandsAt s core trace steps mail a
     here = stands-at s core trace steps mail a h
 
     Few : Config → List Entry → ℕ → Type 0
-    Few c t i = IsSeen t i one two entry × (one < length t → i + cycles * c.width ≤ one)
+    Few c t i = IsSeen t i first_at second_at entry × (first_at < length t → i + cycles * c.width ≤ first_at)
 
     moved : Few s trace (issued_before steps)
     moved =
         subst (λ i. Few s trace i) (issued_of s core trace steps mail a here)
         (subst (λ t. Few s t a.stats.issued) here.entries (subst (λ c. Few c a.trace a.stats.issued) here.config (seen, few)))
 
-    more : (m : ℕ) → m ≤ cycles → issued_before steps + cycles * s.width ≤ one → issued_before (core_run s core trace steps mail m) ≤ issued_before steps + m * s.width → issued_before (core_run s core trace steps mail m) ≤ one
+    more : (m : ℕ) → m ≤ cycles → issued_before steps + cycles * s.width ≤ first_at → issued_before (core_run s core trace steps mail m) ≤ issued_before steps + m * s.width → issued_before (core_run s core trace steps mail m) ≤ first_at
     more m k less most = let e : m * s.width ≤ cycles * s.width = mul-le-mul_right s.width k in omega (arith, e, less, most)
 
-    bound : (m : ℕ) → m ≤ cycles → issued_before (core_run s core trace steps mail m) ≤ one
+    bound : (m : ℕ) → m ≤ cycles → issued_before (core_run s core trace steps mail m) ≤ first_at
     bound m k =
         ⊎_elim
-        (λ (inside : one < length trace). more m k (moved.1 inside) (issued-most s core trace steps mail m))
-        (λ (over : length trace ≤ one). omega (arith, over, issued-within s core trace steps mail here.past.issued m))
-        (cases_lt one (length trace))
+        (λ (inside : first_at < length trace). more m k (moved.1 inside) (issued-most s core trace steps mail m))
+        (λ (over : length trace ≤ first_at). omega (arith, over, issued-within s core trace steps mail here.past.issued m))
+        (cases_lt first_at (length trace))

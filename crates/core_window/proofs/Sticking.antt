@@ -22,36 +22,36 @@ use Rattle.core_window.specs.Views.{CoreView}
 use Rattle.core_window.proofs.Stopping.{is_last}
 use Rattle.core_window.proofs.Working.{cycle_work-is}
 
-no_issue : (width window number gone one two : ℕ) (lacks : Bool) → window ≤ number - gone → 0 ≡ issue_count width window number gone one two lacks
-no_issue width window number gone one two true l = omega arith
-no_issue width window number gone one two false l = omega arith
+no_issue : (width window number gone first_at second_at : ℕ) (lacks : Bool) → window ≤ number - gone → 0 ≡ issue_count width window number gone first_at second_at lacks
+no_issue width window number gone first_at second_at true l = omega arith
+no_issue width window number gone first_at second_at false l = omega arith
 
 -- why it stops
 abbrev pub stuck_cause : CoreView → ℕ → Stop
-stuck_cause a two = cause_at a.config.width a.config.window (length a.trace) a.stats.issued a.stats.retired two 0
+stuck_cause a second_at = cause_at a.config.width a.config.window (length a.trace) a.stats.issued a.stats.retired second_at 0
 
-pub stuck-does : (a : CoreView) (one two : ℕ) (entry : Entry) → IsSeen a.trace a.stats.issued one two entry
-    → first_undone a.stats.issued a.outstanding ≤ a.stats.retired → a.config.window ≤ a.stats.issued - a.stats.retired → Does a idle_step (stuck_cause a two) None
-stuck-does a one two entry seen undone most v s core trace steps mail i h =
+pub stuck-does : (a : CoreView) (first_at second_at : ℕ) (entry : Entry) → IsSeen a.trace a.stats.issued first_at second_at entry
+    → first_undone a.stats.issued a.outstanding ≤ a.stats.retired → a.config.window ≤ a.stats.issued - a.stats.retired → Does a idle_step (stuck_cause a second_at) None
+stuck-does a first_at second_at entry seen undone most v s core trace steps mail i h =
     let gone = a.stats.retired + 0 in
-    let full : Bool = ltb one (length a.trace) && lacks_credit a.config core mail (core_messages s core trace steps) (length steps) (slice_get a.trace one) in
-    let none : 0 ≡ issue_count a.config.width a.config.window a.stats.issued gone one two full = no_issue a.config.width a.config.window a.stats.issued gone one two full (omega arith) in
-    let cause : cause_at a.config.width a.config.window (length a.trace) a.stats.issued gone two 0 ≡ stuck_cause a two =
-    ap (λ g. cause_at a.config.width a.config.window (length a.trace) a.stats.issued g two 0) (add-zero a.stats.retired) in
-    cycle_work-is s core trace steps mail a v 0 one two full 0 (stuck_cause a two) None i h
+    let full : Bool = ltb first_at (length a.trace) && lacks_credit a.config core mail (core_messages s core trace steps) (length steps) (slice_get a.trace first_at) in
+    let none : 0 ≡ issue_count a.config.width a.config.window a.stats.issued gone first_at second_at full = no_issue a.config.width a.config.window a.stats.issued gone first_at second_at full (omega arith) in
+    let cause : cause_at a.config.width a.config.window (length a.trace) a.stats.issued gone second_at 0 ≡ stuck_cause a second_at =
+    ap (λ g. cause_at a.config.width a.config.window (length a.trace) a.stats.issued g second_at 0) (add-zero a.stats.retired) in
+    cycle_work-is s core trace steps mail a v 0 first_at second_at full 0 (stuck_cause a second_at) None i h
     (record {
       retired = omega arith;
       ahead = seen.ahead;
       credit = refl;
       last = λ may. subst
-          (λ why. IsLast a.config core a.trace mail (core_messages s core trace steps) (length steps) a.stats.issued gone one two full 0 why) cause
-          (is_last a.config core a.trace mail (core_messages s core trace steps) (length steps) a.stats.issued gone one two full may 0 none);
+          (λ why. IsLast a.config core a.trace mail (core_messages s core trace steps) (length steps) a.stats.issued gone first_at second_at full 0 why) cause
+          (is_last a.config core a.trace mail (core_messages s core trace steps) (length steps) a.stats.issued gone first_at second_at full may 0 none);
       issues = λ k l b. absurd (omega arith);
       at = tt;
     })
 
-pub stuck_cause-full : (a : CoreView) (two : ℕ) → 0 < a.config.width → a.stats.issued - a.stats.retired ≡ a.config.window → stuck_cause a two ≡ cond (eqb a.stats.issued (length a.trace)) End Window
-stuck_cause-full a two some full =
+pub stuck_cause-full : (a : CoreView) (second_at : ℕ) → 0 < a.config.width → a.stats.issued - a.stats.retired ≡ a.config.window → stuck_cause a second_at ≡ cond (eqb a.stats.issued (length a.trace)) End Window
+stuck_cause-full a second_at some full =
     let not_width : eqb 0 a.config.width ≡ false = ne_eqb 0 a.config.width (λ e. omega arith) in
     let is_window : eqb (a.stats.issued - a.stats.retired) a.config.window ≡ true = eq-eqb (a.stats.issued - a.stats.retired) a.config.window full in
     rw (add-zero a.stats.issued, not_width, is_window) refl
@@ -93,10 +93,10 @@ next_from trace (suc left) from e = by (is_memory_in (slice_get trace from)) ref
 
 -- the next two memory entries, wherever they stand
 record Seen (trace : List Entry) (from : ℕ) : Type 0 where
-  one : ℕ
-  two : ℕ
+  first_at : ℕ
+  second_at : ℕ
   entry : Entry
-  seen : IsSeen trace from one two entry
+  seen : IsSeen trace from first_at second_at entry
 
 some_entry : (o : Option Entry) → (e : Entry) × ((o ≡ None → ⊥) → o ≡ Some e)
 some_entry None = (Plain, λ n. absurd (n refl))
@@ -109,8 +109,8 @@ seen_from trace from l =
     ⊎_elim
     (λ inside. let second = next_from trace (length trace - (first.0 + 1)) (first.0 + 1) (omega arith) in
     record {
-      one = first.0;
-      two = second.0;
+      first_at = first.0;
+      second_at = second.0;
       entry = entry.0;
       seen = record {
         ahead = record { first = first.1; second = λ m. second.1; none = λ m. absurd (omega arith) };
@@ -118,8 +118,8 @@ seen_from trace from l =
       };
     })
     (λ end. record {
-      one = first.0;
-      two = length trace;
+      first_at = first.0;
+      second_at = length trace;
       entry = entry.0;
       seen = record {
         ahead = record { first = first.1; second = λ m. absurd (omega arith); none = λ m. refl };
@@ -134,4 +134,4 @@ pub stuck-rests : (s : Config) (core : ℕ) (trace : List Entry) (steps : List C
     → IsAtRest s core trace steps mail
 stuck-rests s core trace steps mail a within undone most h =
     let x = seen_from a.trace a.stats.issued within in
-    at_rest s core trace steps mail a idle_step (stuck_cause a x.two) None refl (stuck-does a x.one x.two x.entry x.seen undone most) h
+    at_rest s core trace steps mail a idle_step (stuck_cause a x.second_at) None refl (stuck-does a x.first_at x.second_at x.entry x.seen undone most) h

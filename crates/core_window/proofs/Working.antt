@@ -30,13 +30,13 @@ use Rattle.core_window.proofs.Retiring.{retires-by}
 use Rattle.core_window.proofs.Stepping.{held-now, retired_of}
 
 -- what a core finds out for a cycle
-pub record Found (s : Config) (core : ℕ) (trace : List Entry) (mail sent : List Message) (now number before : ℕ) (outstanding : List OutstandingRead) (r one two : ℕ) (lacks : Bool) (m : ℕ) (why : Stop) (memory : Option MemoryEntry) : Type 0 where
+pub record Found (s : Config) (core : ℕ) (trace : List Entry) (mail sent : List Message) (now number before : ℕ) (outstanding : List OutstandingRead) (r first_at second_at : ℕ) (lacks : Bool) (m : ℕ) (why : Stop) (memory : Option MemoryEntry) : Type 0 where
   pub retired : r ≡ min s.width (first_undone number outstanding - before)
-  pub ahead : IsAhead trace number one two
-  pub credit : lacks ≡ (ltb one (length trace) && lacks_credit s core mail sent now (slice_get trace one))
-  pub last : MayIssue s core trace mail sent now number (before + r) one two lacks → IsLast s core trace mail sent now number (before + r) one two lacks m why
+  pub ahead : IsAhead trace number first_at second_at
+  pub credit : lacks ≡ (ltb first_at (length trace) && lacks_credit s core mail sent now (slice_get trace first_at))
+  pub last : MayIssue s core trace mail sent now number (before + r) first_at second_at lacks → IsLast s core trace mail sent now number (before + r) first_at second_at lacks m why
   pub issues : IsIssued trace number m memory
-  pub at : IfSome memory (λ e. e.number ≡ one)
+  pub at : IfSome memory (λ e. e.number ≡ first_at)
 
 -- the first Read that waits was issued
 pub issued_of : (s : Config) (core : ℕ) (trace : List Entry) (steps : List CoreStep) (mail : List Message) (a : CoreView) → StandsAt s core trace steps mail a → a.stats.issued ≡ issued_before steps
@@ -70,12 +70,12 @@ lacks-false lacks true true e t n = absurd (n e)
 lacks-false lacks true false e t n = refl
 lacks-false lacks false x e t n = absurd (false≢true t)
 
-pub cycle_work-from : (s : Config) (core : ℕ) (trace : List Entry) (steps : List CoreStep) (mail : List Message) (r one two : ℕ) (lacks : Bool) (m : ℕ) (why : Stop) (memory : Option MemoryEntry)
+pub cycle_work-from : (s : Config) (core : ℕ) (trace : List Entry) (steps : List CoreStep) (mail : List Message) (r first_at second_at : ℕ) (lacks : Bool) (m : ℕ) (why : Stop) (memory : Option MemoryEntry)
     → IsPast s core trace steps mail
-    → Found s core trace mail (core_messages s core trace steps) (length steps) (issued_before steps) (retired_before steps) (outstanding_reads trace steps mail) r one two lacks m why memory
+    → Found s core trace mail (core_messages s core trace steps) (length steps) (issued_before steps) (retired_before steps) (outstanding_reads trace steps mail) r first_at second_at lacks m why memory
     → IsWork s core trace steps mail (record { retired = r; issued = m }) why memory
 unfolding step
-cycle_work-from s core trace steps mail r one two lacks m why memory past found =
+cycle_work-from s core trace steps mail r first_at second_at lacks m why memory past found =
     record {
       does = ap does_with (retires-by s core trace steps mail past ∙ sym found.retired)
           ∙ ap (λ k. step_with r k (stop_after s core trace mail sent now first (before + r) k)) last.count
@@ -100,7 +100,7 @@ cycle_work-from s core trace steps mail r one two lacks m why memory past found 
     does_with : ℕ → CoreStep × Stop
     does_with k = step_with k (first_stop s core trace mail sent now first (before + k)) (stop_after s core trace mail sent now first (before + k) (first_stop s core trace mail sent now first (before + k)))
 
-    last : IsLast s core trace mail sent now first (before + r) one two lacks m why
+    last : IsLast s core trace mail sent now first (before + r) first_at second_at lacks m why
     last = found.last (record {
       within = past.issued;
       retired = subst (λ k. before + k ≤ first) (sym found.retired) (undone_within s core trace steps mail past);
@@ -109,27 +109,27 @@ cycle_work-from s core trace steps mail r one two lacks m why memory past found 
       credit = found.credit;
     })
 
-    by : (o : Option MemoryEntry) → IsIssued trace first m o → IfSome o (λ e. e.number ≡ one) → IfSome o (λ e. lacks_credit s core mail sent now (Some e.entry) ≡ false)
+    by : (o : Option MemoryEntry) → IsIssued trace first m o → IfSome o (λ e. e.number ≡ first_at) → IfSome o (λ e. lacks_credit s core mail sent now (Some e.entry) ≡ false)
     by None i a = tt
     by (Some e) i a =
-        let inside : one < length trace = ⊎_elim (λ l. l) (λ g. let t = found.ahead.none g in absurd (omega (arith, i.is_below, last.second, found.ahead.first.is_within, a))) (cases_lt one (length trace)) in
+        let inside : first_at < length trace = ⊎_elim (λ l. l) (λ g. let t = found.ahead.none g in absurd (omega (arith, i.is_below, last.second, found.ahead.first.is_within, a))) (cases_lt first_at (length trace)) in
         ap (lacks_credit s core mail sent now) (sym i.is_at ∙ ap (slice_get trace) a)
-        ∙ lacks-false lacks (ltb one (length trace)) (lacks_credit s core mail sent now (slice_get trace one)) found.credit (lt-ltb one (length trace) inside)
+        ∙ lacks-false lacks (ltb first_at (length trace)) (lacks_credit s core mail sent now (slice_get trace first_at)) found.credit (lt-ltb first_at (length trace) inside)
         (λ t. omega (arith, last.first t, i.is_below, a))
 
-pub cycle_work-is : (s : Config) (core : ℕ) (trace : List Entry) (steps : List CoreStep) (mail : List Message) (a v : CoreView) (r one two : ℕ) (lacks : Bool) (m : ℕ) (why : Stop) (memory : Option MemoryEntry)
+pub cycle_work-is : (s : Config) (core : ℕ) (trace : List Entry) (steps : List CoreStep) (mail : List Message) (a v : CoreView) (r first_at second_at : ℕ) (lacks : Bool) (m : ℕ) (why : Stop) (memory : Option MemoryEntry)
     → IsLike a v → StandsAt s core trace steps mail v
-    → Found a.config core a.trace mail (core_messages s core trace steps) (length steps) a.stats.issued a.stats.retired a.outstanding r one two lacks m why memory
+    → Found a.config core a.trace mail (core_messages s core trace steps) (length steps) a.stats.issued a.stats.retired a.outstanding r first_at second_at lacks m why memory
     → IsWork s core trace steps mail (record { retired = r; issued = m }) why memory
-cycle_work-is s core trace steps mail a v r one two lacks m why memory i h found =
+cycle_work-is s core trace steps mail a v r first_at second_at lacks m why memory i h found =
     let P : Config → List Entry → ℕ → ℕ → List OutstandingRead → Type 0 =
-    λ x t n b w. Found x core t mail (core_messages s core trace steps) (length steps) n b w r one two lacks m why memory in
+    λ x t n b w. Found x core t mail (core_messages s core trace steps) (length steps) n b w r first_at second_at lacks m why memory in
     let f1 : P s a.trace a.stats.issued a.stats.retired a.outstanding = subst (λ x. P x a.trace a.stats.issued a.stats.retired a.outstanding) (sym i.config ∙ h.config) found in
     let f2 : P s trace a.stats.issued a.stats.retired a.outstanding = subst (λ x. P s x a.stats.issued a.stats.retired a.outstanding) (sym i.entries ∙ h.entries) f1 in
     let f3 : P s trace (issued_before steps) a.stats.retired a.outstanding = subst (λ x. P s trace x a.stats.retired a.outstanding) (sym i.issued ∙ issued_of s core trace steps mail v h) f2 in
     let f4 : P s trace (issued_before steps) (retired_before steps) a.outstanding = subst (λ x. P s trace (issued_before steps) x a.outstanding) (sym i.retired ∙ retired_of s core trace steps mail v h) f3 in
     let f5 : P s trace (issued_before steps) (retired_before steps) (outstanding_reads trace steps mail) = subst (λ x. P s trace (issued_before steps) (retired_before steps) x) (sym i.outstanding ∙ h.outstanding) f4 in
-    cycle_work-from s core trace steps mail r one two lacks m why memory h.past f5
+    cycle_work-from s core trace steps mail r first_at second_at lacks m why memory h.past f5
 
 pub like-self : (a : CoreView) → IsLike a a
 like-self a = record { config = refl; entries = refl; outstanding = refl; credits = refl; issued = refl; retired = refl }
@@ -153,44 +153,44 @@ lacks_here s core trace steps mail a v entry result i h says =
     ∙ sym (lacks_credit-by s core trace steps mail entry h.past.arrived)
     ∙ ap (λ x. lacks_credit x core mail (core_messages s core trace steps) (length steps) (Some entry)) (sym config)
 
-ahead_from : (trace : List Entry) (number one two : ℕ) → IsAhead trace number one two → number ≤ length trace → number ≤ two
-ahead_from trace number one two h l =
-    ⊎_elim (λ inside. omega (arith, h.first.is_from, (h.second inside).is_from)) (λ none. let e2 = h.none none in omega arith) (cases_lt one (length trace))
+ahead_from : (trace : List Entry) (number first_at second_at : ℕ) → IsAhead trace number first_at second_at → number ≤ length trace → number ≤ second_at
+ahead_from trace number first_at second_at h l =
+    ⊎_elim (λ inside. omega (arith, h.first.is_from, (h.second inside).is_from)) (λ none. let e2 = h.none none in omega arith) (cases_lt first_at (length trace))
 
-count_within : (width window number gone one two : ℕ) (lacks : Bool) → number ≤ two → number + issue_count width window number gone one two lacks ≤ two
-count_within width window number gone one two true l = omega arith
-count_within width window number gone one two false l = omega arith
+count_within : (width window number gone first_at second_at : ℕ) (lacks : Bool) → number ≤ second_at → number + issue_count width window number gone first_at second_at lacks ≤ second_at
+count_within width window number gone first_at second_at true l = omega arith
+count_within width window number gone first_at second_at false l = omega arith
 
 -- no more entries issue than up to the second memory entry
-pub issues_within : (trace : List Entry) (width window number gone one two m : ℕ) (lacks : Bool) → IsAhead trace number one two → number ≤ length trace
-    → m ≡ issue_count width window number gone one two lacks → number + m ≤ two
-issues_within trace width window number gone one two m lacks h l e =
-    subst (λ k. number + k ≤ two) (sym e) (count_within width window number gone one two lacks (ahead_from trace number one two h l))
+pub issues_within : (trace : List Entry) (width window number gone first_at second_at m : ℕ) (lacks : Bool) → IsAhead trace number first_at second_at → number ≤ length trace
+    → m ≡ issue_count width window number gone first_at second_at lacks → number + m ≤ second_at
+issues_within trace width window number gone first_at second_at m lacks h l e =
+    subst (λ k. number + k ≤ second_at) (sym e) (count_within width window number gone first_at second_at lacks (ahead_from trace number first_at second_at h l))
 
-pub two_least : (trace : List Entry) (number one two : ℕ) → IsAhead trace number one two → two ≤ length trace
-two_least trace number one two h = ⊎_elim (λ inside. (h.second inside).is_within) (λ none. let e = h.none none in omega arith) (cases_lt one (length trace))
+pub two_least : (trace : List Entry) (number first_at second_at : ℕ) → IsAhead trace number first_at second_at → second_at ≤ length trace
+two_least trace number first_at second_at h = ⊎_elim (λ inside. (h.second inside).is_within) (λ none. let e = h.none none in omega arith) (cases_lt first_at (length trace))
 
 -- a credit counts only where the first memory entry is near enough to issue
-pub lazy-count : (trace : List Entry) (width window number gone one two : ℕ) (lacks full : Bool) → IsAhead trace number one two
-    → (one < min (number + min width (window - (number - gone))) (length trace) → lacks ≡ full) → (min (number + min width (window - (number - gone))) (length trace) ≤ one → lacks ≡ false)
-    → issue_count width window number gone one two lacks ≡ issue_count width window number gone one two full
-lazy-count trace width window number gone one two lacks full ahead near far =
-    let end : two ≤ length trace = two_least trace number one two ahead in
+pub lazy-count : (trace : List Entry) (width window number gone first_at second_at : ℕ) (lacks full : Bool) → IsAhead trace number first_at second_at
+    → (first_at < min (number + min width (window - (number - gone))) (length trace) → lacks ≡ full) → (min (number + min width (window - (number - gone))) (length trace) ≤ first_at → lacks ≡ false)
+    → issue_count width window number gone first_at second_at lacks ≡ issue_count width window number gone first_at second_at full
+lazy-count trace width window number gone first_at second_at lacks full ahead near far =
+    let end : second_at ≤ length trace = two_least trace number first_at second_at ahead in
     ⊎_elim
-    (λ l. ap (issue_count width window number gone one two) (near l))
-    (λ g. ap (issue_count width window number gone one two) (far g) ∙ same full g end)
-    (cases_lt one (min (number + min width (window - (number - gone))) (length trace)))
+    (λ l. ap (issue_count width window number gone first_at second_at) (near l))
+    (λ g. ap (issue_count width window number gone first_at second_at) (far g) ∙ same full g end)
+    (cases_lt first_at (min (number + min width (window - (number - gone))) (length trace)))
   where
-    same : (b : Bool) → min (number + min width (window - (number - gone))) (length trace) ≤ one → two ≤ length trace → issue_count width window number gone one two false ≡ issue_count width window number gone one two b
+    same : (b : Bool) → min (number + min width (window - (number - gone))) (length trace) ≤ first_at → second_at ≤ length trace → issue_count width window number gone first_at second_at false ≡ issue_count width window number gone first_at second_at b
     same true g end = omega arith
     same false g end = refl
 
 -- the first memory entry ahead is the one that issues, if it is among those that issue
-pub issued_seen : (trace : List Entry) (number one two count : ℕ) (entry : Entry) → IsSeen trace number one two entry → number + count ≤ two → one < number + count
-    → IsIssued trace number count (Some (record { number = one; entry = entry }))
-issued_seen trace number one two count entry h up below =
-    let end : two ≤ length trace = two_least trace number one two h.ahead in
-    let inside : one < length trace = omega arith in
+pub issued_seen : (trace : List Entry) (number first_at second_at count : ℕ) (entry : Entry) → IsSeen trace number first_at second_at entry → number + count ≤ second_at → first_at < number + count
+    → IsIssued trace number count (Some (record { number = first_at; entry = entry }))
+issued_seen trace number first_at second_at count entry h up below =
+    let end : second_at ≤ length trace = two_least trace number first_at second_at h.ahead in
+    let inside : first_at < length trace = omega arith in
     let second = h.ahead.second inside in
     record {
       is_from = h.ahead.first.is_from;
@@ -201,5 +201,5 @@ issued_seen trace number one two count entry h up below =
       is_plain_after = λ k l b. second.is_plain_before k l (omega arith);
     }
 
-pub none_seen : (trace : List Entry) (number one two count : ℕ) (entry : Entry) → IsSeen trace number one two entry → number + count ≤ one → IsIssued trace number count None
-none_seen trace number one two count entry h up = λ k l b. h.ahead.first.is_plain_before k l (omega arith)
+pub none_seen : (trace : List Entry) (number first_at second_at count : ℕ) (entry : Entry) → IsSeen trace number first_at second_at entry → number + count ≤ first_at → IsIssued trace number count None
+none_seen trace number first_at second_at count entry h up = λ k l b. h.ahead.first.is_plain_before k l (omega arith)

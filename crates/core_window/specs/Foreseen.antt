@@ -16,7 +16,7 @@ use Rattle.sim_base.specs.declared.trace.Stop.{Stop}
 use Rattle.core_window.specs.Ahead.{IsKnown}
 use Rattle.core_window.specs.Causes.{issue_count, cause_at}
 use Rattle.core_window.specs.OneCycle.{IsNextOrEnd, IsSeen}
-use Rattle.core_window.specs.declared.issue.Ahead.{Ahead}
+use Rattle.core_window.specs.declared.issue.EntriesAhead.{EntriesAhead}
 
 -- this is the entry of a number, where the trace has one
 abbrev pub HasEntry : List Entry → ℕ → Entry → Type 0
@@ -27,19 +27,19 @@ abbrev pub IsNextBehind : List Entry → ℕ → ℕ → Type 0
 IsNextBehind trace number next = number < length trace → IsNextOrEnd trace (number + 1) next
 
 -- these are the next two memory entries from a number on
-abbrev pub IsSeenFrom : List Entry → ℕ → Ahead → Type 0
-IsSeenFrom trace from ahead = IsSeen trace from ahead.one ahead.two ahead.entry
+abbrev pub IsSeenFrom : List Entry → ℕ → EntriesAhead → Type 0
+IsSeenFrom trace from ahead = IsSeen trace from ahead.first_at ahead.second_at ahead.entry
 
 -- they were the next two from some number on that is not above this one
-abbrev pub WasSeen : List Entry → ℕ → Ahead → Type 0
+abbrev pub WasSeen : List Entry → ℕ → EntriesAhead → Type 0
 WasSeen trace number ahead = (from : ℕ) × (from ≤ number) × IsSeenFrom trace from ahead
 
 -- where the first lies and which the second is, is known right by the digits of an address, whichever configuration they are of
-abbrev pub IsKnownBy : Digits → List Entry → Ahead → Type 0
+abbrev pub IsKnownBy : Digits → List Entry → EntriesAhead → Type 0
 IsKnownBy digits trace ahead = (s : Config) → IsDigits s digits → IsKnown s trace ahead
 
 -- the same, if it was before
-abbrev pub StaysKnown : Digits → List Entry → Ahead → Ahead → Type 0
+abbrev pub StaysKnown : Digits → List Entry → EntriesAhead → EntriesAhead → Type 0
 StaysKnown digits trace old new = (s : Config) → IsDigits s digits → IsKnown s trace old → IsKnown s trace new
 
 -- the number up to which entries may issue by the width, the window and the end of the trace, where `gone` entries were retired
@@ -47,8 +47,8 @@ abbrev pub issue_limit : Config → ℕ → ℕ → ℕ → ℕ
 issue_limit config number gone len = min (number + min config.width (config.window - (number - gone))) len
 
 -- how many entries issue from a number on, and why no more than m do
-abbrev pub issue_count_of : Config → ℕ → ℕ → Ahead → Bool → ℕ
-issue_count_of config number gone ahead lacks = issue_count config.width config.window number gone ahead.one ahead.two lacks
+abbrev pub issue_count_of : Config → ℕ → ℕ → EntriesAhead → Bool → ℕ
+issue_count_of config number gone ahead lacks = issue_count config.width config.window number gone ahead.first_at ahead.second_at lacks
 
-abbrev pub cause_of : Config → ℕ → ℕ → ℕ → Ahead → ℕ → Stop
-cause_of config len number gone ahead m = cause_at config.width config.window len number gone ahead.two m
+abbrev pub cause_of : Config → ℕ → ℕ → ℕ → EntriesAhead → ℕ → Stop
+cause_of config len number gone ahead m = cause_at config.width config.window len number gone ahead.second_at m

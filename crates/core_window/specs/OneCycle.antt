@@ -1,6 +1,6 @@
 -- What a core does in a cycle.
---     IsAhead trace from one two      where the next two memory entries stand
---     IsSeen trace from one two entry      the same, and which entry the first is
+--     IsAhead trace from first_at second_at      where the next two memory entries stand
+--     IsSeen trace from first_at second_at entry      the same, and which entry the first is
 --     IsIssued trace first m memory      the one memory entry that is among some that issue, if one is
 --     more_credit access c, less_credit access c      one credit more, and one less
 --     cycle_counts ..      what statistics count in a cycle, except for replies
@@ -34,15 +34,15 @@ pub record IsNextOrEnd (trace : List Entry) (from number : ℕ) : Type 0 where
   pub is_read_or_write : number < length trace → is_memory_in (slice_get trace number) ≡ true
 
 -- the next two memory entries from a number on; where there is none, the end of the trace
-pub record IsAhead (trace : List Entry) (from one two : ℕ) : Type 0 where
-  pub first : IsNextOrEnd trace from one
-  pub second : one < length trace → IsNextOrEnd trace (one + 1) two
-  pub none : length trace ≤ one → two ≡ length trace
+pub record IsAhead (trace : List Entry) (from first_at second_at : ℕ) : Type 0 where
+  pub first : IsNextOrEnd trace from first_at
+  pub second : first_at < length trace → IsNextOrEnd trace (first_at + 1) second_at
+  pub none : length trace ≤ first_at → second_at ≡ length trace
 
 -- the next two memory entries from a number on, and which entry the first of them is
-pub record IsSeen (trace : List Entry) (from one two : ℕ) (entry : Entry) : Type 0 where
-  pub ahead : IsAhead trace from one two
-  pub is_at : one < length trace → slice_get trace one ≡ Some entry
+pub record IsSeen (trace : List Entry) (from first_at second_at : ℕ) (entry : Entry) : Type 0 where
+  pub ahead : IsAhead trace from first_at second_at
+  pub is_at : first_at < length trace → slice_get trace first_at ≡ Some entry
 
 -- the memory entry among those that issue
 pub record IsAmong (trace : List Entry) (first m : ℕ) (e : MemoryEntry) : Type 0 where
@@ -102,21 +102,21 @@ cycle_counts core_step why memory before len now =
     }
 
 -- the cause for which a core issues no more than m entries, and that it has none before
-pub record IsLast (s : Config) (core : ℕ) (trace : List Entry) (inbox sent : List Message) (now number gone one two : ℕ) (lacks : Bool) (m : ℕ) (why : Stop) : Type 0 where
+pub record IsLast (s : Config) (core : ℕ) (trace : List Entry) (inbox sent : List Message) (now number gone first_at second_at : ℕ) (lacks : Bool) (m : ℕ) (why : Stop) : Type 0 where
   pub count : first_stop s core trace inbox sent now number gone ≡ m
   pub cause : stop_after s core trace inbox sent now number gone m ≡ Some why
   pub window : number + m ≤ gone + s.window
-  pub second : number + m ≤ two
-  pub first : lacks ≡ true → number + m ≤ one
+  pub second : number + m ≤ second_at
+  pub first : lacks ≡ true → number + m ≤ first_at
 
 -- a core that issued entries up to a number, and had retired `gone` of them, may issue from there on: the memory entries ahead
 -- are known, and whether it lacks a credit for the first of them
-pub record MayIssue (s : Config) (core : ℕ) (trace : List Entry) (inbox sent : List Message) (now number gone one two : ℕ) (lacks : Bool) : Type 0 where
+pub record MayIssue (s : Config) (core : ℕ) (trace : List Entry) (inbox sent : List Message) (now number gone first_at second_at : ℕ) (lacks : Bool) : Type 0 where
   pub within : number ≤ length trace
   pub retired : gone ≤ number
   pub window : number ≤ gone + s.window
-  pub ahead : IsAhead trace number one two
-  pub credit : lacks ≡ (nat_lt one (length trace) && lacks_credit s core inbox sent now (slice_get trace one))
+  pub ahead : IsAhead trace number first_at second_at
+  pub credit : lacks ≡ (nat_lt first_at (length trace) && lacks_credit s core inbox sent now (slice_get trace first_at))
 
 -- the Read that begins to wait, if the memory entry that issues is one
 abbrev pub reads_issued : Option MemoryEntry → ℕ → List OutstandingRead

@@ -39,15 +39,15 @@ IsFull v = v.config.window ≤ v.stats.issued - v.stats.retired
 
 -- n entries more than it issued do not go past the first of the memory entries ahead
 abbrev pub StaysBelowFirst : Core → ℕ → Type 0
-StaysBelowFirst c n = c.stats.issued + n ≤ c.found.one
+StaysBelowFirst c n = c.stats.issued + n ≤ c.found.first_at
 
 -- nor past the second
 abbrev pub StaysBelowSecond : Core → ℕ → Type 0
-StaysBelowSecond c n = c.stats.issued + n ≤ c.found.two
+StaysBelowSecond c n = c.stats.issued + n ≤ c.found.second_at
 
 -- a Read or a Write is ahead
 abbrev pub HasMemoryAhead : Core → Type 0
-HasMemoryAhead c = c.found.one < length c.trace
+HasMemoryAhead c = c.found.first_at < length c.trace
 
 -- what a core does in the next cycle, if no further message comes
 abbrev pub DoesWork : CoreView → CycleWork → Type 0

@@ -23,7 +23,9 @@ ghost use Rattle.core_window.specs.Counting.{IsCreditedAt};
 
 use crate::counts::{count_cycle, count_cycles, count_memory};
 use crate::flow::{Flow, WindowNumbers, cycles_within, flow_of};
-use crate::issue::{Ahead, Progress, entry_issued, issue_of, look_ahead, most_issued, next_two};
+use crate::issue::{
+    EntriesAhead, Progress, entry_issued, issue_of, look_ahead, most_issued, next_two,
+};
 use crate::issue_effects::{Sender, send, spend, wait_for};
 use crate::outstanding::OutstandingReads;
 use crate::receive::{add_credit_at, channel_of, count_reply};
@@ -52,9 +54,9 @@ pub struct Core {
     credits: Vec<Credits>,
     stats: CoreStats,
     /// The next two memory entries that it issues.
-    found: Ahead,
+    found: EntriesAhead,
     ghost in_order: { IsDigits config digits },
-    ghost seen: { IsSeen trace stats.issued found.one found.two found.entry },
+    ghost seen: { IsSeen trace stats.issued found.first_at found.second_at found.entry },
     ghost known: { IsKnown config trace found },
 }
 
@@ -67,7 +69,7 @@ pub(crate) struct CycleWork {
 }
 
 /// Whether there is no credit for the first of the next two memory entries.
-fn is_without_credit(credits: &[Credits], ahead: &Ahead) -> bool
+fn is_without_credit(credits: &[Credits], ahead: &EntriesAhead) -> bool
     requires { ahead.now.place.channel < length credits.now }
     ensures { (s : Config) (held : ℕ → Credits) → IsPlaced s ahead.now.entry ahead.now.place
         → ((channel : ℕ) → channel < s.channels → slice_get credits.now channel ≡ Some (held channel))
@@ -139,7 +141,7 @@ impl Core {
         let gone = self.stats.retired + u64::from(retired);
         let progress = Progress { len, number, gone };
         let near = most_issued(&self.config, progress);
-        let lacks = self.found.one < near && is_without_credit(&self.credits, &self.found);
+        let lacks = self.found.first_at < near && is_without_credit(&self.credits, &self.found);
         let issue = issue_of(&self.config, progress, &self.found, lacks);
         let memory = entry_issued(number, &self.found, issue.count);
         CycleWork {
@@ -249,7 +251,7 @@ impl Core {
         ensures most { result.cycles ≤ most }
     {
         let issued = self.stats.issued;
-        if self.found.one.saturating_sub(issued) < u64::from(self.config.width) {
+        if self.found.first_at.saturating_sub(issued) < u64::from(self.config.width) {
             return Flow {
                 retired: 0,
                 cycles: 0,
@@ -261,7 +263,7 @@ impl Core {
             window: self.config.window,
             issued,
             retired: self.stats.retired,
-            plain: self.found.one.min(last).saturating_sub(issued),
+            plain: self.found.first_at.min(last).saturating_sub(issued),
         };
         flow_of(&numbers, self.outstanding.as_slice(), most)
     }
@@ -488,11 +490,11 @@ impl Core {
         ensures { HasMemoryAhead self.now
             → StaysBelowFirst self.now (result * self.now.config.width) }
     {
-        if self.found.one >= self.trace.len() {
+        if self.found.first_at >= self.trace.len() {
             return u64::MAX;
         }
         cycles_within(
-            self.found.one - self.stats.issued,
+            self.found.first_at - self.stats.issued,
             self.config.width,
             u64::MAX,
         )

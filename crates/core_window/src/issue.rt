@@ -35,11 +35,11 @@ fn next_or_end(trace: &Trace, from: u64, before: u64) -> MemoryEntry
 /// The numbers of the next two memory entries, or the length of the trace, and these entries, with the place where the first
 /// lies.
 #[derive(Clone, Copy)]
-pub struct Ahead {
-    pub one: u64,
+pub struct EntriesAhead {
+    pub first_at: u64,
     pub entry: Entry,
     pub place: Place,
-    pub two: u64,
+    pub second_at: u64,
     pub second: Entry,
 }
 
@@ -63,56 +63,62 @@ fn entry_behind(trace: &Trace, number: u64, before: u64) -> MemoryEntry
 
 /// The next two memory entries, of which the first is known. `before` of them stand before it.
 #[tactic(auto, using(crate::proofs::Foreseeing::seen_from))]
-pub fn ahead_of(digits: &Digits, trace: &Trace, first: MemoryEntry, before: u64) -> Ahead
+pub fn ahead_of(digits: &Digits, trace: &Trace, first: MemoryEntry, before: u64) -> EntriesAhead
     requires { first.number ≤ length trace.now }
     ensures seen { (from : ℕ) → IsNextOrEnd trace.now from first.number
         → HasEntry trace.now first.number first.entry → IsSeenFrom trace.now from result }
     ensures known { IsKnownBy digits.now trace.now result }
 {
     let second = entry_behind(trace, first.number, before);
-    Ahead {
-        one: first.number,
+    EntriesAhead {
+        first_at: first.number,
         entry: first.entry,
         place: place_of_entry(digits, first.entry),
-        two: second.number,
+        second_at: second.number,
         second: second.entry,
     }
 }
 
 /// The second of two memory entries becomes the first, and the one behind it is looked for. `before` of them stand before it.
 #[tactic(auto, using(crate::proofs::Foreseeing::seen_from))]
-pub fn go_to_second(digits: &Digits, trace: &Trace, ahead: &mut Ahead, before: u64)
-    requires { ahead.old.two ≤ length trace.now }
-    ensures seen { (from : ℕ) → IsNextOrEnd trace.now from ahead.old.two
-        → HasEntry trace.now ahead.old.two ahead.old.second → IsSeenFrom trace.now from ahead.new }
+pub fn go_to_second(digits: &Digits, trace: &Trace, ahead: &mut EntriesAhead, before: u64)
+    requires { ahead.old.second_at ≤ length trace.now }
+    ensures seen { (from : ℕ) → IsNextOrEnd trace.now from ahead.old.second_at
+        → HasEntry trace.now ahead.old.second_at ahead.old.second → IsSeenFrom trace.now from ahead.new }
     ensures known { IsKnownBy digits.now trace.now ahead.new }
 {
-    let next = entry_behind(trace, ahead.two, before);
-    ahead.one = ahead.two;
+    let next = entry_behind(trace, ahead.second_at, before);
+    ahead.first_at = ahead.second_at;
     ahead.entry = ahead.second;
     ahead.place = place_of_entry(digits, ahead.entry);
-    ahead.two = next.number;
+    ahead.second_at = next.number;
     ahead.second = next.entry;
 }
 
 /// Looks for the next two memory entries from a number on, where the first of those found earlier may have issued, and the
 /// second has not. `before` of them stand before that number.
 #[tactic(auto, using(crate::proofs::Foreseeing::seen_still))]
-pub fn look_ahead(digits: &Digits, trace: &Trace, ahead: &mut Ahead, number: u64, before: u64)
+pub fn look_ahead(
+    digits: &Digits,
+    trace: &Trace,
+    ahead: &mut EntriesAhead,
+    number: u64,
+    before: u64,
+)
     requires seen { WasSeen trace.now number ahead.old }
-    requires within { number ≤ ahead.old.two }
-    requires room { ahead.old.two ≤ length trace.now }
-    requires second { HasEntry trace.now ahead.old.two ahead.old.second }
+    requires within { number ≤ ahead.old.second_at }
+    requires room { ahead.old.second_at ≤ length trace.now }
+    requires second { HasEntry trace.now ahead.old.second_at ahead.old.second }
     ensures seen { IsSeenFrom trace.now number ahead.new }
     ensures known { StaysKnown digits.now trace.now ahead.old ahead.new }
 {
-    if ahead.one < number {
+    if ahead.first_at < number {
         go_to_second(digits, trace, ahead, before);
     }
 }
 
 /// The next two memory entries from a number on, before which `before` of them stand.
-pub fn next_two(digits: &Digits, trace: &Trace, from: u64, before: u64) -> Ahead
+pub fn next_two(digits: &Digits, trace: &Trace, from: u64, before: u64) -> EntriesAhead
     requires { from ≤ length trace.now }
     ensures seen { IsSeenFrom trace.now from result }
     ensures known { IsKnownBy digits.now trace.now result }
@@ -136,10 +142,10 @@ pub struct Progress {
 }
 
 /// Why no more than this number of entries issue.
-pub fn cause_at(config: &Config, progress: Progress, two: u64, count: u16) -> Stop
+pub fn cause_at(config: &Config, progress: Progress, second_at: u64, count: u16) -> Stop
     requires { progress.number ≤ 2 ^ 62 }
     ensures { result ≡ cause_at config.now.width config.now.window
-        progress.len progress.number progress.gone two count }
+        progress.len progress.number progress.gone second_at count }
 {
     let next = progress.number + u64::from(count);
     if next == progress.len {
@@ -148,7 +154,7 @@ pub fn cause_at(config: &Config, progress: Progress, two: u64, count: u16) -> St
         Stop::Width
     } else if next.saturating_sub(progress.gone) == u64::from(config.window) {
         Stop::Window
-    } else if next == two {
+    } else if next == second_at {
         Stop::Memory
     } else {
         Stop::Credit
@@ -156,17 +162,17 @@ pub fn cause_at(config: &Config, progress: Progress, two: u64, count: u16) -> St
 }
 
 /// How many entries issue.
-fn count_of(config: &Config, progress: Progress, ahead: &Ahead, lacks: bool) -> u16
+fn count_of(config: &Config, progress: Progress, ahead: &EntriesAhead, lacks: bool) -> u16
     ensures { result ≡ issue_count config.now.width config.now.window
-        progress.number progress.gone ahead.now.one ahead.now.two lacks }
+        progress.number progress.gone ahead.now.first_at ahead.now.second_at lacks }
 {
     let number = progress.number;
     let room = u64::from(config.window).saturating_sub(number.saturating_sub(progress.gone));
     let most = u64::from(config.width)
         .min(room)
-        .min(ahead.two.saturating_sub(number));
+        .min(ahead.second_at.saturating_sub(number));
     let count = if lacks {
-        most.min(ahead.one.saturating_sub(number))
+        most.min(ahead.first_at.saturating_sub(number))
     } else {
         most
     };
@@ -185,7 +191,7 @@ pub fn most_issued(config: &Config, progress: Progress) -> u64
 
 /// How many entries issue, and why no more: the memory entries ahead are known, and whether the core lacks a credit for the first of
 /// them, if this is near enough to issue.
-pub fn issue_of(config: &Config, progress: Progress, ahead: &Ahead, lacks: bool) -> Issue
+pub fn issue_of(config: &Config, progress: Progress, ahead: &EntriesAhead, lacks: bool) -> Issue
     requires { progress.number ≤ 2 ^ 62 }
     ensures why { result.why ≡ cause_of config.now
         progress.len progress.number progress.gone ahead.now result.count }
@@ -193,22 +199,22 @@ pub fn issue_of(config: &Config, progress: Progress, ahead: &Ahead, lacks: bool)
         progress.number progress.gone ahead.now lacks }
 {
     let count = count_of(config, progress, ahead, lacks);
-    let why = cause_at(config, progress, ahead.two, count);
+    let why = cause_at(config, progress, ahead.second_at, count);
     Issue { count, why }
 }
 
 /// The first of the memory entries ahead, if it is one of those that issue.
 #[tactic(auto, using(crate::proofs::Working::issued_seen, crate::proofs::Working::none_seen))]
-pub fn entry_issued(number: u64, ahead: &Ahead, count: u16) -> Option<MemoryEntry>
+pub fn entry_issued(number: u64, ahead: &EntriesAhead, count: u16) -> Option<MemoryEntry>
     requires { number ≤ 2 ^ 62 }
     ensures issued { (trace : List Entry) → IsSeenFrom trace number ahead.now
-        → number + count ≤ ahead.now.two → number ≤ length trace → IsIssued trace number count result }
-    ensures at { IfSome result (λ e. e.number ≡ ahead.now.one) }
+        → number + count ≤ ahead.now.second_at → number ≤ length trace → IsIssued trace number count result }
+    ensures at { IfSome result (λ e. e.number ≡ ahead.now.first_at) }
     ensures entry { IfSome result (λ e. e.entry ≡ ahead.now.entry) }
 {
-    if ahead.one < number + u64::from(count) {
+    if ahead.first_at < number + u64::from(count) {
         Some(MemoryEntry {
-            number: ahead.one,
+            number: ahead.first_at,
             entry: ahead.entry,
         })
     } else {

@@ -1,6 +1,6 @@
 -- The tokens of a line, and the numbers that it joins.
 use Rattle.std.proofs.Common.{◌≡◌, ℕ, suc, ◌+◌, ◌<◌, ◌≤◌, ◌⊎◌, inl, inr, Bool, true, false, not, cond, ◌||◌, eqb, List, [], ◌∷◌, ◌++◌, length, take, drop, get_or, refl, sym, ap, ◌∙◌, subst, arith, codes}
-use Rattle.std.proofs.lemmas.Bool.{and_parts, and_from, ne_eqb, false≢true, not-true, not-false, or_from}
+use Rattle.std.proofs.lemmas.Bool.{and_parts, and_from, ne_eqb, not-true, not-false, or_from}
 use Rattle.std.proofs.lemmas.List.{append-nil, take-append-drop, take_at, drop_at, get_or-take, get_or-drop, length-take-le, length-drop, length-append}
 use Rattle.std.proofs.lemmas.List.Sums.{prefix_len-le-length, prefix_len_passes, prefix_len_stops, list_all-from_AllPass}
 use Rattle.std.specs.Char.{digit_value}

@@ -8,6 +8,7 @@ use Rattle.std.specs.Option.{MatchOption, IfSome, IfNone, option_copied}
 use Rattle.std.specs.List.Sorted.{IsPartitionedBy, IsPartitionPoint}
 use Rattle.sim_base.specs.declared.trace.Entry.TheVariants.{Plain}
 use Rattle.sim_base.specs.Windows.{is_memory}
+use Rattle.sim_base.proofs.Lists.{slice_get-drop}
 use Rattle.cpu_trace.specs.declared.entries.MemoryEntry.{MemoryEntry}
 use Rattle.cpu_trace.specs.Entries.{entries_after, IsAscending}
 use Rattle.cpu_trace.proofs.Growth.{length-entries_after}
@@ -61,14 +62,6 @@ drop-entries_after from (m ∷ memory) len i (suc k) le h within p =
     ∙ ap (drop (suc left)) (drop_at run (m.entry ∷ rest) (m.number - from) (length-replicate (m.number - from) Plain))
     ∙ drop-entries_after (m.number + 1) memory len i k (omega (arith, below)) h.2 (omega (arith, within)) point
 
--- what stands at a place of what is left
-pub slice_get-drop : {X : Type 0} (i : ℕ) (xs : List X) (j : ℕ) → slice_get (drop i xs) j ≡ slice_get xs (i + j)
-slice_get-drop zero xs j = let e : j ≡ 0 + j = omega arith in ap (slice_get xs) e
-slice_get-drop (suc i) [] j = refl
-slice_get-drop (suc i) (x ∷ xs) j =
-    let e : suc (i + j) ≡ suc i + j = omega arith in
-    slice_get-drop i xs j ∙ ap (slice_get (x ∷ xs)) e
-
 -- what stands in a run, and behind it
 pub slice_get-run : {X : Type 0} (n : ℕ) (x : X) (ys : List X) (j : ℕ) → j < n → slice_get (replicate n x ++ ys) j ≡ Some x
 slice_get-run zero x ys j lt = absurd (omega (arith, lt))
@@ -104,7 +97,7 @@ drop-at_none (x ∷ xs) (suc k) e = drop-at_none xs k e
 pub slice_get-from : {X : Type 0} (xs rest : List X) (i j : ℕ) → drop i xs ≡ rest → i ≤ j → slice_get xs j ≡ slice_get rest (j - i)
 slice_get-from xs rest i j e le =
     let place : j ≡ i + (j - i) = omega (arith, le) in
-    ap (slice_get xs) place ∙ sym (slice_get-drop i xs (j - i)) ∙ ap (λ ys. slice_get ys (j - i)) e
+    ap (slice_get xs) place ∙ sym (slice_get-drop xs i (j - i)) ∙ ap (λ ys. slice_get ys (j - i)) e
 
 -- a place among memory entries, with those below a number before it and the others from there on
 abbrev pub IsPlaceOf : ℕ → List MemoryEntry → ℕ → Type 0

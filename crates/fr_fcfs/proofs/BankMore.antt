@@ -29,7 +29,7 @@ use Rattle.queue.specs.Stands.{candidates_of_bank, candidates_to}
 use Rattle.queue.specs.Candidates.{bank_at, hits, first_place, AreFirst, AreCandidates}
 use Rattle.queue.specs.Moves.{earlier}
 use Rattle.queue.proofs.Searches.{none_everywhere}
-use Rattle.queue.proofs.SomeAccess.{none_is}
+use Rattle.sim_base.proofs.Lists.{none-is}
 use Rattle.queue.proofs.BankCandidatesServed.{earlier_none}
 use Rattle.fr_fcfs.specs.declared.accesses.Accesses.{Accesses}
 use Rattle.fr_fcfs.specs.declared.offers.Offer.{Offer}
@@ -135,7 +135,7 @@ row_more s history ranks log accesses bank h ready now hits rows best after read
     (λ c late. sym (ap (earlier (rows c)) (none_offered log accesses bank h _ first oldest) ∙ earlier_none (rows c)))
     (subst (IsBestSoFar (length log) now hits rows) (sym (step.none refl)) so_far)
 row_more s history ranks log accesses bank h ready now hits rows best after ready_fits now_fits places first row_is from no_hit (Some slot) oldest step so_far =
-    let none = none_is (hit_candidate accesses h) no_hit in
+    let none = none-is (hit_candidate accesses h) no_hit in
     let inside : slot < length log = subst (λ o. IfSome o (λ k. k < length log)) oldest (within_accesses log accesses bank h first) in
     so_far_same (length log) now (λ c. earlier (hits c) (hits_in s history log accesses bank c)) (λ c. earlier (rows c) (rows_in s history log accesses bank c)) hits
     (λ c. earlier (rows c) (rows_in s history log accesses bank c)) after
@@ -174,7 +174,7 @@ row_none s history ranks log accesses bank h places first row_is left cycle = el
   | inr no_hit ↦
       let none : is_some (oldest_candidate accesses h) ≡ false =
       sym (and-true (is_some (oldest_candidate accesses h))) ∙ ap (λ b. is_some (oldest_candidate accesses h) && not b) (sym no_hit) ∙ left in
-      none_offered log accesses bank h _ first (none_is (oldest_candidate accesses h) none)
+      none_offered log accesses bank h _ first (none-is (oldest_candidate accesses h) none)
 ]
 
 -- some bank is asked for by a kind that goes
@@ -228,7 +228,7 @@ pub hit_none : (s : Config) (history : List IssuedCommand) (ranks : ℕ) (log : 
     → AreCandidates log bank h → h.row ≡ open_row (bank_at bank) history → is_some (access_candidates access h).hit ≡ false → (cycle : ℕ)
     → hits_in s history log (only access) bank cycle ≡ None
 hit_none s history ranks log access bank h places first row_is none cycle =
-    no_hits s history ranks log (only access) bank h places first row_is (hit_only access h ∙ none_is (access_candidates access h).hit none) cycle
+    no_hits s history ranks log (only access) bank h places first row_is (hit_only access h ∙ none-is (access_candidates access h).hit none) cycle
 
 -- no command of a kind to some bank of so many ranks is allowed before this cycle
 abbrev pub IsFloor : Config → List IssuedCommand → ℕ → Kind → ℕ → Type 0

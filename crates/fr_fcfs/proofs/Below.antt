@@ -1,5 +1,6 @@
 -- The first request that passes a test, among those of the banks below a number.
 use Rattle.std.proofs.Common.{◌≡◌, ℕ, zero, suc, ◌+◌, ◌<◌, ◌≤◌, Bool, true, false, ◌&&◌, ◌||◌, ltb, eqb, List, [], ◌∷◌, length, Option, Some, None, refl, sym, ap, ◌∙◌, inl, inr, arith}
+use Rattle.std.proofs.Math.Bool.{or-false}
 use Rattle.std.proofs.lemmas.Bool.{cases_lt, cases_eq, lt-ltb, le-ltb, eq-eqb, ne_eqb}
 use Rattle.std.proofs.lemmas.List.{length-map}
 use Rattle.std.specs.List.{All, slice_get}
@@ -37,7 +38,7 @@ more_below k n t = elim (cases_eq k n) [
   | inr apart ↦ elim (cases_lt k n) [
     | inl below ↦
         ap (λ b. b && t) (lt-ltb k (n + 1) (omega arith) ∙ sym (lt-ltb k n below))
-        ∙ sym (or_none (ltb k n && t))
+        ∙ sym (or-false (ltb k n && t))
         ∙ ap (λ b. (ltb k n && t) || (b && t)) (sym (ne_eqb k n apart))
     | inr over ↦
         ap (λ b. b && t) (le-ltb k (n + 1) (beyond over apart))
@@ -45,10 +46,6 @@ more_below k n t = elim (cases_eq k n) [
   ]
 ]
   where
-    or_none : (b : Bool) → (b || false) ≡ b
-    or_none true = refl
-    or_none false = refl
-
     beyond : n ≤ k → (k ≡ n → ⊥) → n + 1 ≤ k
     beyond over apart = elim (cases_lt n k) [
       | inl less ↦ omega arith

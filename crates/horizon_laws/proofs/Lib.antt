@@ -1,4 +1,3 @@
-pub mod Lists
 pub mod Late
 pub mod Requesting
 pub mod Knowing

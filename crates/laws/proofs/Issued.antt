@@ -14,7 +14,8 @@ use Rattle.sim_base.specs.declared.trace.Entry.TheVariants.{Plain, Read, Write}
 use Rattle.sim_base.specs.declared.trace.Stop.TheVariants as stop
 use Rattle.sim_base.proofs.Each.{Each-filter_map}
 use Rattle.sim_base.proofs.Lists.{count-cons}
-use Rattle.laws.proofs.Lists.{take-enumerate, Each-enumerate_from, slice_get-take_drop, slice_get-drop, fails_before_first}
+use Rattle.laws.proofs.Lists.{take-enumerate, Each-enumerate_from, slice_get-take_drop, fails_before_first}
+use Rattle.sim_base.proofs.Lists.{slice_get-drop}
 use Rattle.statistics.proofs.Replies.{drop-enumerate_from}
 
 no_stop : (a b c d e : Bool) → is_some (cond a (Some stop.End) (cond b (Some stop.Width) (cond c (Some stop.Window) (cond d (Some stop.Memory) (cond e (Some stop.Credit) None))))) ≡ false
@@ -95,7 +96,7 @@ pub one_request : (s : Config) (core : ℕ) (trace : List Entry) (cycle first m 
 unfolding requests_between meets_memory has_memory
 one_request s core trace cycle first m h =
     let xs = drop first trace in
-    let one : count_by is_memory (take m xs) + 0 ≤ 1 = one_memory xs m false (λ j l. ap (λ o. is_memory_in o && list_any is_memory (take j xs)) (slice_get-drop first trace j) ∙ h j l) in
+    let one : count_by is_memory (take m xs) + 0 ≤ 1 = one_memory xs m false (λ j l. ap (λ o. is_memory_in o && list_any is_memory (take j xs)) (slice_get-drop trace first j) ∙ h j l) in
     let e : first + m - first ≡ m = omega arith in
     let f : take (first + m - first) (drop first (enumerate_from 0 trace)) ≡ enumerate_from first (take m xs) =
     ap (λ k. take k (drop first (enumerate_from 0 trace))) e

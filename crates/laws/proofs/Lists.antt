@@ -5,6 +5,7 @@ use Rattle.std.specs.Option.{MatchOption}
 use Rattle.std.specs.List.{AllByRecursion as Each, enumerate_from, range_with_len}
 use Rattle.std.proofs.lemmas.Bool.{cond_both, cases_lt}
 use Rattle.sim_base.specs.History.{below}
+use Rattle.sim_base.proofs.Lists.{slice_get-drop}
 
 pub take-enumerate : {X : Type 0} (n i : ℕ) (xs : List X) → take n (enumerate_from i xs) ≡ enumerate_from i (take n xs)
 take-enumerate zero i xs = refl
@@ -24,16 +25,9 @@ slice_get-take (suc m) [] j x e = cc
 slice_get-take (suc m) (y ∷ xs) zero x e = (omega arith, e)
 slice_get-take (suc m) (y ∷ xs) (suc j) x e = let h = slice_get-take m xs j x e in (omega arith, h.1)
 
-pub slice_get-drop : {X : Type 0} (n : ℕ) (xs : List X) (j : ℕ) → slice_get (drop n xs) j ≡ slice_get xs (n + j)
-slice_get-drop zero xs j = ap (slice_get xs) (sym (zero-add j))
-slice_get-drop (suc n) [] j = refl
-slice_get-drop (suc n) (x ∷ xs) j =
-    let e : suc (n + j) ≡ suc n + j = omega arith in
-    slice_get-drop n xs j ∙ ap (slice_get (x ∷ xs)) e
-
 -- an element of the first m of the elements from n on
 pub slice_get-take_drop : {X : Type 0} (m n : ℕ) (xs : List X) (j : ℕ) (x : X) → slice_get (take m (drop n xs)) j ≡ Some x → (j < m) × (slice_get xs (n + j) ≡ Some x)
-slice_get-take_drop m n xs j x e = let h = slice_get-take m (drop n xs) j x e in (h.0, sym (slice_get-drop n xs j) ∙ h.1)
+slice_get-take_drop m n xs j x e = let h = slice_get-take m (drop n xs) j x e in (h.0, sym (slice_get-drop xs n j) ∙ h.1)
 
 -- each number before the first that passes a test fails it
 abbrev pub FailsBefore : (ℕ → Bool) → ℕ → ℕ → Type 0

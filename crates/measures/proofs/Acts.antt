@@ -1,6 +1,7 @@
 -- The entries on whose behalf ACTs were issued, command by command.
 use Rattle.std.proofs.Common.{◌≡◌, ℕ, ◌+◌, ◌<◌, length, take, get_or, Bool, true, false, cond, not, ◌||◌, ◌&&◌, ◌==◌, List, [], ◌∷◌, refl, sym, ap, ap₂, ◌∙◌}
 use Rattle.std.specs.Prelude.{count_by, filter}
+use Rattle.std.proofs.Math.Bool.{or-false}
 use Rattle.std.proofs.lemmas.Cmp.{nat_eq_equiv}
 use Rattle.std.proofs.lemmas.List.Folds.{list_any_more}
 use Rattle.sim_base.specs.Counts.{is_act_for, is_hit, hits}
@@ -9,10 +10,6 @@ use Rattle.sim_base.specs.declared.command.Command.TheVariants.{Act, Rd, Wr, Pre
 use Rattle.sim_base.specs.declared.command.IssuedCommand.{IssuedCommand}
 use Rattle.sim_base.proofs.Lists.{count-same}
 use Rattle.measures.specs.Hits.{has_act, is_hit_without, with_entry}
-
-filter_same : {A : Type 0} (p q : A → Bool) → ((x : A) → p x ≡ q x) → (xs : List A) → filter p xs ≡ filter q xs
-filter_same p q same [] = refl
-filter_same p q same (x ∷ xs) = ap₂ (λ b ys. cond b (x ∷ ys) ys) (same x) (filter_same p q same xs)
 
 hit_same : (commands : List IssuedCommand) (acts : ℕ × ℕ → Bool) → ((q : ℕ × ℕ) → acts q ≡ has_act commands q) → (command : Command) → is_hit_without acts command ≡ is_hit commands command
 unfolding has_act
@@ -28,21 +25,13 @@ pub count_hits : (commands : List IssuedCommand) (acts : ℕ × ℕ → Bool) �
 unfolding hits
 count_hits commands acts same = count-same (λ i. is_hit_without acts i.command) (λ i. is_hit commands i.command) (λ i. hit_same commands acts same i.command) commands
 
--- the same two numbers, the other way round
-turned : (a b : ℕ) → (a == b) ≡ (b == a)
-turned a b = nat_eq_equiv.symm a b
-
-or_false : (b : Bool) → b ≡ (b || false)
-or_false true = refl
-or_false false = refl
-
 step : (command : Command) (q : ℕ × ℕ) (before : Bool) → with_entry command q before ≡ (before || is_act_for (record { core = q.0; entry = q.1 }) command)
-step (Act bank row source) q before = ap₂ (λ x y. before || (x && y)) (turned source.core q.0) (turned source.entry q.1)
-step (Rd bank row column source) q before = or_false before
-step (Wr bank row column source) q before = or_false before
-step (Pre bank source) q before = or_false before
-step (Prea rank) q before = or_false before
-step (Ref rank) q before = or_false before
+step (Act bank row source) q before = ap₂ (λ x y. before || (x && y)) (nat_eq_equiv.symm source.core q.0) (nat_eq_equiv.symm source.entry q.1)
+step (Rd bank row column source) q before = sym (or-false before)
+step (Wr bank row column source) q before = sym (or-false before)
+step (Pre bank source) q before = sym (or-false before)
+step (Prea rank) q before = sym (or-false before)
+step (Ref rank) q before = sym (or-false before)
 
 -- what is known of an entry after one more command
 pub one_more : (commands : List IssuedCommand) (i : ℕ) (d : IssuedCommand) (q : ℕ × ℕ) (before : Bool) → i < length commands → before ≡ has_act (take i commands) q

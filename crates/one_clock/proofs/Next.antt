@@ -7,7 +7,7 @@ use Rattle.std.proofs.Math.Seq.{take-length}
 use Rattle.std.proofs.lemmas.Bool.{cond_both}
 use Rattle.std.proofs.lemmas.Bool.Decides.{nat_tests}
 use Rattle.std.proofs.lemmas.List.{map-append, append-nil, take-append-le}
-use Rattle.std.proofs.lemmas.List.Elements.{filter_map-append}
+use Rattle.std.proofs.lemmas.List.Elements.{filter_agree, filter_map-append}
 use Rattle.std.proofs.lemmas.List.Folds.{list_any-append}
 use Rattle.std.proofs.lemmas.List.Concat.{flat_map-append}
 use Rattle.std.proofs.Math.Bool.{or-false, and-true, and-false}
@@ -35,8 +35,8 @@ use Rattle.sim_base.proofs.Arrived.{put, puts, by_age-puts, fold-puts}
 use Rattle.sim_base.proofs.Ordered.{Sorted, Sorted-puts, filter-puts, filter-by_age}
 use Rattle.sim_base.proofs.Grows.{core-grows, inbox-grows, by_age-filter-grows, has_channels}
 use Rattle.sim_base.proofs.Same.{drains-same}
-use Rattle.sim_base.proofs.Spans.{length-run, step_of_core-next, step_of_channel-next, inbox-run, inbox-stamped}
-use Rattle.sim_base.proofs.Lists.{enumerate-append}
+use Rattle.sim_base.proofs.Spans.{length-run, inbox-sorted, step_of_core-next, step_of_channel-next, inbox-run, inbox-stamped}
+use Rattle.sim_base.proofs.Lists.{enumerate-append, not-or, cons_option-none}
 use Rattle.plain_steps.specs.declared.scheduling.ChannelStep.{ChannelStep}
 use Rattle.one_clock.proofs.Units.{filter_map_below_more}
 use Rattle.plain_steps.specs.Plain.{CoreView, core_view, ChannelView, channel_view, channel_step_of, queue_of, is_request_left, is_left, is_passed_over, is_left_by, is_late}
@@ -52,10 +52,6 @@ filter-both p q (x ∷ xs) =
     (λ e. ap (λ a. cond (a && q x) (x ∷ both) both) e ∙ ap (λ l. cond (q x) (x ∷ l) l) (filter-both p q xs))
     (λ e. ap (λ a. cond (a && q x) (x ∷ both) both) e ∙ filter-both p q xs)
 
-pub filter-same : {X : Type 0} (p q : X → Bool) → ((x : X) → p x ≡ q x) → (xs : List X) → filter p xs ≡ filter q xs
-filter-same p q h [] = refl
-filter-same p q h (x ∷ xs) = ap₂ (λ b l. cond b (x ∷ l) l) (h x) (filter-same p q h xs)
-
 pub issued-push : (k : ℕ) (past_steps : List (Option Command)) (o : Option Command)
     → issued_commands k (past_steps ++ o ∷ []) ≡ issued_commands k past_steps ++ option_to_list (issued_at k (length past_steps) o)
 unfolding issued_commands
@@ -64,11 +60,7 @@ issued-push k past_steps o =
     ap (filter_map f) (enumerate-append 0 past_steps (o ∷ []))
     ∙ filter_map-append f (enumerate_from 0 past_steps) (enumerate_from (0 + length past_steps) (o ∷ []))
     ∙ ap (λ n. filter_map f (enumerate_from 0 past_steps) ++ cons_option (issued_at k n o) []) (zero-add (length past_steps))
-    ∙ ap (λ l. filter_map f (enumerate_from 0 past_steps) ++ l) (as_list (issued_at k (length past_steps) o))
-  where
-    as_list : (r : Option IssuedCommand) → cons_option r [] ≡ option_to_list r
-    as_list None = refl
-    as_list (Some r) = refl
+    ∙ ap (λ l. filter_map f (enumerate_from 0 past_steps) ++ l) (cons_option-none (issued_at k (length past_steps) o))
 
 pub commands-push : (history : List MachineStep) (row : MachineStep) → commands (history ++ row ∷ []) ≡ commands history ++ commands_in (length history) row
 unfolding commands
@@ -80,10 +72,6 @@ commands-push history row =
 
 -- requests that are left
 
-not_or : (a b : Bool) → not (a || b) ≡ (not a && not b)
-not_or true b = refl
-not_or false b = refl
-
 served-push : (h : List IssuedCommand) (i : IssuedCommand) (r : Request) → is_served (h ++ i ∷ []) r ≡ (is_served h r || serves r i.command)
 unfolding is_served
 served-push h i r =
@@ -93,7 +81,7 @@ served-push h i r =
 request_left-push : (h : List IssuedCommand) (k n : ℕ) (c : Command) (o : Option Request)
     → is_request_left (h ++ (record { cycle = n; channel = k; command = c }) ∷ []) o ≡ (is_request_left h o && is_passed_over (Some c) o)
 request_left-push h k n c None = refl
-request_left-push h k n c (Some r) = ap not (served-push h (record { cycle = n; channel = k; command = c }) r) ∙ not_or (is_served h r) (serves r c)
+request_left-push h k n c (Some r) = ap not (served-push h (record { cycle = n; channel = k; command = c }) r) ∙ not-or (is_served h r) (serves r c)
 
 left-push : (h : List IssuedCommand) (k n : ℕ) (o : Option Command) (m : Message)
     → is_left (h ++ option_to_list (issued_at k n o)) m ≡ (is_left h m && is_left_by o m)
@@ -102,7 +90,7 @@ left-push h k n (Some c) m = request_left-push h k n c (request_in m.load)
 
 pub left_after : (h : List IssuedCommand) (k n : ℕ) (o : Option Command) (mail : List Message)
     → filter (is_left (h ++ option_to_list (issued_at k n o))) mail ≡ filter (is_left_by o) (filter (is_left h) mail)
-left_after h k n o mail = filter-same _ (λ m. is_left h m && is_left_by o m) (left-push h k n o) mail ∙ filter-both (is_left h) (is_left_by o) mail
+left_after h k n o mail = filter_agree _ (λ m. is_left h m && is_left_by o m) (left-push h k n o) mail ∙ filter-both (is_left h) (is_left_by o) mail
 
 one_waiting : (h : List IssuedCommand) (until : ℕ) (rs ts : List Request) → filter (is_queued h until) rs ≡ filter (λ r. ltb r.arrival until) ts → (o : Option Request)
     → filter (is_queued h until) (cons_option o rs) ≡ filter (λ r. ltb r.arrival until) (cond (is_request_left h o) (cons_option o ts) ts)
@@ -218,12 +206,6 @@ draining_next s traces n k l =
       same = λ u h. inbox-run s traces n 1 (Channel k) u (has_channels s) (travels s) h 1;
     })
 
-inbox-sorted : (s : Config) (traces : List (List Entry)) (history : List MachineStep) (unit : MachineUnit) → Sorted (inbox s traces history unit)
-unfolding inbox
-inbox-sorted s traces history unit =
-    let mine = filter (is_to s unit) (messages s traces history) in
-    subst Sorted (sym (by_age-puts mine)) (Sorted-puts [] mine tt)
-
 view_same : (a b : ChannelView) → a.commands ≡ b.commands → a.pending ≡ b.pending → a.draining ≡ b.draining → a ≡ b
 view_same a b e f g =
     let view : List IssuedCommand → List Message → Bool → ChannelView = λ x y z. record { commands = x; pending = y; draining = z } in
@@ -316,7 +298,7 @@ flight_next s traces n =
     ∙ ap (λ x. by_age (filter (is_late (n + 1)) (messages s traces x))) (run_next s traces n)
     ∙ by_age-filter-grows s traces history row (is_late (n + 1))
     ∙ ap (λ x. fold insert_by_age (by_age x) fresh)
-    (filter-same _ _ (late_twice n) (messages s traces history) ∙ filter-both (is_late n) (is_late (n + 1)) (messages s traces history))
+    (filter_agree _ _ (late_twice n) (messages s traces history) ∙ filter-both (is_late n) (is_late (n + 1)) (messages s traces history))
     ∙ ap (λ x. fold insert_by_age x fresh)
     (sym (filter-by_age (is_late (n + 1)) (filter (is_late n) (messages s traces history)))
     ∙ ap (λ i. filter (is_late (n + 1)) (by_age (filter (is_late i) (messages s traces history)))) (sym (length-run s traces n)))

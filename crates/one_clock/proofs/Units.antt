@@ -11,7 +11,7 @@ use Rattle.std.proofs.lemmas.List.Folds.{list_all-append}
 use Rattle.std.proofs.lemmas.List.Elements.{filter_map-append}
 use Rattle.sim_base.specs.History.{below}
 use Rattle.sim_base.proofs.Below.{below_more as below_suc}
-use Rattle.sim_base.proofs.Lists.{length-map_below, map_below-more}
+use Rattle.sim_base.proofs.Lists.{length-map_below, map_below-more, cons_option-none}
 
 pub length_units : {X : Type 0} (xs : List X) (f : ℕ → X) (n : ℕ) → xs ≡ map f (below n) → length xs ≡ n
 length_units xs f n e = ap length e ∙ length-map_below f n
@@ -78,11 +78,7 @@ list_all_below_more p n = ap (λ k. list_all p (below k)) (add-one n) ∙ ap (li
     and_true false = refl
 
 filter_map_below_suc : {X : Type 0} (f : ℕ → Option X) (n : ℕ) → filter_map f (below (suc n)) ≡ filter_map f (below n) ++ option_to_list (f n)
-filter_map_below_suc f n = ap (filter_map f) (below_suc n) ∙ filter_map-append f (below n) (n ∷ []) ∙ ap (λ l. filter_map f (below n) ++ l) (as_list (f n))
-  where
-    as_list : {X : Type 0} (r : Option X) → cons_option r [] ≡ option_to_list r
-    as_list None = refl
-    as_list (Some r) = refl
+filter_map_below_suc f n = ap (filter_map f) (below_suc n) ∙ filter_map-append f (below n) (n ∷ []) ∙ ap (λ l. filter_map f (below n) ++ l) (cons_option-none (f n))
 
 pub filter_map_below_more : {X : Type 0} (f : ℕ → Option X) (n : ℕ) → filter_map f (below (n + 1)) ≡ filter_map f (below n) ++ option_to_list (f n)
 filter_map_below_more f n = ap (λ k. filter_map f (below k)) (add-one n) ∙ filter_map_below_suc f n

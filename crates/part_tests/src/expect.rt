@@ -13,7 +13,7 @@ pub fn expect<T: PartialEq + Debug>(rt: &impl Abort, found: &T, want: &T)
     assert_eq!(rt; found, want);
 }
 
-/// The same, and prints at which case it is.
+/// Ends the test where a value is not the one that is wanted, and prints both, and at which case that is.
 pub fn expect_at<T: PartialEq + Debug, N: Debug>(rt: &impl Abort, case: &N, found: &T, want: &T)
     ensures { T.eq found.now want.now ≡ true }
 {

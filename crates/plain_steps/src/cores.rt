@@ -130,7 +130,7 @@ fn push_some(sent: &mut Vec<Message>, message: Option<Message>) -> Result<(), Al
 }
 
 /// The requests among entries that a core issues. The only error is out of memory.
-#[tactic(auto, using(crate::proofs::Entries::requests_between_none))]
+#[tactic(auto, using(sim_base::proofs::Requested::requests_between_none))]
 pub fn requests_of_entries(
     alloc: Global,
     s: &Config,

@@ -25,10 +25,6 @@ pub oldest_is : (access : Access) (log : List Arrived) (bank : ℕ) (candidates 
 oldest_is access.Write log bank candidates first = first.writes_are.oldest_is
 oldest_is access.Read log bank candidates first = first.reads_are.oldest_is
 
-pub none_is : (o : Option ℕ) → is_some o ≡ false → o ≡ None
-none_is None is = refl
-none_is (Some k) is = absurd (true≢false is)
-
 no_some : (o : Option ℕ) → None ≡ o → is_some o ≡ true → ⊥
 no_some o none is = false≢true (ap is_some none ∙ is)
 

@@ -2,7 +2,7 @@
 use Rattle.std.proofs.Common.{◌≡◌, ℕ, ◌+◌, ◌∙◌, Bool, true, false, ◌&&◌, ◌||◌, cond, max, List, [], ◌∷◌, Option, Some, None, refl, sym, ap, arith, inl, inr}
 use Rattle.std.specs.Prelude.{fold, nat_lt}
 use Rattle.std.specs.List.{list_any}
-use Rattle.std.proofs.Math.Bool.{or_assoc}
+use Rattle.std.proofs.Math.Bool.{or_assoc, or-false}
 use Rattle.std.proofs.lemmas.Bool.{cases_lt, lt-ltb, le-ltb}
 use Rattle.sim_base.specs.declared.rule.Rule.{Rule}
 use Rattle.sim_base.specs.declared.command.Kind.{Kind}
@@ -21,10 +21,6 @@ latest_of-nothing kind.Wr = refl
 latest_of-nothing kind.Pre = refl
 latest_of-nothing kind.Prea = refl
 latest_of-nothing kind.Ref = refl
-
-or_none : (b : Bool) → b ≡ (b || false)
-or_none true = refl
-or_none false = refl
 
 ahead-max : (m c now d : ℕ) → nat_lt now (max m c + d) ≡ (nat_lt now (m + d) || nat_lt now (c + d))
 ahead-max m c now d =
@@ -52,19 +48,19 @@ latest_of-noted _ _ c l = refl
 
 ahead-where : (p : Bool) (which k : Kind) (c now d : ℕ) (l : Latest)
     → is_ahead now d (latest_of (noted_where p k c l) which) ≡ (is_ahead now d (latest_of l which) || (p && is_kind which k && nat_lt now (c + d)))
-ahead-where false which k c now d l = or_none _
+ahead-where false which k c now d l = sym (or-false _)
 ahead-where true which k c now d l =
     ap (is_ahead now d) (latest_of-noted which k c l)
     ∙ (elim (is_kind which k) as (λ b. is_ahead now d (cond b (later_cycle (latest_of l which) c) (latest_of l which))
     ≡ (is_ahead now d (latest_of l which) || (b && nat_lt now (c + d)))) [
       | true ↦ ahead-later (latest_of l which) c now d
-      | false ↦ or_none _
+      | false ↦ sym (or-false _)
     ])
 
 ahead-fold : (p : Command → Bool) (which : Kind) (now d : ℕ) (l : Latest) (history : List IssuedCommand)
     → is_ahead now d (latest_of (fold (λ l (i : IssuedCommand). noted_where (p i.command) (kind_of i.command) i.cycle l) l history) which)
     ≡ (is_ahead now d (latest_of l which) || list_any (λ i. p i.command && is_kind which (kind_of i.command) && nat_lt now (i.cycle + d)) history)
-ahead-fold p which now d l [] = or_none _
+ahead-fold p which now d l [] = sym (or-false _)
 ahead-fold p which now d l (i ∷ history) =
     let rest = list_any (λ (j : IssuedCommand). p j.command && is_kind which (kind_of j.command) && nat_lt now (j.cycle + d)) history in
     ahead-fold p which now d (noted_where (p i.command) (kind_of i.command) i.cycle l) history

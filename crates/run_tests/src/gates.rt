@@ -281,8 +281,8 @@ fn is_shared_out<R: Abort + Threads + Wait + Sync>(
     gate.jobs() > 0
 }
 
-/// All requests of 24 cores are in flight for a long time, so the units are shared out. Where there are few units, or
-/// one worker, the caller runs them, unless several workers always share.
+/// All requests of 32 cores, 128 in all, are in flight for a long time, so the units are shared out. Where there are
+/// few units, or one worker, the caller runs them, unless several workers always share.
 #[test]
 fn a_large_machine_is_shared_out(rt: HostRuntime) {
     for (workers, want) in [
@@ -290,7 +290,7 @@ fn a_large_machine_is_shared_out(rt: HostRuntime) {
         (always(2), (true, true)),
         (always(1), (false, false)),
     ] {
-        let large = is_shared_out(&rt, rt.alloc(), "cores = 24", &[FOUR_LINES; 24], workers);
+        let large = is_shared_out(&rt, rt.alloc(), "cores = 32", &[FOUR_LINES; 32], workers);
         let small = is_shared_out(&rt, rt.alloc(), "cores = 14", &[FOUR_LINES; 14], workers);
         expect_at(&rt, &workers.count, &(large, small), &want);
     }

@@ -44,10 +44,12 @@ fn a_large_machine_does_not_show_its_workers(rt: HostRuntime) {
     assert_same(&rt, rt.alloc(), &texts.run(400), &workers);
 }
 
-/// A run has the tables of the plain machine where workers share the machine out from the second lap on, in cycle 64.
+/// A run has the tables of the plain machine where workers share the machine out from the second lap on, in cycle 64,
+/// at whose beginning 32 messages or more are in flight.
 fn assert_shared_later<R: Abort + Threads + Wait + Sync>(rt: &R, alloc: Global, run: &Run<'_>) {
     let plain = plain_tables(rt, alloc, run);
     let sharing = Sharing {
+        messages: 32,
         first_lap: 64,
         ..Sharing::default()
     };

@@ -3,6 +3,8 @@ pub mod LinkNumbers
 pub mod Below
 pub mod Each
 pub mod Lists
+pub mod Powers
+pub mod Requested
 pub mod OpenRows
 pub mod Arrived
 pub mod Made
@@ -11,6 +13,7 @@ pub mod Same
 pub mod Served
 pub mod Kept
 pub mod Spans
+pub mod Cycles
 pub mod Ordered
 pub mod Grows
 pub mod SameValues

@@ -1,6 +1,6 @@
 -- Lists and counts, whatever they are of.
-use Rattle.std.proofs.Common.{◌≡◌, Bool, cond, List, [], ◌∷◌, refl, ap₂, true, ap, ◌∙◌, false, ◌&&◌, suc, ◌≤◌, length, arith, ◌+◌, ◌++◌, sym, ℕ, add-zero, zero, drop, zero-add, Some, take, ◌⊎◌, inl, inr, Option, None, map, add-one, ◌<◌, eqb, eq-eqb, ne_eqb}
-use Rattle.std.specs.Prelude.{filter, count_by, slice_get, option_map, flat_map, find, is_some}
+use Rattle.std.proofs.Common.{◌≡◌, Bool, cond, List, [], ◌∷◌, refl, ap₂, true, ap, ◌∙◌, false, ◌&&◌, ◌||◌, suc, ◌≤◌, length, arith, ◌+◌, ◌++◌, sym, ℕ, add-zero, zero, drop, zero-add, Some, take, ◌⊎◌, inl, inr, Option, None, map, add-one, ◌<◌, eqb, eq-eqb, ne_eqb}
+use Rattle.std.specs.Prelude.{filter, count_by, slice_get, option_map, flat_map, find, is_some, not}
 use Rattle.std.specs.List.{AllByRecursion as Each, enumerate_from, cons_option, range_with_len}
 use Rattle.std.proofs.lemmas.Bool.{false≢true, cond-true, cond-false, cond_both, cases_Bool, eqb-true, eqb-false}
 use Rattle.std.proofs.lemmas.List.Sums.{sum_by-cons, sum_by_push}
@@ -128,3 +128,18 @@ eqb-swap a b = elim (cases_Bool (eqb a b)) [
   | inl same ↦ same ∙ sym (eq-eqb b a (sym (eqb-true a b same)))
   | inr apart ↦ apart ∙ sym (ne_eqb b a (λ e. eqb-false a b apart (sym e)))
 ]
+
+-- what equal lists begin with, and go on with
+pub nonempty : {X : Type 0} (x : X) (xs : List X) → [] ≡ x ∷ xs → ⊥
+nonempty x xs e = cc
+
+pub heads : {X : Type 0} (x y : X) (xs ys : List X) → x ∷ xs ≡ y ∷ ys → x ≡ y
+heads x y xs ys e = cc
+
+pub tails : {X : Type 0} (x y : X) (xs ys : List X) → x ∷ xs ≡ y ∷ ys → xs ≡ ys
+tails x y xs ys e = cc
+
+-- neither of two
+pub not-or : (a b : Bool) → not (a || b) ≡ (not a && not b)
+not-or true b = refl
+not-or false b = refl

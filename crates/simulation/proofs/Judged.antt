@@ -9,19 +9,9 @@ use Rattle.sim_base.specs.declared.fault.Fault.TheVariants.{TraceTooLong}
 use Rattle.sim_base.specs.declared.trace.Entry.{Entry}
 use Rattle.sim_base.specs.TraceText.{◌>>=◌, trace_answer, in_trace, trace_entries, limited}
 use Rattle.sim_base.specs.Machine.{run, is_over, cycles_run}
+use Rattle.sim_base.proofs.Cycles.{cycles-within}
 use Rattle.table_laws.proofs.Verdicts.{runs-legal}
 use Rattle.simulation.specs.Runs.{traces_of, IsLegalRun}
-
--- a run has no more cycles than its limit
-cycles-few : (s : Config) (traces : List (List Entry)) (n : ℕ) → cycles_run s traces n ≤ n
-unfolding cycles_run
-cycles-few s traces zero = omega arith
-cycles-few s traces (suc n) =
-    by (s.ends_drained && is_over s traces (run s traces (cycles_run s traces n))) (cycles-few s traces n)
-  where
-    by : (b : Bool) → cycles_run s traces n ≤ n → cond b (cycles_run s traces n) (suc n) ≤ suc n
-    by true l = omega arith
-    by false l = omega arith
 
 -- a trace that is read is short enough
 limited-short : (core : ℕ) (b : Bool) (entries trace : List Entry) → leb (length entries) (2 ^ 62) ≡ b → cond {A = Result (List Entry) Fault} b (Ok entries) (Err (TraceTooLong core)) ≡ Ok trace → length trace ≤ 2 ^ 62
@@ -58,5 +48,5 @@ pub run-judged : (s : Config) (texts : List (List ℕ)) (traces : List (List Ent
     → IsLegalRun s traces (cycles_run s traces cycles)
 run-judged s texts traces cycles read few =
     let n = cycles_run s traces cycles in
-    let below : n ≤ 2 ^ 62 = omega (arith, cycles-few s traces cycles) in
+    let below : n ≤ 2 ^ 62 = omega (arith, cycles-within s traces cycles) in
     runs-legal s traces n below (All-from_recursion (λ (t : List Entry). length t ≤ 2 ^ 62) traces (traces-short 0 texts traces read))

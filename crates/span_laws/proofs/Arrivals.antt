@@ -1,5 +1,5 @@
 -- What arrives at a unit of a run, span by span.
-use Rattle.std.proofs.Common.{◌≡◌, ℕ, ◌+◌, ◌-◌, ◌<◌, ◌≤◌, Bool, ltb, leb, ◌&&◌, List, [], sym, ap, subst, ◌∙◌, arith}
+use Rattle.std.proofs.Common.{◌≡◌, ℕ, ◌+◌, ◌-◌, ◌<◌, ◌≤◌, Bool, ltb, leb, ◌&&◌, List, [], sym, ap, ◌∙◌, arith}
 use Rattle.std.specs.Prelude.{filter, count_by}
 use Rattle.std.proofs.lemmas.Bool.{and_parts, and_right, le-ltb}
 use Rattle.sim_base.specs.declared.config.Config.{Config}
@@ -9,22 +9,18 @@ use Rattle.sim_base.specs.Machine.{run}
 use Rattle.sim_base.specs.declared.message.Message.{Message}
 use Rattle.sim_base.specs.declared.message.Unit.{Unit as MachineUnit}
 use Rattle.sim_base.specs.declared.trace.Entry.{Entry}
-use Rattle.sim_base.proofs.Arrived.{arrived, arrived-none, by_age-puts}
+use Rattle.sim_base.proofs.Arrived.{arrived, arrived-none, filter-arrived}
 use Rattle.sim_base.proofs.Each.{Each-all, Each-filter}
-use Rattle.sim_base.proofs.Ordered.{Sorted, Sorted-puts, filter-by_age}
+use Rattle.sim_base.proofs.Ordered.{filter-by_age}
 use Rattle.sim_base.proofs.Same.{Stamped, AgreeUpTo}
-use Rattle.sim_base.proofs.Spans.{inbox-run, inbox-stamped}
+use Rattle.sim_base.proofs.Spans.{inbox-sorted, inbox-run, inbox-stamped}
 use Rattle.sim_base.proofs.Grows.{has_channels}
-use Rattle.statistics.proofs.Messages.{filter-arrived, arrived-arrived}
+use Rattle.statistics.proofs.Messages.{arrived-arrived}
 use Rattle.statistics.proofs.RunSteps.{travels}
 use Rattle.laws.proofs.Counting.{count-weaker}
 use Rattle.laws.proofs.Spent.{count-inbox}
 use Rattle.span_laws.specs.Mail.{arriving, mail_before, MailIsSettled, MailIsKnown, SpansJoin, MailIsSent}
 use Rattle.span_laws.proofs.Lists.{arriving-more}
-
-pub inbox-sorted : (s : Config) (traces : List (List Entry)) (history : List MachineStep) (unit : MachineUnit) → Sorted (inbox s traces history unit)
-unfolding inbox
-inbox-sorted s traces history unit = let ms = filter (is_to s unit) (messages s traces history) in subst Sorted (sym (by_age-puts ms)) (Sorted-puts [] ms tt)
 
 -- a unit has no more of a kind of message than there are in all
 pub count-mine : (p : Message → Bool) (s : Config) (traces : List (List Entry)) (history : List MachineStep) (unit : MachineUnit)

@@ -10,6 +10,7 @@ use Rattle.sim_base.specs.declared.message.Unit.TheVariants.{Channel}
 use Rattle.sim_base.specs.declared.trace.Entry.{Entry}
 use Rattle.sim_base.proofs.Ordered.{Each-weaker}
 use Rattle.sim_base.proofs.Same.{AgreeUpTo, choice-same, queue-same}
+use Rattle.sim_base.proofs.Spans.{inbox-sorted}
 use Rattle.laws.specs.Commands.{channel_steps_of}
 use Rattle.laws.specs.Links.{arrives_on}
 use Rattle.laws.proofs.Bounded.{queues_are_bounded}
@@ -19,7 +20,7 @@ use Rattle.channel_step.specs.Past.{CarriesRequest}
 use Rattle.channel_step.specs.Fit.{queue_room, ComeByAge}
 use Rattle.span_laws.specs.Channels.{RequestsFitSpans, ChannelsRunAlone}
 use Rattle.span_laws.specs.Mail.{mail_before, mail_in}
-use Rattle.span_laws.proofs.Arrivals.{inbox-sorted, count-mine, arrived-agree, spans-join}
+use Rattle.span_laws.proofs.Arrivals.{count-mine, arrived-agree, spans-join}
 use Rattle.span_laws.proofs.Lists.{Sorted-filter, arriving-within, count-kept, come-by_age}
 use Rattle.span_laws.proofs.Requests.{all-carry, span-differ, span-unnamed}
 

@@ -13,7 +13,7 @@ use Rattle.sim_base.proofs.Arrived.{arrived}
 use Rattle.sim_base.proofs.Each.{Each-append}
 use Rattle.sim_base.proofs.Ordered.{Each-weaker, Sorted}
 use Rattle.sim_base.proofs.Same.{step-same}
-use Rattle.sim_base.proofs.Spans.{length-run}
+use Rattle.sim_base.proofs.Spans.{length-run, inbox-sorted}
 use Rattle.statistics.proofs.Replies.{length-steps_of_core}
 use Rattle.statistics.proofs.RunSteps.{steps_of_core-next}
 use Rattle.laws.specs.Messages.{FitsCore}
@@ -23,7 +23,7 @@ use Rattle.laws.proofs.Fitting.{answers_fit}
 use Rattle.core_window.specs.Fit.{IsDue, IsByArrival}
 use Rattle.span_laws.specs.Cores.{core_steps_of, MessagesFitSpans, CoresRunAlone}
 use Rattle.span_laws.specs.Mail.{mail_before, mail_in}
-use Rattle.span_laws.proofs.Arrivals.{inbox-sorted, arrived-agree, spans-join}
+use Rattle.span_laws.proofs.Arrivals.{arrived-agree, spans-join}
 use Rattle.span_laws.proofs.Dues.{ComesTo, comes-due}
 use Rattle.span_laws.proofs.Lists.{Sorted-filter, arriving-within, before-within}
 use Rattle.links.proofs.Next.{not_sooner}

@@ -16,7 +16,7 @@ use Rattle.sim_base.proofs.Arrived.{puts, by_age-puts, fold-puts, NotBefore, Eac
 use Rattle.sim_base.proofs.Each.{Each-all, Each-append, Each-flat_map_below}
 use Rattle.sim_base.proofs.Ordered.{Each-weaker, filter-by_age, filter-puts, Sorted-puts}
 use Rattle.sim_base.proofs.Spans.{length-run}
-use Rattle.sim_base.proofs.Lists.{filter-both, filter-each, filter-agree}
+use Rattle.sim_base.proofs.Lists.{filter-both, filter-each, filter-agree, not-or}
 use Rattle.laws.proofs.Receivers.{Each-filter_passes}
 use Rattle.laws.proofs.Sent.{messages-none}
 use Rattle.links.specs.InFlight.{is_due, receiver_of}
@@ -109,10 +109,6 @@ links-bring s traces from until flight units unit h k =
     due-left flight.channels from until from until unit units flight.messages k
     ∙ ap₂ (λ c ms. filter (is_due c unit from until) ms) h.channels_are (h.messages_are ∙ in_flight-late s traces from)
     ∙ due-mail s traces from until unit
-
-not-or : (a b : Bool) → not (a || b) ≡ (not a && not b)
-not-or true b = refl
-not-or false b = refl
 
 pub any-and : (p : MachineUnit → Bool) (w : Bool) (units : List MachineUnit) → list_any (λ u. p u && w) units ≡ (list_any p units && w)
 any-and p w [] = refl

@@ -13,6 +13,7 @@ use Rattle.sim_base.specs.declared.command.Command.{Command}
 use Rattle.sim_base.specs.declared.command.IssuedCommand.{IssuedCommand}
 use Rattle.sim_base.specs.declared.trace.Entry.{Entry}
 use Rattle.sim_base.proofs.Each.{Each-append, Each-filter}
+use Rattle.sim_base.proofs.Lists.{nonempty, heads, tails}
 use Rattle.sim_base.proofs.Ordered.{Each-weaker}
 use Rattle.sim_base.proofs.Spans.{length-run}
 use Rattle.laws.specs.Commands.{history_of}
@@ -49,15 +50,6 @@ other-steps x xs k e = cond-false _ _ _ (ne_eqb x.channel k e)
 
 not-both : (x y : IssuedCommand) → stands_before x y ≡ true → stands_before y x ≡ true → ⊥
 not-both x y h k = grind (arith, nat_tests)
-
-nonempty : (x : IssuedCommand) (xs : List IssuedCommand) → [] ≡ x ∷ xs → ⊥
-nonempty x xs e = cc
-
-heads : (x y : IssuedCommand) (xs ys : List IssuedCommand) → x ∷ xs ≡ y ∷ ys → x ≡ y
-heads x y xs ys e = cc
-
-tails : (x y : IssuedCommand) (xs ys : List IssuedCommand) → x ∷ xs ≡ y ∷ ys → xs ≡ ys
-tails x y xs ys e = cc
 
 -- a row that stands among later ones of a channel stands after the first
 after-first : (x y : IssuedCommand) (ys rest : List IssuedCommand) (k : ℕ) → Each (λ z. stands_before y z ≡ true) ys → x ∷ rest ≡ rows_on k ys → stands_before y x ≡ true

@@ -9,7 +9,7 @@ use Rattle.std.proofs.lemmas.List.Folds.{list_all-append}
 use Rattle.sim_base.specs.declared.config.Config.{Config}
 use Rattle.sim_base.specs.MachineStep.{step_of_core}
 use Rattle.sim_base.specs.History.{below, trace_of, steps_of_core, retired_before, issued_before, issued_at, request_of, requests_between, messages_of, messages_at, messages, is_to, by_age, inbox, insert_by_age}
-use Rattle.sim_base.specs.Machine.{run, next_step, is_retired, has_served, is_delivered, is_over, cycles_run}
+use Rattle.sim_base.specs.Machine.{run, next_step, is_retired, has_served, is_delivered, is_over, cycles_run, ends_before}
 use Rattle.sim_base.specs.Scheduling.{queued_requests, queue_in}
 use Rattle.sim_base.specs.Sends.{core_sends, channel_sends, sends}
 use Rattle.sim_base.specs.Windows.{step}
@@ -23,6 +23,7 @@ use Rattle.sim_base.specs.declared.message.Unit.TheVariants.{Core, Channel}
 use Rattle.sim_base.specs.declared.trace.Entry.{Entry}
 use Rattle.sim_base.proofs.Arrived.{Each-by_age}
 use Rattle.sim_base.proofs.Below.{below_more}
+use Rattle.sim_base.proofs.Cycles.{cycles-stay}
 use Rattle.sim_base.proofs.Each.{Each-filter}
 use Rattle.sim_base.proofs.Grows.{issued_before-push, inbox-grows}
 use Rattle.sim_base.proofs.Ordered.{Each-weaker}
@@ -39,7 +40,7 @@ use Rattle.channel_step.specs.Past.{requests_of}
 use Rattle.channel_step.proofs.Requests.{requests-arrived, ArrivedBefore, queued_requests-until, queued_requests-command, unserved_by}
 use Rattle.channel_step.proofs.Spans.{queue-next}
 use Rattle.span_laws.specs.Cores.{core_steps_of}
-use Rattle.span_laws.specs.Ends.{ends_before, RunsStayOver, OverIsSeen, CyclesAreCounted}
+use Rattle.span_laws.specs.Ends.{RunsStayOver, OverIsSeen, CyclesAreCounted}
 use Rattle.span_laws.specs.Mail.{mail_before}
 use Rattle.span_laws.proofs.ChannelsOn.{queue-alike}
 use Rattle.span_laws.proofs.Flights.{not_before, in_flight-late}
@@ -241,22 +242,12 @@ not-sooner s traces n m h l =
     let e : (n - 1) + 1 ≡ n = omega arith in
     false_from_ne_true (ends_before s traces m) (λ k. false≢true (sym (h (n - 1) e) ∙ ends-stay s traces m (n - 1) (omega arith) k))
 
-pub cycles-next : (s : Config) (traces : List (List Entry)) (n : ℕ) → cycles_run s traces (suc n) ≡ cond (ends_before s traces (cycles_run s traces n)) (cycles_run s traces n) (suc n)
-unfolding cycles_run
-cycles-next s traces n = refl
-
 cycles-so_far : (s : Config) (traces : List (List Entry)) (n : ℕ) → ((m : ℕ) → m < n → ends_before s traces m ≡ false) → cycles_run s traces n ≡ n
 unfolding cycles_run
 cycles-so_far s traces zero h = refl
 cycles-so_far s traces (suc n) h =
     let before : cycles_run s traces n ≡ n = cycles-so_far s traces n (λ m l. h m (omega arith)) in
     ap (λ c. cond (ends_before s traces c) c (suc n)) before ∙ ap (λ b. cond b n (suc n)) (h n (omega arith))
-
-cycles-stay : (s : Config) (traces : List (List Entry)) (n : ℕ) → cycles_run s traces n ≡ n → ends_before s traces n ≡ true → (k : ℕ) → cycles_run s traces (n + k) ≡ n
-cycles-stay s traces n e h zero = ap (cycles_run s traces) (add-zero n) ∙ e
-cycles-stay s traces n e h (suc k) =
-    let before : cycles_run s traces (n + k) ≡ n = cycles-stay s traces n e h k in
-    ap (cycles_run s traces) (add-suc n k) ∙ cycles-next s traces (n + k) ∙ ap (λ c. cond (ends_before s traces c) c (suc (n + k))) before ∙ ap (λ b. cond b n (suc (n + k))) h
 
 pub cycles-are_counted : (s : Config) (traces : List (List Entry)) (limit n : ℕ) → CyclesAreCounted s traces limit n
 cycles-are_counted s traces limit n l h k = go (cases_lt n limit)

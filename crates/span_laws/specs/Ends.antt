@@ -1,27 +1,22 @@
 -- The end of a run, which may lie within a span.
---     ends_before s traces n      a run that ends drained is over before cycle n
 --     RunsStayOver s traces from until      what is over stays so
 --     OverIsSeen s traces now      a run is over where all is retired, nothing is in flight and no request is left in a queue
 --     CyclesAreCounted s traces limit n      a run has n cycles where it is over before cycle n and not before the one before it
 --     RetiresByWidth s traces from until      a core retires no more than its width in a cycle
 --     FlightStays s traces from until      a message in flight stays in flight up to its arrival
 --     LastsForTrace, LastsForFlight s traces from until      a run is not over before a cycle by which a core cannot retire its trace, or a message is still to arrive
-use Rattle.std.specs.Prelude.{◌≡◌, ◌↔◌, ℕ, ◌+◌, ◌-◌, ◌*◌, ◌<◌, ◌≤◌, Bool, true, false, ◌&&◌, List, [], length, count_by, Any}
+use Rattle.std.specs.Prelude.{◌≡◌, ◌↔◌, ℕ, ◌+◌, ◌-◌, ◌*◌, ◌<◌, ◌≤◌, Bool, true, false, List, [], length, count_by, Any}
 use Rattle.sim_base.specs.declared.config.Config.{Config}
 use Rattle.sim_base.specs.Counts.{in_flight}
 use Rattle.sim_base.specs.Final.{queue_left}
 use Rattle.sim_base.specs.History.{trace_of, retired_before}
-use Rattle.sim_base.specs.Machine.{run, is_over, cycles_run}
+use Rattle.sim_base.specs.Machine.{run, is_over, cycles_run, ends_before}
 use Rattle.sim_base.specs.declared.message.Message.{Message}
 use Rattle.sim_base.specs.declared.message.Unit.TheVariants.{Channel}
 use Rattle.sim_base.specs.declared.trace.Entry.{Entry}
 use Rattle.laws.specs.Commands.{channel_steps_of}
 use Rattle.span_laws.specs.Cores.{core_steps_of}
 use Rattle.span_laws.specs.Mail.{mail_before}
-
--- a run that ends drained is over before cycle n
-abbrev pub ends_before : Config → List (List Entry) → ℕ → Bool
-ends_before s traces n = s.ends_drained && is_over s traces (run s traces n)
 
 -- a run that is over before a cycle is over before each later one: nothing retires, no request is served, and nothing
 -- is sent

@@ -15,7 +15,8 @@ use Rattle.sim_base.proofs.Kept.{arrived-added}
 use Rattle.sim_base.proofs.Added.{length-push_suc}
 use Rattle.statistics.specs.Cores.{is_reply_in, replies_in, core_stats, core_cycle_with, core_cycle, core_joined, core_stretch}
 use Rattle.statistics.proofs.Lists.{map_below_same}
-use Rattle.statistics.proofs.Messages.{filter-arrived, arrived-sooner}
+use Rattle.sim_base.proofs.Arrived.{filter-arrived}
+use Rattle.statistics.proofs.Messages.{arrived-sooner}
 
 replies-arrived : (steps : List CoreStep) (inbox : List Message) → replies steps (arrived inbox (length steps)) ≡ replies steps inbox
 unfolding replies

@@ -3,17 +3,13 @@ use Rattle.std.proofs.Common.{◌≡◌, ℕ, zero, suc, ◌<◌, ◌≤◌, Boo
 use Rattle.std.proofs.lemmas.Bool.{cases_lt, lt-ltb, le-ltb, cond-true, cond-false, false≢true}
 use Rattle.sim_base.specs.declared.config.Config.{Config}
 use Rattle.sim_base.specs.declared.trace.Entry.{Entry}
-use Rattle.sim_base.specs.Machine.{cycles_run}
-use Rattle.span_laws.specs.Ends.{ends_before}
-use Rattle.span_laws.proofs.Over.{cycles-are_counted, cycles-next}
+use Rattle.sim_base.specs.Machine.{cycles_run, ends_before}
+use Rattle.sim_base.proofs.Cycles.{cycles-none, cycles-next, cycles-within}
+use Rattle.span_laws.proofs.Over.{cycles-are_counted}
 use Rattle.units.specs.Drained.{NotEnded}
 use Rattle.units.specs.Stops.{stop_of}
 use Rattle.units.specs.Runs.{ends_at}
 use Rattle.units.specs.Views.{SimView}
-
-cycles-none : (s : Config) (traces : List (List Entry)) → cycles_run s traces 0 ≡ 0
-unfolding cycles_run
-cycles-none s traces = refl
 
 -- A run has as many cycles as the limit says, or it ends before it.
 cycles-open : (s : Config) (traces : List (List Entry)) (limit : ℕ) → (cycles_run s traces limit ≡ limit) ⊎ (ends_before s traces (cycles_run s traces limit) ≡ true)
@@ -43,14 +39,6 @@ cycles-at_most s traces n (suc limit) h =
     go true e is few = subst (λ c. c ≤ n) (sym (cycles-next s traces limit ∙ cond-true _ _ _ e)) few
     go false e (inr k) few = absurd (false≢true (sym e ∙ k))
     go false e (inl k) few = subst (λ c. c ≤ n) (sym (cycles-next s traces limit ∙ cond-false _ _ _ e)) (more k e few (cases_lt limit n))
-
-cycles-within : (s : Config) (traces : List (List Entry)) (limit : ℕ) → cycles_run s traces limit ≤ limit
-cycles-within s traces zero = subst (λ c. c ≤ 0) (sym (cycles-none s traces)) (omega arith)
-cycles-within s traces (suc n) = subst (λ c. c ≤ suc n) (sym (cycles-next s traces n)) (by (ends_before s traces (cycles_run s traces n)) (cycles-within s traces n))
-  where
-    by : (b : Bool) → cycles_run s traces n ≤ n → cond b (cycles_run s traces n) (suc n) ≤ suc n
-    by true l = omega arith
-    by false l = omega arith
 
 -- A run that did not end on the way, and ends where it stands or is at the limit there, stands where it stops.
 pub stands-at_stop : (sim : SimView) (limit now : ℕ) → sim.now ≤ now → now ≤ limit → NotEnded sim.machine sim.now now

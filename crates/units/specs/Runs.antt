@@ -36,7 +36,7 @@ use Rattle.run_outcome.specs.Values.{RunOutcome}
 use Rattle.run_outcome.specs.declared.tables.Tables.{Tables}
 use Rattle.channel_step.specs.declared.channel.Channel.{Channel}
 use Rattle.span_laws.specs.Channels.{IsChannelAt}
-use Rattle.span_laws.specs.Ends.{ends_before}
+use Rattle.sim_base.specs.Machine.{ends_before}
 use Rattle.span_laws.specs.Units.{sent_of}
 use Rattle.units.specs.declared.machine.Machine.{Machine}
 

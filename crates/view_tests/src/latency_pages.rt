@@ -62,7 +62,7 @@ const PARTED: &str = r#"went: 22.00 cycles" viewBox="0 0 2400 1">
 
 <b>cycles</b><p><i>0</i><i>6</i><i>12</i><i>18</i><i>24</i></p>"#;
 
-// The same where nCL is not known.
+// Behind the queue, where nCL is not known.
 const TOGETHER: &str =
     r#"<rect class="credit" x="1200" width="1000" height="1"><title>10.00 cycles</title></rect></svg></div>
 

@@ -1,4 +1,3 @@
-pub mod Bits
 pub mod Waiting
 pub mod Lowering
 pub mod Jumping

@@ -38,14 +38,15 @@ impl Sharing {
 
 impl Default for Sharing {
     /// Where it is worth its cost. With 16 units or fewer the caller alone takes less time than waking other threads
-    /// does, and with few messages in flight there is little to do in a phase. Each worker has two shards: one of
-    /// channels, and one of cores, which have less to do and fill what is left of a phase.
+    /// does, and so it does where fewer than 64 messages are in flight: that is about what is sent in a phase, and less
+    /// than four workers need to make up for their waits. Each worker has two shards: one of channels, and one of cores,
+    /// which have less to do and fill what is left of a phase.
     fn default() -> Sharing
-        ensures { result ≡ record { units = 17; messages = 32; first_lap = 4096; shards = 2 } }
+        ensures { result ≡ record { units = 17; messages = 64; first_lap = 4096; shards = 2 } }
     {
         Sharing {
             units: 17,
-            messages: 32,
+            messages: 64,
             first_lap: 4_096,
             shards: 2,
         }

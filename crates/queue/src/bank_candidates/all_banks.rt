@@ -3,9 +3,7 @@
 ghost use Rattle.std.specs.Prelude.{◌≡◌, ℕ, ◌*◌, ◌≤◌, length, slice_index_or, None, is_some};
 ghost use Rattle.queue.specs.Sets.{is_in};
 
-use crate::bank_candidates::entry::{
-    AccessCandidates, CandidatesOfBank, access_number, is_open, number_of,
-};
+use crate::bank_candidates::entry::{AccessCandidates, access_number, is_open, number_of};
 use crate::bank_candidates::places::{Departure, Places};
 use crate::bank_candidates::sets::BankSet;
 use crate::request_log::RequestLog;
@@ -64,19 +62,6 @@ impl BankCandidates {
         ensures { result ≡ bank_count self.now }
     {
         self.rows.len()
-    }
-
-    /// The candidates of a bank, by its number.
-    #[inline(always)]
-    pub fn of_bank(&self, bank: usize) -> CandidatesOfBank
-        requires { bank < bank_count self.now }
-        ensures { result ≡ candidates_of_bank self.now bank }
-    {
-        CandidatesOfBank {
-            row: self.rows[bank],
-            reads: self.places.of_access(bank, Access::Read),
-            writes: self.places.of_access(bank, Access::Write),
-        }
     }
 
     /// The candidates of a bank to write, or to read.

@@ -5,7 +5,7 @@ ghost use Rattle.queue.specs.Moves.{earlier};
 ghost use Rattle.queue.specs.Places.{candidate_of, word_of, IsShort, column, Agree};
 
 use crate::bank_candidates::entry::AccessCandidates;
-use crate::bank_candidates::search::{first_from, first_hit, first_open_hit};
+use crate::bank_candidates::search::{candidates_from, first_from, first_hit};
 use crate::bank_candidates::sets::BankSet;
 use crate::request_log::RequestLog;
 use crate::request_log::words::write_bit;
@@ -92,6 +92,12 @@ fn column(access: Access, hit: bool) -> usize
 {
     2 * write_bit(access) + usize::from(hit)
 }
+
+/// What a bank has where none of its requests to write, or to read, may be served.
+const NO_CANDIDATES: AccessCandidates = AccessCandidates {
+    oldest: None,
+    hit: None,
+};
 
 /// A request of a bank and an access that has been served.
 #[derive(Clone, Copy)]
@@ -189,6 +195,20 @@ impl Places {
         } else {
             set.without(bank)
         };
+    }
+
+    /// Writes both candidates of a bank to write, or to read.
+    #[inline(always)]
+    fn set_both(&mut self, bank: usize, access: Access, candidates: AccessCandidates)
+        requires bank { HasBank self.old bank }
+        requires oldest { IsShort candidates.oldest }
+        requires hit { IsShort candidates.hit }
+        ensures room { SameRoom self.old self.new }
+        ensures same { candidates_at self.new bank access ≡ candidates }
+        ensures others { SameOthers self.old self.new bank access }
+    {
+        self.set(bank, access, false, candidates.oldest);
+        self.set(bank, access, true, candidates.hit);
     }
 
     /// Takes note of a request after all others, which may be served and asks for the open row or not.
@@ -292,9 +312,19 @@ impl Places {
             (candidates_for self.new departure) }
         ensures others { SameOthers self.old self.new departure.bank departure.access }
     {
-        if departure.empty {
-            self.set(departure.bank, departure.access, false, None);
-            self.set(departure.bank, departure.access, true, None);
+        let Departure {
+            slot,
+            bank,
+            access,
+            empty,
+        } = departure;
+        if empty {
+            self.set_both(bank, access, NO_CANDIDATES);
+            return;
+        }
+        if self.is_at(bank, access, false, slot) && self.is_at(bank, access, true, slot) {
+            let behind = candidates_from(log, slot + 1, bank, access, row);
+            self.set_both(bank, access, behind);
             return;
         }
         self.replace(log, departure, false, None);
@@ -325,9 +355,7 @@ impl Places {
         ensures own { AreFirst log.now.log bank access row (candidates_at self.new bank access) }
         ensures others { SameOthers self.old self.new bank access }
     {
-        let oldest = first_from(log, 0, bank, access, None);
-        let hit = first_open_hit(log, oldest, bank, access, row);
-        self.set(bank, access, false, oldest);
-        self.set(bank, access, true, hit);
+        let candidates = candidates_from(log, 0, bank, access, row);
+        self.set_both(bank, access, candidates);
     }
 }

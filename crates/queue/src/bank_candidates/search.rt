@@ -1,10 +1,11 @@
 //! Searches for the first request of a bank and an access.
 
 ghost use Rattle.std.specs.Prelude.{◌≡◌, ◌-◌, ◌<◌, ◌^◌, ◌==◌, false, length, Some, IfSome};
-ghost use Rattle.queue.specs.Candidates.{wants, NonePasses};
-ghost use Rattle.queue.specs.Moves.{IsFirstFrom, IsFirstHit};
+ghost use Rattle.queue.specs.Candidates.{asks, wants, AreFirst, NonePasses};
+ghost use Rattle.queue.specs.Moves.{IsFirstFrom, IsFirstHit, NoneBefore};
 ghost use Rattle.queue.specs.Places.{IsShort};
 
+use crate::bank_candidates::entry::AccessCandidates;
 use crate::request_log::RequestLog;
 use crate::request_log::words::{bank_number, tag_word};
 use memchr::memchr;
@@ -108,4 +109,24 @@ pub(crate) fn first_open_hit(
         (Some(row), Some(oldest)) => first_hit(log, oldest, bank, access, row),
         _ => None,
     }
+}
+
+/// The candidates of a bank to write, or to read, where no request before a place is of them and may be served.
+#[inline(always)]
+pub(crate) fn candidates_from(
+    log: &RequestLog,
+    from: usize,
+    bank: usize,
+    access: Access,
+    row: Option<u32>,
+) -> AccessCandidates
+    requires { length log.now.log < 2 ^ 16 - 1 }
+    ensures first { NoneBefore (asks bank access) log.now.log from
+        → AreFirst log.now.log bank access row result }
+    ensures oldest { IsShort result.oldest }
+    ensures hit { IsShort result.hit }
+{
+    let oldest = first_from(log, from, bank, access, None);
+    let hit = first_open_hit(log, oldest, bank, access, row);
+    AccessCandidates { oldest, hit }
 }

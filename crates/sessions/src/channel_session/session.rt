@@ -60,7 +60,7 @@ impl Session {
         Ok(Session::start(alloc, config, number)?)
     }
 
-    /// The same, whether the machine has that channel or not. The only error is out of memory.
+    /// A session of the channel with this number, whether the machine has one or not. The only error is out of memory.
     fn start(alloc: Global, config: &Config, number: ChannelId) -> Result<Session, AllocError>
         ensures opened { IfOk result (λ session. IsSession session (no_past config.now number)) }
         ensures now { IfOk result (λ session. session.cycle ≡ 0) }

@@ -1,6 +1,7 @@
 -- The size of each field is a power of two.
 use Rattle.std.proofs.Common.{◌≤◌, ◌^◌, ◌<◌, ◌*◌, subst}
-use Rattle.address_map.proofs.Shifted.{power_from_log, is_power}
+use Rattle.sim_base.proofs.Powers.{power_from_log}
+use Rattle.address_map.proofs.Shifted.{is_power}
 use Rattle.sim_base.specs.Places.{field_size}
 use Rattle.address_map.proofs.digits.width_of_field.Goals as goal
 

@@ -1,10 +1,10 @@
 -- Where the search finds none, no word is before the cycle.
 use Rattle.std.proofs.Common.{◌≡◌, ◌≤◌, ℕ, false, ltb, List, length, get_or, Option, Some, None, inl, inr, refl, sym, ◌∙◌, arith}
 use Rattle.std.specs.Prelude.{All}
-use Rattle.std.specs.Option.{is_some}
 use Rattle.std.specs.List.{position, position_or_len}
 use Rattle.std.proofs.lemmas.Bool.{cases_lt, cond-true, lt-ltb, ltb-false}
 use Rattle.std.proofs.lemmas.List.Sums.{fails_before_first}
+use Rattle.sim_base.proofs.Lists.{none-is}
 use Rattle.in_place.proofs.taking_turns.wakes_before.Goals as goal
 
 none-before : (words : List ℕ) (cycle : ℕ) → position (λ word. ltb word cycle) words ≡ None → All (λ word. cycle ≤ word) words
@@ -15,9 +15,5 @@ none-before words cycle e k d l =
       | inr m ↦ ltb-false (get_or words k d) cycle (fails_before_first p words k d (omega (arith, l, m)))
     ]
 
-nowhere : (place : Option ℕ) → is_some place ≡ false → place ≡ None
-nowhere None e = refl
-nowhere (Some place) e = cc
-
 pub returns : goal.returns
-returns c e = none-before c.args.words.now c.args.cycle (sym c.first_below.ensures ∙ nowhere c.first_below.result (sym c.is_some.ensures ∙ e))
+returns c e = none-before c.args.words.now c.args.cycle (sym c.first_below.ensures ∙ none-is c.first_below.result (sym c.is_some.ensures ∙ e))

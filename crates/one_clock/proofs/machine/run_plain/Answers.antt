@@ -3,7 +3,8 @@ use Rattle.std.proofs.Common.{◌≡◌, sym, ap, subst, ◌∙◌, arith}
 use Rattle.std.proofs.lemmas.Result.{IfOk-weaker}
 use Rattle.sim_base.specs.Machine.{cycles_run}
 use Rattle.run_outcome.specs.Outcomes.{outcome_of}
-use Rattle.one_clock.proofs.Runs.{cycles_run_none, cycles_run_more, cycles_run_ends}
+use Rattle.sim_base.proofs.Cycles.{cycles-none}
+use Rattle.one_clock.proofs.Runs.{cycles_run_more, cycles_run_ends}
 use Rattle.one_clock.proofs.machine.run_plain.Goals as goal
 
 pub returns-then-branch : goal.returns-then-branch
@@ -18,7 +19,7 @@ returns-then-branch c =
     }
 
 pub loop-number-init : goal.loop-number-init
-loop-number-init c = record { holds = c.in_ok-machine.ensures {u = tt}; goes_on = cycles_run_none c.args.s.now c.args.traces.now }
+loop-number-init c = record { holds = c.in_ok-machine.ensures {u = tt}; goes_on = cycles-none c.args.s.now c.args.traces.now }
 
 pub loop-number-preserved : goal.loop-number-preserved
 loop-number-preserved c = record {

@@ -1,9 +1,9 @@
 -- One entry more is done.
-use Rattle.std.proofs.Common.{◌+◌, ◌++◌, ◌∙◌, sym, ap, ap₂}
+use Rattle.std.proofs.Common.{◌+◌, ◌++◌, ◌∙◌, sym, ap, ap₂, add-one}
 use Rattle.std.specs.Option.{option_to_list}
 use Rattle.std.specs.Prelude.{slice_get, option_and_then}
-use Rattle.sim_base.specs.History.{request_of}
-use Rattle.plain_steps.proofs.Entries.{requests_between_more}
+use Rattle.sim_base.specs.History.{request_of, requests_between}
+use Rattle.sim_base.proofs.Requested.{requests_between_more}
 use Rattle.plain_steps.proofs.cores.requests_of_entries.Goals as goal
 
 pub loop-k-preserved : goal.loop-k-preserved
@@ -15,3 +15,4 @@ loop-k-preserved c =
     c.in_ok-push_some.ensures {u = tt}
     ∙ ap₂ (λ sent m. sent ++ option_to_list m) c.loop-k.invariant request
     ∙ sym (requests_between_more s c.args.core trace c.args.issued.now.cycle first c.loop-k.k)
+    ∙ ap (λ n. requests_between s c.args.core trace c.args.issued.now.cycle first (first + n)) (sym (add-one c.loop-k.k))

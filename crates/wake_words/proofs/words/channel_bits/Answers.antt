@@ -1,5 +1,5 @@
 -- The number of channels is a power of two.
-use Rattle.wake_words.proofs.Bits.{power_from_log}
+use Rattle.sim_base.proofs.Powers.{power_from_log}
 use Rattle.wake_words.proofs.words.channel_bits.Goals as goal
 
 pub returns-clause-channels : goal.returns-clause-channels

@@ -7,7 +7,8 @@ use Rattle.queue.specs.Columns.{bank_number}
 use Rattle.queue.specs.Candidates.{asks, first_place}
 use Rattle.queue.specs.Stands.{bank_count}
 use Rattle.queue.specs.Sets.{is_in}
-use Rattle.queue.proofs.SomeAccess.{oldest_is, some_wider, none_is, none_at_all}
+use Rattle.sim_base.proofs.Lists.{none-is}
+use Rattle.queue.proofs.SomeAccess.{oldest_is, some_wider, none_at_all}
 use Rattle.queue.proofs.bank_candidates.all_banks.BankCandidates.has_access.Goals as goal
 
 never : (b : Bool) → (b && false) ≡ false
@@ -26,7 +27,7 @@ returns c log open_rows stands =
           ap not none
           ∙ ap is_some
           (none_at_all access log (bank_count candidates) stands.within
-          (λ bank exists. none_is (first_place (asks bank access) log) (sym (oldest bank exists) ∙ c.is_empty.ensures.none none bank)))
+          (λ bank exists. none-is (first_place (asks bank access) log) (sym (oldest bank exists) ∙ c.is_empty.ensures.none none bank)))
       | inr some ↦
           let found = c.is_empty.ensures.some some in
           let bank = found.0 in

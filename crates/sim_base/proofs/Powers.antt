@@ -1,4 +1,4 @@
--- The number of channels is a power of two, so that the number of a channel takes some bits.
+-- A power of two by the place of its highest bit.
 use Rattle.std.proofs.Common.{◌≡◌, ℕ, ◌+◌, ◌-◌, ◌*◌, ◌^◌, ◌<◌, ◌≤◌, refl, arith, ap}
 use Rattle.std.specs.Prelude.{IsTrue}
 use Rattle.std.specs.Int.{is_power_of_two}
