@@ -58,7 +58,7 @@ static COUNTED: [Counted; 3] = [
         cycles: 250,
         spans: &[(0, 2), (100, 102), (200, 202)],
     },
-    // The same read over links of a million cycles, up to the last cycle of all: it comes in cycle 1,000,000 and is
+    // A read over links of a million cycles, up to the last cycle of all: it comes in cycle 1,000,000 and is
     // read in 1,000,003, the credit comes in 2,000,003, and the reply in 2,000,011, in the same phase.
     Counted {
         changes: &[

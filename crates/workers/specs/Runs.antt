@@ -22,11 +22,11 @@ use Rattle.sim_base.specs.declared.fault.Fault.TheVariants.{Memory, WorkerStart}
 abbrev pub outcome_in : Tables → Config → List (List Entry) → ℕ → RunOutcome
 outcome_in tables s traces limit = outcome_of tables s traces (cycles_run s traces limit)
 
--- the same of a machine that is run with these options
+-- what the run of a machine over its traces leaves, when it is run with these options
 abbrev pub outcome_of_machine : RunOptions → Machine → RunOutcome
 outcome_of_machine options machine = outcome_in options.tables machine.config machine.traces.items options.cycles
 
--- the same of a configuration and a trace for each core
+-- what the run of a configuration and a trace for each core leaves, when it is run with these options
 abbrev pub outcome_with : RunOptions → MachineInput → RunOutcome
 outcome_with options input = outcome_in options.tables input.config.now input.traces.items options.cycles
 

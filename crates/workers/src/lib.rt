@@ -1,4 +1,4 @@
-//! The phases of a run, each by one worker or by several threads.
+//! A machine, run by one worker in place, or by several phase by phase.
 #![tactic(auto)]
 
 pub mod gate;

@@ -114,14 +114,73 @@ pub fn run_with<N: Runner>(
     Ok(sim)
 }
 
-/// A simulator at a limit before which the run does not end, in shards where enough messages are in flight now, and
-/// otherwise run by the caller in place.
-fn run_lap<N: Runner>(
+/// Who runs a lap.
+#[derive(Clone, Copy)]
+enum LapBy {
+    /// The caller alone, in place.
+    Caller,
+    /// All workers, phase by phase.
+    Workers,
+}
+
+/// Who runs the next lap of a simulator: the workers, where enough messages are in flight now. The only error is out of
+/// memory.
+fn lap_by(sim: &Sim, alloc: Global, sharing: Sharing) -> Result<LapBy, AllocError> {
+    let messages = sharing.messages;
+    if messages == 0 || sim.in_flight(alloc)? >= messages {
+        Ok(LapBy::Workers)
+    } else {
+        Ok(LapBy::Caller)
+    }
+}
+
+/// How many cycles the next lap has, where the caller runs it alone, and where the workers do.
+#[derive(Clone, Copy)]
+struct LapLengths {
+    alone: Cycle,
+    shared: Cycle,
+}
+
+impl LapLengths {
+    /// Those of the first lap of a run.
+    fn first(sharing: Sharing) -> LapLengths {
+        let first = sharing.first_lap.max(1);
+        LapLengths {
+            alone: first,
+            shared: first,
+        }
+    }
+
+    fn of(self, by: LapBy) -> Cycle {
+        match by {
+            LapBy::Caller => self.alone,
+            LapBy::Workers => self.shared,
+        }
+    }
+
+    /// Those of the lap behind one that was run so. Where less is in flight for a while, as in a refresh, the caller
+    /// soon looks again whether the workers are to go on.
+    fn after(self, by: LapBy, sharing: Sharing) -> LapLengths {
+        match by {
+            LapBy::Caller => LapLengths {
+                alone: self.alone.saturating_mul(2),
+                ..self
+            },
+            LapBy::Workers => LapLengths {
+                alone: sharing.first_lap.max(1),
+                shared: self.shared.saturating_mul(2),
+            },
+        }
+    }
+}
+
+/// A simulator at a limit before which the run does not end, in shards, or run by the caller in place.
+fn run_lap<N: Runner + Drop>(
     sim: Sim,
     alloc: Global,
     limit: Cycle,
-    split: Split,
-    runner: &mut N,
+    by: LapBy,
+    in_shards: &mut InShards<N>,
 ) -> Result<Sim, Fault>
     requires not_past { sim.now ≤ limit }
     requires early { limit ≤ 10 ^ 12 }
@@ -129,20 +188,21 @@ fn run_lap<N: Runner>(
     ensures ok { IfOk result (HasReached sim limit) }
     ensures refused { IfErr result (λ fault. fault ≡ Fault.Memory) }
 {
-    let messages = split.sharing.messages;
-    if messages > 0 && sim.in_flight(alloc)? < messages {
-        return Ok(run_alone(sim, alloc, limit)?);
+    match by {
+        LapBy::Caller => Ok(run_alone(sim, alloc, limit)?),
+        LapBy::Workers => {
+            let InShards { split, runner } = in_shards;
+            run_with(sim, alloc, limit, split.shards, runner)
+        }
     }
-    run_with(sim, alloc, limit, split.shards, runner)
 }
 
 /// A simulator at a limit before which the run does not end, lap by lap.
-fn run_laps<N: Runner>(
+fn run_laps<N: Runner + Drop>(
     sim: Sim,
     alloc: Global,
     limit: Cycle,
-    split: Split,
-    runner: &mut N,
+    in_shards: &mut InShards<N>,
 ) -> Result<Sim, Fault>
     requires not_past { sim.now ≤ limit }
     requires early { limit ≤ 10 ^ 12 }
@@ -150,12 +210,15 @@ fn run_laps<N: Runner>(
     ensures ok { IfOk result (HasReached sim limit) }
     ensures refused { IfErr result (λ fault. fault ≡ Fault.Memory) }
 {
+    let sharing = in_shards.split.sharing;
     let mut sim = sim;
-    let mut lap = split.sharing.first_lap.max(1);
+    let mut lengths = LapLengths::first(sharing);
     while sim.now() < limit {
-        let stop = limit.min(sim.now().saturating_add(lap.max(1)));
-        sim = run_lap(sim, alloc, stop, split, runner)?;
-        lap = lap.saturating_mul(2);
+        let by = lap_by(&sim, alloc, sharing)?;
+        let length = lengths.of(by).max(1);
+        let stop = limit.min(sim.now().saturating_add(length));
+        sim = run_lap(sim, alloc, stop, by, in_shards)?;
+        lengths = lengths.after(by, sharing);
     }
     Ok(sim)
 }
@@ -194,7 +257,7 @@ struct InShards<N: Runner + Drop> {
 
 impl<N: Runner + Drop> Mode for InShards<N> {
     fn run_to(&mut self, sim: Sim, alloc: Global, limit: Cycle) -> Result<Sim, Fault> {
-        run_laps(sim, alloc, limit, self.split, &mut self.runner)
+        run_laps(sim, alloc, limit, self)
     }
 }
 
@@ -258,11 +321,10 @@ fn quiet_stop(sim: &Sim, alloc: Global, options: RunOptions) -> Result<Option<Cy
     ensures within { IfOk result (λ stop. IfSome stop (λ end. end ≤ options.cycles)) }
     ensures goes_on { IfOk result (λ stop. IfSome stop (NotEnded sim.entry.now.machine sim.entry.now.now)) }
 {
-    let messages = options.workers.sharing.messages;
-    if messages == 0 || sim.in_flight(alloc)? >= messages {
-        return Ok(None);
+    match lap_by(sim, alloc, options.workers.sharing)? {
+        LapBy::Caller => Ok(sim.next_stop(options.cycles)),
+        LapBy::Workers => Ok(None),
     }
-    Ok(sim.next_stop(options.cycles))
 }
 
 /// A run where it is first to be shared out, or else at its end: up to there the caller runs it alone, lap by lap, so
@@ -383,7 +445,7 @@ fn run_together<R: Threads + Wait + Sync, G: Gate + Sync, W: Watch>(
     }
 }
 
-/// The same as `run_machine`, whose watcher is not told of the end.
+/// Runs a machine as `run_machine` does, but does not tell the watcher of the end.
 fn run_watched<R: Threads + Wait + Sync, G: Gate + Sync, W: Watch>(
     rt: &R,
     alloc: Global,
@@ -413,8 +475,8 @@ fn run_watched<R: Threads + Wait + Sync, G: Gate + Sync, W: Watch>(
 }
 
 /// Runs a machine over one trace a core, up to a limit of at most 10^12 cycles or, where the configuration ends it
-/// drained, until all is done, and gives its commands, if their table is asked for, its statistics and the state in
-/// which it ends. It is run by at most as many workers as are named, 1 to 64: the caller, and threads that are
+/// drained, until all is done, and gives its commands and the times of its requests, if their tables are asked for, its
+/// statistics and the state in which it ends. It is run by at most as many workers as are named, 1 to 64: the caller, and threads that are
 /// started once, where `options.workers.sharing` first says that they share the machine out. Up to there, and with one
 /// worker, it is run in the thread of the caller, in place. The watcher is told how far the run is, and when it has
 /// ended. What comes out depends on neither it, nor the workers, nor how they share, nor the order in which they end:

@@ -5,8 +5,8 @@ use Rattle.units.proofs.Stopping.{stands-at_stop}
 use Rattle.units.specs.Views.{HasReached}
 use Rattle.workers.proofs.machine.run_lap.Goals as goal
 
-pub returns-clause-ok : goal.returns-clause-ok
-returns-clause-ok g c =
+pub returns-in-Workers-clause-ok : goal.returns-in-Workers-clause-ok
+returns-in-Workers-clause-ok g c =
     let sim = c.args.sim in
     let limit = c.args.limit in
     let at = stands-at_stop sim limit limit c.requires.not_past (omega arith) c.requires.goes_on (λ l. absurd (omega (arith, l))) in
