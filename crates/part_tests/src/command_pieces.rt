@@ -14,8 +14,9 @@ use std::alloc::{AllocError, Global};
 use std::process::Abort;
 use std::thread::Threads;
 
-/// The caller alone puts a few commands together; of many, each thread puts a piece together.
-static COUNTS: [u64; 3] = [0, 3, 10_000];
+/// The caller alone puts a few commands together. 40,000 of one channel are 20 pieces, which is enough for threads: each
+/// puts a piece together, and several rounds of pieces are written.
+static COUNTS: [u64; 3] = [0, 3, 40_000];
 
 /// Commands of `count` cycles, one in each.
 fn list_of(alloc: Global, count: u64) -> Result<CommandList, AllocError>

@@ -72,7 +72,7 @@ mapped_more f xs i d here =
     ∙ rows_text-append (map f (take i xs)) (f (get_or xs i d) ∷ [])
     ∙ ap (λ t. rows_text (map f (take i xs)) ++ t) (rows_text-one (f (get_or xs i d)))
 
--- the same of items that are mapped twice
+-- of items that are mapped twice, none give no row, and one more gives a row more
 pub mapped_twice_none : {A B : Type 0} (f : A → B) (g : B → List (List ℕ)) → rows_text (map g (map f [])) ≡ []
 unfolding rows_text
 mapped_twice_none f g = refl

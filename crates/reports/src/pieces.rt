@@ -1,21 +1,22 @@
 //! Tables whose rows come in pieces, the texts of which are put together in parallel.
 
-ghost use Rattle.std.specs.Prelude.{◌≡◌, ◌<◌, ◌≤◌, ◌++◌, List, ℕ, length, codes, flat_map, IfOk, IfErr};
+ghost use Rattle.std.specs.Prelude.{◌≡◌, ◌<◌, ◌≤◌, ◌++◌, List, ℕ, length, codes, flat_map, OnOk, IfOk, IfErr};
 ghost use Rattle.reports.specs.Rows.{all_of, IsTextOf, IsReportFault, WritesOnOk};
 ghost use Rattle.reports.specs.Tables.{AddsRows};
+ghost use Rattle.std.specs.Io.KnownBytes.{Appends};
 
 use crate::table::Table;
 use rayon::prelude::*;
 use sim_base::fault::Fault;
 use std::alloc::Global;
 use std::io::Write;
-use std::thread::Threads;
+use std::thread::{Threads, join_mut};
 
-/// How many rows of a channel a piece has at most. With 2 to 8 channels its text is some 256 KB to 1 MB.
-pub(crate) const MOST: usize = 4096;
+/// How many rows of a channel a piece has at most. With 2 to 8 channels its text is some 128 to 512 KB.
+pub(crate) const MOST: usize = 2048;
 
 /// From how many pieces on threads put them together: fewer take the caller less time than threads take to start.
-pub(crate) const MANY: usize = 8;
+pub(crate) const MANY: usize = 16;
 
 /// How the lines of a table are written whose rows come in pieces of a type.
 pub(crate) trait TableLines<P> {
@@ -128,22 +129,6 @@ fn write_texts<W: Write>(texts: &[Vec<u8>], writer: &mut W) -> Result<(), Fault>
     Ok(())
 }
 
-// Writes the rows of some pieces; all their texts are put together before the first is written.
-fn write_round<R: Threads + Sync, P: Sync, T: TableLines<P> + Sync, W: Write>(
-    rt: &R,
-    alloc: Global,
-    of: &T,
-    pieces: &[P],
-    writer: &mut W,
-) -> Result<(), Fault>
-    ensures written { WritesOnOk result W.contents writer.old writer.new
-        (flat_map (T.lines of.now) pieces.now) }
-    ensures refused { IfErr result (λ e. IsReportFault e) }
-{
-    let texts = texts_of(rt, alloc, of, pieces)?;
-    write_texts(&texts, writer)
-}
-
 /// The threads that put the text of a table together: at most `count` threads of the host `rt`, with memory from `alloc`.
 #[derive(Drop)]
 pub struct TableThreads<'a, R> {
@@ -152,7 +137,31 @@ pub struct TableThreads<'a, R> {
     pub count: usize,
 }
 
-// Writes the rows of all pieces, as many pieces at a time as there are threads.
+// Writes texts, while those of the next pieces are put together by further threads.
+fn write_round<R: Threads + Sync, P: Sync, T: TableLines<P> + Sync, W: Write>(
+    threads: &TableThreads<'_, R>,
+    of: &T,
+    texts: &[Vec<u8>],
+    next: &[P],
+    writer: &mut W,
+) -> Result<Vec<Vec<u8>>, Fault>
+    ensures written { OnOk result
+        (Appends (W.contents writer.old) (W.contents writer.new) (all_of texts.now)) }
+    ensures texts { IfOk result (λ found.
+        all_of found.items ≡ flat_map (T.lines of.now) next.now) }
+    ensures refused { IfErr result (λ e. IsReportFault e) }
+{
+    let rt = threads.rt;
+    let alloc = threads.alloc;
+    let mut put_together = || -> Result<Vec<Vec<u8>>, Fault> { texts_of(rt, alloc, of, next) };
+    let mut write = || -> Result<(), Fault> { write_texts(texts, writer) };
+    let (found, written) = join_mut(rt, &mut put_together, &mut write);
+    written?;
+    found
+}
+
+// Writes the rows of all pieces, as many pieces at a time as there are threads. While the texts of some are written,
+// those of the next are put together.
 fn write_rounds<R: Threads + Sync, P: Sync, T: TableLines<P> + Sync, W: Write>(
     threads: &TableThreads<'_, R>,
     of: &T,
@@ -164,13 +173,14 @@ fn write_rounds<R: Threads + Sync, P: Sync, T: TableLines<P> + Sync, W: Write>(
         (flat_map (T.lines of.now) pieces.now) }
     ensures refused { IfErr result (λ e. IsReportFault e) }
 {
-    let mut done = 0;
+    let mut done = threads.count.min(pieces.len());
+    let mut texts = texts_of(threads.rt, threads.alloc, of, &pieces[..done])?;
     while done < pieces.len() {
         let end = done + threads.count.min(pieces.len() - done);
-        write_round(threads.rt, threads.alloc, of, &pieces[done..end], writer)?;
+        texts = write_round(threads, of, &texts, &pieces[done..end], writer)?;
         done = end;
     }
-    Ok(())
+    write_texts(&texts, writer)
 }
 
 /// Writes a table: the header, and then the rows of the pieces, whose texts these threads put together.
