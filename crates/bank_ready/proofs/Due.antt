@@ -75,7 +75,7 @@ first_due counts now fewest next some least is =
           (λ rank l. le-ltb 0 _ (omega (arith, owed_is counts rank cycle some, few, least.at_most rank (omega arith))));
     }
 
--- the same by the commands that the counts stand for
+-- the first cycle with a refresh due by the counts is the first with one due by the commands that the counts stand for
 pub first_due_from_owed : (counts : RefreshCounts) (s : Config) (history : List IssuedCommand) (now next : ℕ) → StandsFor counts s history → IsFirstDue (lowest_owed counts) now next
     → IsFirstDue (lowest_due s history) now next
 first_due_from_owed counts s history now next stands first = record {
@@ -113,7 +113,7 @@ rank_never_due counts rank now none = record {
   due_at = λ cycle from. ap (ltb 0) (cond-true (eqb counts.interval 0) 0 _ (eq-eqb counts.interval 0 none));
 }
 
--- the same by the commands that the counts stand for
+-- the cycle from which on a refresh of a rank is due by the counts is that by the commands that the counts stand for
 pub rank_due_from_owed : (counts : RefreshCounts) (s : Config) (history : List IssuedCommand) (rank now : ℕ) (first : Option ℕ) → StandsFor counts s history → rank < counts.ranks
     → IsDueFrom (owed counts rank) now first → IsDueFrom (due s rank history) now first
 rank_due_from_owed counts s history rank now first stands exists is = record {

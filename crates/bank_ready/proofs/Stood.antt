@@ -140,7 +140,7 @@ noted banks after s history i h later e =
       ascending = Ascends-more history i h.ascending later;
     }
 
--- the same, by the command that it is
+-- the banks after a command stand for the history with it, if what was noted in them is a command that is equal to it
 pub noted_is : (banks after : Banks) (s : Config) (history : List IssuedCommand) (cycle channel : ℕ) (command is : Command) → StandsFor banks s history
     → All (λ (j : IssuedCommand). j.cycle < cycle) history → command ≡ is → IsNoted banks after banks.delays.value cycle is
     → StandsFor after s (history ++ record { cycle = cycle; channel = channel; command = command } ∷ [])

@@ -44,6 +44,6 @@ pub record IsNoted (banks after : Banks) (t : Timing) (cycle : ℕ) (command : C
   pub rank_count : length after.ranks.items ≡ length banks.ranks.items
   pub ranks : (k : ℕ) (d : RankState) → k < length banks.ranks.items → slice_index_or after.ranks.items k d ≡ rank_state_after t cycle command k (slice_index_or banks.ranks.items k d)
 
--- the same, by the distances that the banks keep
+-- one more command is noted in the words of each bank and each rank, by the distances that the banks keep
 abbrev pub HasNoted : Banks → Banks → ℕ → Command → Type 0
 HasNoted banks after cycle command = IsNoted banks after banks.delays.value cycle command

@@ -19,7 +19,7 @@ use Rattle.bank_ready.specs.declared.words.RankState.{RankState}
 abbrev pub AreRaised : List ℕ → List ℕ → (ℕ → ℕ) → Type 0
 AreRaised old new until = (k d : ℕ) → slice_index_or new k d ≡ max (slice_index_or old k d) (until k)
 
--- the same, of the numbers that are those of words
+-- each word whose number is below the length of the list is raised to a cycle by its number
 abbrev pub AreAllRaised : List ℕ → List ℕ → (ℕ → ℕ) → Type 0
 AreAllRaised old new until = (k d : ℕ) → k < length old → slice_index_or new k d ≡ max (slice_index_or old k d) (until k)
 
@@ -41,7 +41,7 @@ AreSameFrom old new end = (k d : ℕ) → end ≤ k → slice_index_or new k d �
 abbrev pub data_until : Timing → ℕ → Kind → Kind → BankId → ℕ → ℕ
 data_until t cycle earlier later bank k = held_until t cycle earlier later (group_relation_from bank k)
 
--- the same for an ACT and a later one; in the rank of the bank also a window of ACTs, up to its end, does
+-- from which cycle on an ACT to a bank, and in its rank a window of ACTs up to its end, hold back no ACT in the group with a number
 abbrev pub act_until : Timing → ℕ → BankId → ℕ → ℕ → ℕ
 act_until t cycle bank end k = max (data_until t cycle Act Act bank k) (groups_rank_until bank.rank end k)
 

@@ -18,7 +18,7 @@ use Rattle.timing.specs.Holds.{hold}
 unfoldable pub held_until : Timing → ℕ → Kind → Kind → Relation → ℕ
 held_until t cycle earlier later relation = unwrap_or (option_map (λ gap. cycle + gap) (hold t earlier later relation)) 0
 
--- the same for a command of a history, and a later one in a rank, which names this bank, if it names one
+-- From which cycle on a command of a history no longer holds back a later one of a kind in a rank, which names this bank, if it names one.
 abbrev pub held_by : Timing → Kind → ℕ → Option BankId → IssuedCommand → ℕ
 held_by t later rank bank i = held_until t i.cycle (kind_of i.command) later (relation_to i.command rank bank)
 

@@ -48,23 +48,23 @@ is_own None k = false
 abbrev pub own_until : Option ℕ → ℕ → ℕ → ℕ
 own_until own until k = if is_own own k then until else 0
 
--- the same of each bank of a rank, and of each group of a rank
+-- to which cycle the word of a bank, or of a group, with this number is raised: each one of this rank
 abbrev pub rank_until : ℕ → ℕ → ℕ → ℕ
 rank_until rank until k = if rank == k / 16 then until else 0
 
 abbrev pub groups_rank_until : ℕ → ℕ → ℕ → ℕ
 groups_rank_until rank until k = if rank == k / 4 then until else 0
 
--- the same of each group of a rank, for one group a cycle of its own
+-- to which cycle the word of the group with this number is raised: those of this rank, one of them to a cycle of its own
 abbrev pub group_until : ℕ → ℕ → ℕ → ℕ → ℕ → ℕ
 group_until rank group same_group other_group k =
     if rank == k / 4 then (if group == k % 4 then same_group else other_group) else 0
 
--- the same of each group of all ranks, for those of one rank a cycle of their own
+-- to which cycle the word of the group with this number is raised: those of one rank to one cycle, those of the others to another
 abbrev pub ranks_until : ℕ → ℕ → ℕ → ℕ → ℕ
 ranks_until rank same_rank other_rank k = if rank == k / 4 then same_rank else other_rank
 
--- the same of each group of all ranks: that of a bank, the others of its rank, and those of the other ranks
+-- to which cycle the word of the group with this number is raised: the group of a bank, the others of its rank, those of the other ranks
 abbrev pub all_groups_until : BankId → ℕ → ℕ → ℕ → ℕ → ℕ
 all_groups_until bank same_group other_group other_rank k =
     if bank.rank == k / 4 then (if bank.group == k % 4 then same_group else other_group) else other_rank

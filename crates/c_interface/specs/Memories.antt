@@ -94,7 +94,7 @@ pub record IsCommandRowAt (s : Config) (pasts : Pasts) (now number : ℕ) (row :
   pub is_next : IsNextCommandAt s.channels pasts now number command
   pub row_is : row ≡ command_row command
 
--- the same, where there may be none
+-- the row of the first command that was not taken, of all channels, or none where each was taken
 abbrev pub IsCommandRow : Config → Pasts → ℕ → Option (ℕ × CommandRow) → Type 0
 IsCommandRow s pasts now (Some given) = IsCommandRowAt s pasts now given.0 given.1
 IsCommandRow s pasts now None = IsNextCommand s.channels pasts now None
@@ -105,7 +105,7 @@ pub record IsReplyRowAt (s : Config) (pasts : Pasts) (now number : ℕ) (row : R
   pub is_next : IsNextReplyAt s.channels pasts now number reply
   pub row_is : row ≡ reply_row s reply
 
--- the same, where there may be none
+-- the row of the first reply that was not taken, of all channels, or none where each was taken
 abbrev pub IsReplyRow : Config → Pasts → ℕ → Option (ℕ × ReplyRow) → Type 0
 IsReplyRow s pasts now (Some given) = IsReplyRowAt s pasts now given.0 given.1
 IsReplyRow s pasts now None = IsNextReply s.channels pasts now None

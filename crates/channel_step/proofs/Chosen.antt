@@ -35,7 +35,7 @@ between-each P s history now requests h None k =
 between-each P s history now requests h (Some rank) k =
     cond_both (is_legal s history now (refresh_command s history rank)) (Some (refresh_command s history rank)) None (λ o. IfSome o P) (λ e. k) (λ e. tt)
 
--- the same of what waits in a queue
+-- what holds of all that the requests of a queue and a rank that is due need, holds of what is chosen from that queue
 pub chosen-each : (P : Command → Type 0) (s : Config) (history : List IssuedCommand) (now : ℕ) (draining : Bool) (queue : List Request)
     → Each (λ (r : Request). P (needed history r)) queue → IfSome (lowest_due s history now) (λ rank. P (refresh_command s history rank))
     → IfSome (choice_between s history now (candidates s draining queue) (lowest_due s history now)) P

@@ -91,7 +91,7 @@ kept-in_cycle c s channel steps mail now next h at f =
       keeps_served = h.keeps_served;
     }
 
--- the same of a channel between two cycles
+-- a channel between two cycles still stands for its past when it keeps the next command that was found
 pub kept-stands : (c : Channel) (s : Config) (channel : ℕ) (steps : List (Option Command)) (mail : List Message) (now : ℕ) (next : Option (ℕ × Choice)) → StandsFor c s channel steps mail → now ≡ c.cycle
     → IsFound c s (issued_commands channel steps) now next → StandsFor (record c { ahead = Known next }) s channel steps mail
 kept-stands c s channel steps mail now next h at f =
@@ -119,7 +119,7 @@ kept-stands c s channel steps mail now next h at f =
       keeps_served = h.keeps_served;
     }
 
--- the same of what is foreseen
+-- what is foreseen holds where the next command is not known
 pub foreseen-unknown : (s : Config) (history : List IssuedCommand) (queue : QueueView) (from : ℕ) → IsForeseen s history queue from Unknown
 foreseen-unknown s history queue from = foreseen-from s history queue from Unknown tt
 

@@ -69,7 +69,7 @@ below-count ranks count queue is places =
     All-weaker (IsInBanks ranks) (λ (r : Request). bank_number r.place < count)
     (λ r placed. let rank = placed.rank in let group = placed.group in let bank = placed.bank in omega arith) queue places
 
--- the same of all that have arrived
+-- of all requests that have arrived, each asks for a bank whose number is below the number of banks
 pub banks-below : (ranks count : ℕ) (log : List Arrived) → count ≡ 16 * ranks → All (IsInBanks ranks) (all_requests log) → All (λ a. bank_number a.request.place < count) log
 banks-below ranks count log is places k d within =
     let all = below-count ranks count (all_requests log) is places in

@@ -71,7 +71,7 @@ drain_decided-in_cycle c s channel steps mail h =
       keeps_served = h.keeps_served;
     }
 
--- the same, as it is told what is decided
+-- a channel is in its next cycle, if it is equal to one that was between two cycles and has decided whether it drains its writes
 pub settled_stands : (c d : Channel) (s : Config) (channel : ℕ) (steps : List (Option Command)) (mail : List Message)
     → d ≡ record c { queue = drain_decided c.queue } → StandsFor c s channel steps mail → IsInCycle d s channel steps mail
 settled_stands c d s channel steps mail e h = subst (λ x. IsInCycle x s channel steps mail) (sym e) (drain_decided-in_cycle c s channel steps mail h)
@@ -333,7 +333,7 @@ skips-in_cycle c s channel steps mail until due h =
     (pass-in_cycle (passed_to c due) s channel (steps ++ replicate n None) mail until second
     (there-before (passed_to c due) s channel (steps ++ replicate n None) mail second) (skips-alike_second c s channel steps mail until due h) within)
 
--- the same where a refresh is due in none of them
+-- the channel after the cycles that it passes over, where a refresh is due in none of them
 pub skips-not_due : (c : Channel) (s : Config) (channel : ℕ) (steps : List (Option Command)) (mail : List Message) (until due : ℕ) → Skips c s channel steps mail until due → until ≤ due
     → IsInCycle (passed_to c due) s channel (steps ++ replicate (until - length steps) None) mail
 skips-not_due c s channel steps mail until due h l =

@@ -48,7 +48,7 @@ idle-messages s channel steps (suc n) =
     ∙ append-nil _
     ∙ idle-messages s channel steps n
 
--- the same requests wait in each of them, since all have arrived
+-- in each cycle in which the channel issues nothing the same requests wait, since all have arrived
 pub idle-queued_requests : (channel : ℕ) (steps : List (Option Command)) (mail : List Message) → Each (ArrivedBefore (length steps + 1)) (requests_of mail) → (n later : ℕ) → length steps + 1 ≤ later
     → queued_requests (issued_commands channel (steps ++ replicate n None)) mail later ≡ queued_requests (issued_commands channel steps) mail (length steps + 1)
 idle-queued_requests channel steps mail h n later l =

@@ -88,7 +88,7 @@ pub record IsAheadAt (s : Config) (history : List IssuedCommand) (queue : QueueV
   pub none_before : IsQuiet s history queue from cycle
   pub place : IsFor s.ranks queue.log choice
 
--- the same, where it may not be known, or none is ever issued
+-- what is known of the next command from a cycle on: nothing; or that none is ever issued; or its cycle, and what needs it
 abbrev pub IsAhead : Config → List IssuedCommand → QueueView → ℕ → Ahead → Type 0
 IsAhead s history queue from Unknown = Unit {0}
 IsAhead s history queue from (Known None) = (t : ℕ) → from ≤ t → choice_in s history queue t ≡ None
@@ -131,7 +131,7 @@ abbrev pub AreServed : List ServedRequest → List IssuedCommand → List Messag
 AreServed rows history mail =
     (arrivals : Source → ℕ) → Each (λ r. r.arrival ≡ arrivals (source_of r)) (requests_of mail) → rows ≡ served_requests arrivals history
 
--- the same of the requests that are kept, if they are
+-- the requests that are kept, if they are, are those that these commands served, wherever it is told when each request came that these messages carry
 abbrev pub KeepsServed : Option (Vec ServedRequest Global) → List IssuedCommand → List Message → Type 0
 KeepsServed kept history mail = IfSome kept (λ rows. AreServed rows.items history mail)
 
@@ -179,7 +179,7 @@ pub record HasBank (c : Channel) (bank : BankId) : Type 0 where
   pub group_in : bank.group < s.groups
   pub bank_in : bank.bank < 4
 
--- The same in the cycle after these steps, when what arrives in it has joined the queue.
+-- A channel stands for its past in the cycle after these steps, when what arrives in it has joined the queue.
 pub record IsInCycle (c : Channel) (s : Config) (channel : ℕ) (steps : Steps) (mail : List Message) : Type 0 where
   pub made_for : IsMadeFor c s channel
   pub cycle_is : c.cycle ≡ length steps
@@ -212,14 +212,14 @@ pub record IsNextIn (s : Config) (channel : ℕ) (steps : Steps) (mail : List Me
   pub idle : IsIdle s channel steps mail (cycle - length steps)
   pub command_is : Some command ≡ choice s channel (idle_until steps (length steps) cycle) mail
 
--- the same, with what needs the command: a request of a log, or a rank
+-- the next command that is issued after these steps, if nothing arrives any more, and what needs it: a request of a log, or a rank
 pub record IsNeededIn (s : Config) (channel : ℕ) (steps : Steps) (mail : List Message) (log : List Arrived) (end cycle : ℕ) (chosen : Choice) : Type 0 where
   pub command : Command
   pub place : IsFor s.ranks log chosen
   pub needed : command_of s (issued_commands channel steps) log chosen ≡ Some command
   pub is_next : IsNextIn s channel steps mail end cycle command
 
--- the same, where there may be none before that cycle
+-- what needs the next command that is issued after these steps and before a cycle, if nothing arrives any more, or none where none is
 abbrev pub IsNextBefore : Config → ℕ → Steps → List Message → List Arrived → ℕ → Option (ℕ × Choice) → Type 0
 IsNextBefore s channel steps mail log end (Some next) = IsNeededIn s channel steps mail log end next.0 next.1
 IsNextBefore s channel steps mail log end None = IsIdle s channel steps mail (end - length steps)

@@ -91,7 +91,7 @@ pub record CanRun (c : Channel) (inbox : List Message) (from until : ℕ) : Type
   pub at : length steps ≡ from
   pub fit : IsFit s channel steps mail inbox from until
 
--- the same for some span that begins with this cycle
+-- a channel stands for some past, after which these messages are fit for some span that begins with this cycle
 pub record CanStep (c : Channel) (inbox : List Message) (now : ℕ) : Type 0 where
   pub until : ℕ
   pub before_end : now < until

@@ -27,8 +27,8 @@ pub record Recalls (queue : List Request) (drained : Bool) (marks : List Bool) (
   pub marks_are : marks ≡ marks_of (issued_commands channel steps) queue
   pub stats_are : stats ≡ channel_stats s channel steps mail
 
--- The same in the cycle after these steps, when what arrives in it is there as well, and it is decided whether the channel drains
--- its writes in this cycle.
+-- The requests that wait in the cycle after these steps, with what arrives in it, whether the channel drains its writes in it,
+-- for which of the requests an ACT was issued, and the statistics, are those of these steps and these messages.
 pub record HasJoined (queue : List Request) (drained : Bool) (marks : List Bool) (stats : ChannelStats) (s : Config) (channel : ℕ) (steps : Steps) (mail : List Message) : Type 0 where
   pub requests : Each (CarriesRequest s channel) mail
   pub arrived : Each (λ (m : Message). m.arrival < length steps + 1) mail

@@ -50,7 +50,7 @@ abbrev pub IsCount : Option Text → ℕ → Type 0
 IsCount None n = ⊥
 IsCount (Some text) n = n ≡ digits_value 10 (without_leading_plus text)
 
--- the same, or this number where there is no text
+-- the number that a text of decimal digits is, with or without a leading plus, or this number where there is no text
 abbrev pub IsCountOr : ℕ → Option Text → ℕ → Type 0
 IsCountOr absent None n = n ≡ absent
 IsCountOr absent (Some text) n = IsCount (Some text) n
@@ -168,7 +168,7 @@ abbrev pub IsHelpUnlessMemory : Result Ask Fault → Type 0
 IsHelpUnlessMemory (Ok ask) = IsHelp ask
 IsHelpUnlessMemory (Err fault) = fault ≡ Memory
 
--- the same for the version
+-- the version, or out of memory for its text
 abbrev pub IsVersionUnlessMemory : Result Ask Fault → Type 0
 IsVersionUnlessMemory (Ok ask) = IsVersion ask
 IsVersionUnlessMemory (Err fault) = fault ≡ Memory
@@ -190,7 +190,7 @@ abbrev pub IsCountText : Option Text → Type 0
 IsCountText None = ⊥
 IsCountText (Some text) = IsNumeral 10 (without_leading_plus text) × (digits_value 10 (without_leading_plus text) < 2 ^ 64)
 
--- the same, or there is none
+-- a text, if there is one, is a number of 64 bits
 abbrev pub IsNoneOrCount : Option Text → Type 0
 IsNoneOrCount None = ⊤
 IsNoneOrCount (Some text) = IsCountText (Some text)

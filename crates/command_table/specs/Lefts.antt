@@ -28,7 +28,7 @@ pub record IsNextOf (lists : List (List IssuedCommand)) (count place cycle : ℕ
   pub before : (k : ℕ) → k < place → IfSome (first_cycle (slice_index_or lists k [])) (λ first. cycle < first)
   pub behind : (k : ℕ) → place < k → k < count → IfSome (first_cycle (slice_index_or lists k [])) (λ first. cycle ≤ first)
 
--- the same of all lists
+-- Of all lists, the one at this place begins first. Those before it begin later, and those after it no sooner.
 pub record IsNext (lists : List (List IssuedCommand)) (place : ℕ) : Type 0 where
   pub cycle : ℕ
   pub next : IsNextOf lists (length lists) place cycle

@@ -21,7 +21,7 @@ command_of Pre rank group bank row column core entry = PRE (record { rank = rank
 command_of Prea rank group bank row column core entry = PREA rank
 command_of Ref rank group bank row column core entry = REF rank
 
--- the same with operands that are together
+-- the command of a kind, with as many as it has of these operands, which are given together
 abbrev pub command_with : Kind → Operands → Command
 command_with kind operands =
     command_of kind operands.bank.rank operands.bank.group operands.bank.bank operands.row operands.column operands.source.core operands.source.entry

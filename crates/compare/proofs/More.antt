@@ -41,7 +41,7 @@ parts_closed f xs i head text close new all here grown =
     grown
     ∙ ap (λ x. x ++ close) (here ∙ ap (λ ys. head ++ flat_map f ys) (take_all i xs all))
 
--- the same of parts by number
+-- a text of numbered parts, with one part more behind its head
 pub part_below_more : (f : ℕ → List ℕ) (n : ℕ) (head text part new : List ℕ) → text ≡ head ++ flat_map f (below n) → part ≡ f n → new ≡ text ++ part → new ≡ head ++ flat_map f (below (n + 1))
 part_below_more f n head text part new here same grown =
     grown

@@ -28,7 +28,7 @@ extreme_cell direction found =
 abbrev pub measured_cell : Measure → RunStats → RunStats → Cell
 measured_cell measure base run = record { value = value_of measure run; change = change_of (value_of measure base) (value_of measure run) }
 
--- the same; of a core that changed most, its number and its own change
+-- what a run has of a measure, and how that has changed; of a core that changed most, its number and its own change
 unfoldable pub cell_of : Measure → RunStats → RunStats → Cell
 cell_of MostGained base run = extreme_cell Gained (most Gained base run)
 cell_of MostLost base run = extreme_cell Lost (most Lost base run)

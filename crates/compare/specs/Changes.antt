@@ -16,7 +16,7 @@ change_between base value =
     else if nat_le base value then Some (Rise (tenths_of (value - base) base))
     else Some (Fall (tenths_of (base - value) base))
 
--- the same where both are known
+-- the change from a base, which must not be 0, to a value, where both are known
 abbrev pub change_of : Option ℕ → Option ℕ → Option Change
 change_of (Some base) (Some value) = change_between base value
 change_of _ _ = None

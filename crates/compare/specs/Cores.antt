@@ -25,7 +25,7 @@ abbrev pub change_of_core : ℕ → ℕ → Option CoreStats → Option CoreStat
 change_of_core base_cycles cycles (Some before) (Some after) = change_of (quotient before.retired base_cycles) (quotient after.retired cycles)
 change_of_core base_cycles cycles _ _ = None
 
--- the same of the core with this number
+-- how the entries a cycle have changed of the core with this number, if it is in both runs
 abbrev pub core_change : RunStats → RunStats → ℕ → Option Change
 core_change base run core = change_of_core base.cycles run.cycles (slice_get base.cores core) (slice_get run.cores core)
 

@@ -41,13 +41,13 @@ two_from : (trace : List Entry) (number first_at second_at : ℕ) → IsAhead tr
 two_from trace number first_at second_at h =
     ⊎_elim (λ inside. omega (arith, (h.second inside).is_from)) (λ none. let e = h.none none in omega (arith, h.first.is_within)) (cases_lt first_at (length trace))
 
-count-plain : (width window number gone first_at second_at : ℕ) (lacks : Bool) → number + width ≤ first_at → first_at ≤ second_at → gone ≤ number → number + width ≤ gone + window
-    → width ≡ issue_count width window number gone first_at second_at lacks
-count-plain width window number gone first_at second_at true l m g room = omega arith
-count-plain width window number gone first_at second_at false l m g room = omega arith
+count-plain : (width window number retired_by_end first_at second_at : ℕ) (lacks : Bool) → number + width ≤ first_at → first_at ≤ second_at → retired_by_end ≤ number → number + width ≤ retired_by_end + window
+    → width ≡ issue_count width window number retired_by_end first_at second_at lacks
+count-plain width window number retired_by_end first_at second_at true l m g room = omega arith
+count-plain width window number retired_by_end first_at second_at false l m g room = omega arith
 
-cause-plain : (width window len number gone second_at : ℕ) → number + width < len → cause_at width window len number gone second_at width ≡ stop.Width
-cause-plain width window len number gone second_at l =
+cause-plain : (width window len number retired_by_end second_at : ℕ) → number + width < len → cause_at width window len number retired_by_end second_at width ≡ stop.Width
+cause-plain width window len number retired_by_end second_at l =
     let e1 : eqb (number + width) len ≡ false = ne_eqb _ _ (λ e. omega arith) in
     let e2 : eqb width width ≡ true = eq-eqb _ _ refl in
     rw (e1, e2) refl

@@ -191,7 +191,7 @@ HasTaken a from until inbox taken b sent =
     → StandsFor s core trace steps mail a → Fit s core trace steps mail from until inbox
     → IsMidway s core trace steps mail from until inbox taken b sent
 
--- the same, and what it sent is put behind what a list held
+-- what a core that takes its inbox stands for, whatever it stood for, when what it sent is put behind what a list held
 pub record IsTaking (a : CoreView) (from until : ℕ) (inbox : List Message) (taken : ℕ) (b : CoreView) (held holds : List Message) : Type 0 where
   pub sent : List Message
   pub behind : holds ≡ held ++ sent

@@ -335,7 +335,7 @@ step-sends a b core_step why memory cycle_work i s core trace steps mail h =
           ∙ ap (λ x. core_messages s core trace steps ++ x) (sym (ap (λ x. request x a.core a.now) h.config ∙ ap (λ c. request s c a.now) h.number ∙ ap (request s core) h.now)),
     )
 
--- the same, where these are put behind what a list held
+-- a cycle of a core, when what it sends in it is put behind what a list held
 pub step-advances : (a b : CoreView) (core_step : CoreStep) (why : Stop) (memory : Option MemoryEntry) (before after : List Message)
     → ((s : Config) (core : ℕ) (trace : List Entry) (steps : List CoreStep) (mail : List Message) → StandsAt s core trace steps mail a → IsWork s core trace steps mail core_step why memory)
     → IsStep a b core_step why memory → after ≡ before ++ requests_issued a.config a.core a.now memory → Advances 1 a before b after

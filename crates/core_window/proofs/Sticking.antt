@@ -22,9 +22,9 @@ use Rattle.core_window.specs.Views.{CoreView}
 use Rattle.core_window.proofs.Stopping.{is_last}
 use Rattle.core_window.proofs.Working.{cycle_work-is}
 
-no_issue : (width window number gone first_at second_at : ℕ) (lacks : Bool) → window ≤ number - gone → 0 ≡ issue_count width window number gone first_at second_at lacks
-no_issue width window number gone first_at second_at true l = omega arith
-no_issue width window number gone first_at second_at false l = omega arith
+no_issue : (width window number retired_by_end first_at second_at : ℕ) (lacks : Bool) → window ≤ number - retired_by_end → 0 ≡ issue_count width window number retired_by_end first_at second_at lacks
+no_issue width window number retired_by_end first_at second_at true l = omega arith
+no_issue width window number retired_by_end first_at second_at false l = omega arith
 
 -- why it stops
 abbrev pub stuck_cause : CoreView → ℕ → Stop
@@ -33,10 +33,10 @@ stuck_cause a second_at = cause_at a.config.width a.config.window (length a.trac
 pub stuck-does : (a : CoreView) (first_at second_at : ℕ) (entry : Entry) → IsSeen a.trace a.stats.issued first_at second_at entry
     → first_undone a.stats.issued a.outstanding ≤ a.stats.retired → a.config.window ≤ a.stats.issued - a.stats.retired → Does a idle_step (stuck_cause a second_at) None
 stuck-does a first_at second_at entry seen undone most v s core trace steps mail i h =
-    let gone = a.stats.retired + 0 in
+    let retired_by_end = a.stats.retired + 0 in
     let full : Bool = ltb first_at (length a.trace) && lacks_credit a.config core mail (core_messages s core trace steps) (length steps) (slice_get a.trace first_at) in
-    let none : 0 ≡ issue_count a.config.width a.config.window a.stats.issued gone first_at second_at full = no_issue a.config.width a.config.window a.stats.issued gone first_at second_at full (omega arith) in
-    let cause : cause_at a.config.width a.config.window (length a.trace) a.stats.issued gone second_at 0 ≡ stuck_cause a second_at =
+    let none : 0 ≡ issue_count a.config.width a.config.window a.stats.issued retired_by_end first_at second_at full = no_issue a.config.width a.config.window a.stats.issued retired_by_end first_at second_at full (omega arith) in
+    let cause : cause_at a.config.width a.config.window (length a.trace) a.stats.issued retired_by_end second_at 0 ≡ stuck_cause a second_at =
     ap (λ g. cause_at a.config.width a.config.window (length a.trace) a.stats.issued g second_at 0) (add-zero a.stats.retired) in
     cycle_work-is s core trace steps mail a v 0 first_at second_at full 0 (stuck_cause a second_at) None i h
     (record {
@@ -44,8 +44,8 @@ stuck-does a first_at second_at entry seen undone most v s core trace steps mail
       ahead = seen.ahead;
       credit = refl;
       last = λ may. subst
-          (λ why. IsLast a.config core a.trace mail (core_messages s core trace steps) (length steps) a.stats.issued gone first_at second_at full 0 why) cause
-          (is_last a.config core a.trace mail (core_messages s core trace steps) (length steps) a.stats.issued gone first_at second_at full may 0 none);
+          (λ why. IsLast a.config core a.trace mail (core_messages s core trace steps) (length steps) a.stats.issued retired_by_end first_at second_at full 0 why) cause
+          (is_last a.config core a.trace mail (core_messages s core trace steps) (length steps) a.stats.issued retired_by_end first_at second_at full may 0 none);
       issues = λ k l b. absurd (omega arith);
       at = tt;
     })

@@ -56,16 +56,16 @@ meets-false trace number first_at second_at k ahead l =
     (cases_lt (number + k) first_at)
 
 -- how far a core issues
-record Reaches (s : Config) (trace : List Entry) (number gone first_at second_at m : ℕ) (lacks : Bool) : Type 0 where
+record Reaches (s : Config) (trace : List Entry) (number retired_by_end first_at second_at m : ℕ) (lacks : Bool) : Type 0 where
   width : m ≤ s.width
-  window : number + m ≤ gone + s.window
+  window : number + m ≤ retired_by_end + s.window
   second : number + m ≤ second_at
   first : lacks ≡ true → number + m ≤ first_at
 
-lacks_at : (s : Config) (core : ℕ) (trace : List Entry) (inbox sent : List Message) (now number gone first_at second_at : ℕ) (lacks : Bool)
-    → MayIssue s core trace inbox sent now number gone first_at second_at lacks → (k : ℕ) → number + k < second_at → (lacks ≡ true → number + k < first_at)
+lacks_at : (s : Config) (core : ℕ) (trace : List Entry) (inbox sent : List Message) (now number retired_by_end first_at second_at : ℕ) (lacks : Bool)
+    → MayIssue s core trace inbox sent now number retired_by_end first_at second_at lacks → (k : ℕ) → number + k < second_at → (lacks ≡ true → number + k < first_at)
     → lacks_credit s core inbox sent now (slice_get trace (number + k)) ≡ false
-lacks_at s core trace inbox sent now number gone first_at second_at lacks h k l b =
+lacks_at s core trace inbox sent now number retired_by_end first_at second_at lacks h k l b =
     let w = h.ahead.first.is_within in
     ⊎_elim
     (λ before. plain-no_lack s core trace inbox sent now (number + k) number first_at h.ahead.first.is_plain_before (omega arith) before)
@@ -86,33 +86,33 @@ lacks_at s core trace inbox sent now number gone first_at second_at lacks h k l 
     not_lacking true f = absurd (f refl)
     not_lacking false f = refl
 
-two_within : (s : Config) (core : ℕ) (trace : List Entry) (inbox sent : List Message) (now number gone first_at second_at : ℕ) (lacks : Bool)
-    → MayIssue s core trace inbox sent now number gone first_at second_at lacks → second_at ≤ length trace
-two_within s core trace inbox sent now number gone first_at second_at lacks h =
+two_within : (s : Config) (core : ℕ) (trace : List Entry) (inbox sent : List Message) (now number retired_by_end first_at second_at : ℕ) (lacks : Bool)
+    → MayIssue s core trace inbox sent now number retired_by_end first_at second_at lacks → second_at ≤ length trace
+two_within s core trace inbox sent now number retired_by_end first_at second_at lacks h =
     ⊎_elim (λ inside. (h.ahead.second inside).is_within) (λ none. let e = h.ahead.none none in omega arith) (cases_lt first_at (length trace))
 
-no_stop : (s : Config) (core : ℕ) (trace : List Entry) (inbox sent : List Message) (now number gone first_at second_at : ℕ) (lacks : Bool)
-    → MayIssue s core trace inbox sent now number gone first_at second_at lacks → (k : ℕ) → k < s.width → number + k < gone + s.window → number + k < second_at → (lacks ≡ true → number + k < first_at)
-    → stop_after s core trace inbox sent now number gone k ≡ None
+no_stop : (s : Config) (core : ℕ) (trace : List Entry) (inbox sent : List Message) (now number retired_by_end first_at second_at : ℕ) (lacks : Bool)
+    → MayIssue s core trace inbox sent now number retired_by_end first_at second_at lacks → (k : ℕ) → k < s.width → number + k < retired_by_end + s.window → number + k < second_at → (lacks ≡ true → number + k < first_at)
+    → stop_after s core trace inbox sent now number retired_by_end k ≡ None
 unfolding stop_after
-no_stop s core trace inbox sent now number gone first_at second_at lacks h k width window second first =
-    let end : second_at ≤ length trace = two_within s core trace inbox sent now number gone first_at second_at lacks h in
+no_stop s core trace inbox sent now number retired_by_end first_at second_at lacks h k width window second first =
+    let end : second_at ≤ length trace = two_within s core trace inbox sent now number retired_by_end first_at second_at lacks h in
     let e1 : eqb (number + k) (length trace) ≡ false = ne_eqb _ _ (λ e. omega arith) in
     let e2 : eqb k s.width ≡ false = ne_eqb _ _ (λ e. omega arith) in
-    let e3 : eqb (number + k - gone) s.window ≡ false = ne_eqb _ _ (λ e. omega (arith, h.retired)) in
+    let e3 : eqb (number + k - retired_by_end) s.window ≡ false = ne_eqb _ _ (λ e. omega (arith, h.retired)) in
     let e4 : meets_memory trace number k ≡ false = meets-false trace number first_at second_at k h.ahead second in
-    let e5 : lacks_credit s core inbox sent now (slice_get trace (number + k)) ≡ false = lacks_at s core trace inbox sent now number gone first_at second_at lacks h k second first in
+    let e5 : lacks_credit s core inbox sent now (slice_get trace (number + k)) ≡ false = lacks_at s core trace inbox sent now number retired_by_end first_at second_at lacks h k second first in
     rw (e1, e2, e3, e4, e5) refl
 
 -- the number of entries that issue
-issue_count-reaches : (s : Config) (trace : List Entry) (number gone first_at second_at : ℕ) (lacks : Bool) → number ≤ gone + s.window → gone ≤ number → number ≤ first_at → number ≤ second_at
-    → Reaches s trace number gone first_at second_at (issue_count s.width s.window number gone first_at second_at lacks) lacks
-issue_count-reaches s trace number gone first_at second_at true window retired l1 l2 = record { width = omega arith; window = omega arith; second = omega arith; first = λ e. omega arith }
-issue_count-reaches s trace number gone first_at second_at false window retired l1 l2 = record { width = omega arith; window = omega arith; second = omega arith; first = λ e. absurd (false≢true e) }
+issue_count-reaches : (s : Config) (trace : List Entry) (number retired_by_end first_at second_at : ℕ) (lacks : Bool) → number ≤ retired_by_end + s.window → retired_by_end ≤ number → number ≤ first_at → number ≤ second_at
+    → Reaches s trace number retired_by_end first_at second_at (issue_count s.width s.window number retired_by_end first_at second_at lacks) lacks
+issue_count-reaches s trace number retired_by_end first_at second_at true window retired l1 l2 = record { width = omega arith; window = omega arith; second = omega arith; first = λ e. omega arith }
+issue_count-reaches s trace number retired_by_end first_at second_at false window retired l1 l2 = record { width = omega arith; window = omega arith; second = omega arith; first = λ e. absurd (false≢true e) }
 
 -- one of the limits is met
 abbrev Met : Config → ℕ → ℕ → ℕ → ℕ → ℕ → Bool → Type 0
-Met s number gone first_at second_at m lacks = (m ≡ s.width) ⊎ ((number + m ≡ gone + s.window) ⊎ ((number + m ≡ second_at) ⊎ ((lacks ≡ true) × (number + m ≡ first_at))))
+Met s number retired_by_end first_at second_at m lacks = (m ≡ s.width) ⊎ ((number + m ≡ retired_by_end + s.window) ⊎ ((number + m ≡ second_at) ⊎ ((lacks ≡ true) × (number + m ≡ first_at))))
 
 least_of : (a b c d : ℕ) → (min (min (min a b) c) d ≡ a) ⊎ ((min (min (min a b) c) d ≡ b) ⊎ ((min (min (min a b) c) d ≡ c) ⊎ (min (min (min a b) c) d ≡ d)))
 least_of a b c d = grind arith
@@ -120,10 +120,10 @@ least_of a b c d = grind arith
 least_of_three : (a b c : ℕ) → (min (min a b) c ≡ a) ⊎ ((min (min a b) c ≡ b) ⊎ (min (min a b) c ≡ c))
 least_of_three a b c = grind arith
 
-issue_count-met : (s : Config) (number gone first_at second_at : ℕ) (lacks : Bool) → number ≤ gone + s.window → gone ≤ number → number ≤ first_at → number ≤ second_at
-    → Met s number gone first_at second_at (issue_count s.width s.window number gone first_at second_at lacks) lacks
-issue_count-met s number gone first_at second_at true window retired l1 l2 =
-    elim (least_of s.width (s.window - (number - gone)) (second_at - number) (first_at - number)) [
+issue_count-met : (s : Config) (number retired_by_end first_at second_at : ℕ) (lacks : Bool) → number ≤ retired_by_end + s.window → retired_by_end ≤ number → number ≤ first_at → number ≤ second_at
+    → Met s number retired_by_end first_at second_at (issue_count s.width s.window number retired_by_end first_at second_at lacks) lacks
+issue_count-met s number retired_by_end first_at second_at true window retired l1 l2 =
+    elim (least_of s.width (s.window - (number - retired_by_end)) (second_at - number) (first_at - number)) [
       | inl e ↦ inl e
       | inr r ↦ elim r [
         | inl e ↦ inr (inl (omega arith))
@@ -133,8 +133,8 @@ issue_count-met s number gone first_at second_at true window retired l1 l2 =
         ]
       ]
     ]
-issue_count-met s number gone first_at second_at false window retired l1 l2 =
-    elim (least_of_three s.width (s.window - (number - gone)) (second_at - number)) [
+issue_count-met s number retired_by_end first_at second_at false window retired l1 l2 =
+    elim (least_of_three s.width (s.window - (number - retired_by_end)) (second_at - number)) [
       | inl e ↦ inl e
       | inr r ↦ elim r [
         | inl e ↦ inr (inl (omega arith))
@@ -154,13 +154,13 @@ meets-true trace number first_at second_at k ahead e l =
     (cases_lt first_at (length trace))
 
 -- where neither the trace, the width nor the window ends it
-last_cause : (s : Config) (core : ℕ) (trace : List Entry) (inbox sent : List Message) (now number gone first_at second_at : ℕ) (lacks : Bool)
-    → MayIssue s core trace inbox sent now number gone first_at second_at lacks → (m : ℕ) → Reaches s trace number gone first_at second_at m lacks → Met s number gone first_at second_at m lacks
-    → (number + m ≡ length trace → ⊥) → (m ≡ s.width → ⊥) → (number + m - gone ≡ s.window → ⊥)
+last_cause : (s : Config) (core : ℕ) (trace : List Entry) (inbox sent : List Message) (now number retired_by_end first_at second_at : ℕ) (lacks : Bool)
+    → MayIssue s core trace inbox sent now number retired_by_end first_at second_at lacks → (m : ℕ) → Reaches s trace number retired_by_end first_at second_at m lacks → Met s number retired_by_end first_at second_at m lacks
+    → (number + m ≡ length trace → ⊥) → (m ≡ s.width → ⊥) → (number + m - retired_by_end ≡ s.window → ⊥)
     → cond (meets_memory trace number m) (Some stop.Memory) (cond (lacks_credit s core inbox sent now (slice_get trace (number + m))) (Some stop.Credit) None)
     ≡ Some (cond (eqb (number + m) second_at) stop.Memory stop.Credit)
-last_cause s core trace inbox sent now number gone first_at second_at lacks h m reach met e1 e2 e3 =
-    let end : second_at ≤ length trace = two_within s core trace inbox sent now number gone first_at second_at lacks h in
+last_cause s core trace inbox sent now number retired_by_end first_at second_at lacks h m reach met e1 e2 e3 =
+    let end : second_at ≤ length trace = two_within s core trace inbox sent now number retired_by_end first_at second_at lacks h in
     elim met [
       | inl e ↦ absurd (e2 e)
       | inr r ↦ elim r [
@@ -189,43 +189,43 @@ last_cause s core trace inbox sent now number gone first_at second_at lacks h m 
   where
     two_inside : number + m ≡ second_at → second_at < length trace
     two_inside e =
-        let end : second_at ≤ length trace = two_within s core trace inbox sent now number gone first_at second_at lacks h in
+        let end : second_at ≤ length trace = two_within s core trace inbox sent now number retired_by_end first_at second_at lacks h in
         ⊎_elim (λ l. l) (λ g. absurd (e1 (omega arith))) (cases_lt second_at (length trace))
 
-stop_here : (s : Config) (core : ℕ) (trace : List Entry) (inbox sent : List Message) (now number gone first_at second_at : ℕ) (lacks : Bool)
-    → MayIssue s core trace inbox sent now number gone first_at second_at lacks → (m : ℕ) → Reaches s trace number gone first_at second_at m lacks → Met s number gone first_at second_at m lacks
-    → stop_after s core trace inbox sent now number gone m ≡ Some (cause_at s.width s.window (length trace) number gone second_at m)
+stop_here : (s : Config) (core : ℕ) (trace : List Entry) (inbox sent : List Message) (now number retired_by_end first_at second_at : ℕ) (lacks : Bool)
+    → MayIssue s core trace inbox sent now number retired_by_end first_at second_at lacks → (m : ℕ) → Reaches s trace number retired_by_end first_at second_at m lacks → Met s number retired_by_end first_at second_at m lacks
+    → stop_after s core trace inbox sent now number retired_by_end m ≡ Some (cause_at s.width s.window (length trace) number retired_by_end second_at m)
 unfolding stop_after
-stop_here s core trace inbox sent now number gone first_at second_at lacks h m reach met =
-    by (eqb (number + m) (length trace)) (eqb m s.width) (eqb (number + m - gone) s.window) refl refl refl
+stop_here s core trace inbox sent now number retired_by_end first_at second_at lacks h m reach met =
+    by (eqb (number + m) (length trace)) (eqb m s.width) (eqb (number + m - retired_by_end) s.window) refl refl refl
   where
     rest : Option Stop
     rest = cond (meets_memory trace number m) (Some stop.Memory) (cond (lacks_credit s core inbox sent now (slice_get trace (number + m))) (Some stop.Credit) None)
 
-    by : (a b d : Bool) → eqb (number + m) (length trace) ≡ a → eqb m s.width ≡ b → eqb (number + m - gone) s.window ≡ d
+    by : (a b d : Bool) → eqb (number + m) (length trace) ≡ a → eqb m s.width ≡ b → eqb (number + m - retired_by_end) s.window ≡ d
         → cond a (Some stop.End) (cond b (Some stop.Width) (cond d (Some stop.Window) rest))
         ≡ Some (cond a stop.End (cond b stop.Width (cond d stop.Window (cond (eqb (number + m) second_at) stop.Memory stop.Credit))))
     by true b d e1 e2 e3 = refl
     by false true d e1 e2 e3 = refl
     by false false true e1 e2 e3 = refl
     by false false false e1 e2 e3 =
-        last_cause s core trace inbox sent now number gone first_at second_at lacks h m reach met (eqb-false _ _ e1) (eqb-false _ _ e2) (eqb-false _ _ e3)
+        last_cause s core trace inbox sent now number retired_by_end first_at second_at lacks h m reach met (eqb-false _ _ e1) (eqb-false _ _ e2) (eqb-false _ _ e3)
 
 -- the number of entries that issue is the least at which there is a cause, and this is the cause
-pub is_last : (s : Config) (core : ℕ) (trace : List Entry) (inbox sent : List Message) (now number gone first_at second_at : ℕ) (lacks : Bool)
-    → MayIssue s core trace inbox sent now number gone first_at second_at lacks → (m : ℕ) → m ≡ issue_count s.width s.window number gone first_at second_at lacks
-    → IsLast s core trace inbox sent now number gone first_at second_at lacks m (cause_at s.width s.window (length trace) number gone second_at m)
+pub is_last : (s : Config) (core : ℕ) (trace : List Entry) (inbox sent : List Message) (now number retired_by_end first_at second_at : ℕ) (lacks : Bool)
+    → MayIssue s core trace inbox sent now number retired_by_end first_at second_at lacks → (m : ℕ) → m ≡ issue_count s.width s.window number retired_by_end first_at second_at lacks
+    → IsLast s core trace inbox sent now number retired_by_end first_at second_at lacks m (cause_at s.width s.window (length trace) number retired_by_end second_at m)
 unfolding first_stop has_cause
-is_last s core trace inbox sent now number gone first_at second_at lacks h m e =
+is_last s core trace inbox sent now number retired_by_end first_at second_at lacks h m e =
     let l1 : number ≤ first_at = h.ahead.first.is_from in
     let l2 : number ≤ second_at = two_from in
-    let reach : Reaches s trace number gone first_at second_at m lacks = subst (λ n. Reaches s trace number gone first_at second_at n lacks) (sym e) (issue_count-reaches s trace number gone first_at second_at lacks h.window h.retired l1 l2) in
-    let met : Met s number gone first_at second_at m lacks = subst (λ n. Met s number gone first_at second_at n lacks) (sym e) (issue_count-met s number gone first_at second_at lacks h.window h.retired l1 l2) in
-    let here : stop_after s core trace inbox sent now number gone m ≡ Some (cause_at s.width s.window (length trace) number gone second_at m) = stop_here s core trace inbox sent now number gone first_at second_at lacks h m reach met in
+    let reach : Reaches s trace number retired_by_end first_at second_at m lacks = subst (λ n. Reaches s trace number retired_by_end first_at second_at n lacks) (sym e) (issue_count-reaches s trace number retired_by_end first_at second_at lacks h.window h.retired l1 l2) in
+    let met : Met s number retired_by_end first_at second_at m lacks = subst (λ n. Met s number retired_by_end first_at second_at n lacks) (sym e) (issue_count-met s number retired_by_end first_at second_at lacks h.window h.retired l1 l2) in
+    let here : stop_after s core trace inbox sent now number retired_by_end m ≡ Some (cause_at s.width s.window (length trace) number retired_by_end second_at m) = stop_here s core trace inbox sent now number retired_by_end first_at second_at lacks h m reach met in
     record {
       count = ap (λ o. unwrap_or o s.width)
-          (find_below (has_cause s core trace inbox sent now number gone) (s.width + 1) m (omega (arith, reach.width))
-          (λ k l. ap is_some (no_stop s core trace inbox sent now number gone first_at second_at lacks h k (omega (arith, reach.width)) (omega (arith, reach.window)) (omega (arith, reach.second)) (λ t. omega (arith, reach.first t))))
+          (find_below (has_cause s core trace inbox sent now number retired_by_end) (s.width + 1) m (omega (arith, reach.width))
+          (λ k l. ap is_some (no_stop s core trace inbox sent now number retired_by_end first_at second_at lacks h k (omega (arith, reach.width)) (omega (arith, reach.window)) (omega (arith, reach.second)) (λ t. omega (arith, reach.first t))))
           (ap is_some here));
       cause = here;
       window = reach.window;

@@ -161,19 +161,19 @@ pub steady-goes : (a b : CoreView) (n until : ℕ) (core_step : CoreStep) (why :
     → GoesOn until a sent b sent
 steady-goes a b n until core_step why sent h e l u =
     let e2 : steady_view a core_step why n ≡ b = sym e in
-    let gone : n ≡ a.now + n - a.now = omega arith in
+    let retired_by_end : n ≡ a.now + n - a.now = omega arith in
     subst (λ v. GoesOn until a sent v sent) e2
     (record {
       later = omega arith;
       until_then = u;
-      advances = subst (λ k. Advances k a sent (steady_view a core_step why n) sent) gone (steady-advances a n core_step why sent h);
+      advances = subst (λ k. Advances k a sent (steady_view a core_step why n) sent) retired_by_end (steady-advances a n core_step why sent h);
     })
 
 -- a core that goes on by a cycle
 pub cycle-goes : (a b : CoreView) (until : ℕ) (before after : List Message) → a.now < until → b.now ≡ a.now + 1 → Advances 1 a before b after → GoesOn until a before b after
 cycle-goes a b until before after l e h =
-    let gone : 1 ≡ b.now - a.now = omega arith in
-    record { later = omega arith; until_then = omega arith; advances = subst (λ k. Advances k a before b after) gone h }
+    let retired_by_end : 1 ≡ b.now - a.now = omega arith in
+    record { later = omega arith; until_then = omega arith; advances = subst (λ k. Advances k a before b after) retired_by_end h }
 
 pub counted-fits : (a : CoreView) (n : ℕ) (core_step : CoreStep) (why : Stop) (each : CoreStats) → each ≡ steady_counts core_step why → IsStanding a → IsSteady a n core_step why → 0 < n
     → length a.trace ≤ 2 ^ 62 → a.now + n < 2 ^ 62 → CoreFits (core_joined a.stats (core_times n each))
@@ -197,12 +197,12 @@ quiet-none a until l =
 -- a stretch
 pub quiet-steady : (a b : CoreView) (n until : ℕ) (core_step : CoreStep) (why : Stop) → IsSteady a n core_step why → b ≡ steady_view a core_step why n → a.now + n ≤ until → GoesQuietly until a b
 quiet-steady a b n until core_step why h e u =
-    let gone : n ≡ a.now + n - a.now = omega arith in
+    let retired_by_end : n ≡ a.now + n - a.now = omega arith in
     subst (GoesQuietly until a) (sym e)
     (record {
       since = omega arith;
       until_then = u;
-      advances = λ sent. subst (λ k. Advances k a sent (steady_view a core_step why n) sent) gone (steady-advances a n core_step why sent h);
+      advances = λ sent. subst (λ k. Advances k a sent (steady_view a core_step why n) sent) retired_by_end (steady-advances a n core_step why sent h);
     })
 
 pub quiet-standing : (a b : CoreView) (until : ℕ) → GoesQuietly until a b → IsStanding a → IsStanding b

@@ -157,31 +157,31 @@ ahead_from : (trace : List Entry) (number first_at second_at : ℕ) → IsAhead 
 ahead_from trace number first_at second_at h l =
     ⊎_elim (λ inside. omega (arith, h.first.is_from, (h.second inside).is_from)) (λ none. let e2 = h.none none in omega arith) (cases_lt first_at (length trace))
 
-count_within : (width window number gone first_at second_at : ℕ) (lacks : Bool) → number ≤ second_at → number + issue_count width window number gone first_at second_at lacks ≤ second_at
-count_within width window number gone first_at second_at true l = omega arith
-count_within width window number gone first_at second_at false l = omega arith
+count_within : (width window number retired_by_end first_at second_at : ℕ) (lacks : Bool) → number ≤ second_at → number + issue_count width window number retired_by_end first_at second_at lacks ≤ second_at
+count_within width window number retired_by_end first_at second_at true l = omega arith
+count_within width window number retired_by_end first_at second_at false l = omega arith
 
 -- no more entries issue than up to the second memory entry
-pub issues_within : (trace : List Entry) (width window number gone first_at second_at m : ℕ) (lacks : Bool) → IsAhead trace number first_at second_at → number ≤ length trace
-    → m ≡ issue_count width window number gone first_at second_at lacks → number + m ≤ second_at
-issues_within trace width window number gone first_at second_at m lacks h l e =
-    subst (λ k. number + k ≤ second_at) (sym e) (count_within width window number gone first_at second_at lacks (ahead_from trace number first_at second_at h l))
+pub issues_within : (trace : List Entry) (width window number retired_by_end first_at second_at m : ℕ) (lacks : Bool) → IsAhead trace number first_at second_at → number ≤ length trace
+    → m ≡ issue_count width window number retired_by_end first_at second_at lacks → number + m ≤ second_at
+issues_within trace width window number retired_by_end first_at second_at m lacks h l e =
+    subst (λ k. number + k ≤ second_at) (sym e) (count_within width window number retired_by_end first_at second_at lacks (ahead_from trace number first_at second_at h l))
 
 pub two_least : (trace : List Entry) (number first_at second_at : ℕ) → IsAhead trace number first_at second_at → second_at ≤ length trace
 two_least trace number first_at second_at h = ⊎_elim (λ inside. (h.second inside).is_within) (λ none. let e = h.none none in omega arith) (cases_lt first_at (length trace))
 
 -- a credit counts only where the first memory entry is near enough to issue
-pub lazy-count : (trace : List Entry) (width window number gone first_at second_at : ℕ) (lacks full : Bool) → IsAhead trace number first_at second_at
-    → (first_at < min (number + min width (window - (number - gone))) (length trace) → lacks ≡ full) → (min (number + min width (window - (number - gone))) (length trace) ≤ first_at → lacks ≡ false)
-    → issue_count width window number gone first_at second_at lacks ≡ issue_count width window number gone first_at second_at full
-lazy-count trace width window number gone first_at second_at lacks full ahead near far =
+pub lazy-count : (trace : List Entry) (width window number retired_by_end first_at second_at : ℕ) (lacks full : Bool) → IsAhead trace number first_at second_at
+    → (first_at < min (number + min width (window - (number - retired_by_end))) (length trace) → lacks ≡ full) → (min (number + min width (window - (number - retired_by_end))) (length trace) ≤ first_at → lacks ≡ false)
+    → issue_count width window number retired_by_end first_at second_at lacks ≡ issue_count width window number retired_by_end first_at second_at full
+lazy-count trace width window number retired_by_end first_at second_at lacks full ahead near far =
     let end : second_at ≤ length trace = two_least trace number first_at second_at ahead in
     ⊎_elim
-    (λ l. ap (issue_count width window number gone first_at second_at) (near l))
-    (λ g. ap (issue_count width window number gone first_at second_at) (far g) ∙ same full g end)
-    (cases_lt first_at (min (number + min width (window - (number - gone))) (length trace)))
+    (λ l. ap (issue_count width window number retired_by_end first_at second_at) (near l))
+    (λ g. ap (issue_count width window number retired_by_end first_at second_at) (far g) ∙ same full g end)
+    (cases_lt first_at (min (number + min width (window - (number - retired_by_end))) (length trace)))
   where
-    same : (b : Bool) → min (number + min width (window - (number - gone))) (length trace) ≤ first_at → second_at ≤ length trace → issue_count width window number gone first_at second_at false ≡ issue_count width window number gone first_at second_at b
+    same : (b : Bool) → min (number + min width (window - (number - retired_by_end))) (length trace) ≤ first_at → second_at ≤ length trace → issue_count width window number retired_by_end first_at second_at false ≡ issue_count width window number retired_by_end first_at second_at b
     same true g end = omega arith
     same false g end = refl
 

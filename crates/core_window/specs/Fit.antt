@@ -80,7 +80,7 @@ Runs before from until inbox after sent =
     → StandsFor s core trace (core_run s core trace steps (mail ++ inbox) (until - from)) (mail ++ inbox) after
     × (core_messages s core trace (core_run s core trace steps (mail ++ inbox) (until - from)) ≡ core_messages s core trace steps ++ sent)
 
--- the same, and what it sends is put behind what a list held before
+-- a core goes over a span of cycles, in which these messages arrive, and what it sends is put behind what a list held before
 pub record RunsOnto (before : CoreView) (from until : ℕ) (inbox : List Message) (after : CoreView) (held holds : List Message) : Type 0 where
   pub sent : List Message
   pub behind : holds ≡ held ++ sent

@@ -5,8 +5,8 @@
 --     WasSeen trace number ahead      they were so from a number on that is not above this one
 --     IsKnownBy digits trace ahead      what is kept of them is right by the digits of an address
 --     StaysKnown digits trace old new      it is right, if what was kept before was
---     issue_limit config number gone len      the number up to which entries may issue by the width, the window and the end of the trace
---     issue_count_of config number gone ahead lacks, cause_of config len number gone ahead m      how many issue, and why no more
+--     issue_limit config number retired_by_end len      the number up to which entries may issue by the width, the window and the end of the trace
+--     issue_count_of config number retired_by_end ahead lacks, cause_of config len number retired_by_end ahead m      how many issue, and why no more
 use Rattle.std.specs.Prelude.{◌≡◌, ℕ, ◌+◌, ◌-◌, ◌<◌, ◌≤◌, min, Bool, List, length, slice_get, Some}
 use Rattle.address_map.specs.Shifts.{IsDigits}
 use Rattle.address_map.specs.declared.digits.Digits.{Digits}
@@ -38,17 +38,17 @@ WasSeen trace number ahead = (from : ℕ) × (from ≤ number) × IsSeenFrom tra
 abbrev pub IsKnownBy : Digits → List Entry → EntriesAhead → Type 0
 IsKnownBy digits trace ahead = (s : Config) → IsDigits s digits → IsKnown s trace ahead
 
--- the same, if it was before
+-- where the first lies and which the second is, is still known right by the digits of an address, if it was before
 abbrev pub StaysKnown : Digits → List Entry → EntriesAhead → EntriesAhead → Type 0
 StaysKnown digits trace old new = (s : Config) → IsDigits s digits → IsKnown s trace old → IsKnown s trace new
 
--- the number up to which entries may issue by the width, the window and the end of the trace, where `gone` entries were retired
+-- the number up to which entries may issue by the width, the window and the end of the trace, where `retired_by_end` entries were retired
 abbrev pub issue_limit : Config → ℕ → ℕ → ℕ → ℕ
-issue_limit config number gone len = min (number + min config.width (config.window - (number - gone))) len
+issue_limit config number retired_by_end len = min (number + min config.width (config.window - (number - retired_by_end))) len
 
 -- how many entries issue from a number on, and why no more than m do
 abbrev pub issue_count_of : Config → ℕ → ℕ → EntriesAhead → Bool → ℕ
-issue_count_of config number gone ahead lacks = issue_count config.width config.window number gone ahead.first_at ahead.second_at lacks
+issue_count_of config number retired_by_end ahead lacks = issue_count config.width config.window number retired_by_end ahead.first_at ahead.second_at lacks
 
 abbrev pub cause_of : Config → ℕ → ℕ → ℕ → EntriesAhead → ℕ → Stop
-cause_of config len number gone ahead m = cause_at config.width config.window len number gone ahead.second_at m
+cause_of config len number retired_by_end ahead m = cause_at config.width config.window len number retired_by_end ahead.second_at m

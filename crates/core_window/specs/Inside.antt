@@ -80,7 +80,7 @@ Sends n a b sent =
     → StandsAt s core trace (core_run s core trace steps mail n) mail b
     × (core_messages s core trace (core_run s core trace steps mail n) ≡ core_messages s core trace steps ++ sent)
 
--- the same, and what it sends is put behind what a list held before
+-- in n cycles in which no further message comes, a core comes to another state, and what it sends is put behind what a list held before
 pub record Advances (n : ℕ) (a : CoreView) (before : List Message) (b : CoreView) (after : List Message) : Type 0 where
   pub sent : List Message
   pub behind : after ≡ before ++ sent

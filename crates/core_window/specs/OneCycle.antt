@@ -102,19 +102,19 @@ cycle_counts core_step why memory before len now =
     }
 
 -- the cause for which a core issues no more than m entries, and that it has none before
-pub record IsLast (s : Config) (core : ℕ) (trace : List Entry) (inbox sent : List Message) (now number gone first_at second_at : ℕ) (lacks : Bool) (m : ℕ) (why : Stop) : Type 0 where
-  pub count : first_stop s core trace inbox sent now number gone ≡ m
-  pub cause : stop_after s core trace inbox sent now number gone m ≡ Some why
-  pub window : number + m ≤ gone + s.window
+pub record IsLast (s : Config) (core : ℕ) (trace : List Entry) (inbox sent : List Message) (now number retired_by_end first_at second_at : ℕ) (lacks : Bool) (m : ℕ) (why : Stop) : Type 0 where
+  pub count : first_stop s core trace inbox sent now number retired_by_end ≡ m
+  pub cause : stop_after s core trace inbox sent now number retired_by_end m ≡ Some why
+  pub window : number + m ≤ retired_by_end + s.window
   pub second : number + m ≤ second_at
   pub first : lacks ≡ true → number + m ≤ first_at
 
--- a core that issued entries up to a number, and had retired `gone` of them, may issue from there on: the memory entries ahead
+-- a core that issued entries up to a number, and had retired `retired_by_end` of them, may issue from there on: the memory entries ahead
 -- are known, and whether it lacks a credit for the first of them
-pub record MayIssue (s : Config) (core : ℕ) (trace : List Entry) (inbox sent : List Message) (now number gone first_at second_at : ℕ) (lacks : Bool) : Type 0 where
+pub record MayIssue (s : Config) (core : ℕ) (trace : List Entry) (inbox sent : List Message) (now number retired_by_end first_at second_at : ℕ) (lacks : Bool) : Type 0 where
   pub within : number ≤ length trace
-  pub retired : gone ≤ number
-  pub window : number ≤ gone + s.window
+  pub retired : retired_by_end ≤ number
+  pub window : number ≤ retired_by_end + s.window
   pub ahead : IsAhead trace number first_at second_at
   pub credit : lacks ≡ (nat_lt first_at (length trace) && lacks_credit s core inbox sent now (slice_get trace first_at))
 
@@ -134,7 +134,7 @@ credit_after_entry s channel Plain c = c
 credit_after_entry s channel (Read address) c = if (place_of s address).channel == channel then less_credit access.Read c else c
 credit_after_entry s channel (Write address) c = if (place_of s address).channel == channel then less_credit access.Write c else c
 
--- the same, for the memory entry that issues, if one does
+-- the credits for a channel after a memory entry has issued, if one does
 abbrev pub credit_after : Config → ℕ → Option MemoryEntry → Credits → Credits
 credit_after s channel None c = c
 credit_after s channel (Some e) c = credit_after_entry s channel e.entry c

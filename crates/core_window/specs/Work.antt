@@ -66,7 +66,7 @@ IsSteadyFlow view flow = IsSteady view flow.cycles (record { retired = flow.reti
 abbrev pub AdvancesBy : ℕ → Core → List Message → Core → List Message → Type 0
 AdvancesBy n a before b after = Advances n (view_of a) before (view_of b) after
 
--- the same, up to a cycle
+-- A core goes on up to a cycle while no further message comes, and puts what it sends behind what a list held before.
 abbrev pub AdvancesTo : ℕ → Core → List Message → Core → List Message → Type 0
 AdvancesTo until a before b after = AdvancesBy (until - a.cycle) a before b after
 

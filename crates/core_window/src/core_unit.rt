@@ -138,8 +138,12 @@ impl Core {
         let width = self.config.width;
         let waiting = self.outstanding.as_slice();
         let retired = retire_count(width, waiting, number, self.stats.retired);
-        let gone = self.stats.retired + u64::from(retired);
-        let progress = Progress { len, number, gone };
+        let retired_by_end = self.stats.retired + u64::from(retired);
+        let progress = Progress {
+            len,
+            number,
+            retired_by_end,
+        };
         let near = most_issued(&self.config, progress);
         let lacks = self.found.first_at < near && is_without_credit(&self.credits, &self.found);
         let issue = issue_of(&self.config, progress, &self.found, lacks);

@@ -138,21 +138,21 @@ pub struct Issue {
 pub struct Progress {
     pub len: u64,
     pub number: u64,
-    pub gone: u64,
+    pub retired_by_end: u64,
 }
 
 /// Why no more than this number of entries issue.
 pub fn cause_at(config: &Config, progress: Progress, second_at: u64, count: u16) -> Stop
     requires { progress.number ≤ 2 ^ 62 }
     ensures { result ≡ cause_at config.now.width config.now.window
-        progress.len progress.number progress.gone second_at count }
+        progress.len progress.number progress.retired_by_end second_at count }
 {
     let next = progress.number + u64::from(count);
     if next == progress.len {
         Stop::End
     } else if count == config.width {
         Stop::Width
-    } else if next.saturating_sub(progress.gone) == u64::from(config.window) {
+    } else if next.saturating_sub(progress.retired_by_end) == u64::from(config.window) {
         Stop::Window
     } else if next == second_at {
         Stop::Memory
@@ -164,10 +164,12 @@ pub fn cause_at(config: &Config, progress: Progress, second_at: u64, count: u16)
 /// How many entries issue.
 fn count_of(config: &Config, progress: Progress, ahead: &EntriesAhead, lacks: bool) -> u16
     ensures { result ≡ issue_count config.now.width config.now.window
-        progress.number progress.gone ahead.now.first_at ahead.now.second_at lacks }
+        progress.number progress.retired_by_end ahead.now.first_at ahead.now.second_at lacks }
 {
     let number = progress.number;
-    let room = u64::from(config.window).saturating_sub(number.saturating_sub(progress.gone));
+    let room = u64::from(config.window).saturating_sub(number.saturating_sub(
+        progress.retired_by_end,
+    ));
     let most = u64::from(config.width)
         .min(room)
         .min(ahead.second_at.saturating_sub(number));
@@ -182,10 +184,12 @@ fn count_of(config: &Config, progress: Progress, ahead: &EntriesAhead, lacks: bo
 /// The number up to which entries may issue by the width, the window and the end of the trace.
 pub fn most_issued(config: &Config, progress: Progress) -> u64
     requires { progress.number ≤ 2 ^ 62 }
-    ensures { result ≡ issue_limit config.now progress.number progress.gone progress.len }
+    ensures { result ≡ issue_limit config.now progress.number progress.retired_by_end progress.len }
 {
     let number = progress.number;
-    let room = u64::from(config.window).saturating_sub(number.saturating_sub(progress.gone));
+    let room = u64::from(config.window).saturating_sub(number.saturating_sub(
+        progress.retired_by_end,
+    ));
     (number + u64::from(config.width).min(room)).min(progress.len)
 }
 
@@ -194,9 +198,9 @@ pub fn most_issued(config: &Config, progress: Progress) -> u64
 pub fn issue_of(config: &Config, progress: Progress, ahead: &EntriesAhead, lacks: bool) -> Issue
     requires { progress.number ≤ 2 ^ 62 }
     ensures why { result.why ≡ cause_of config.now
-        progress.len progress.number progress.gone ahead.now result.count }
+        progress.len progress.number progress.retired_by_end ahead.now result.count }
     ensures count { result.count ≡ issue_count_of config.now
-        progress.number progress.gone ahead.now lacks }
+        progress.number progress.retired_by_end ahead.now lacks }
 {
     let count = count_of(config, progress, ahead, lacks);
     let why = cause_at(config, progress, ahead.second_at, count);

@@ -65,7 +65,7 @@ StandsForLine-entries line entries h =
     let written = AreWritten-entries (tokens_of line) entries h in
     record { numbers = written.0; joined = joined-from_tokens written.0 line (tokens_of line) refl written.1; are_entries = written.2 }
 
--- the same of lines
+-- lines that each stand for entries have these entries, one line's after the other's
 pub entries_of_lines-meant : (lines : List (List ℕ)) (parts : List (List Entry)) (number : ℕ) → AllZip StandsForLine lines parts → entries_of_lines number lines ≡ Ok (flat_map (λ part. part) parts)
 unfolding entries_of_lines
 entries_of_lines-meant [] [] number h = refl

@@ -52,7 +52,7 @@ fn add_usual_lines<'a>(entries: &mut Entries, text: &'a [u8]) -> Result<(u64, &'
     Ok((lines, rest))
 }
 
-// The same, except that nothing is read if the trace so far was too long to keep.
+// Adds the entries of usual lines as `add_usual_lines` does, or reads nothing if the trace so far was too long to keep.
 fn keep_usual_lines<'a>(
     kept: &mut Option<Entries>,
     text: &'a [u8],

@@ -74,8 +74,8 @@ impl Trace {
         self.entries.next_memory(from)
     }
 
-    /// The same as `next_memory`. It is found at once if `before` is the number of Read and Write entries before it;
-    /// otherwise it is searched for among all of them.
+    /// The first Read or Write entry from a number on, as `next_memory` gives it. It is found at once if `before` is
+    /// the number of Read and Write entries before it; otherwise it is searched for among all of them.
     pub fn next_memory_near(&self, from: u64, before: u64) -> Option<MemoryEntry>
         ensures found { IfSome result (IsNextMemory self.now from) }
         ensures none { IfNone result (IsPlainBetween self.now from (length self.now)) }

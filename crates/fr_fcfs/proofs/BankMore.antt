@@ -145,7 +145,7 @@ row_more s history ranks log accesses bank h ready now hits rows best after read
     (one_more (length log) now hits rows (hits_in s history log accesses bank) (rows_in s history log accesses bank) best (offer_from now ready false slot) inside (omega arith) so_far
     (accesses_row s history ranks log accesses bank h ready now slot places first row_is from none oldest)))
 
--- the same with its row hit
+-- the best offer so far with the row hit of a bank for one access
 pub hit_more : (s : Config) (history : List IssuedCommand) (ranks : ℕ) (log : List Arrived) (access : Access) (bank : ℕ) (h : CandidatesOfBank) (ready now : ℕ) (hits rows : ℕ → Option ℕ)
     (best after : Offer) → ready ≤ 18446744073709551615 → now ≤ 18446744073709551615 → All (IsInBanks ranks) (all_requests log) → AreCandidates log bank h
     → h.row ≡ open_row (bank_at bank) history → IsReadyFrom s history (bank_at bank) (column_kind access) ready

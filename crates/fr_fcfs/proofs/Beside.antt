@@ -22,7 +22,7 @@ pub beside_all : (left : ℕ → Bool) (test : Request → Bool) (log : List Arr
 beside_all left test log none =
     same_among (λ r. not (left (bank_number r.place)) && test r) test (λ r. Unit {0}) log (λ k d exists. tt) (λ r in_all. ap (λ b. not b && test r) (none (bank_number r.place)))
 
--- the same banks are left
+-- if two functions leave the same banks, the first place among the requests of the other banks is the same
 pub beside_same : (left after : ℕ → Bool) (test : Request → Bool) (log : List Arrived) → ((k : ℕ) → left k ≡ after k) → place_beside left test log ≡ place_beside after test log
 beside_same left after test log same =
     same_among (λ r. not (left (bank_number r.place)) && test r) (λ r. not (after (bank_number r.place)) && test r) (λ r. Unit {0}) log (λ k d exists. tt)

@@ -138,7 +138,7 @@ row_offer_is now ready (Some slot) = record {
   then_is = (refl, cond-true (leb ready (max now ready)) (Some slot) None (le-leb ready (max now ready) (omega arith)));
 }
 
--- the same places by other functions of the cycle
+-- the best offer is that of any other functions that give the same places in each cycle from now on
 pub best_same : (now : ℕ) (h r h2 r2 : ℕ → Option ℕ) (o : Option Offer) → ((c : ℕ) → now ≤ c → h c ≡ h2 c) → ((c : ℕ) → now ≤ c → r c ≡ r2 c) → IsBest now h r o → IsBest now h2 r2 o
 best_same now h r h2 r2 None same_h same_r best = λ c from. (sym (same_h c from) ∙ (best c from).0, sym (same_r c from) ∙ (best c from).1)
 best_same now h r h2 r2 (Some o) same_h same_r best = record {

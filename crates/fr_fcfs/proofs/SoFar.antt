@@ -68,7 +68,7 @@ one_more room now h r h2 r2 best o inside fits so_far offered = elim (cases_lt b
       (told room now (λ c. earlier (h c) (h2 c)) (λ c. earlier (r c) (r2 c)) o inside (second_alone_is now h r h2 r2 (Some o) never offered))
 ]
 
--- the same places by other functions of the cycle
+-- the best offer so far is that of any other functions that give the same places in each cycle from now on
 pub so_far_same : (room now : ℕ) (h r h2 r2 : ℕ → Option ℕ) (o : Offer) → ((c : ℕ) → now ≤ c → h c ≡ h2 c) → ((c : ℕ) → now ≤ c → r c ≡ r2 c) → IsBestSoFar room now h r o
     → IsBestSoFar room now h2 r2 o
 so_far_same room now h r h2 r2 o same_h same_r so_far = record {

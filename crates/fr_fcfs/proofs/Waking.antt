@@ -76,7 +76,7 @@ next_later s history command due ready now commands rest is legal late none = re
   ];
 }
 
--- the same commands from now on
+-- the next of some commands is the next of others that are the same from now on
 pub next_same : (commands rest : ℕ → Option Command) (needs : Choice → Option Command) (now : ℕ) (next : Option (ℕ × Choice)) → ((c : ℕ) → now ≤ c → commands c ≡ rest c)
     → IsNext rest needs now next → IsNext commands needs now next
 next_same commands rest needs now None same is = λ c from. same c from ∙ is c from

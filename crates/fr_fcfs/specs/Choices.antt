@@ -46,7 +46,7 @@ abbrev pub IsFor : ℕ → List Arrived → Choice → Type 0
 IsFor ranks log (chosen.Request slot) = (slot < length log) × (waits_at log slot ≡ true)
 IsFor ranks log (chosen.Refresh rank) = rank < ranks
 
--- the same of what was chosen for a cycle, if anything was
+-- What was chosen for a cycle, if anything was, is a request that waits at a place of a log, or one of so many ranks.
 abbrev pub HasPlace : ℕ → List Arrived → Option (ℕ × Choice) → Type 0
 HasPlace ranks log next = IfSome next (λ n. IsFor ranks log n.1)
 

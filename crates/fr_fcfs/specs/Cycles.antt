@@ -11,7 +11,7 @@ pub record IsFirst (holds : ℕ → Bool) (now first : ℕ) : Type 0 where
   pub holds_then : holds first ≡ true
   pub not_before : (cycle : ℕ) → now ≤ cycle → cycle < first → holds cycle ≡ false
 
--- the same, where there may be none
+-- the first cycle from now on in which something holds, or none where it never does
 abbrev pub IsFirstCycle : (ℕ → Bool) → ℕ → Option ℕ → Type 0
 IsFirstCycle holds now (Some first) = IsFirst holds now first
 IsFirstCycle holds now None = (cycle : ℕ) → now ≤ cycle → holds cycle ≡ false
@@ -23,7 +23,7 @@ pub record IsNextAt (commands : ℕ → Option Command) (now cycle : ℕ) (comma
   pub there_is : is_some command ≡ true
   pub none_before : (c : ℕ) → now ≤ c → c < cycle → commands c ≡ None
 
--- the same, where there may be none, and with what needs the command in place of it
+-- the first cycle from now on that has a command, and what needs that command, or none where no cycle has one
 abbrev pub IsNext : (ℕ → Option Command) → (Choice → Option Command) → ℕ → Option (ℕ × Choice) → Type 0
 IsNext commands command_of now (Some next) = IsNextAt commands now next.0 (command_of next.1)
 IsNext commands command_of now None = (c : ℕ) → now ≤ c → commands c ≡ None

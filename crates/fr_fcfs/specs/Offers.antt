@@ -116,7 +116,7 @@ rows_in s history log accesses bank cycle = first_place (λ r. (bank_number r.pl
 abbrev pub all_hits : Config → List IssuedCommand → List Arrived → Accesses → ℕ → Option ℕ
 all_hits s history log accesses = λ cycle. first_place (hits_now s history accesses cycle) log
 
--- the same of one access, if its requests go
+-- the place of the first ready row hit of one access in a cycle, or none if its requests do not go
 abbrev pub hits_if : Bool → Config → List IssuedCommand → List Arrived → Access → ℕ → Option ℕ
 hits_if goes s history log access = λ cycle. first_place (λ r. goes && hits_now s history (only access) cycle r) log
 
@@ -148,7 +148,7 @@ pub record IsBestOffer (now : ℕ) (hits rows : ℕ → Option ℕ) (o : Offer) 
   pub none_before : (cycle : ℕ) → now ≤ cycle → cycle < o.cycle → (hits cycle ≡ None) × (rows cycle ≡ None)
   pub then_is : IsAt o.hit (hits o.cycle) (rows o.cycle) o.slot
 
--- the same, where there may be none
+-- An offer is the first from now on, by the places in each cycle, or there is none and nothing is ever ready.
 abbrev pub IsBest : ℕ → (ℕ → Option ℕ) → (ℕ → Option ℕ) → Option Offer → Type 0
 IsBest now hits rows None = (cycle : ℕ) → now ≤ cycle → (hits cycle ≡ None) × (rows cycle ≡ None)
 IsBest now hits rows (Some o) = IsBestOffer now hits rows o
@@ -221,7 +221,7 @@ pub record IsReadyAt (s : Config) (history : List IssuedCommand) (queue : QueueV
   pub then_is : first_ready s history o.cycle (candidates_of s queue) ≡ option_map (needed history) (slice_get (all_requests queue.log) o.slot)
   pub waits : waits_at queue.log o.slot ≡ true
 
--- the same, where there may be none
+-- An offer is what the first ready request, from now on, needs, or there is none and no request is ever ready.
 abbrev pub IsFirstReady : Config → List IssuedCommand → QueueView → ℕ → Option Offer → Type 0
 IsFirstReady s history queue now None = (cycle : ℕ) → now ≤ cycle → first_ready s history cycle (candidates_of s queue) ≡ None
 IsFirstReady s history queue now (Some o) = IsReadyAt s history queue now o

@@ -19,7 +19,7 @@ use units::sim::Sim;
 use wake_words::timed_unit::Traffic;
 use wake_words::waking::{UnitRange, bring_up, timed_units};
 
-/// A simulator whose units stand at cycles of their own, each with its wake word: a phase touches only those that
+/// A simulator whose units stand at cycles of their own, each with its wake word: a turn touches only those that
 /// wake in it.
 #[derive(Drop)]
 pub(crate) struct TimedSim {
@@ -164,7 +164,7 @@ impl TimedSim {
 }
 
 /// The simulator at a limit, at most 10^12 cycles, run by the caller alone. Units stay where they are, and only those
-/// that have something to do in a phase are touched. The only error is out of memory; the simulator is then gone.
+/// that have something to do in a turn are touched. The only error is out of memory; the simulator is then gone.
 pub fn run_alone(sim: Sim, alloc: Global, limit: Cycle) -> Result<Sim, AllocError>
     requires not_past { sim.now ≤ limit }
     requires early { limit ≤ 10 ^ 12 }

@@ -37,9 +37,9 @@ pub goes_on : (s : Config) (core : ℕ) (trace : List Entry) (steps : List CoreS
     → j < (step s core trace steps inbox).0.issued → GoesOn s core trace steps inbox j
 unfolding step first_stop has_cause stop_after
 goes_on s core trace steps inbox j l =
-    let gone = retired_before steps + retires s trace steps inbox in
-    let h : has_cause s core trace inbox (core_messages s core trace steps) (length steps) (issued_before steps) gone j ≡ false =
-    fails_before_first (has_cause s core trace inbox (core_messages s core trace steps) (length steps) (issued_before steps) gone) s.width j l in
+    let retired_by_end = retired_before steps + retires s trace steps inbox in
+    let h : has_cause s core trace inbox (core_messages s core trace steps) (length steps) (issued_before steps) retired_by_end j ≡ false =
+    fails_before_first (has_cause s core trace inbox (core_messages s core trace steps) (length steps) (issued_before steps) retired_by_end) s.width j l in
     no_stop _ _ _ _ _ h
 
 -- the entries of a cycle, with their numbers

@@ -183,7 +183,7 @@ pub sends-bound_channel : (s : Config) (traces : List (List Entry)) (history : L
 unfolding sends
 sends-bound_channel s traces history machine_step p k b only h = bound-channel s _ _ (sends-parts s traces history machine_step) p k b only h
 
--- the same of what was sent
+-- of all messages that were sent, as many pass a test as of those of one core or channel, if only what it sends passes
 pub messages-core : (s : Config) (traces : List (List Entry)) (history : List MachineStep) (p : Message → Bool) (c : ℕ) → c < s.cores → OnlyFrom s (Core c) p
     → count_by p (messages s traces history) ≡ count_by p (messages_of_core s traces history c)
 unfolding messages

@@ -34,7 +34,7 @@ serves_entry core entry (Pre bank source) = false
 serves_entry core entry (Prea rank) = false
 serves_entry core entry (Ref rank) = false
 
--- the same, where there may be no command
+-- whether a command, if there is one, serves this entry of this core
 abbrev pub serves_entry_in : ℕ → ℕ → Option Command → Bool
 serves_entry_in core entry None = false
 serves_entry_in core entry (Some command) = serves_entry core entry command

@@ -143,7 +143,7 @@ messages_more ch i j x ms start d b rings l e h n k lower aged =
     ∙ ap (λ z. insert_by_age z (get_or ms j x)) aged
     ∙ sym (fold_more insert_by_age start ms j x lower)
 
--- the same for one message
+-- the rings with one message more hold, by age, what they held and that message
 pub message_more : (ch i : ℕ) (m : Message) (d b : Buffer Message) (rings : List (Buffer Message)) → i < length rings → d ≡ get_or rings i d → TakesUp m d b → i ≡ ring_to ch m
     → AreRings ch 0 (contents rings) → by_age (joined (contents (set rings i b))) ≡ insert_by_age (by_age (joined (contents rings))) m
 message_more ch i m d b rings l e h n k =

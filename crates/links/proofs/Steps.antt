@@ -134,7 +134,7 @@ placed m p xs ys s e l h k =
     ap (is_before m) (sym (insert_before m m q xs (omega arith)) ∙ ap (λ i. get_or (insert xs i m) q m) f ∙ ap (λ z. get_or z q m) (sym e)) ∙ k q g)
     ∙ sym (fold-puts xs (m ∷ []))
 
--- the same, where the place is still free
+-- a message that is set at a place that is still free is in its place, where no younger one stands before it
 pub placed_free : (m : Message) (p : ℕ) (xs ys : List Message) → by_age xs ≡ xs → set ys p m ≡ insert xs p m → p ≤ length xs → AreYounger m p xs
     → ((q : ℕ) → p ≡ q + 1 → is_before m (get_or ys q m) ≡ false) → set ys p m ≡ insert_by_age xs m
 placed_free m p xs ys s e l h k =

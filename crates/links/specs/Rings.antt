@@ -128,7 +128,7 @@ count_to channels number ms = count_by (goes_to channels number) ms
 abbrev pub AreCounts : ℕ → List Message → List ℕ → Type 0
 AreCounts channels ms counts = (number : ℕ) → slice_index_or counts number 0 ≡ count_to channels number ms
 
--- the same counts, but for one more at this number; those that do not exist are 0
+-- two lists of counts are equal, but for one more at this number in the second; counts that do not exist are 0
 abbrev pub IsOneMore : ℕ → List ℕ → List ℕ → Type 0
 IsOneMore number old new = (n : ℕ) → slice_index_or new n 0 ≡ slice_index_or old n 0 + (if number == n then 1 else 0)
 

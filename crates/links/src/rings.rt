@@ -11,7 +11,7 @@ use circular_buffer::HeapCircularBuffer;
 use sim_base::message::{Cycle, Message};
 use std::alloc::AllocError;
 
-/// The messages in flight to one unit.
+/// The requests in flight to a channel, or the replies, or the credits, in flight to a core, by age.
 pub type Ring = HeapCircularBuffer<Message>;
 
 /// The least capacity of a ring that holds any message.

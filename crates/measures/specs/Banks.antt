@@ -79,6 +79,6 @@ used_banks commands = filter (is_used commands) every_bank
 unfoldable pub counts_of : List IssuedCommand → List BankCounts
 counts_of commands = map (counts_in commands) (used_banks commands)
 
--- the same, over the commands of all channels
+-- what each bank of a channel did that a command names, given the commands of all channels
 unfoldable pub channel_counts : ℕ → List IssuedCommand → List BankCounts
 channel_counts channel commands = counts_of (of_channel channel commands)

@@ -14,7 +14,7 @@ use Rattle.measures.specs.declared.request_measures.latency.Latencies.{Latencies
 abbrev pub latency : RequestTimes → Option ℕ
 latency request = option_map (λ replied. replied - request.issued) request.replied
 
--- the same of each read whose reply came
+-- how long each read took from its issue to its reply, of those whose reply came in the run
 unfoldable pub read_latencies : List RequestTimes → List ℕ
 read_latencies requests = filter_map latency requests
 

@@ -1,5 +1,5 @@
 -- What one cycle counts.
---     finishing_cycle entries now gone retired      the cycle, if the last of a core's entries retires in it
+--     finishing_cycle entries now retired_so_far retired      the cycle, if the last of a core's entries retires in it
 --     channel_counts s history now queued step      the statistics of a cycle of a channel
 --     no_channel_counts s      the statistics of a channel in no cycle
 use Rattle.std.specs.Prelude.{ℕ, ◌+◌, nat_lt, nat_le, ◌&&◌, is_some, List, Option, Some, None, if◌then◌else◌}
@@ -10,9 +10,9 @@ use Rattle.statistics.specs.Channels.{channel_none, draining_of, channel_cycle_w
 use Rattle.statistics.specs.declared.channels.ChannelStats.{ChannelStats}
 use Rattle.plain_steps.specs.declared.scheduling.ChannelStep.{ChannelStep}
 
--- the cycle, if the last of this many entries retires in it: `gone` retired before, and `retired` do in it
+-- the cycle, if the last of this many entries retires in it: `retired_so_far` did before it, and `retired` do in it
 abbrev pub finishing_cycle : ℕ → ℕ → ℕ → ℕ → Option ℕ
-finishing_cycle entries now gone retired = if nat_lt gone entries && nat_le entries (gone + retired) then Some now else None
+finishing_cycle entries now retired_so_far retired = if nat_lt retired_so_far entries && nat_le entries (retired_so_far + retired) then Some now else None
 
 -- the statistics of the cycle `now` of a channel that issued these commands before, has this many requests queued,
 -- and does this

@@ -110,7 +110,7 @@ all_channel_stats_after c = each_channel c (channel_stats_after c)
 abbrev pub core_step_in : RunCycle → ℕ → CoreStep
 core_step_in c = next_core_step c.config.now c.traces.now (steps_before c)
 
--- the same, and why it stops
+-- what a core does in the cycle, and why it stops issuing
 abbrev pub core_stop_in : RunCycle → ℕ → CoreStep × Stop
 core_stop_in c = core_step_of c.config.now c.traces.now (steps_before c)
 

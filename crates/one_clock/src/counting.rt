@@ -137,10 +137,10 @@ fn total_wait(past_steps: &[CoreStep], arrived: &[Message]) -> u128
 }
 
 /// The cycle, if the last of `entries` entries retires in it.
-fn finish_now(entries: u64, now: u64, gone: u64, retired: u16) -> Option<u64>
-    ensures { result ≡ finishing_cycle entries now gone retired }
+fn finish_now(entries: u64, now: u64, retired_so_far: u64, retired: u16) -> Option<u64>
+    ensures { result ≡ finishing_cycle entries now retired_so_far retired }
 {
-    if gone < entries && entries - gone <= u64::from(retired) {
+    if retired_so_far < entries && entries - retired_so_far <= u64::from(retired) {
         Some(now)
     } else {
         None

@@ -52,7 +52,7 @@ AreFitted may_give shards sim limit [] = Unit {0}
 AreFitted may_give shards sim limit (phase ∷ phases) =
     IsNext shards sim limit phase × Fits may_give phase × AreFitted may_give shards (sim_of (ended phase)) limit phases
 
--- the same run, as many phases on, at the same cycle or a later one
+-- a simulator of the same machine that has run as many phases, and stands at the same cycle or a later one
 pub record IsAsFar (sim later : SimView) : Type 0 where
   pub machine_is : later.machine ≡ sim.machine
   pub phase_is : later.phase ≡ sim.phase

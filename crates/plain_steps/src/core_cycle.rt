@@ -25,8 +25,8 @@ pub struct CoreMail<'a> {
     pub sent: &'a [Message],
 }
 
-/// What a core issues from in a cycle: its trace, of which `first` entries were issued before the cycle and `gone`
-/// are retired by its end, and its messages.
+/// What a core issues from in a cycle: its trace, of which `first` entries were issued before the cycle and
+/// `retired_by_end` are retired when it ends, and its messages.
 #[derive(Clone, Copy)]
 pub(crate) struct IssueStage<'a> {
     pub config: &'a Config,
@@ -34,7 +34,7 @@ pub(crate) struct IssueStage<'a> {
     pub mail: &'a CoreMail<'a>,
     pub cycle: usize,
     pub first: u64,
-    pub gone: u64,
+    pub retired_by_end: u64,
     ghost early: { cycle < 2 ^ 41 },
     ghost first_fits: { first < 2 ^ 63 },
 }

@@ -359,7 +359,7 @@ impl IssueStage<'_> {
             Some(Stop::End)
         } else if m == self.config.width {
             Some(Stop::Width)
-        } else if next.saturating_sub(self.gone) == u64::from(self.config.window) {
+        } else if next.saturating_sub(self.retired_by_end) == u64::from(self.config.window) {
             Some(Stop::Window)
         } else if meets_memory_entry(self.trace, self.first, m) {
             Some(Stop::Memory)
@@ -417,7 +417,7 @@ pub fn core_step(
         mail,
         cycle: past_steps.len(),
         first: issued_count(past_steps),
-        gone: retired_count(past_steps) + u64::from(retired),
+        retired_by_end: retired_count(past_steps) + u64::from(retired),
     };
     let m = stage.issue_count();
     step_from(retired, m, stage.stop_cause(m))

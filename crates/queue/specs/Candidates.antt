@@ -40,11 +40,11 @@ number_of bank = (bank.rank * 4 + bank.group) * 4 + bank.bank
 abbrev pub asks : ℕ → Access → Request → Bool
 asks bank access r = (bank_number r.place == bank) && is_access access r.access
 
--- the same, and for the row that is open there
+-- a request asks to write to a bank, or to read from it, and for the row that is open there
 abbrev pub hits : ℕ → Access → Option ℕ → Request → Bool
 hits bank access row r = asks bank access r && is_row r.place.row row
 
--- the same, and for a row if one is given
+-- a request asks to write to a bank, or to read from it, and for a row if one is given
 abbrev pub wants : ℕ → Access → Option ℕ → Request → Bool
 wants bank access None r = asks bank access r
 wants bank access (Some row) r = asks bank access r && (r.place.row == row)

@@ -35,7 +35,7 @@ pub record AreFirstWith (log : List Arrived) (bank : ℕ) (access : Access) (row
   pub oldest_is : earlier candidates.oldest (passing (asks bank access) log unblocked) ≡ first_place (asks bank access) log
   pub hit_is : earlier candidates.hit (passing (hits bank access row) log unblocked) ≡ first_place (hits bank access row) log
 
--- the same of the bank and the access of a request that has been served
+-- The candidates of the bank and the access of a request that has been served, once a request that may be served now is taken in, if any is.
 abbrev pub AreFirstWithout : Departure → List Arrived → Option ℕ → Option ℕ → AccessCandidates → Type 0
 AreFirstWithout departure log row unblocked candidates = AreFirstWith log departure.bank departure.access row unblocked candidates
 

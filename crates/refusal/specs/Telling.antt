@@ -28,7 +28,7 @@ abbrev pub TakesRefusal : {E : Type 0} → Stream E → ErrorStream E → ErrorS
 TakesRefusal stream old new refusal =
     IsExplainedWhole (text_on stream old) (text_on stream new) (refusal_lines refusal)
 
--- the same; or a beginning of that, where it has refused
+-- it took the lines of a refusal, and what explains them; or a beginning of that, where it has refused
 abbrev pub Tells : {E : Type 0} → Stream E → ErrorStream E → ErrorStream E → Refusal → Type 0
 Tells stream old new refusal =
     IsExplained (has_refused new) (text_on stream old) (text_on stream new) (refusal_lines refusal)

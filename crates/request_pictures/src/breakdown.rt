@@ -26,7 +26,7 @@ static LEGEND: [LegendEntry; 4] = [
     },
 ];
 
-/// The same where it is not.
+/// What each part of a bar stands for, where nCL is not known.
 static SHORT_LEGEND: [LegendEntry; 3] = [
     LegendEntry {
         class: "end",

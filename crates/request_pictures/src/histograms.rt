@@ -235,7 +235,7 @@ fn put_each(pictures: &Pictures, out: &mut Markup) {
     out.push_str("</div>\n");
 }
 
-// The same with a head and a legend, folded where there are many.
+// The pictures of all cores with a head and a legend, folded where there are many.
 fn put_pictures(all: Latencies, pictures: &Pictures, out: &mut Markup) {
     out.push_str(HEAD);
     put_percentiles(all, out);

@@ -4,7 +4,7 @@ use Rattle.std.specs.Prelude.{flat_map}
 use Rattle.std.specs.List.{range_with_len}
 use Rattle.std.proofs.lemmas.Bool.{cases_lt}
 
--- the same parts in the same cycles
+-- two functions that have the same part in each cycle make the same list
 pub flat-same : {X : Type 0} (f g : ℕ → List X) (a n : ℕ) → ((t : ℕ) → a ≤ t → f t ≡ g t) → flat_map f (range_with_len a n) ≡ flat_map g (range_with_len a n)
 flat-same f g a zero h = refl
 flat-same f g a (suc n) h = ap₂ (λ x y. x ++ y) (h a (omega arith)) (flat-same f g (a + 1) n (λ t l. h t (omega (arith, l))))

@@ -20,7 +20,7 @@ pub record IsNextOf (lists : List (List ServedRequest)) (count place cycle : ℕ
   pub before : (k : ℕ) → k < place → IfSome (first_cycle (slice_index_or lists k [])) (λ first. cycle < first)
   pub behind : (k : ℕ) → place < k → k < count → IfSome (first_cycle (slice_index_or lists k [])) (λ first. cycle ≤ first)
 
--- the same, where none of them may have a request
+-- Of the first `count` lists, the one that begins first, with its place and cycle, or none where none of them has a request.
 abbrev pub IsNextAmong : List (List ServedRequest) → ℕ → Option Next → Type 0
 IsNextAmong lists count None = (k : ℕ) → k < count → slice_index_or lists k [] ≡ []
 IsNextAmong lists count (Some next) = IsNextOf lists count next.place next.cycle

@@ -32,7 +32,7 @@ if_within cycles cycle = if nat_lt cycle cycles then Some cycle else None
 abbrev pub reply_cycle : Config → ℕ → ℕ → ℕ → ℕ
 reply_cycle s core channel served = served + s.timing.n_cl + 4 + latency s (reply_link s core channel)
 
--- the same, if it is a cycle of a run of so many; a write has no reply
+-- the cycle in which the data of a read comes to its core, if it is a cycle of a run of so many; a write has no reply
 abbrev pub replied_in : Config → ℕ → Access → ℕ → ℕ → ℕ → Option ℕ
 replied_in s cycles Read core channel served = if_within cycles (reply_cycle s core channel served)
 replied_in s cycles Write core channel served = None

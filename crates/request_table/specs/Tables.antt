@@ -55,6 +55,6 @@ times_of s cycles request =
       hit = request.hit;
     }
 
--- the same for the requests of some lists, by cycle
+-- when each served request of some lists was where, in a run of so many cycles, by the cycle in which it was served
 abbrev pub times_by_cycle : Config → ℕ → List (List ServedRequest) → List RequestTimes
 times_by_cycle s cycles lists = map (times_of s cycles) (by_cycle cycles lists)

@@ -120,7 +120,7 @@ legal_just_where : (s : Config) (table : List (List (List ℕ))) (v : Verdict) �
 legal_just_where s table v e =
     (λ h. legal-table s table (e ∙ ap (λ (w : Verdict). Ok w) h), λ h. let same : Ok v ≡ Ok Legal = sym e ∙ table-legal s table h in cc same)
 
--- the same of an answer that is the verdict
+-- an answer that is the verdict is that a table is legal just where it is
 pub legal_if_ok : (s : Config) (table : List (List (List ℕ))) (answer : Result Verdict Fault) → IfOk answer (λ v. verdict s table ≡ Ok v)
     → IfOk answer (λ v. (v ≡ Legal) ↔ IsLegalTable s table)
 legal_if_ok s table (Ok v) e = legal_just_where s table v e

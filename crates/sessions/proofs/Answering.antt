@@ -233,7 +233,7 @@ pub held-command : (a : Session) (p : Past) (o : Option IssuedCommand) → IsSes
 held-command a p o h first =
     first ∙ sym (get-behind p.commands (commands_left a.commands)) ∙ ap (λ (cs : List IssuedCommand). slice_get cs (length p.commands)) (sym h.commands_are)
 
--- the same of a reply
+-- the first reply that a session holds is the next one that was not taken
 pub held-reply : (a : Session) (p : Past) (o : Option Message) → IsSession a p → o ≡ slice_get (replies_left a.replies) 0 → o ≡ next_reply_of p a.cycle
 held-reply a p o h first =
     first ∙ sym (get-behind p.replies (replies_left a.replies)) ∙ ap (λ (ms : List Message). slice_get ms (length p.replies)) (sym h.replies_are)
@@ -260,7 +260,7 @@ command-gone a left p None h front has = record {
   keeps = h.keeps;
 }
 
--- the same of a reply
+-- a reply, if there is one, was taken from those that a session holds
 pub reply-gone : (a : Session) (left : HeldReplies) (p : Past) (o : Option Message) → IsSession a p → replies_left a.replies ≡ option_to_list o ++ replies_left left
     → HasReplies left → IsSession (record a { replies = left }) (with_reply p o)
 reply-gone a left p (Some reply) h front has = record {

@@ -24,7 +24,7 @@ pub channel-at : (m : MemorySession) (pasts : Pasts) (number : ℕ) (other a : S
     → IsChannelOf m.config m.cycle (pasts.past number) number a
 channel-at m pasts number other a h l e = subst (IsChannelOf m.config m.cycle (pasts.past number) number) (sym e) (h.each number other l)
 
--- the same, by a list that is that of its sessions
+-- the session of a channel, from a list that is equal to that of the memory's sessions
 pub channel-in : (m : MemorySession) (pasts : Pasts) (number : ℕ) (other a : Session) (items : List Session) → IsMemory m pasts → number < length m.sessions.items → items ≡ m.sessions.items
     → a ≡ get_or items number other → IsChannelOf m.config m.cycle (pasts.past number) number a
 channel-in m pasts number other a items h l same e = channel-at m pasts number other a h l (e ∙ ap (λ (xs : List Session). get_or xs number other) same)

@@ -19,7 +19,7 @@ pub record IsAddressOf (s : Config) (place : Place) (address : ℕ) : Type 0 whe
   pub lies_there : place_of s address ≡ place
   pub least : (other : ℕ) → place_of s other ≡ place → address ≤ other
 
--- the same, where the memory may not have that place
+-- the least address that lies at a place, or none where the memory does not have that place
 abbrev pub IsAddress : Config → Place → Option ℕ → Type 0
 IsAddress s place (Some address) = IsAddressOf s place address
 IsAddress s place None = is_place s place ≡ false

@@ -37,7 +37,7 @@ pub record IsNextAt (p : Past) (now cycle : ℕ) : Type 0 where
   pub idle : (t : ℕ) → now ≤ t → t < cycle → command_then p now t ≡ None
   pub acts : (is_some (command_then p now cycle) ≡ true) ⊎ (arrives_then p cycle ≡ true)
 
--- the same, where there may be no such cycle: then it issues nothing any more
+-- the cycle in which a channel acts next, if nothing more is sent to it, or none where it issues nothing any more
 abbrev pub IsNextAct : Past → ℕ → Option ℕ → Type 0
 IsNextAct p now (Some cycle) = IsNextAt p now cycle
 IsNextAct p now None = (t : ℕ) → now ≤ t → command_then p now t ≡ None

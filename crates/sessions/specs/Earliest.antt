@@ -17,7 +17,7 @@ pub record IsEarliestAt (cycles : ℕ → Option ℕ) (count number cycle : ℕ)
   pub none_earlier : (k : ℕ) → k < count → IfSome (cycles k) (λ c. cycle ≤ c)
   pub none_lower : (k : ℕ) → k < number → IfSome (cycles k) (λ c. cycle < c)
 
--- the same, with the number, where there may be none
+-- of the cycles below a count, the earliest one and the lowest number that has it, or none where there is no cycle
 abbrev pub IsEarliest : (ℕ → Option ℕ) → ℕ → Option (ℕ × ℕ) → Type 0
 IsEarliest cycles count (Some first) = IsEarliestAt cycles count first.1 first.0
 IsEarliest cycles count None = (k : ℕ) → k < count → cycles k ≡ None

@@ -134,7 +134,7 @@ reply_from pasts now number = option_map (λ (reply : Message). (number, reply))
 abbrev pub TakesCommand : MemorySession → MemorySession → Option (ℕ × IssuedCommand) → Type 0
 TakesCommand old new taken = ForPasts old (λ pasts. IsMemory new (with_command_of pasts taken))
 
--- the same of a reply
+-- what a call gave was taken from a memory, if it gave a reply
 abbrev pub TakesReply : MemorySession → MemorySession → Option (ℕ × Message) → Type 0
 TakesReply old new taken = ForPasts old (λ pasts. IsMemory new (with_reply_of pasts taken))
 
@@ -143,7 +143,7 @@ pub record IsNextCommandAt (channels : ℕ) (pasts : Pasts) (now number : ℕ) (
   pub command_is : next_command_of (pasts.past number) now ≡ Some command
   pub is_first : IsEarliestAt (command_cycles pasts now) channels number command.cycle
 
--- the same, where there may be none
+-- The first command that was not taken, of all channels, by cycle and then by channel, or none where each was taken.
 abbrev pub IsNextCommand : ℕ → Pasts → ℕ → Option (ℕ × IssuedCommand) → Type 0
 IsNextCommand channels pasts now (Some next) = IsNextCommandAt channels pasts now next.0 next.1
 IsNextCommand channels pasts now None = (k : ℕ) → k < channels → next_command_of (pasts.past k) now ≡ None
@@ -154,7 +154,7 @@ pub record IsNextReplyAt (channels : ℕ) (pasts : Pasts) (now number : ℕ) (re
   pub reply_is : next_reply_of (pasts.past number) now ≡ Some reply
   pub is_first : IsEarliestAt (reply_arrivals pasts now) channels number reply.arrival
 
--- the same, where there may be none
+-- The first reply that was not taken, of all channels, by arrival and then by channel, or none where each was taken.
 abbrev pub IsNextReply : ℕ → Pasts → ℕ → Option (ℕ × Message) → Type 0
 IsNextReply channels pasts now (Some next) = IsNextReplyAt channels pasts now next.0 next.1
 IsNextReply channels pasts now None = (k : ℕ) → k < channels → next_reply_of (pasts.past k) now ≡ None
@@ -172,7 +172,7 @@ pub record IsNextActAt (channels : ℕ) (pasts : Pasts) (now cycle : ℕ) : Type
   pub idle : (k t : ℕ) → k < channels → now ≤ t → t < cycle → command_then (pasts.past k) now t ≡ None
   pub acts : ActsIn channels pasts now cycle
 
--- the same, where there may be no such cycle: then none issues anything any more
+-- the cycle in which a channel acts next, if nothing more is sent, or none where no channel issues anything any more
 abbrev pub IsNextActOf : ℕ → Pasts → ℕ → Option ℕ → Type 0
 IsNextActOf channels pasts now (Some cycle) = IsNextActAt channels pasts now cycle
 IsNextActOf channels pasts now None = (k t : ℕ) → k < channels → now ≤ t → command_then (pasts.past k) now t ≡ None

@@ -42,24 +42,24 @@ some-of [] l = absurd (omega (arith, l))
 some-of (x ∷ xs) l = x
 
 -- the shard that has the unit at a place
-record IsHome (bounds : List ℕ) (place : ℕ) : Type 0 where
+record IsShardOfPlace (bounds : List ℕ) (place : ℕ) : Type 0 where
   index : ℕ
   exists : suc index < length bounds
   since : bound bounds index ≤ place
   before : place < bound bounds (suc index)
 
-home-below : (bounds : List ℕ) (place n : ℕ) → bound bounds 0 ≡ 0 → n < length bounds → place < bound bounds n → IsHome bounds place
-home-below bounds place zero begins l less = absurd (omega (arith, begins, less))
-home-below bounds place (suc n) begins l less = go (home-below bounds place n begins (omega (arith, l))) (cases_lt place (bound bounds n))
+shard_of_place-below : (bounds : List ℕ) (place n : ℕ) → bound bounds 0 ≡ 0 → n < length bounds → place < bound bounds n → IsShardOfPlace bounds place
+shard_of_place-below bounds place zero begins l less = absurd (omega (arith, begins, less))
+shard_of_place-below bounds place (suc n) begins l less = go (shard_of_place-below bounds place n begins (omega (arith, l))) (cases_lt place (bound bounds n))
   where
-    go : (place < bound bounds n → IsHome bounds place) → (place < bound bounds n) ⊎ (bound bounds n ≤ place) → IsHome bounds place
+    go : (place < bound bounds n → IsShardOfPlace bounds place) → (place < bound bounds n) ⊎ (bound bounds n ≤ place) → IsShardOfPlace bounds place
     go lower (inl m) = lower m
     go lower (inr m) = record { index = n; exists = l; since = m; before = less }
 
-home : (s : Config) (bounds : List ℕ) (place : ℕ) → IsSplit s bounds → place < unit_count s → IsHome bounds place
-home s bounds place split less =
+shard_of_place : (s : Config) (bounds : List ℕ) (place : ℕ) → IsSplit s bounds → place < unit_count s → IsShardOfPlace bounds place
+shard_of_place s bounds place split less =
     let last : suc (length bounds - 1) ≡ length bounds = omega (arith, split.some) in
-    home-below bounds place (length bounds - 1) split.begins (omega (arith, split.some)) (subst (λ n. place < n) (sym (split.ends (length bounds - 1) last)) less)
+    shard_of_place-below bounds place (length bounds - 1) split.begins (omega (arith, split.some)) (subst (λ n. place < n) (sym (split.ends (length bounds - 1) last)) less)
 
 -- what the units of all shards send is what all units send
 shards-sent : (machine : Machine) (bounds : List ℕ) (now until : ℕ) → IsSplit machine.config bounds → (n : ℕ) → n < length bounds
@@ -122,7 +122,7 @@ sharded-still machine bounds now phase wake then shards inbound h l w = sleep-on
 
     rests : AllRest machine now then
     rests place less =
-        let at = home machine.config bounds place h.split less in
+        let at = shard_of_place machine.config bounds place h.split less in
         let there : at.index < length shards = omega (arith, at.exists, h.count) in
         let shard = (get_or shards at.index some).value in
         let r = h.rest at.index some there in

@@ -225,7 +225,7 @@ by_age-grows s traces history machine_step =
     ∙ ap (λ z. puts z (sends s traces history machine_step)) (sym (by_age-puts (messages s traces history)))
     ∙ sym (fold-puts (by_age (messages s traces history)) (sends s traces history machine_step))
 
--- the same for those messages alone that pass a test
+-- those messages that were sent and pass a test, by age, with one machine_step more
 pub by_age-filter-grows : (s : Config) (traces : List (List Entry)) (history : List MachineStep) (machine_step : MachineStep) (p : Message → Bool)
     → by_age (filter p (messages s traces (history ++ machine_step ∷ []))) ≡ fold insert_by_age (by_age (filter p (messages s traces history))) (filter p (sends s traces history machine_step))
 by_age-filter-grows s traces history machine_step p =

@@ -5,7 +5,7 @@ use Rattle.std.specs.Prelude.{◌≡◌, ◌≤◌, Bool, true, false, List, cou
 use Rattle.sim_base.specs.declared.place.Field.{Field}
 use Rattle.sim_base.specs.declared.place.Field.TheVariants.{Channel, Column, Rank, Group, Bank, Row}
 
--- the same field
+-- whether two fields of an address are equal
 abbrev pub is_field : Field → Field → Bool
 is_field Channel Channel = true
 is_field Column Column = true

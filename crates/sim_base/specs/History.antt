@@ -117,7 +117,7 @@ messages_of s channel cycle (Pre bank source) = []
 messages_of s channel cycle (Prea rank) = []
 messages_of s channel cycle (Ref rank) = []
 
--- the same, where it may issue none
+-- what a channel sends in a cycle, for the command that it issues in it, if it issues one
 abbrev pub messages_at : Config → ℕ → ℕ → Option Command → List Message
 messages_at s channel cycle None = []
 messages_at s channel cycle (Some command) = messages_of s channel cycle command
@@ -150,7 +150,7 @@ messages s traces history = flat_map (messages_of_core s traces history) (below 
 abbrev pub receiver : Config → ℕ → MachineUnit
 receiver s link = if link % 3 == 0 then Channel (link / 3 % s.channels) else Core (link / 3 / s.channels)
 
--- the same unit
+-- whether two units are equal
 abbrev pub is_unit : MachineUnit → MachineUnit → Bool
 is_unit (Core a) (Core b) = a == b
 is_unit (Channel a) (Channel b) = a == b

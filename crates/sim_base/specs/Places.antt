@@ -41,7 +41,7 @@ place_of s address =
       column = field_of s address Column;
     }
 
--- the same bank
+-- whether two banks are equal
 abbrev pub is_bank : BankId → BankId → Bool
 is_bank a b = (a.rank == b.rank) && (a.group == b.group) && (a.bank == b.bank)
 
@@ -49,6 +49,6 @@ is_bank a b = (a.rank == b.rank) && (a.group == b.group) && (a.bank == b.bank)
 abbrev pub bank_in : Place → BankId
 bank_in place = record { rank = place.rank; group = place.group; bank = place.bank }
 
--- the same line: each field is the same
+-- whether two places are of one line: each field is equal
 abbrev pub is_line : Place → Place → Bool
 is_line a b = (a.channel == b.channel) && is_bank (bank_in a) (bank_in b) && (a.row == b.row) && (a.column == b.column)

@@ -17,9 +17,6 @@ pub type LinkId = u64;
 /// A clock cycle, counted from 0.
 pub type Cycle = u64;
 
-/// The messages that are sent to a unit, by arrival and then by link.
-pub type Inbox = Vec<Message>;
-
 /// A core or a channel.
 #[derive(Clone, Copy, PartialEq, Eq)]
 pub enum Unit {

@@ -41,7 +41,7 @@ channel-alone s traces from until channel k (suc n) l =
     ∙ sym (channel_steps_of-more s traces now channel k)
     ∙ ap (λ i. channel_steps_of s traces i channel) (sym (add-suc from n))
 
--- the same from what arrived before the span and what arrives in it
+-- the first cycles of a span, from what arrived before the span and what arrives in it
 channel-span : (s : Config) (traces : List (List Entry)) (from until channel : ℕ) → channel < s.channels → from ≤ until → (n : ℕ) → from + n ≤ until
     → channel_run s channel (channel_steps_of s traces from channel) (mail_before s traces until (Channel channel) from ++ mail_in s traces until (Channel channel) from until) n
     ≡ channel_steps_of s traces (from + n) channel

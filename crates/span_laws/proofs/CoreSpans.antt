@@ -47,7 +47,7 @@ core-alone s traces from until core k (suc n) l =
     ∙ sym (steps_of_core-next s traces now core k)
     ∙ ap (λ i. core_steps_of s traces i core) (sym (add-suc from n))
 
--- the same from what arrived before the span and what arrives in it
+-- the first cycles of a span, from what arrived before the span and what arrives in it
 core-span : (s : Config) (traces : List (List Entry)) (from until core : ℕ) → core < s.cores → from ≤ until → (n : ℕ) → from + n ≤ until
     → core_run s core (trace_of traces core) (core_steps_of s traces from core) (mail_before s traces until (Core core) from ++ mail_in s traces until (Core core) from until) n
     ≡ core_steps_of s traces (from + n) core

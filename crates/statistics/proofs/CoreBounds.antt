@@ -121,19 +121,19 @@ find_below_width p n = by (find p (below (n + 1))) (find_below_small p (n + 1))
     by None h = omega arith
     by (Some i) h = omega arith
 
-pub first_stop-le_width : (s : Config) (core : ℕ) (trace : List Entry) (inbox sent : List Message) (now first gone : ℕ)
-    → first_stop s core trace inbox sent now first gone ≤ s.width
+pub first_stop-le_width : (s : Config) (core : ℕ) (trace : List Entry) (inbox sent : List Message) (now first retired_by_end : ℕ)
+    → first_stop s core trace inbox sent now first retired_by_end ≤ s.width
 unfolding first_stop
-first_stop-le_width s core trace inbox sent now first gone = find_below_width (has_cause s core trace inbox sent now first gone) s.width
+first_stop-le_width s core trace inbox sent now first retired_by_end = find_below_width (has_cause s core trace inbox sent now first retired_by_end) s.width
 
 -- a core stops where its trace ends
-pub first_stop-le : (s : Config) (core : ℕ) (trace : List Entry) (inbox sent : List Message) (now first gone : ℕ) → first ≤ length trace
-    → first + first_stop s core trace inbox sent now first gone ≤ length trace
+pub first_stop-le : (s : Config) (core : ℕ) (trace : List Entry) (inbox sent : List Message) (now first retired_by_end : ℕ) → first ≤ length trace
+    → first + first_stop s core trace inbox sent now first retired_by_end ≤ length trace
 unfolding first_stop has_cause stop_after
-first_stop-le s core trace inbox sent now first gone l =
-    let m = first_stop s core trace inbox sent now first gone in
+first_stop-le s core trace inbox sent now first retired_by_end l =
+    let m = first_stop s core trace inbox sent now first retired_by_end in
     let left = length trace - first in
-    let p = has_cause s core trace inbox sent now first gone in
+    let p = has_cause s core trace inbox sent now first retired_by_end in
     let ends : eqb (first + left) (length trace) ≡ true = eq-eqb (first + left) (length trace) (omega arith) in
     let cause : p left ≡ true = ap is_some (cond-true _ _ _ ends) in
     ⊎_elim

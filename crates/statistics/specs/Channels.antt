@@ -186,7 +186,7 @@ channel_stretch s channel steps inbox [] = channel_none
 channel_stretch s channel steps inbox (o ∷ more) =
     channel_joined (channel_cycle s channel steps inbox o) (channel_stretch s channel (steps ++ o ∷ []) inbox more)
 
--- the same entry
+-- whether two sources are the same entry of the same core
 abbrev pub is_entry : Source → Source → Bool
 is_entry a b = (a.core == b.core) && (a.entry == b.entry)
 

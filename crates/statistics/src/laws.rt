@@ -16,7 +16,8 @@ pub fn runs_join()
         → ChannelsJoin s traces from n }
 {}
 
-/// The same for one unit that is run alone, by its own steps and its inbox.
+/// The statistics of one unit that is run alone, by its own steps and its inbox, cut in two at any cycle, are those of
+/// its first cycles joined with those of the others.
 #[tactic(auto, using(crate::proofs::RunStretches::core_steps_join, crate::proofs::RunStretches::channel_steps_join))]
 pub fn stretches_join()
     ensures core { (s : Config) (core : ℕ) (trace : List Entry) (inbox : List Message)

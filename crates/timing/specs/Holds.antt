@@ -24,7 +24,7 @@ holds_between t earlier later =
       bound = is_bound t earlier later SameBank ∷ is_bound t earlier later SameGroup ∷ is_bound t earlier later OtherGroup ∷ is_bound t earlier later OtherRank ∷ [];
     }
 
--- the same for each later kind
+-- for each later kind, the distance for each relation to an earlier kind, and whether a rule binds two such commands
 abbrev pub holds_after : Timing → Kind → HoldsAfter
 holds_after t earlier =
     record {
@@ -33,7 +33,7 @@ holds_after t earlier =
           ∷ holds_between t earlier Pre ∷ holds_between t earlier Prea ∷ holds_between t earlier Ref ∷ [];
     }
 
--- the same for each earlier kind
+-- for each earlier and each later kind, the distance for each relation, and whether a rule binds two such commands
 unfoldable pub hold_table : Timing → List HoldsAfter
 hold_table t = holds_after t Act ∷ holds_after t Rd ∷ holds_after t Wr ∷ holds_after t Pre ∷ holds_after t Prea ∷ holds_after t Ref ∷ []
 

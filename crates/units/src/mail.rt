@@ -5,7 +5,7 @@ ghost use Rattle.std.specs.Prelude.{◌≡◌, []};
 use sim_base::message::Message;
 use std::alloc::Global;
 
-/// Lists that each phase reuses together with their room: what arrives at a unit, and what is sent.
+/// Lists that each span reuses together with their room: what arrives at a unit, and what is sent.
 #[derive(Drop)]
 pub struct Mail {
     pub inbox: Vec<Message>,

@@ -87,7 +87,8 @@ pub fn latency_percentiles(
     Ok(summary(replies, &SortedValues::of(values)))
 }
 
-/// The same of the reads of a core.
+/// The percentiles of the latencies of a core's reads whose reply came in the run; none where no reply came. The only
+/// error is out of memory.
 pub fn core_latency_percentiles(
     alloc: Global,
     core: CoreId,

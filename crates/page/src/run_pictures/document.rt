@@ -126,7 +126,7 @@ fn activity_of(alloc: Global, run: &Run<'_>, span: Span) -> Result<Activity, All
     Ok(activity)
 }
 
-// The same over the whole run and in the window, with REFs of `refresh` cycles.
+// What the channels did over the whole run and in the window, with REFs of `refresh` cycles.
 fn put_activity(alloc: Global, run: &Run<'_>, span: Span, refresh: u64, out: &mut Markup) {
     match activity_of(alloc, run, span) {
         Ok(mut activity) => {

@@ -57,13 +57,6 @@ impl BankCandidates {
         })
     }
 
-    /// How many banks there are.
-    pub fn bank_count(&self) -> usize
-        ensures { result ≡ bank_count self.now }
-    {
-        self.rows.len()
-    }
-
     /// The candidates of a bank to write, or to read.
     #[inline(always)]
     pub fn of_access(&self, bank: usize, access: Access) -> AccessCandidates

@@ -22,7 +22,7 @@ at-place : {X : Type 0} (part : X → Latest) (o : Option X) (new : X) (which : 
 at-place part (Some x) new which e = refl
 at-place part None new which e = ap (λ l. latest_of l which) e ∙ latest_of-nothing which
 
--- the same of a reference to a part of it
+-- the latest that is read through a reference to a part of what stands at a place, or of what is new
 read : {X : Type 0} (part : X → Latest) (l : Latest) (x new : X) (xs items : List X) (k : ℕ) (which : Kind) → l ≡ part x → x ≡ unwrap_or (slice_get xs k) new → xs ≡ items
     → part new ≡ nothing → latest_of l which ≡ option_and_then (λ y. latest_of (part y) which) (slice_get items k)
 read part l x new xs items k which own at same e =
