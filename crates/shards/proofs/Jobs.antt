@@ -14,7 +14,7 @@ use Rattle.sim_base.specs.Locality.{TravelsFor}
 use Rattle.sim_base.proofs.Each.{Each-filter, Each-flat_map_below}
 use Rattle.links.specs.InFlight.{InFlight}
 use Rattle.units.specs.Flight.{among, fresh, goes_among, sent_by}
-use Rattle.shards.specs.Lists.{AreDealt, bound, lists_of}
+use Rattle.shards.specs.Lists.{AreSortedByShard, bound, lists_of}
 use Rattle.shards.specs.Shards.{HasGone, IsUpTo, sent_of_shard}
 use Rattle.shards.specs.Jobs.{IsJob, IsDone}
 use Rattle.units.specs.Units.{unit_at, unit_count}
@@ -71,7 +71,7 @@ pub job-ends : (machine : Machine) (bounds : List ℕ) (name : JobName) (wake : 
     → HasGone machine name.from name.until after
     → after.traffic.mail.sent.items ≡ sent_by machine name.from name.until before.range.first (length before.range.units.items)
     → name.until ≤ wake → All (λ word. wake ≤ word) after.range.words.items → All (λ m. wake ≤ m.arrival) after.traffic.mail.sent.items → length lists ≡ length inbound
-    → AreDealt machine.config bounds after.traffic.mail.sent.items lists
+    → AreSortedByShard machine.config bounds after.traffic.mail.sent.items lists
     → IsDone machine bounds name wake after lists
 job-ends machine bounds name wake before after inbound lists h shared same first count gone sent since sleep arrivals many each =
     let is = h.before.is in

@@ -1,6 +1,6 @@
 pub mod Spanning
 pub mod Jobs
-pub mod Posting
+pub mod Exchanging
 pub mod Splitting
 pub mod Placing
 pub mod Whole

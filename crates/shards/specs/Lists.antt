@@ -4,7 +4,7 @@
 --     AllEmpty lists      nothing stands in any of them
 --     with_lists links lists      what is in flight after what stands in lists is sent
 --     LowersAll s first lists old new      words are lowered to what stands in lists
---     AreDealt s bounds sent lists      the list of each shard holds what goes to its units
+--     AreSortedByShard s bounds sent lists      the list of each shard holds what goes to its units
 --     GainOne s bounds m old new      it has gained a message, if that goes to its units
 --     SameElsewhere index old new      lists stay as they were but for one
 --     IsSquare count rows      each of some rows has this many lists
@@ -43,8 +43,8 @@ abbrev pub LowersAll : Config → ℕ → List (Vec Message Global) → List ℕ
 LowersAll s first lists old new = AreLowered s first (lists_of lists) old new
 
 -- the list with a number holds, of these messages, those to units of the shard with this number
-abbrev pub AreDealt : Config → List ℕ → List Message → List (Vec Message Global) → Type 0
-AreDealt s bounds sent lists =
+abbrev pub AreSortedByShard : Config → List ℕ → List Message → List (Vec Message Global) → Type 0
+AreSortedByShard s bounds sent lists =
     (index : ℕ) (d : Vec Message Global) → index < length lists
     → (slice_index_or lists index d).items ≡ among s (bound bounds index) (bound bounds (suc index)) sent
 

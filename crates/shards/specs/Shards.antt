@@ -44,7 +44,7 @@ use Rattle.wake_words.specs.Wakes.{IsStill, HaveGone, IsAsleep, Waits, sent_in, 
 use Rattle.wake_words.specs.declared.timed_unit.TimedUnit.{TimedUnit}
 use Rattle.wake_words.specs.declared.waking.UnitRange.{UnitRange}
 use Rattle.shards.specs.declared.shard.Shard.{Shard}
-use Rattle.shards.specs.Lists.{bound, lists_of, AreDealt, LowersAll}
+use Rattle.shards.specs.Lists.{bound, lists_of, AreSortedByShard, LowersAll}
 
 -- The first shard begins with the first unit, each ends where the next begins, and the last ends with the last unit.
 pub record IsSplit (s : Config) (bounds : List ℕ) : Type 0 where
@@ -121,7 +121,7 @@ AreFor machine from until shard lists =
 -- this number
 pub record AreFrom (machine : Machine) (bounds : List ℕ) (from until : ℕ) (shard : Shard) (lists : List (Vec Message Global)) : Type 0 where
   pub count : suc (length lists) ≡ length bounds
-  pub each : AreDealt machine.config bounds (sent_of_shard machine from until shard) lists
+  pub each : AreSortedByShard machine.config bounds (sent_of_shard machine from until shard) lists
 
 -- there are as many units more as a shard has
 abbrev pub HasJoined : Shard → List UnitState → List UnitState → Type 0
@@ -149,7 +149,7 @@ HasSent from until old new = new.traffic.mail.sent.items ≡ sent_of_shard (arc_
 
 -- lists hold what a shard keeps, by the shard that it goes to
 abbrev pub HoldWhatWasSent : Shard → List (Vec Message Global) → Type 0
-HoldWhatWasSent shard lists = AreDealt (arc_value shard.machine).config shard.bounds.items shard.traffic.mail.sent.items lists
+HoldWhatWasSent shard lists = AreSortedByShard (arc_value shard.machine).config shard.bounds.items shard.traffic.mail.sent.items lists
 
 -- A shard at the end of a phase. Before a cycle its units send nothing, and nothing that they sent arrives.
 pub record IsAtRest (machine : Machine) (bounds : List ℕ) (index from until wake : ℕ) (shard : Shard) : Type 0 where

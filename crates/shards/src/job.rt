@@ -102,7 +102,7 @@ impl Job {
         } = self;
         shard.take_up(&mut inbound)?;
         let wake = shard.go(name.from, name.until)?;
-        shard.deal_sent(&mut inbound)?;
+        shard.sort_sent(&mut inbound)?;
         Ok(Done {
             name,
             shard,

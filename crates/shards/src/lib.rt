@@ -2,10 +2,10 @@
 //! what the one-clock machine does.
 #![tactic(auto)]
 
+mod exchange;
 pub mod job;
 pub mod merging;
 pub mod planning;
-mod post;
 mod shard;
 pub mod sharded;
 mod split;

@@ -4,8 +4,8 @@ ghost use Rattle.std.specs.Prelude.{◌≡◌, ◌<◌, ◌^◌, [], Some, None,
 ghost use Rattle.shards.specs.Merging.{AreAllThere, ArePlaced, IsMissing, IsNameFault, IsOf, IsFirstFault, IsOneOfEach, IsPut, IsWhyUnmerged, fault_in, has_span, is_among, names_in, names_of, results_at};
 ghost use Rattle.shards.specs.Phases.{UnloadAny, ended, jobs_of, shard_count};
 
+use crate::exchange::by_receiver;
 use crate::job::{Done, JobName};
-use crate::post::by_receiver;
 use crate::shard::Shard;
 use crate::sharded::ShardedSim;
 use sim_base::fault::MergeFault;

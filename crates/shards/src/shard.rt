@@ -9,7 +9,7 @@ ghost use Rattle.wake_words.specs.Wakes.{AreLowered};
 ghost use Rattle.shards.specs.Lists.{AllEmpty, LowersAll, with_lists};
 ghost use Rattle.shards.specs.Shards.{ChangesOnlyMail, HasGone, HasRangeGone, HasSent, HaveSent, HoldWhatWasSent, IsRangeAsleep, IsSplit, IsWithin, LowersWords, Sleeps};
 
-use crate::post::deal;
+use crate::exchange::sort_by_shard;
 use links::flight::Links;
 use sim_base::message::{Cycle, Message};
 use std::alloc::AllocError;
@@ -158,15 +158,15 @@ impl Shard {
         Ok(first_arrival(&self.traffic.mail.sent, least(&self.range.words)))
     }
 
-    /// Deals out what the units sent, to lists by the shard that it goes to.
-    pub(crate) fn deal_sent(&self, lists: &mut [Vec<Message>]) -> Result<(), AllocError>
+    /// Sorts what the units sent into lists, by the shard that it goes to.
+    pub(crate) fn sort_sent(&self, lists: &mut [Vec<Message>]) -> Result<(), AllocError>
         requires split { IsSplit (arc_value self.now.machine).config self.now.bounds.items }
         requires count { suc (length lists.old) ≡ length self.now.bounds.items }
         requires empty { AllEmpty lists.old }
         ensures count { length lists.new ≡ length lists.old }
         ensures each { OnOk result (HoldWhatWasSent self.now lists.new) }
     {
-        deal(
+        sort_by_shard(
             &self.machine.config,
             &self.bounds,
             &self.traffic.mail.sent,

@@ -3,7 +3,7 @@
 ghost use Rattle.std.specs.Prelude.{◌≡◌, ◌≤◌, ◌<◌, ◌+◌, ◌^◌, ◌/◌, ◌%◌, length, IfSome, IfNone};
 ghost use Rattle.units.specs.Units.{unit_count};
 ghost use Rattle.wake_words.specs.GoingOn.{IsReceiver, HasNoReceiver};
-ghost use Rattle.wake_words.specs.Wakes.{AreLowered, NoneIsLater, HeedsArrival, IsNoneSooner};
+ghost use Rattle.wake_words.specs.Wakes.{AreLowered, NoneIsLater, IsNoLaterThanArrival, IsNoneSooner};
 
 use sim_base::config::Config;
 use sim_base::message::{Cycle, LinkId, Message};
@@ -67,7 +67,7 @@ fn lower(config: &Config, bits: u32, first: usize, words: &mut [Cycle], message:
     requires few { bits < 32 }
     ensures count { length words.new ≡ length words.old }
     ensures less { NoneIsLater words.old words.new }
-    ensures arrival { HeedsArrival config.now first (length words.old) message.now words.new }
+    ensures arrival { IsNoLaterThanArrival config.now first (length words.old) message.now words.new }
     ensures since { IsNoneSooner words.old words.new message.now.arrival }
 {
     if let Some(place) = place_at(config, bits, message.link) {

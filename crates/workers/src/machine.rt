@@ -316,7 +316,7 @@ fn finish<W: Watch, M: Mode>(
 
 /// A later cycle up to which the caller can run a machine alone. None where it is to be shared out now, since enough
 /// messages are in flight, and where the run has no more cycles. Only memory can be refused.
-fn quiet_stop(sim: &Sim, alloc: Global, options: RunOptions) -> Result<Option<Cycle>, AllocError>
+fn unshared_stop(sim: &Sim, alloc: Global, options: RunOptions) -> Result<Option<Cycle>, AllocError>
     ensures later { IfOk result (λ stop. IfSome stop (λ end. sim.entry.now.now < end)) }
     ensures within { IfOk result (λ stop. IfSome stop (λ end. end ≤ options.cycles)) }
     ensures goes_on { IfOk result (λ stop. IfSome stop (NotEnded sim.entry.now.machine sim.entry.now.now)) }
@@ -329,7 +329,7 @@ fn quiet_stop(sim: &Sim, alloc: Global, options: RunOptions) -> Result<Option<Cy
 
 /// A run where it is first to be shared out, or else at its end: up to there the caller runs it alone, lap by lap, so
 /// that no thread is started for a run that is never shared out. Only memory can be refused.
-fn run_quiet<W: Watch>(
+fn run_unshared<W: Watch>(
     alloc: Global,
     watch: &mut W,
     options: RunOptions,
@@ -345,7 +345,7 @@ fn run_quiet<W: Watch>(
     let mut sim = sim;
     let mut state = state;
     let mut lap = options.workers.sharing.first_lap.max(1);
-    while let Some(stop) = quiet_stop(&sim, alloc, options)? {
+    while let Some(stop) = unshared_stop(&sim, alloc, options)? {
         let end = stop.min(sim.now().saturating_add(lap.max(1)));
         let until = stretch_end(&sim, alloc, end, watch, &mut state);
         sim = run_alone(sim, alloc, until)?;
@@ -467,7 +467,7 @@ fn run_watched<R: Threads + Wait + Sync, G: Gate + Sync, W: Watch>(
         return finish(alloc, hooks.watch, options, run, &mut InPlace);
     }
     let Hooks { gate, watch } = hooks;
-    let run = run_quiet(alloc, &mut *watch, options, run)?;
+    let run = run_unshared(alloc, &mut *watch, options, run)?;
     if run.sim.next_stop(options.cycles).is_none() {
         return finish(alloc, watch, options, run, &mut InPlace);
     }

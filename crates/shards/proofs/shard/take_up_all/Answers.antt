@@ -7,7 +7,7 @@ use Rattle.sim_base.specs.declared.message.Message.{Message}
 use Rattle.links.specs.InFlight.{InFlight}
 use Rattle.shards.specs.Lists.{lists_of}
 use Rattle.wake_words.specs.Wakes.{AreLowered}
-use Rattle.shards.proofs.Posting.{lowered-more, lists-more, taken-more}
+use Rattle.shards.proofs.Exchanging.{lowered-more, lists-more, taken-more}
 use Rattle.shards.proofs.shard.take_up_all.Goals as goal
 
 pub loop-list-preserved : goal.loop-list-preserved

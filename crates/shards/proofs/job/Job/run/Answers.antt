@@ -6,7 +6,7 @@ use Rattle.std.specs.declared.alloc.Global.{Global}
 use Rattle.std.specs.declared.sync.Arc.{Arc}
 use Rattle.std.proofs.lemmas.List.{with_items_is}
 use Rattle.links.specs.InFlight.{InFlight}
-use Rattle.shards.specs.Lists.{AreDealt, lists_of, with_lists}
+use Rattle.shards.specs.Lists.{AreSortedByShard, lists_of, with_lists}
 use Rattle.shards.specs.Shards.{HasGone, HoldWhatWasSent, Sleeps, sent_of_shard}
 use Rattle.shards.specs.Jobs.{IsDone}
 use Rattle.wake_words.specs.Wakes.{AreLowered}
@@ -40,7 +40,7 @@ invariant_of-result c =
     let m = arc_value shard.machine in
     let up = c.in_ok-take_up.ensures {u = tt} in
     let went = c.in_ok-wake.ensures {u = tt} in
-    let dealt = c.in_ok-deal_sent.ensures {u = tt} in
+    let sorted_by_shard = c.in_ok-sort_sent.ensures {u = tt} in
     let new = c.take_up.new.self in
     let after = c.go.new.self in
     let same : c.deref_mut-3.result.now ≡ record shard { range = record shard.range { words = new.range.words }; traffic = record shard.traffic { links = new.traffic.links } } =
@@ -53,13 +53,13 @@ invariant_of-result c =
     let sent = went.sent ∙ ap (λ (x : Shard). sent_of_shard (arc_value x.machine) f.name.from f.name.until x) same in
     let up-lists = with_items_is f.inbound c.take_up.new.lists (up.count ∙ ap length c.deref_mut-2.ensures.value ∙ sym f.inbound.ok.0) in
     let many-up : length (with_items f.inbound c.take_up.new.lists).items ≡ length f.inbound.items = ap length up-lists ∙ up.count ∙ ap length c.deref_mut-2.ensures.value in
-    let many : length c.deal_sent.new.lists ≡ length f.inbound.items = dealt.count ∙ ap length c.deref_mut-4.ensures.value ∙ many-up in
-    let lists = with_items_is (with_items f.inbound c.take_up.new.lists) c.deal_sent.new.lists (many ∙ sym f.inbound.ok.0) in
-    let dealt-after : HoldWhatWasSent after c.deal_sent.new.lists = subst (λ (x : Shard). HoldWhatWasSent x c.deal_sent.new.lists) c.deref.ensures dealt.each in
-    let each : AreDealt m.config shard.bounds.items after.traffic.mail.sent.items c.deal_sent.new.lists =
-    subst (λ (x : Vec ℕ Global). AreDealt m.config x.items after.traffic.mail.sent.items c.deal_sent.new.lists) bounds
-    (subst (λ (x : Arc Machine Global). AreDealt (arc_value x).config after.bounds.items after.traffic.mail.sent.items c.deal_sent.new.lists) machine dealt-after) in
-    let ends = job-ends m shard.bounds.items f.name c.in_ok-wake.wake shard after f.inbound.items c.deal_sent.new.lists c.self.invariant machine bounds first count gone sent went.since went.sleep went.arrivals many each in
+    let many : length c.sort_sent.new.lists ≡ length f.inbound.items = sorted_by_shard.count ∙ ap length c.deref_mut-4.ensures.value ∙ many-up in
+    let lists = with_items_is (with_items f.inbound c.take_up.new.lists) c.sort_sent.new.lists (many ∙ sym f.inbound.ok.0) in
+    let sorted_by_shard-after : HoldWhatWasSent after c.sort_sent.new.lists = subst (λ (x : Shard). HoldWhatWasSent x c.sort_sent.new.lists) c.deref.ensures sorted_by_shard.each in
+    let each : AreSortedByShard m.config shard.bounds.items after.traffic.mail.sent.items c.sort_sent.new.lists =
+    subst (λ (x : Vec ℕ Global). AreSortedByShard m.config x.items after.traffic.mail.sent.items c.sort_sent.new.lists) bounds
+    (subst (λ (x : Arc Machine Global). AreSortedByShard (arc_value x).config after.bounds.items after.traffic.mail.sent.items c.sort_sent.new.lists) machine sorted_by_shard-after) in
+    let ends = job-ends m shard.bounds.items f.name c.in_ok-wake.wake shard after f.inbound.items c.sort_sent.new.lists c.self.invariant machine bounds first count gone sent went.since went.sleep went.arrivals many each in
     subst (IsDone (arc_value after.machine) after.bounds.items f.name c.in_ok-wake.wake after) (sym lists)
-    (subst (λ (x : Vec ℕ Global). IsDone (arc_value after.machine) x.items f.name c.in_ok-wake.wake after c.deal_sent.new.lists) (sym bounds)
-    (subst (λ (x : Arc Machine Global). IsDone (arc_value x) shard.bounds.items f.name c.in_ok-wake.wake after c.deal_sent.new.lists) (sym machine) ends))
+    (subst (λ (x : Vec ℕ Global). IsDone (arc_value after.machine) x.items f.name c.in_ok-wake.wake after c.sort_sent.new.lists) (sym bounds)
+    (subst (λ (x : Arc Machine Global). IsDone (arc_value x) shard.bounds.items f.name c.in_ok-wake.wake after c.sort_sent.new.lists) (sym machine) ends))

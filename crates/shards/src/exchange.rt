@@ -4,7 +4,7 @@ ghost use Rattle.std.specs.Prelude.{◌≡◌, ◌<◌, ◌≤◌, ℕ, suc, [],
 ghost use Rattle.std.specs.declared.vec.Vec.{Vec};
 ghost use Rattle.std.specs.declared.alloc.Global.{Global};
 ghost use Rattle.sim_base.specs.declared.message.Message.{Message};
-ghost use Rattle.shards.specs.Lists.{AllEmpty, AreDealt, AreTurned, GainOne, HaveColumn, IsColumn, IsSquare, SameElsewhere, SameOtherColumns, SameWidths, bound};
+ghost use Rattle.shards.specs.Lists.{AllEmpty, AreSortedByShard, AreTurned, GainOne, HaveColumn, IsColumn, IsSquare, SameElsewhere, SameOtherColumns, SameWidths, bound};
 ghost use Rattle.shards.specs.Shards.{IsSplit};
 
 use sim_base::config::Config;
@@ -32,7 +32,7 @@ fn shard_at(bounds: &[usize], place: usize) -> usize
 }
 
 /// Puts a message behind those that go to the same shard. One that goes to no unit is left out.
-fn deal_one(
+fn put_by_shard(
     config: &Config,
     bounds: &[usize],
     message: &Message,
@@ -49,8 +49,8 @@ fn deal_one(
     Ok(())
 }
 
-/// Deals messages out to lists, one for each shard, by the unit that each goes to.
-pub(crate) fn deal(
+/// Sorts messages into lists, one for each shard, by the unit that each goes to.
+pub(crate) fn sort_by_shard(
     config: &Config,
     bounds: &[usize],
     sent: &[Message],
@@ -60,10 +60,10 @@ pub(crate) fn deal(
     requires count { suc (length lists.old) ≡ length bounds.now }
     requires empty { AllEmpty lists.old }
     ensures count { length lists.new ≡ length lists.old }
-    ensures each { OnOk result (AreDealt config.now bounds.now sent.now lists.new) }
+    ensures each { OnOk result (AreSortedByShard config.now bounds.now sent.now lists.new) }
 {
     for message in sent {
-        deal_one(config, bounds, message, lists)?;
+        put_by_shard(config, bounds, message, lists)?;
     }
     Ok(())
 }

@@ -1,4 +1,4 @@
--- Messages that are dealt out to shards, and taken up list by list.
+-- Messages that are sorted by shard, and taken up list by list.
 use Rattle.std.proofs.Common.{◌≡◌, ◌≢◌, ℕ, zero, suc, ◌+◌, ◌-◌, ◌<◌, ◌≤◌, Bool, true, false, cond, eqb, ltb, leb, ◌&&◌, List, [], ◌∷◌, ◌++◌, ◌⊎◌, inl, inr, length, get_or, set, take, refl, sym, ap, subst, ◌∙◌, append-nil, get_or-set_other, get_or-set_same, length-append, arith}
 use Rattle.std.specs.Prelude.{All, fold}
 use Rattle.std.specs.declared.vec.Vec.{Vec}
@@ -100,10 +100,10 @@ goes-nowhere s bounds split k m none l =
     no-unit s (bound bounds k) (bound bounds (suc k)) (receiver_of s.channels m.link) none (bounds-within s bounds split (suc k) l) _ refl
 
 -- a list with one message more, and the others as they were
-pub dealt : (lists : List (Vec Message Global)) (i index : ℕ) (list e d : Vec Message Global) (m : Message) (b : Bool) → i < length lists → index < length lists
+pub sorted_by_shard : (lists : List (Vec Message Global)) (i index : ℕ) (list e d : Vec Message Global) (m : Message) (b : Bool) → i < length lists → index < length lists
     → list.items ≡ (get_or lists i e).items ++ m ∷ [] → (index ≡ i → b ≡ true) → (index ≢ i → b ≡ false)
     → (get_or (set lists i list) index d).items ≡ (get_or lists index d).items ++ cond b (m ∷ []) []
-dealt lists i index list e d m b l k items here others = by (eqb index i) refl
+sorted_by_shard lists i index list e d m b l k items here others = by (eqb index i) refl
   where
     by : (c : Bool) → eqb index i ≡ c → (get_or (set lists i list) index d).items ≡ (get_or lists index d).items ++ cond b (m ∷ []) []
     by true t =

@@ -1,6 +1,6 @@
 -- The last shard so far that begins at the place or before it.
 use Rattle.std.proofs.Common.{ℕ, ◌<◌, ◌≤◌, get_or}
-use Rattle.shards.proofs.post.shard_at.Given as goal
+use Rattle.shards.proofs.exchange.shard_at.Given as goal
 
 abbrev pub invariant-loop-next : goal.invariant-loop-next
 invariant-loop-next l = record {

@@ -1,11 +1,11 @@
--- The messages so far are dealt out.
+-- The messages so far are sorted by shard.
 use Rattle.std.proofs.Common.{◌≡◌, ℕ, suc, ◌<◌, length, get_or, take}
 use Rattle.std.specs.declared.vec.Vec.{Vec}
 use Rattle.std.specs.declared.alloc.Global.{Global}
 use Rattle.sim_base.specs.declared.message.Message.{Message}
 use Rattle.units.specs.Flight.{among}
 use Rattle.shards.specs.Lists.{bound}
-use Rattle.shards.proofs.post.deal.Given as goal
+use Rattle.shards.proofs.exchange.sort_by_shard.Given as goal
 
 abbrev pub invariant-loop-message : goal.invariant-loop-message
 invariant-loop-message l = record {

@@ -3,7 +3,7 @@
 use Rattle.std.proofs.Common.{◌≡◌, ◌≤◌, ◌-◌}
 use Rattle.units.specs.Drained.{NotEnded}
 use Rattle.workers.specs.Stages.{IsExtentOf}
-use Rattle.workers.proofs.machine.run_quiet.Given as goal
+use Rattle.workers.proofs.machine.run_unshared.Given as goal
 
 abbrev pub invariant-loop-sim : goal.invariant-loop-sim
 invariant-loop-sim g l =
