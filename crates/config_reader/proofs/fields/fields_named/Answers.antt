@@ -1,8 +1,9 @@
 -- A field is refused, or read.
-use Rattle.std.proofs.Common.{◌≡◌, ◌<◌, ◌≤◌, ◌∙◌, not, if◌then◌else◌, [], ◌∷◌, ◌++◌, length, get_or, sym, ap, Err, rules}
+use Rattle.std.proofs.Common.{◌≡◌, ◌<◌, ◌≤◌, ◌∙◌, not, if◌then◌else◌, [], ◌∷◌, ◌++◌, length, get_or, sym, ap, Err}
 use Rattle.toml.specs.Data.{as_str}
 use Rattle.toml.specs.View.{view}
 use Rattle.config_reader.specs.Document.Fields.{field_named}
+use Rattle.config_reader.proofs.Refusing.{same_fault}
 use Rattle.config_reader.proofs.TableViews.{refused_field, read_field, all_fields}
 use Rattle.config_reader.proofs.fields.fields_named.Goals as goal
 
@@ -14,7 +15,7 @@ returns-in_err-field-clause-refused c =
     let short : c.loop-value.value-index < length vs = rw same at c.loop-value-test.true in
     let item : v ≡ get_or vs c.loop-value.value-index v = rw same at c.value-item.is in
     let refused = ap (λ w. field_named (as_str (view w))) (sym item) ∙ sym c.field_named.ensures ∙ c.in_err-field.was {u = tt} in
-    let kept : c.from_residual.result ≡ Err c.in_err-field.field-0.0 = search rules in
+    let kept : c.from_residual.result ≡ Err c.in_err-field.field-0.0 = same_fault _ _ c.from_residual.ensures in
     rw kept (λ other. c.loop-value.invariant ∙ refused_field c.loop-value.fields.items c.in_err-field.field-0.0 vs c.loop-value.value-index v short refused)
 
 pub loop-value-preserved : goal.loop-value-preserved

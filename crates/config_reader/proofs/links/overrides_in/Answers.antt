@@ -1,10 +1,11 @@
 -- An override is refused, or read.
-use Rattle.std.proofs.Common.{◌≡◌, ◌<◌, ◌≤◌, ◌∙◌, not, if◌then◌else◌, [], ◌∷◌, ◌++◌, length, get_or, sym, ap, Err, rules}
+use Rattle.std.proofs.Common.{◌≡◌, ◌<◌, ◌≤◌, ◌∙◌, not, if◌then◌else◌, [], ◌∷◌, ◌++◌, length, get_or, sym, ap, Err}
 use Rattle.std.proofs.lemmas.List.Elements.{All-push}
 use Rattle.toml.specs.Data.{as_table}
 use Rattle.sim_base.specs.Ranges.{LatencyInRange}
 use Rattle.toml.specs.View.{view}
 use Rattle.config_reader.specs.Document.Links.{override_from}
+use Rattle.config_reader.proofs.Refusing.{same_fault}
 use Rattle.config_reader.proofs.TableViews.{refused_override, read_override, all_overrides}
 use Rattle.config_reader.proofs.links.overrides_in.Goals as goal
 
@@ -16,7 +17,7 @@ returns-in_err-link-clause-refused c =
     let short : c.loop-value.value-index < length vs = rw same at c.loop-value-test.true in
     let item : v ≡ get_or vs c.loop-value.value-index v = rw same at c.value-item.is in
     let refused = ap (λ w. override_from (as_table (view w))) (sym item) ∙ sym c.override_in.ensures.value ∙ c.in_err-link.was {u = tt} in
-    let kept : c.from_residual.result ≡ Err c.in_err-link.field-0.0 = search rules in
+    let kept : c.from_residual.result ≡ Err c.in_err-link.field-0.0 = same_fault _ _ c.from_residual.ensures in
     rw kept (λ other. c.loop-value.invariant.value ∙ refused_override c.loop-value.overrides.items c.in_err-link.field-0.0 vs c.loop-value.value-index v short refused)
 
 pub loop-value-preserved : goal.loop-value-preserved

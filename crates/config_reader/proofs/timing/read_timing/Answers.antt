@@ -1,3 +1,5 @@
+use Rattle.config_reader.specs.Document.Numbers.{timing_of}
+use Rattle.config_reader.proofs.Refusing.{same_fault}
 use Rattle.config_reader.proofs.timing.read_timing.Goals as goal
 
 pub returns-clause-range : goal.returns-clause-range
@@ -27,3 +29,23 @@ returns-clause-range c =
       n_rtrs = ((c.in_ok-n_rtrs.ensures {u = tt}).accepted).1;
       n_refi = ((c.in_ok-n_refi.ensures {u = tt}).accepted).1;
     }
+
+pub returns-in_err-n_wr-clause-value : goal.returns-in_err-n_wr-clause-value
+unfolding timing_of
+returns-in_err-n_wr-clause-value c =
+    rw (same_fault _ _ c.from_residual-in_err-n_wr.ensures, ← (c.in_ok-n_rcd.ensures {u = tt}).value, ← (c.in_ok-n_cl.ensures {u = tt}).value, ← (c.in_ok-n_rrd_s.ensures {u = tt}).value, ← (c.in_err-n_wr.ensures {u = tt}).value)
+
+pub returns-in_err-n_rfc-clause-value : goal.returns-in_err-n_rfc-clause-value
+unfolding timing_of
+returns-in_err-n_rfc-clause-value c =
+    rw (same_fault _ _ c.from_residual-in_err-n_rfc.ensures, ← (c.in_ok-n_rcd.ensures {u = tt}).value, ← (c.in_ok-n_cl.ensures {u = tt}).value, ← (c.in_ok-n_rrd_s.ensures {u = tt}).value, ← (c.in_ok-n_wr.ensures {u = tt}).value, ← (c.in_err-n_rfc.ensures {u = tt}).value)
+
+pub returns-in_err-n_rtrs-clause-value : goal.returns-in_err-n_rtrs-clause-value
+unfolding timing_of
+returns-in_err-n_rtrs-clause-value c =
+    rw (same_fault _ _ c.from_residual-in_err-n_rtrs.ensures, ← (c.in_ok-n_rcd.ensures {u = tt}).value, ← (c.in_ok-n_cl.ensures {u = tt}).value, ← (c.in_ok-n_rrd_s.ensures {u = tt}).value, ← (c.in_ok-n_wr.ensures {u = tt}).value, ← (c.in_ok-n_rfc.ensures {u = tt}).value, ← (c.in_err-n_rtrs.ensures {u = tt}).value)
+
+pub returns-in_err-n_refi-clause-value : goal.returns-in_err-n_refi-clause-value
+unfolding timing_of
+returns-in_err-n_refi-clause-value c =
+    rw (same_fault _ _ c.from_residual-in_err-n_refi.ensures, ← (c.in_ok-n_rcd.ensures {u = tt}).value, ← (c.in_ok-n_cl.ensures {u = tt}).value, ← (c.in_ok-n_rrd_s.ensures {u = tt}).value, ← (c.in_ok-n_wr.ensures {u = tt}).value, ← (c.in_ok-n_rfc.ensures {u = tt}).value, ← (c.in_ok-n_rtrs.ensures {u = tt}).value, ← (c.in_err-n_refi.ensures {u = tt}).value)
