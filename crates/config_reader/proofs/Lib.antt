@@ -1,3 +1,4 @@
 pub mod TableViews
 pub mod LinkTests
 pub mod DocumentTexts
+pub mod Refusing

@@ -1,5 +1,6 @@
 -- Tests over the entries of a table, and over the values of an array, beside those over what they stand for.
-use Rattle.std.proofs.Common.{◌≡◌, ◌&&◌, ℕ, ◌<◌, length, suc, List, [], ◌∷◌, ◌++◌, get_or, drop, drop-cons, Result, Ok, Err, refl, ap, string_bytes}
+use Rattle.std.proofs.Common.{◌≡◌, ◌&&◌, ℕ, ◌<◌, length, suc, List, [], ◌∷◌, ◌++◌, ◌+◌, ◌≤◌, get_or, drop, drop-cons, Result, Ok, Err, refl, sym, ap, string_bytes, append_assoc}
+use Rattle.std.proofs.lemmas.List.{append-nil, drop_more, drop_all}
 use Rattle.std.specs.List.{list_all}
 use Rattle.std.specs.Map.{keys_of}
 use Rattle.std.specs.Prelude.{is_some}
@@ -12,7 +13,7 @@ use Rattle.sim_base.specs.declared.overrides.Override.{Override}
 use Rattle.sim_base.specs.declared.place.Field.{Field}
 use Rattle.config_reader.specs.Document.Fields.{are_texts, field_named, fields_named}
 use Rattle.config_reader.specs.Document.Links.{override_from, overrides_in}
-use Rattle.config_reader.specs.Document.Keys.{is_known, keys_are_known, count_of}
+use Rattle.config_reader.specs.Document.Keys.{◌>>=◌, is_known, keys_are_known, count_of}
 
 pub keys_are_known-view : (es : List Entry) → list_all (λ k. is_known (string_bytes k)) (keys_of es) ≡ keys_are_known (members_view es)
 keys_are_known-view [] = refl
@@ -39,3 +40,23 @@ refused_field xs e vs i v h refused = rw (drop-cons vs i v h) (rw refused refl)
 pub refused_override : (xs : List Override) (e : Fault) (vs : List Value) (i : ℕ) (v : Value) → i < length vs → override_from (as_table (view (get_or vs i v))) ≡ Err e
     → prepend xs (overrides_in (items_view (drop i vs))) ≡ Err e
 refused_override xs e vs i v h refused = rw (drop-cons vs i v h) (rw refused refl)
+
+-- an item more is read
+prepend-more : {T : Type 0} (xs : List T) (x : T) (rest : Result (List T) Fault) → prepend xs (rest >>= λ others. Ok (x ∷ others)) ≡ prepend (xs ++ x ∷ []) rest
+prepend-more xs x (Ok ys) = ap Ok (sym (append_assoc xs (x ∷ []) ys))
+prepend-more xs x (Err e) = refl
+
+pub read_field : (xs : List Field) (x : Field) (vs : List Value) (i : ℕ) (v : Value) → i < length vs → field_named (as_str (view (get_or vs i v))) ≡ Ok x
+    → prepend xs (fields_named (items_view (drop i vs))) ≡ prepend (xs ++ x ∷ []) (fields_named (items_view (drop (i + 1) vs)))
+read_field xs x vs i v h read = rw (drop_more vs i v h) (rw read (prepend-more xs x (fields_named (items_view (drop (i + 1) vs)))))
+
+pub read_override : (xs : List Override) (x : Override) (vs : List Value) (i : ℕ) (v : Value) → i < length vs → override_from (as_table (view (get_or vs i v))) ≡ Ok x
+    → prepend xs (overrides_in (items_view (drop i vs))) ≡ prepend (xs ++ x ∷ []) (overrides_in (items_view (drop (i + 1) vs)))
+read_override xs x vs i v h read = rw (drop_more vs i v h) (rw read (prepend-more xs x (overrides_in (items_view (drop (i + 1) vs)))))
+
+-- no item is left
+pub all_fields : (xs : List Field) (vs : List Value) (i : ℕ) → length vs ≤ i → prepend xs (fields_named (items_view (drop i vs))) ≡ Ok xs
+all_fields xs vs i h = rw (drop_all i vs h) (ap Ok (append-nil xs))
+
+pub all_overrides : (xs : List Override) (vs : List Value) (i : ℕ) → length vs ≤ i → prepend xs (overrides_in (items_view (drop i vs))) ≡ Ok xs
+all_overrides xs vs i h = rw (drop_all i vs h) (ap Ok (append-nil xs))

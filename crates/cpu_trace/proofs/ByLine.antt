@@ -1,11 +1,11 @@
 -- The lines of a text, read one after another.
-use Rattle.std.proofs.Common.{◌≡◌, ℕ, ◌+◌, ◌<◌, ◌≤◌, not, List, [], ◌∷◌, length, take, drop, Bor, Option, Some, None, Ok, Err, refl, sym, ap, ◌∙◌, arith}
-use Rattle.std.proofs.lemmas.List.{length-drop, take_all, drop_more}
+use Rattle.std.proofs.Common.{◌≡◌, ℕ, ◌+◌, ◌<◌, ◌≤◌, not, List, [], ◌∷◌, ◌++◌, length, get_or, take, drop, Bor, Option, Some, None, Ok, Err, refl, sym, ap, ◌∙◌, arith}
+use Rattle.std.proofs.lemmas.List.{length-drop, take-append-drop, get_or-drop, take_all, drop_more}
 use Rattle.std.proofs.lemmas.List.Splits.{slice_split_first, slice_split_none}
-use Rattle.std.proofs.lemmas.List.Sums.{prefix_len_passes}
+use Rattle.std.proofs.lemmas.List.Sums.{prefix_len_passes, prefix_len_stops}
 use Rattle.std.specs.List.{prefix_len}
 use Rattle.std.specs.Option.{MatchOption}
-use Rattle.std.proofs.lemmas.Bool.{not-true}
+use Rattle.std.proofs.lemmas.Bool.{not-true, not-false, eqb-true}
 use Rattle.sim_base.specs.declared.fault.LineCause.{LineCause}
 use Rattle.sim_base.specs.declared.trace.Entry.{Entry}
 use Rattle.sim_base.specs.TraceText.{◌>>=◌, is_line_feed, lines_of, line_entries, in_line}
@@ -32,6 +32,19 @@ lines_of-first text some =
     let n = line_len text in
     let inside : n < length text = omega (arith, some, length-drop n text) in
     slice_split_first is_line_feed text 0 inside ∙ ap (λ rest. take n text ∷ lines_of rest) (sym (ap (drop 1) (drop_more text n 0 inside)))
+
+-- a text with a line feed from a place on
+pub at_line_feed : (text : List ℕ) (size : ℕ) → 0 < length (drop (size + line_len (drop size text)) text)
+    → text ≡ take (size + line_len (drop size text)) text ++ 10 ∷ drop 1 (drop (size + line_len (drop size text)) text)
+at_line_feed text size some =
+    let rest = drop size text in
+    let n = line_len rest in
+    let at = size + n in
+    let inside : at < length text = omega (arith, some, length-drop at text) in
+    let within : n < length rest = omega (arith, inside, length-drop size text) in
+    let feed : get_or text at 0 ≡ 10 = sym (get_or-drop size text n 0) ∙ eqb-true _ _ (not-false _ (prefix_len_stops (λ byte. not (is_line_feed byte)) rest 0 within)) in
+    let behind : drop at text ≡ 10 ∷ drop (at + 1) text = drop_more text at 0 inside ∙ ap (λ byte. byte ∷ drop (at + 1) text) feed in
+    sym (take-append-drop at text) ∙ ap (λ t. take at text ++ t) (behind ∙ ap (λ t. 10 ∷ t) (sym (ap (drop 1) behind)))
 
 -- so a text has a first line in any case
 pub first_line : (text line : List ℕ) (behind : Option (Bor (List ℕ))) → MatchOption behind (lines_of text ≡ line ∷ []) (λ rest. lines_of text ≡ line ∷ lines_of rest.now) → (lines : List (List ℕ)) × (lines_of text ≡ line ∷ lines)

@@ -11,8 +11,8 @@ use crate::reading::{Reading, Unread, add_line, extended, has_room};
 use crate::usual::split_usual_line;
 use std::alloc::{AllocError, Global};
 
-// How long the first line of a text is.
-fn line_len(text: &[u8]) -> usize
+/// How long the first line of a text is.
+pub(crate) fn line_len(text: &[u8]) -> usize
     ensures value { result ≡ prefix_len (λ byte. not (is_line_feed byte)) text.now }
     ensures bound { result ≤ length text.now }
 {

@@ -1,33 +1,28 @@
 //! Texts in pieces, which are read at the same time.
 
-ghost use Rattle.std.specs.Prelude.{◌≡◌, ◌<◌, ◌∷◌, ◌++◌, length, slice_index, IfOk, IfSome};
+ghost use Rattle.std.specs.Prelude.{◌≡◌, ◌∷◌, ◌++◌, IfOk, IfSome};
 ghost use Rattle.std.specs.List.{AllZip};
 ghost use Rattle.sim_base.specs.TraceText.{lines_of};
 ghost use Rattle.cpu_trace.specs.Pieces.{lines_of_pieces};
 ghost use Rattle.cpu_trace.specs.Reading.{IsRead};
 
-use crate::piece::read_piece;
+use crate::piece::{line_len, read_piece};
 use crate::reading::{Reading, Unread};
 use rayon::prelude::*;
 use std::alloc::{AllocError, Global};
 use std::thread::Threads;
 
-// The first line feed from a place on.
-fn line_feed_from(text: &[u8], from: usize) -> Option<usize>
-    ensures inside { IfSome result (λ place. place < length text.now) }
-    ensures is_line_feed { IfSome result (λ place. slice_index text.now place ≡ 10) }
-{
-    let behind = text.get(from..)?;
-    let place = behind.iter().position(|byte| *byte == b'\n')?;
-    Some(from + place)
-}
-
 // A piece of at least `size` bytes at the start of a text, and what follows the line feed at its end.
 fn first_piece(text: &[u8], size: usize) -> Option<(&[u8], &[u8])>
     ensures { IfSome result (λ parts. text.now ≡ parts.0.now ++ 10 ∷ parts.1.now) }
 {
-    let place = line_feed_from(text, size)?;
-    let (piece, behind) = text.split_at(place);
+    if text.len() <= size {
+        return None;
+    }
+    let (piece, behind) = text.split_at(size + line_len(&text[size..]));
+    if behind.is_empty() {
+        return None;
+    }
     Some((piece, &behind[1..]))
 }
 

@@ -104,8 +104,8 @@ fn split_number(text: &[u8]) -> Option<(u64, &[u8])>
 /// None says nothing about the line: it is left to the general reader.
 #[inline(always)]
 pub(crate) fn split_usual_line(text: &[u8]) -> Option<(Line, &[u8])>
-    ensures line { IfSome result (λ parts. BeginsWithLine text.now parts.0 parts.1.now) }
-    ensures shorter { IfSome result (λ parts. length parts.1.now < length text.now) }
+    ensures { IfSome result (λ parts. BeginsWithLine text.now parts.0 parts.1.now
+        × (length parts.1.now < length text.now)) }
 {
     let (plain, rest) = split_number(text)?;
     let (read, rest) = split_number(behind(b' ', rest)?)?;

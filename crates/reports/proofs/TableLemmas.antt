@@ -16,6 +16,7 @@ use Rattle.statistics.specs.Values.{RunStats, LastState}
 use Rattle.statistics.specs.declared.channels.ChannelStats.{ChannelStats}
 use Rattle.sim_base.specs.declared.command.IssuedCommand.{IssuedCommand}
 use Rattle.sim_base.proofs.Lists.{enumerate-append}
+use Rattle.reports.proofs.RowLemmas.{added-more}
 
 -- rows after rows
 pub rows_text-append : (rows more : List (List (List ℕ))) → rows_text (rows ++ more) ≡ rows_text rows ++ rows_text more
@@ -94,6 +95,13 @@ nothing_written old text none = subst (Appends old old) (sym none) (Appends-nil 
 -- two rows
 pub rows_text-two : (first second : List (List ℕ)) → rows_text (first ∷ second ∷ []) ≡ row_text first ++ row_text second
 rows_text-two first second = rows_text-first first (second ∷ []) ∙ ap (λ t. row_text first ++ t) (rows_text-one second)
+
+-- two rows are added, one after the other
+pub added-two : {A B C : Type 0} (old mid new : Option (List ℕ)) (first second : List (List ℕ))
+    → (B → A × Appends old mid (row_text first)) → (C → B × Appends mid new (row_text second)) → C → A × Appends old new (rows_text (first ∷ second ∷ []))
+added-two old mid new first second before after whole =
+    let both = added-more old mid new _ _ before after whole in
+    (both.0, subst (Appends old new) (sym (rows_text-two first second)) both.1)
 
 -- rows after rows, of items of one kind
 pub lines-append : {A : Type 0} (fields : A → List (List ℕ)) (rows more : List A) → rows_text (map fields (rows ++ more)) ≡ rows_text (map fields rows) ++ rows_text (map fields more)

@@ -11,6 +11,10 @@ use Rattle.rule_check.specs.declared.state.Group.{Group}
 use Rattle.rule_check.specs.declared.state.Rank.{Rank}
 use Rattle.rule_check.specs.declared.state.Channel.{Channel}
 
+-- a list that a loop changed keeps its length
+pub length-changed : {X Z : Type 0} (v : Vec X Z) (lent states : List X) → lent ≡ v.items → length states ≡ length lent → length (with_items v states).items ≡ length v.items
+length-changed v lent states is long = ap length (with_items_is v states (long ∙ ap length is ∙ sym v.ok.0)) ∙ long ∙ ap length is
+
 -- a list that a loop changed, element by element
 pub items-changed : {X Z : Type 0} (v : Vec X Z) (items lent states : List X) (f : ℕ → X → X) → items ≡ (with_items v states).items → lent ≡ v.items
     → length states ≡ length lent → ((k : ℕ) (d : X) → k < length lent → get_or states k d ≡ f k (get_or lent k d))

@@ -84,14 +84,18 @@ entry_text ranks fields = operand ranks fields 5
 abbrev pub rank_is_named : ℕ → List (List ℕ) → Bool
 rank_is_named ranks fields = if names_ranks ranks then bytes_eq (text_at fields 3) (codes "rank") else true
 
+-- the columns after that of the rank have their names
+abbrev pub operands_are_named : ℕ → List (List ℕ) → Bool
+operands_are_named ranks fields =
+    bytes_eq (group_text ranks fields) (codes "group") && bytes_eq (bank_text ranks fields) (codes "bank")
+    && bytes_eq (row_text ranks fields) (codes "row") && bytes_eq (column_text ranks fields) (codes "column")
+    && bytes_eq (core_text ranks fields) (codes "core") && bytes_eq (entry_text ranks fields) (codes "entry")
+
 -- a record has the names of the columns, and nothing else
 unfoldable pub is_header : ℕ → List (List ℕ) → Bool
 is_header ranks fields =
     (length fields == column_count ranks) && bytes_eq (text_at fields 0) (codes "cycle") && bytes_eq (text_at fields 1) (codes "channel")
-    && bytes_eq (text_at fields 2) (codes "command") && rank_is_named ranks fields && bytes_eq (group_text ranks fields) (codes "group")
-    && bytes_eq (bank_text ranks fields) (codes "bank") && bytes_eq (row_text ranks fields) (codes "row")
-    && bytes_eq (column_text ranks fields) (codes "column") && bytes_eq (core_text ranks fields) (codes "core")
-    && bytes_eq (entry_text ranks fields) (codes "entry")
+    && bytes_eq (text_at fields 2) (codes "command") && rank_is_named ranks fields && operands_are_named ranks fields
 
 -- a field is empty
 abbrev pub is_empty : List ℕ → Bool

@@ -3,7 +3,7 @@
 ghost use Rattle.std.specs.Prelude.{◌≡◌, ◌+◌, ◌<◌, ◌==◌, IfSome, if◌then◌else◌};
 ghost use Rattle.std.specs.Str.{bytes_eq};
 ghost use Rattle.csv.specs.Records.{fields_of};
-ghost use Rattle.rule_check.specs.Fields.{limits_of, column_count, text_at, operand, is_header, rank_is_named, is_empty, rank_in, bank_in, source_in, act_in, access_in, pre_in, has_no_operands, whole_rank_in, command_in, row_in};
+ghost use Rattle.rule_check.specs.Fields.{limits_of, column_count, text_at, operand, is_header, rank_is_named, operands_are_named, is_empty, rank_in, bank_in, source_in, act_in, access_in, pre_in, has_no_operands, whole_rank_in, command_in, row_in};
 ghost use Rattle.rule_check.specs.Fields.{BankFits, CommandFits, RowFits};
 
 use crate::limits::Limits;
@@ -89,6 +89,18 @@ fn is_rank_named(ranks: u32, fields: &ByteRecord) -> bool
     }
 }
 
+// Whether the columns after that of the rank have their names.
+fn are_operands_named(ranks: u32, fields: &ByteRecord) -> bool
+    ensures { result ≡ operands_are_named ranks (fields_of fields.now) }
+{
+    is_word(operand(ranks, fields, GROUP), b"group")
+        && is_word(operand(ranks, fields, BANK), b"bank")
+        && is_word(operand(ranks, fields, ROW), b"row")
+        && is_word(operand(ranks, fields, COLUMN), b"column")
+        && is_word(operand(ranks, fields, CORE), b"core")
+        && is_word(operand(ranks, fields, ENTRY), b"entry")
+}
+
 /// Whether a record has the names of the columns of a table of so many ranks, and nothing else.
 #[tactic(auto, unfolding(crate::specs::Fields::is_header))]
 pub fn is_header(ranks: u32, fields: &ByteRecord) -> bool
@@ -99,12 +111,7 @@ pub fn is_header(ranks: u32, fields: &ByteRecord) -> bool
         && is_word(text_at(fields, 1), b"channel")
         && is_word(text_at(fields, 2), b"command")
         && is_rank_named(ranks, fields)
-        && is_word(operand(ranks, fields, GROUP), b"group")
-        && is_word(operand(ranks, fields, BANK), b"bank")
-        && is_word(operand(ranks, fields, ROW), b"row")
-        && is_word(operand(ranks, fields, COLUMN), b"column")
-        && is_word(operand(ranks, fields, CORE), b"core")
-        && is_word(operand(ranks, fields, ENTRY), b"entry")
+        && are_operands_named(ranks, fields)
 }
 
 #[tactic(auto, unfolding(crate::specs::Fields::rank_in))]

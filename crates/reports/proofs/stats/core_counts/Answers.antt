@@ -1,4 +1,18 @@
+use Rattle.std.proofs.Common.{[], ◌∷◌, codes, Some}
 use Rattle.reports.proofs.stats.core_counts.Goals as goal
 
 pub returns : goal.returns
-returns c = rw (c.named.ensures.name, c.named.ensures.value, c.named-2.ensures.name, c.named-2.ensures.value, c.named-3.ensures.name, c.named-3.ensures.value, c.named-4.ensures.name, c.named-4.ensures.value, c.named-5.ensures.name, c.named-5.ensures.value, c.named-6.ensures.name, c.named-6.ensures.value, c.named-7.ensures.name, c.named-7.ensures.value, c.named-8.ensures.name, c.named-8.ensures.value, c.named-9.ensures.name, c.named-9.ensures.value, c.named-10.ensures.name, c.named-10.ensures.value, c.widened.ensures)
+returns c = λ i.
+    (c.named.ensures.name i, c.named.ensures.value i)
+    ∷ (c.named-2.ensures.name i, c.named-2.ensures.value i)
+    ∷ (c.named-3.ensures.name i, c.named-3.ensures.value i)
+    ∷ (c.named-4.ensures.name i, c.named-4.ensures.value i)
+    ∷ (c.named-5.ensures.name i, c.named-5.ensures.value i)
+    ∷ (codes "read_latency", Some c.args.core.now.read_latency)
+    ∷ (c.named-6.ensures.name i, c.named-6.ensures.value i)
+    ∷ (c.named-7.ensures.name i, c.named-7.ensures.value i)
+    ∷ (c.named-8.ensures.name i, c.named-8.ensures.value i)
+    ∷ (c.named-9.ensures.name i, c.named-9.ensures.value i)
+    ∷ (c.named-10.ensures.name i, c.named-10.ensures.value i)
+    ∷ (codes "finish", c.widened.ensures i)
+    ∷ []

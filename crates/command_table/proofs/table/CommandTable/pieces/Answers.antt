@@ -1,6 +1,8 @@
-use Rattle.std.proofs.Common.{◌≡◌, ◌<◌, [], ◌∷◌, ◌++◌, length, ap, ◌∙◌, subst}
-use Rattle.std.specs.Prelude.{flat_map}
-use Rattle.command_table.specs.Tables.{rows_up_to, rows_after}
+use Rattle.std.proofs.Common.{◌≡◌, ◌<◌, [], ◌∷◌, ◌++◌, length, sym, ap, ◌∙◌, subst}
+use Rattle.std.specs.Prelude.{flat_map, All}
+use Rattle.std.proofs.lemmas.List.{append-nil}
+use Rattle.std.proofs.lemmas.List.Concat.{flat_map-append}
+use Rattle.command_table.specs.Tables.{IsRising, table_of, rows_up_to, rows_after}
 use Rattle.command_table.proofs.Pieces.{fewer-left, piece-more}
 use Rattle.command_table.proofs.table.CommandTable.pieces.Goals as goal
 
@@ -23,3 +25,21 @@ loop-cycle-preserved c =
           c.loop-cycle.invariant.table;
       rising = c.in_ok-before.ensures.rising.1;
     }
+
+pub parts_of-requires : goal.parts_of-requires
+parts_of-requires c = subst (All IsRising) (sym c.deref-in-Some.ensures.value) c.loop-cycle.invariant.rising
+
+pub of-requires : goal.of-requires
+of-requires c = c.in_ok-before.ensures.rising.0
+
+pub of-requires-2 : goal.of-requires-2
+of-requires-2 c = c.loop-cycle.invariant.rising
+
+pub returns : goal.returns
+returns c =
+    let pieces = c.loop-cycle.pieces.items in
+    let last = table_of c.loop-cycle.lefts.items in
+    ap (flat_map (λ piece. piece)) (c.in_ok-push-2.ensures.items ∙ ap (λ piece. pieces ++ piece ∷ []) c.of-2.ensures)
+    ∙ flat_map-append (λ piece. piece) pieces (last ∷ [])
+    ∙ ap (λ rows. flat_map (λ piece. piece) pieces ++ rows) (append-nil last)
+    ∙ c.loop-cycle.invariant.table
