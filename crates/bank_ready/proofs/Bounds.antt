@@ -1,7 +1,7 @@
 -- What the table of rules says of each pair of kinds, as far as commands are noted without a look at it.
-use Rattle.std.proofs.Common.{◌≡◌, ℕ, ◌+◌, ◌≤◌, true, Option, Some, None, refl, sym, ap, arith}
+use Rattle.std.proofs.Common.{◌≡◌, ℕ, ◌+◌, ◌≤◌, max, true, Option, Some, None, refl, sym, ap, arith}
 use Rattle.std.specs.Prelude.{option_map, unwrap_or}
-use Rattle.std.proofs.lemmas.Bool.{cond-true}
+use Rattle.std.proofs.lemmas.Bool.{cond-true, false≢true}
 use Rattle.sim_base.specs.declared.timing.Timing.{Timing}
 use Rattle.sim_base.specs.declared.command.Kind.{Kind}
 use Rattle.sim_base.specs.declared.command.Kind.TheVariants.{Act, Rd, Wr, Pre, Prea, Ref}
@@ -38,27 +38,27 @@ data_bound t Wr Wr SameBank e l = refl
 data_bound t Wr Wr SameGroup e l = refl
 data_bound t Wr Wr OtherGroup e l = refl
 data_bound t Wr Wr OtherRank e l = refl
-data_bound t Act later relation e l = cc
-data_bound t Pre later relation e l = cc
-data_bound t Prea later relation e l = cc
-data_bound t Ref later relation e l = cc
-data_bound t Rd Act relation e l = cc
-data_bound t Rd Pre relation e l = cc
-data_bound t Rd Prea relation e l = cc
-data_bound t Rd Ref relation e l = cc
-data_bound t Wr Act relation e l = cc
-data_bound t Wr Pre relation e l = cc
-data_bound t Wr Prea relation e l = cc
-data_bound t Wr Ref relation e l = cc
+data_bound t Act later relation e l = absurd (false≢true e)
+data_bound t Pre later relation e l = absurd (false≢true e)
+data_bound t Prea later relation e l = absurd (false≢true e)
+data_bound t Ref later relation e l = absurd (false≢true e)
+data_bound t Rd Act relation e l = absurd (false≢true l)
+data_bound t Rd Pre relation e l = absurd (false≢true l)
+data_bound t Rd Prea relation e l = absurd (false≢true l)
+data_bound t Rd Ref relation e l = absurd (false≢true l)
+data_bound t Wr Act relation e l = absurd (false≢true l)
+data_bound t Wr Pre relation e l = absurd (false≢true l)
+data_bound t Wr Prea relation e l = absurd (false≢true l)
+data_bound t Wr Ref relation e l = absurd (false≢true l)
 
 pub data_pre_bound : (t : Timing) (earlier : Kind) → moves_data earlier ≡ true → is_bound t earlier Pre SameBank ≡ true
 unfolding is_bound
 data_pre_bound t Rd m = refl
 data_pre_bound t Wr m = refl
-data_pre_bound t Act m = cc
-data_pre_bound t Pre m = cc
-data_pre_bound t Prea m = cc
-data_pre_bound t Ref m = cc
+data_pre_bound t Act m = absurd (false≢true m)
+data_pre_bound t Pre m = absurd (false≢true m)
+data_pre_bound t Prea m = absurd (false≢true m)
+data_pre_bound t Ref m = absurd (false≢true m)
 
 -- a command that moves data holds back another in its bank as in its group
 pub data_same : (t : Timing) (cycle : ℕ) (earlier later : Kind) → moves_data earlier ≡ true → moves_data later ≡ true
@@ -68,18 +68,18 @@ data_same t cycle Rd Rd e l = refl
 data_same t cycle Rd Wr e l = refl
 data_same t cycle Wr Rd e l = refl
 data_same t cycle Wr Wr e l = refl
-data_same t cycle Act later e l = cc
-data_same t cycle Pre later e l = cc
-data_same t cycle Prea later e l = cc
-data_same t cycle Ref later e l = cc
-data_same t cycle Rd Act e l = cc
-data_same t cycle Rd Pre e l = cc
-data_same t cycle Rd Prea e l = cc
-data_same t cycle Rd Ref e l = cc
-data_same t cycle Wr Act e l = cc
-data_same t cycle Wr Pre e l = cc
-data_same t cycle Wr Prea e l = cc
-data_same t cycle Wr Ref e l = cc
+data_same t cycle Act later e l = absurd (false≢true e)
+data_same t cycle Pre later e l = absurd (false≢true e)
+data_same t cycle Prea later e l = absurd (false≢true e)
+data_same t cycle Ref later e l = absurd (false≢true e)
+data_same t cycle Rd Act e l = absurd (false≢true l)
+data_same t cycle Rd Pre e l = absurd (false≢true l)
+data_same t cycle Rd Prea e l = absurd (false≢true l)
+data_same t cycle Rd Ref e l = absurd (false≢true l)
+data_same t cycle Wr Act e l = absurd (false≢true l)
+data_same t cycle Wr Pre e l = absurd (false≢true l)
+data_same t cycle Wr Prea e l = absurd (false≢true l)
+data_same t cycle Wr Ref e l = absurd (false≢true l)
 
 -- so no relation of their banks holds back less than a least cycle of three
 pub data_least : (t : Timing) (cycle : ℕ) (earlier later : Kind) (least : ℕ) (relation : Relation) → moves_data earlier ≡ true → moves_data later ≡ true
@@ -93,7 +93,10 @@ data_least t cycle earlier later least OtherRank e l group other rank = rank
 -- an ACT holds back another in its bank at least as long as in its group, and not in another rank
 pub act_grows : (t : Timing) (cycle : ℕ) → held_until t cycle Act Act SameGroup ≤ held_until t cycle Act Act SameBank
 unfolding held_until hold is_bound gap
-act_grows t cycle = omega arith
+act_grows t cycle = greater_grows cycle t.n_rc t.n_rrd_l
+  where
+    greater_grows : (n a b : ℕ) → n + max 0 b ≤ n + max (max 0 a) b
+    greater_grows n a b = omega arith
 
 pub act_other_rank : (t : Timing) (cycle : ℕ) → held_until t cycle Act Act OtherRank ≡ 0
 unfolding held_until hold is_bound gap
@@ -133,10 +136,10 @@ pub data_to_pre : (t : Timing) (cycle : ℕ) (earlier : Kind) → moves_data ear
 unfolding held_until hold is_bound gap
 data_to_pre t cycle Rd m = record { same_group = refl; other_group = refl; other_rank = refl }
 data_to_pre t cycle Wr m = record { same_group = refl; other_group = refl; other_rank = refl }
-data_to_pre t cycle Act m = cc
-data_to_pre t cycle Pre m = cc
-data_to_pre t cycle Prea m = cc
-data_to_pre t cycle Ref m = cc
+data_to_pre t cycle Act m = absurd (false≢true m)
+data_to_pre t cycle Pre m = absurd (false≢true m)
+data_to_pre t cycle Prea m = absurd (false≢true m)
+data_to_pre t cycle Ref m = absurd (false≢true m)
 
 pub data_no_act : (t : Timing) (cycle : ℕ) (earlier : Kind) (relation : Relation) → moves_data earlier ≡ true → held_until t cycle earlier Act relation ≡ 0
 unfolding held_until hold is_bound gap
@@ -148,10 +151,10 @@ data_no_act t cycle Wr SameBank m = refl
 data_no_act t cycle Wr SameGroup m = refl
 data_no_act t cycle Wr OtherGroup m = refl
 data_no_act t cycle Wr OtherRank m = refl
-data_no_act t cycle Act relation m = cc
-data_no_act t cycle Pre relation m = cc
-data_no_act t cycle Prea relation m = cc
-data_no_act t cycle Ref relation m = cc
+data_no_act t cycle Act relation m = absurd (false≢true m)
+data_no_act t cycle Pre relation m = absurd (false≢true m)
+data_no_act t cycle Prea relation m = absurd (false≢true m)
+data_no_act t cycle Ref relation m = absurd (false≢true m)
 
 -- a PRE holds back an ACT of its own bank alone, and no other command of a bank
 pub pre_to_act : (t : Timing) (cycle : ℕ) → IsOwn (held_until t cycle Pre Act)

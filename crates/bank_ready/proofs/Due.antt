@@ -227,6 +227,20 @@ fewest_is counts fewest ranks_in least reached =
           (reached.0, within, sym (get_or-take counts.ranks counts.issued reached.0 0 within) ∙ reached.2);
     }
 
+-- how large the end of the interval is that follows the refreshes of the rank with the fewest
+pub ends_fit : (counts : RefreshCounts) (rank now fewest : ℕ) → IsCountable counts → rank < counts.ranks → length counts.issued ≡ 4 → now < 2 ^ 62 → 0 < owed counts rank now
+    → ((k : ℕ) → k < length (take counts.ranks (refreshed counts rank).issued) → fewest ≤ slice_index (take counts.ranks (refreshed counts rank).issued) k)
+    → ((k : ℕ) × (k < length (take counts.ranks (refreshed counts rank).issued)) × (slice_index (take counts.ranks (refreshed counts rank).issued) k ≡ fewest))
+    → (1 ≤ (fewest + 1) * counts.interval) × ((fewest + 1) * counts.interval < 2 ^ 64)
+ends_fit counts rank now fewest before exists four fits due least reached =
+    let some = owed_some counts rank now due in
+    let same_length = length-set counts.issued rank (slice_index counts.issued rank + 1) in
+    let least_now = fewest_is (refreshed counts rank) fewest (omega (arith, before.ranks_in, same_length)) least reached in
+    let within : rank < length counts.issued = omega (arith, before.ranks_in) in
+    let after = countable_more counts rank now before within fits due in
+    let product : fewest * counts.interval < 2 ^ 62 = subst (λ n. n * counts.interval < 2 ^ 62) least_now.reached.2 (after.issued_in least_now.reached.0) in
+    (omega arith, omega (arith, before.interval_in))
+
 -- the last cycle with nothing due after that refresh
 pub counted_more : (counts : RefreshCounts) (rank now fewest quiet : ℕ) → IsCountable counts → rank < counts.ranks → length counts.issued ≡ 4 → now < 2 ^ 62 → 0 < owed counts rank now
     → ((k : ℕ) → k < length (take counts.ranks (refreshed counts rank).issued) → fewest ≤ slice_index (take counts.ranks (refreshed counts rank).issued) k)

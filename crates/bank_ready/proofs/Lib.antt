@@ -1,4 +1,5 @@
 pub mod Places
+pub mod Raising
 pub mod Bounds
 pub mod Noting
 pub mod Readiness

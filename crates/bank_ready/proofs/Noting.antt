@@ -48,6 +48,19 @@ put v lent ys change is long each =
       each = λ k d l. ap (λ xs. get_or xs k d) items ∙ each k d (rw is l) ∙ ap (λ xs. change k (get_or xs k d)) is;
     }
 
+-- such a list keeps its length, and so its part of the lengths of all
+pub put-count : {X Z : Type 0} (v : Vec X Z) (lent ys : List X) → lent ≡ v.items → length ys ≡ length lent → length (with_items v ys).items ≡ length v.items
+put-count v lent ys is long = ap length (with_items_is v ys (long ∙ ap length is ∙ sym v.ok.0)) ∙ long ∙ ap length is
+
+-- so do the words of each rank, where the list of ranks keeps its own
+pub all-words : {Z Y : Type 0} (m : ℕ) (v : Vec ℕ Z) (lent ys : List ℕ) (ranks : Vec RankState Y) (states : List RankState) → lent ≡ v.items → length ys ≡ length lent
+    → length states ≡ length ranks.items → length v.items ≡ m * length ranks.items → length (with_items v ys).items ≡ m * length states
+all-words m v lent ys ranks states is long same all = put-count v lent ys is long ∙ all ∙ sym (ap (λ n. m * n) same)
+
+pub left-words : {Y : Type 0} (m : ℕ) (words : List ℕ) (ranks : Vec RankState Y) (states : List RankState)
+    → length states ≡ length ranks.items → length words ≡ m * length ranks.items → length words ≡ m * length states
+left-words m words ranks states same all = all ∙ sym (ap (λ n. m * n) same)
+
 -- a column whose words were raised by their places
 pub record IsLifted (before after : List ℕ) (until : ℕ → ℕ) : Type 0 where
   pub count : length after ≡ length before

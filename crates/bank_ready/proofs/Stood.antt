@@ -155,6 +155,13 @@ both-unused ranks xs groups k is group_is l =
     let group : get_or groups (k / 4) 0 ≡ 0 = ap (λ ys. get_or ys (k / 4) 0) group_is ∙ get_or-replicate (4 * ranks) (k / 4) 0 0 (omega arith) in
     omega arith
 
+-- how many words that were never raised there are, for so many of each rank
+pub unused-count : (m ranks : ℕ) (states : List RankState) (xs : List ℕ) → states ≡ replicate ranks (record { prea = 0; refresh = 0; window = no_acts })
+    → xs ≡ replicate (m * ranks) 0 → length xs ≡ m * length states
+unused-count m ranks states xs state_is is =
+    let unused : RankState = record { prea = 0; refresh = 0; window = no_acts } in
+    ap length is ∙ length-replicate (m * ranks) 0 ∙ sym (ap (λ n. m * n) (ap length state_is ∙ length-replicate ranks unused))
+
 -- where no command was noted, nothing holds back
 pub stands-first : (banks : Banks) (s : Config) → banks.delays.value ≡ s.timing
     → banks.act.items ≡ replicate (16 * s.ranks) 0 → banks.act_groups.items ≡ replicate (4 * s.ranks) 0

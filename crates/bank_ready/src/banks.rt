@@ -3,7 +3,7 @@
 ghost use Rattle.std.specs.Prelude.{◌≡◌, ◌+◌, ◌*◌, ◌^◌, ◌<◌, ◌≤◌, length};
 
 use crate::words::{
-    DataCommand, RankState, bank_and_group_words, bound_until, new_words, note_act_in_rank,
+    DataCommand, RankState, act_rd_and_wr_words, bound_until, new_words, note_act_in_rank,
     own_number, raise_acts, raise_data, raise_own, raise_rank, raise_rank_groups, raise_rank_words,
     unused_ranks,
 };
@@ -61,17 +61,15 @@ impl Banks {
         let delays = Box::new(alloc, GapTable::of(config))?;
         let ranks = unused_ranks(alloc, count)?;
         let pre = new_words(alloc, 16 * count)?;
-        let (act, act_groups) = bank_and_group_words(alloc, count)?;
-        let (rd, rd_groups) = bank_and_group_words(alloc, count)?;
-        let (wr, wr_groups) = bank_and_group_words(alloc, count)?;
+        let (act, rd, wr) = act_rd_and_wr_words(alloc, count)?;
         Ok(Banks {
             delays,
-            act,
-            act_groups,
-            rd,
-            rd_groups,
-            wr,
-            wr_groups,
+            act: act.0,
+            act_groups: act.1,
+            rd: rd.0,
+            rd_groups: rd.1,
+            wr: wr.0,
+            wr_groups: wr.1,
             pre,
             rd_floor: 0,
             wr_floor: 0,
@@ -160,7 +158,6 @@ impl Banks {
     /// Notes a RD or a WR, in its bank, in the words of RDs and WRs of the groups of each rank, in the floors of all banks, and in
     /// the words of the whole rank.
     #[inline(always)]
-    #[tactic(auto, using(crate::proofs::Bounds::data_pre_bound))]
     fn note_data(&mut self, kind: Kind, bank: BankId, cycle: Cycle)
         requires kind { IsTrue (moves_data kind) }
         requires rank { bank.rank < rank_count self.old }

@@ -1,6 +1,6 @@
 //! The refreshes that are due for the ranks of a channel.
 
-ghost use Rattle.std.specs.Prelude.{◌≡◌, ◌↔◌, ◌+◌, ◌*◌, ◌<◌, ◌≤◌, ◌^◌, ◌++◌, ℕ, List, [], ◌∷◌, IsTrue, IsNone, IfSome, length, slice_index, find, nat_lt, is_some};
+ghost use Rattle.std.specs.Prelude.{◌≡◌, ◌↔◌, ◌+◌, ◌*◌, ◌<◌, ◌≤◌, ◌^◌, ◌++◌, ℕ, List, [], ◌∷◌, IsTrue, IsNone, IfSome, length, slice_index, is_some};
 ghost use Rattle.std.specs.Int.{is_power_of_two};
 ghost use Rattle.sim_base.specs.Ranges.{Within};
 ghost use Rattle.sim_base.specs.Scheduling.{due, lowest_due};
@@ -91,18 +91,6 @@ impl Refresh {
         }
     }
 
-    fn is_owed(&self, now: Cycle, rank: u32) -> bool
-        ensures { result ≡ nat_lt 0 (owed self.now rank now) }
-    {
-        0 < self.owed(now, rank)
-    }
-
-    fn lowest_owed(&self, now: Cycle) -> Option<u32>
-        ensures { result ≡ lowest_owed self.now now }
-    {
-        (0..self.ranks).find(|rank| self.is_owed(now, *rank))
-    }
-
     /// How many refreshes of a rank are due in cycle `now`.
     #[tactic(auto, using(crate::proofs::Due::due_from_owed))]
     pub fn due(&self, now: Cycle, rank: u32) -> u64
@@ -112,16 +100,6 @@ impl Refresh {
             → StandsFor self.now s history → result ≡ due s rank history now }
     {
         self.owed(now, rank)
-    }
-
-    /// The lowest rank with a refresh that is due in cycle `now`, if there is one.
-    #[tactic(auto, using(crate::proofs::Due::lowest_due_from_owed))]
-    pub fn lowest_due(&self, now: Cycle) -> Option<u32>
-        ensures value { result ≡ lowest_owed self.now now }
-        ensures stands { (s : Config) (history : List IssuedCommand)
-            → StandsFor self.now s history → result ≡ lowest_due s history now }
-    {
-        self.lowest_owed(now)
     }
 
     /// The first cycle from `now` on in which a refresh of some rank is due, as long as no other is issued; None where there are

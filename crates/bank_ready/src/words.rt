@@ -65,18 +65,37 @@ pub(crate) fn unused_ranks(alloc: Global, count: usize) -> Result<Vec<RankState>
     vec![in alloc; unused_rank(); count]
 }
 
+/// A word for each bank of some ranks, and one for each group.
+type BankAndGroupWords = (Vec<Cycle>, Vec<Cycle>);
+
 /// A word for each bank of so many ranks, and one for each group, that hold nothing back.
-pub(crate) fn bank_and_group_words(
-    alloc: Global,
-    ranks: usize,
-) -> Result<(Vec<Cycle>, Vec<Cycle>), AllocError>
+fn bank_and_group_words(alloc: Global, ranks: usize) -> Result<BankAndGroupWords, AllocError>
     requires { ranks ≤ 4 }
-    ensures banks { IfOk result (λ words. words.0.items ≡ replicate (16 * ranks) 0) }
-    ensures groups { IfOk result (λ words. words.1.items ≡ replicate (4 * ranks) 0) }
+    ensures { IfOk result (λ words. (words.0.items ≡ replicate (16 * ranks) 0)
+        × (words.1.items ≡ replicate (4 * ranks) 0)) }
 {
     let banks = new_words(alloc, 16 * ranks)?;
     let groups = new_words(alloc, 4 * ranks)?;
     Ok((banks, groups))
+}
+
+/// Such words for ACTs, for RDs and for WRs.
+pub(crate) fn act_rd_and_wr_words(
+    alloc: Global,
+    ranks: usize,
+) -> Result<(BankAndGroupWords, BankAndGroupWords, BankAndGroupWords), AllocError>
+    requires { ranks ≤ 4 }
+    ensures act { IfOk result (λ words. (words.0.0.items ≡ replicate (16 * ranks) 0)
+        × (words.0.1.items ≡ replicate (4 * ranks) 0)) }
+    ensures rd { IfOk result (λ words. (words.1.0.items ≡ replicate (16 * ranks) 0)
+        × (words.1.1.items ≡ replicate (4 * ranks) 0)) }
+    ensures wr { IfOk result (λ words. (words.2.0.items ≡ replicate (16 * ranks) 0)
+        × (words.2.1.items ≡ replicate (4 * ranks) 0)) }
+{
+    let act = bank_and_group_words(alloc, ranks)?;
+    let rd = bank_and_group_words(alloc, ranks)?;
+    let wr = bank_and_group_words(alloc, ranks)?;
+    Ok((act, rd, wr))
 }
 
 /// From which cycle on a command no longer holds back a later one that a rule binds to it.
@@ -242,7 +261,6 @@ pub(crate) struct DataCommand {
 /// Raises the words of the groups for a kind of command that moves data after another one. Gives the least of the cycles up to
 /// which that one holds them back: in its own group, in another group and in another rank.
 #[inline(always)]
-#[tactic(auto, using(crate::proofs::Bounds::data_bound, crate::proofs::Bounds::data_least, crate::proofs::Places::data_raised))]
 pub(crate) fn raise_data(
     delays: &GapTable,
     words: &mut [Cycle],

@@ -4,7 +4,7 @@ ghost use Rattle.std.specs.Prelude.{◌≡◌, Some};
 ghost use Rattle.sim_base.specs.KeyRanges.{KeysAccept, ValuesInRange};
 ghost use Rattle.sim_base.specs.Values.{Values};
 
-use crate::key_table::{Accepts, KEYS, WhereAbsent};
+use crate::key_table::{Accepts, KEYS, KeyRow, WhereAbsent};
 use std::fmt;
 
 /// A key of a configuration, in the order in which keys are tested; `id` and `latency` are those of an item of `link`.
@@ -96,21 +96,31 @@ pub static DOCUMENT_KEYS: [Key; 37] = [
 
 impl Key {
     ghost use Rattle.sim_base.specs.Keys.{key_name};
-    ghost use Rattle.std.specs.Prelude.{IfSome};
+    ghost use Rattle.std.specs.Prelude.{◌↔◌, ℕ, IfSome};
+    ghost use Rattle.sim_base.specs.declared.key_table.WhereAbsent.TheVariants.{Number};
     ghost use Rattle.sim_base.specs.KeyRanges.{key_accepts, key_default, IsAccepted};
+
+    /// What is known of the key.
+    fn row(self) -> &'static KeyRow
+        ensures name { result.now.name.now ≡ key_name self }
+        ensures accepts { result.now.accepts ≡ key_accepts self }
+        ensures absent { (n : ℕ) → (result.now.absent ≡ Number n) ↔ (key_default self ≡ Some n) }
+    {
+        &KEYS[self as usize]
+    }
 
     /// The key's name in a document.
     pub fn name(self) -> &'static str
         ensures { result.now ≡ key_name self }
     {
-        KEYS[self as usize].name
+        self.row().name
     }
 
     /// What may stand at the key.
     pub fn accepts(self) -> Accepts
         ensures { result ≡ key_accepts self }
     {
-        KEYS[self as usize].accepts
+        self.row().accepts
     }
 
     /// The number that stands for the key where it is absent, if it may be and means one.
@@ -118,7 +128,7 @@ impl Key {
         ensures value { result ≡ key_default self }
         ensures accepted { IfSome result (IsAccepted (key_accepts self)) }
     {
-        match KEYS[self as usize].absent {
+        match self.row().absent {
             WhereAbsent::Number(number) => Some(number),
             WhereAbsent::Refused | WhereAbsent::Usual => None,
         }

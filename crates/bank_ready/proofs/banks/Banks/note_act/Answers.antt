@@ -7,7 +7,7 @@ use Rattle.sim_base.specs.Places.{is_bank}
 use Rattle.bank_ready.specs.Ready.{held_until}
 use Rattle.bank_ready.specs.Words.{bank_at, relation_from, group_relation_from, rank_state_after, act_pushed, rank_raised}
 use Rattle.bank_ready.proofs.Bounds.{act_grows, act_other_rank, act_to_rd, act_to_wr, act_to_pre}
-use Rattle.bank_ready.proofs.Noting.{own_inside, at_distances, lifted, lifted-own, own-word, alone, joint, joint-own, put, window-of-act, act-tests}
+use Rattle.bank_ready.proofs.Noting.{put-count, all-words, left-words, own_inside, at_distances, lifted, lifted-own, own-word, alone, joint, joint-own, put, window-of-act, act-tests}
 use Rattle.bank_ready.proofs.Places.{act_joint}
 use Rattle.bank_ready.proofs.banks.Banks.note_act.Goals as goal
 
@@ -22,6 +22,21 @@ raise_own-requires-3 c = own_inside _ _ _ c.own_number-own.ensures.inside (omega
 
 pub raise_own-requires-4 : goal.raise_own-requires-4
 raise_own-requires-4 c = own_inside _ _ _ c.own_number-own.ensures.inside (omega (arith, ap length c.deref_mut-5.ensures.value))
+
+pub invariant_of-self : goal.invariant_of-self
+invariant_of-self c =
+    let banks = c.args.self.now in
+    let same = put-count banks.ranks _ _ c.deref_mut-6.ensures.value c.note_act_in_rank.auto.ranks in
+    record {
+      few = rw same banks.few;
+      all_acts = all-words 16 banks.act _ _ banks.ranks _ c.deref_mut-2.ensures.value c.raise_own.auto.words same banks.all_acts;
+      all_act_groups = all-words 4 banks.act_groups _ _ banks.ranks _ c.deref_mut.ensures.value c.raise_acts.auto.words same banks.all_act_groups;
+      all_rds = all-words 16 banks.rd _ _ banks.ranks _ c.deref_mut-3.ensures.value c.raise_own-2.auto.words same banks.all_rds;
+      all_rd_groups = left-words 4 banks.rd_groups.items banks.ranks _ same banks.all_rd_groups;
+      all_wrs = all-words 16 banks.wr _ _ banks.ranks _ c.deref_mut-4.ensures.value c.raise_own-3.auto.words same banks.all_wrs;
+      all_wr_groups = left-words 4 banks.wr_groups.items banks.ranks _ same banks.all_wr_groups;
+      all_pres = all-words 16 banks.pre _ _ banks.ranks _ c.deref_mut-5.ensures.value c.raise_own-4.auto.words same banks.all_pres;
+    }
 
 pub returns : goal.returns
 returns c row source =

@@ -6,12 +6,30 @@ use Rattle.bank_ready.specs.Ready.{held_until}
 use Rattle.bank_ready.specs.Words.{act_word, group_relation_from}
 use Rattle.timing.specs.Relation.{relation_to}
 use Rattle.bank_ready.proofs.Allowed.{rank_of-bank}
-use Rattle.bank_ready.proofs.Bounds.{data_to_pre}
-use Rattle.bank_ready.proofs.Noting.{floor-raised, own_inside, at_distances, lifted, lifted-own, own-word, data-word, alone, joint-groups, data-acts, no-act, left, put-rank}
+use Rattle.bank_ready.proofs.Bounds.{data_pre_bound, data_to_pre}
+use Rattle.bank_ready.proofs.Noting.{put-count, all-words, left-words, floor-raised, own_inside, at_distances, lifted, lifted-own, own-word, data-word, alone, joint-groups, data-acts, no-act, left, put-rank}
 use Rattle.bank_ready.proofs.banks.Banks.note_data.Goals as goal
+
+pub bound_until-to_pre-requires-clause-bound : goal.bound_until-to_pre-requires-clause-bound
+bound_until-to_pre-requires-clause-bound c = data_pre_bound _ c.args.kind c.requires.kind
 
 pub raise_own-requires : goal.raise_own-requires
 raise_own-requires c = own_inside _ _ _ c.own_number-own.ensures.inside (omega (arith, ap length c.deref_mut-3.ensures.value))
+
+pub invariant_of-self : goal.invariant_of-self
+invariant_of-self c =
+    let banks = c.args.self.now in
+    let same = put-count banks.ranks _ _ c.deref_mut-4.ensures.value c.raise_rank_words.auto.ranks in
+    record {
+      few = rw same banks.few;
+      all_acts = left-words 16 banks.act.items banks.ranks _ same banks.all_acts;
+      all_act_groups = left-words 4 banks.act_groups.items banks.ranks _ same banks.all_act_groups;
+      all_rds = left-words 16 banks.rd.items banks.ranks _ same banks.all_rds;
+      all_rd_groups = all-words 4 banks.rd_groups _ _ banks.ranks _ c.deref_mut.ensures.value c.raise_data-to_rd.auto.words same banks.all_rd_groups;
+      all_wrs = left-words 16 banks.wr.items banks.ranks _ same banks.all_wrs;
+      all_wr_groups = all-words 4 banks.wr_groups _ _ banks.ranks _ c.deref_mut-2.ensures.value c.raise_data-to_wr.auto.words same banks.all_wr_groups;
+      all_pres = all-words 16 banks.pre _ _ banks.ranks _ c.deref_mut-3.ensures.value c.raise_own.auto.words same banks.all_pres;
+    }
 
 pub returns : goal.returns
 returns c command of names =

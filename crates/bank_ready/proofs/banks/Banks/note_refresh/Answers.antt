@@ -7,8 +7,23 @@ use Rattle.sim_base.specs.declared.command.Relation.TheVariants.{SameBank, Other
 use Rattle.bank_ready.specs.Ready.{held_until}
 use Rattle.bank_ready.specs.Words.{rd_word, wr_word}
 use Rattle.bank_ready.proofs.Bounds.{refresh_rank, refresh_nothing}
-use Rattle.bank_ready.proofs.Noting.{at_distances, lifted, rank-word, group-rank-word, alone, joint-groups, left, put-rank}
+use Rattle.bank_ready.proofs.Noting.{put-count, all-words, left-words, at_distances, lifted, rank-word, group-rank-word, alone, joint-groups, left, put-rank}
 use Rattle.bank_ready.proofs.banks.Banks.note_refresh.Goals as goal
+
+pub invariant_of-self : goal.invariant_of-self
+invariant_of-self c =
+    let banks = c.args.self.now in
+    let same = put-count banks.ranks _ _ c.deref_mut-3.ensures.value c.raise_rank_words.auto.ranks in
+    record {
+      few = rw same banks.few;
+      all_acts = left-words 16 banks.act.items banks.ranks _ same banks.all_acts;
+      all_act_groups = all-words 4 banks.act_groups _ _ banks.ranks _ c.deref_mut.ensures.value c.raise_rank_groups.auto.words same banks.all_act_groups;
+      all_rds = left-words 16 banks.rd.items banks.ranks _ same banks.all_rds;
+      all_rd_groups = left-words 4 banks.rd_groups.items banks.ranks _ same banks.all_rd_groups;
+      all_wrs = left-words 16 banks.wr.items banks.ranks _ same banks.all_wrs;
+      all_wr_groups = left-words 4 banks.wr_groups.items banks.ranks _ same banks.all_wr_groups;
+      all_pres = all-words 16 banks.pre _ _ banks.ranks _ c.deref_mut-2.ensures.value c.raise_rank.auto.words same banks.all_pres;
+    }
 
 pub returns : goal.returns
 returns c =

@@ -1,10 +1,30 @@
-use Rattle.std.proofs.Common.{rules, ◌≡◌, Some, IfSome, subst, sym}
+use Rattle.std.proofs.Common.{◌≡◌, ℕ, ◌⊎◌, Option, Some, None, IfSome, subst, sym, refl, inl, inr}
 use Rattle.sim_base.specs.KeyRanges.{key_accepts, key_default, IsAccepted}
+use Rattle.sim_base.specs.declared.key_table.WhereAbsent.{WhereAbsent}
+use Rattle.sim_base.specs.declared.key_table.WhereAbsent.TheVariants.{Number, Refused, Usual}
 use Rattle.sim_base.proofs.KeyLaws.{default-accepted}
 use Rattle.sim_base.proofs.key.Key.default_number.Goals as goal
+
+-- no number stands for a key where its row has none
+none : (default : Option ℕ) (absent : WhereAbsent) → ((n : ℕ) → default ≡ Some n → absent ≡ Number n) → ((n : ℕ) → absent ≡ Number n → ⊥) → None ≡ default
+none None absent is other = refl
+none (Some n) absent is other = absurd (other n (is n refl))
+
+pub returns-in-Number-clause-value : goal.returns-in-Number-clause-value
+returns-in-Number-clause-value c = sym ((c.row.ensures.absent c.in-Number.number).0 c.in-Number.is)
 
 pub returns-in-Number-clause-accepted : goal.returns-in-Number-clause-accepted
 returns-in-Number-clause-accepted c =
     let key = c.args.self in
-    let default : Some c.in-Number.number ≡ key_default key = search rules in
-    subst (λ o. IfSome o (IsAccepted (key_accepts key))) (sym default) (default-accepted key)
+    subst (λ o. IfSome o (IsAccepted (key_accepts key))) ((c.row.ensures.absent c.in-Number.number).0 c.in-Number.is) (default-accepted key)
+
+-- a row without a number
+no_number : (absent : WhereAbsent) → (absent ≡ Refused) ⊎ (absent ≡ Usual) → (n : ℕ) → absent ≡ Number n → ⊥
+no_number absent (inl refused) n e = cc
+no_number absent (inr usual) n e = cc
+
+pub returns-in-Refused : goal.returns-in-Refused
+returns-in-Refused c = record {
+  value = none (key_default c.args.self) c.row.result.now.absent (λ n. (c.row.ensures.absent n).1) (no_number c.row.result.now.absent c.in-Refused.is);
+  accepted = tt;
+}
