@@ -313,6 +313,18 @@ fn sort_by_arrival(alloc: Global, messages: &mut [Message]) -> Result<(), AllocE
     messages.sort_by_key(alloc, |message| message.arrival)
 }
 
+/// Does so where they are many.
+#[inline(always)]
+fn sort_if_many(alloc: Global, messages: &mut [Message]) -> Result<(), AllocError>
+    ensures same { IsPermutation messages.old messages.new }
+    ensures puts { JoinAlike messages.old messages.new }
+{
+    if messages.len() > FEW_MESSAGES {
+        sort_by_arrival(alloc, messages)?;
+    }
+    Ok(())
+}
+
 /// Puts messages into the rings that they go to; they may change places. Where memory is refused, the same messages
 /// stand in the rings as before.
 #[inline(always)]
@@ -334,9 +346,7 @@ fn take_up(
     if let [message] = messages {
         return put_one(alloc, rings, numbers, channels, message);
     }
-    if messages.len() > FEW_MESSAGES {
-        sort_by_arrival(alloc, messages)?;
-    }
+    sort_if_many(alloc, messages)?;
     make_room_for(alloc, rings, numbers, channels, messages)?;
     put_all(rings, numbers, channels, messages);
     Ok(())
