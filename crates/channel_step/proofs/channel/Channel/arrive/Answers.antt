@@ -1,6 +1,6 @@
 use Rattle.std.proofs.Common.{◌≡◌, ◌<◌, ◌∙◌, ℕ, ◌++◌, Option, length, take, drop, true, sym, ap, subst, arith}
 use Rattle.std.specs.List.{All}
-use Rattle.std.proofs.lemmas.List.{append-nil, length-take}
+use Rattle.std.proofs.lemmas.List.{length-take}
 use Rattle.sim_base.specs.History.{issued_commands}
 use Rattle.sim_base.specs.Rules.{open_row}
 use Rattle.bank_ready.specs.Stands.{rank_count}
@@ -93,13 +93,6 @@ returns-clause-in_cycle c s channel steps mail until stands at l f =
     subst (λ k. IsInCycle c.reconsider.new.self s channel steps (mail ++ take k inbox)) (sym due)
     (subst (λ (z : Channel). IsInCycle z s channel steps (mail ++ take (due_count inbox c.args.now) inbox)) (sym c.reconsider.ensures.rest)
     (arrived-stands y s channel steps mail inbox c.args.now until q c.on_arrival.new.self c.reconsider.new.self.ahead h at l f joined c.on_arrival.ensures.banks new known))
-
-pub returns-then-due-eq0-clause-some : goal.returns-then-due-eq0-clause-some
-returns-then-due-eq0-clause-some c = sym c.if-due-eq0.true ∙ c.due_count-due.ensures
-
-pub returns-then-due-eq0-clause-in_cycle : goal.returns-then-due-eq0-clause-in_cycle
-returns-then-due-eq0-clause-in_cycle c s channel steps mail until stands at l f =
-    subst (IsInCycle c.decide_drain.new.self s channel steps) (sym (append-nil mail)) (c.decide_drain.ensures s channel steps mail stands)
 
 pub admit-requires-clause-room : goal.admit-requires-clause-room
 admit-requires-clause-room c = omega (arith, c.make_room.ensures.room, length-take c.due_count-due.result c.args.inbox.now)
