@@ -1,6 +1,6 @@
 //! A channel that is run alone over a span of cycles.
 
-ghost use Rattle.std.specs.Prelude.{◌≡◌, true, false, ℕ, ◌+◌, ◌-◌, ◌*◌, ◌<◌, ◌≤◌, ◌^◌, ◌==◌, take, take_while, ◌++◌, List, [], ◌∷◌, length, Some, is_some, nat_le, IfOk, OnOk};
+ghost use Rattle.std.specs.Prelude.{◌≡◌, true, false, ℕ, ◌+◌, ◌-◌, ◌*◌, ◌<◌, ◌≤◌, ◌^◌, ◌==◌, take, take_while, ◌++◌, List, [], ◌∷◌, length, Some, None, is_some, nat_le, IfOk, OnOk};
 ghost use Rattle.sim_base.specs.History.{issued_commands};
 ghost use Rattle.sim_base.specs.Rules.{open_row};
 ghost use Rattle.sim_base.specs.Scheduling.{choice, due};
@@ -9,9 +9,10 @@ ghost use Rattle.sim_base.specs.declared.command.Command.{Command};
 ghost use Rattle.sim_base.specs.declared.command.IssuedCommand.{IssuedCommand};
 ghost use Rattle.sim_base.specs.declared.message.Message.{Message};
 ghost use Rattle.bank_ready.specs.Refreshes.{lowest_owed};
-ghost use Rattle.bank_ready.specs.Stands.{rank_count};
+ghost use Rattle.bank_ready.specs.Stands.{rank_count, StandsFor as BanksStandFor};
 ghost use Rattle.queue.specs.Log.{waiting_requests};
-ghost use Rattle.queue.specs.View.{QueueView, renumbered};
+ghost use Rattle.queue.specs.Stands.{bank_count, StandsFor as CandidatesStandFor};
+ghost use Rattle.queue.specs.View.{QueueView, empty_queue, renumbered};
 ghost use Rattle.fr_fcfs.specs.Choices.{HasPlace, command_of};
 ghost use Rattle.fr_fcfs.specs.declared.choice.Choice.TheVariants as chosen;
 ghost use Rattle.fr_fcfs.specs.Requests.{AreInBanks, OfSameBanks};
@@ -80,18 +81,19 @@ impl Channel {
     pub fn start(alloc: Global, config: &Config, number: ChannelId) -> Result<Channel, AllocError>
         ensures { IfOk result (λ channel. StandsFor channel config.now number [] []) }
     {
-        let room = room_of(config);
+        let (own, queue) = copy_and_queue(alloc, config)?;
+        let (banks, bank_candidates) = banks_and_candidates(alloc, config)?;
         let mut stats = ChannelStats::new();
         stats.draining = drained(config, 0);
         Ok(Channel {
-            config: config.copy(alloc)?,
+            config: own,
             number,
             cycle: 0,
-            queue: Queue::with_room(alloc, room, config.write_high, config.write_low)?,
-            banks: Banks::new(alloc, config)?,
+            queue,
+            banks,
             refresh: Refresh::new(config.timing.n_refi, config.ranks),
             stats,
-            bank_candidates: BankCandidates::with_room(alloc, banks_of(config))?,
+            bank_candidates,
             ahead: Ahead::Unknown,
             served: None,
         })
@@ -766,6 +768,32 @@ fn room_of(config: &Config) -> usize
 {
     let credits = config.read_credits as usize + config.write_credits as usize;
     usize::from(config.cores) * credits
+}
+
+/// A copy of a configuration, and a channel's queue before its first request.
+fn copy_and_queue(alloc: Global, config: &Config) -> Result<(Config, Queue), AllocError>
+    ensures copy { IfOk result (λ parts. parts.0 ≡ config.now) }
+    ensures queue { IfOk result (λ parts. parts.1
+        ≡ empty_queue (queue_room config.now) config.now.write_high config.now.write_low) }
+{
+    let copy = config.copy(alloc)?;
+    let room = room_of(config);
+    let queue = Queue::with_room(alloc, room, config.write_high, config.write_low)?;
+    Ok((copy, queue))
+}
+
+/// A channel's banks, which were never used, and the candidates of an empty log.
+fn banks_and_candidates(
+    alloc: Global,
+    config: &Config,
+) -> Result<(Banks, BankCandidates), AllocError>
+    ensures banks { IfOk result (λ parts. BanksStandFor parts.0 config.now []) }
+    ensures count { IfOk result (λ parts. bank_count parts.1 ≡ 16 * config.now.ranks) }
+    ensures candidates { IfOk result (λ parts. CandidatesStandFor parts.1 [] (λ bank. None)) }
+{
+    let banks = Banks::new(alloc, config)?;
+    let candidates = BankCandidates::with_room(alloc, banks_of(config))?;
+    Ok((banks, candidates))
 }
 
 /// How many banks a channel has.

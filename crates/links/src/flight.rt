@@ -313,6 +313,45 @@ fn sort_by_arrival(alloc: Global, messages: &mut [Message]) -> Result<(), AllocE
     messages.sort_by_key(alloc, |message| message.arrival)
 }
 
+/// Does so where they are many.
+#[inline(always)]
+fn sort_if_many(alloc: Global, messages: &mut [Message]) -> Result<(), AllocError>
+    ensures same { IsPermutation messages.old messages.new }
+    ensures puts { JoinAlike messages.old messages.new }
+{
+    if messages.len() > FEW_MESSAGES {
+        sort_by_arrival(alloc, messages)?;
+    }
+    Ok(())
+}
+
+/// Puts messages into the rings that they go to; they may change places. Where memory is refused, the same messages
+/// stand in the rings as before.
+#[inline(always)]
+fn take_up(
+    alloc: Global,
+    rings: &mut Vec<Ring>,
+    numbers: &[usize],
+    channels: u16,
+    messages: &mut [Message],
+) -> Result<(), AllocError>
+    requires channels { 0 < channels }
+    requires numbers { AreNumbers channels numbers.now }
+    requires rings { AreRings channels 0 (contents rings.old.items) }
+    ensures rings { AreRings channels 0 (contents rings.new.items) }
+    ensures same { IsPermutation messages.old messages.new }
+    ensures ok { OnOk result (HaveGained rings.old.items rings.new.items messages.old) }
+    ensures err { OnErr result (HoldSame rings.old.items rings.new.items) }
+{
+    if let [message] = messages {
+        return put_one(alloc, rings, numbers, channels, message);
+    }
+    sort_if_many(alloc, messages)?;
+    make_room_for(alloc, rings, numbers, channels, messages)?;
+    put_all(rings, numbers, channels, messages);
+    Ok(())
+}
+
 /// Takes what arrives before a cycle out of a ring, into an empty list. Where memory is refused, the rings stay as
 /// they were.
 #[inline(always)]
@@ -462,28 +501,13 @@ impl Links {
         ensures ok { OnOk result (self.new ≡ with_sent self.old messages.old) }
         ensures err { OnErr result (self.new ≡ self.old) }
     {
-        if let [message] = messages {
-            put_one(
-                self.alloc,
-                &mut self.rings,
-                &self.numbers,
-                self.channels,
-                message,
-            )?;
-            return Ok(());
-        }
-        if messages.len() > FEW_MESSAGES {
-            sort_by_arrival(self.alloc, messages)?;
-        }
-        make_room_for(
+        take_up(
             self.alloc,
             &mut self.rings,
             &self.numbers,
             self.channels,
             messages,
-        )?;
-        put_all(&mut self.rings, &self.numbers, self.channels, messages);
-        Ok(())
+        )
     }
 
     /// Takes out the messages to a unit that arrive before the cycle `until`, by age, into an empty list. Nothing in

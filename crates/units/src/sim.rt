@@ -1,8 +1,13 @@
 //! All units of a machine between two spans.
 
 ghost use Rattle.std.specs.Prelude.{◌≡◌, ◌<◌, ◌≤◌, ◌+◌, true, false, List, length, is_some, [], IfOk, OnOk, IfSome, IfNone};
+ghost use Rattle.std.specs.Arc.{arc_value};
+ghost use Rattle.sim_base.specs.History.{trace_of};
 ghost use Rattle.channel_step.specs.Channels.{StandsFor as ChannelStandsFor};
+ghost use Rattle.core_window.specs.CoreViews.{view_of};
+ghost use Rattle.core_window.specs.Stands.{StandsFor as CoreStandsFor};
 ghost use Rattle.units.specs.Drained.{GoesOn, NotEnded};
+ghost use Rattle.units.specs.Kept.{command_table_if, request_table_if};
 ghost use Rattle.units.specs.Parts.{StandAt};
 ghost use Rattle.units.specs.Stops.{IsWholeUnlessDrained, HasNoMore};
 ghost use Rattle.units.specs.Units.{unit_count};
@@ -13,16 +18,18 @@ use crate::drained::{all_finished, cores_until, flight_until};
 use crate::ending::{channels_left, cores_left};
 use crate::machine::Machine;
 use crate::part::UnitState;
-use crate::tables::{Kept, command_table, kept_by_channel, request_table};
+use crate::tables::tables_of;
 use channel_step::channel::Channel;
 use command_table::list::CommandList;
+use command_table::table::CommandTable;
 use core_window::core_unit::Core;
 use cpu_trace::trace::Trace;
 use links::flight::Links;
+use request_table::table::RequestTable;
 use run_outcome::outcome::Outcome;
 use run_outcome::tables::Tables;
 use sim_base::config::Config;
-use sim_base::message::{ChannelId, Cycle};
+use sim_base::message::{ChannelId, CoreId, Cycle};
 use statistics::final_state::FinalState;
 use statistics::stats::Stats;
 use std::alloc::{AllocError, Global};
@@ -58,19 +65,28 @@ impl Model for Sim {
     ghost invariant = { λ m. IsSim (arc_value m.machine) m.now m.phase m.parts.items m.links };
 }
 
-/// The cores of a machine before the first cycle.
-fn first_cores(alloc: Global, machine: &Machine) -> Result<Vec<UnitState>, AllocError>
+/// A core of a machine before the first cycle.
+fn first_core(alloc: Global, machine: &Machine, core: CoreId) -> Result<Core, AllocError>
+    requires core { core < machine.now.config.cores }
     requires one_each { length machine.now.traces.items ≡ machine.now.config.cores }
-    ensures count { IfOk result (λ parts. length parts.items ≡ machine.now.config.cores) }
-    ensures stand { IfOk result (λ parts. StandAt machine.now 0 parts.items) }
+    ensures { IfOk result (λ own. CoreStandsFor machine.now.config core
+        (trace_of machine.now.traces.items core) [] [] (view_of own)) }
 {
-    let config = &machine.config;
-    let mut parts = Vec::new(alloc);
-    for core in 0..config.cores {
-        let trace = machine.traces[core as usize].copy()?;
-        parts.push(UnitState::Core(Core::start(alloc, config, core, trace)?))?;
+    let trace = machine.traces[core as usize].copy()?;
+    Core::start(alloc, &machine.config, core, trace)
+}
+
+/// Puts the cores of a machine before the first cycle into an empty list.
+fn add_cores(alloc: Global, machine: &Machine, parts: &mut Vec<UnitState>) -> Result<(), AllocError>
+    requires none { parts.old.items ≡ [] }
+    requires one_each { length machine.now.traces.items ≡ machine.now.config.cores }
+    ensures count { OnOk result (length parts.new.items ≡ machine.now.config.cores) }
+    ensures stand { OnOk result (StandAt machine.now 0 parts.new.items) }
+{
+    for core in 0..machine.config.cores {
+        parts.push(UnitState::Core(first_core(alloc, machine, core)?))?;
     }
-    Ok(parts)
+    Ok(())
 }
 
 /// A list for the commands of a channel, if they are kept.
@@ -121,6 +137,34 @@ fn add_channels(
     Ok(())
 }
 
+/// The units of a machine before the first cycle. Its channels keep what these tables hold.
+fn first_parts(
+    alloc: Global,
+    machine: &Machine,
+    tables: Tables,
+) -> Result<Vec<UnitState>, AllocError>
+    requires one_each { length machine.now.traces.items ≡ machine.now.config.cores }
+    ensures count { IfOk result (λ parts. length parts.items ≡ unit_count machine.now.config) }
+    ensures stand { IfOk result (λ parts. StandAt machine.now 0 parts.items) }
+{
+    let mut parts = Vec::new(alloc);
+    add_cores(alloc, machine, &mut parts)?;
+    add_channels(alloc, machine, tables, &mut parts)?;
+    Ok(parts)
+}
+
+/// A machine with a copy of a configuration.
+fn shared_machine(
+    alloc: Global,
+    config: &Config,
+    traces: Vec<Trace>,
+) -> Result<Arc<Machine>, AllocError>
+    ensures { IfOk result (λ machine. arc_value machine ≡ machine_with config.now traces) }
+{
+    let config = config.copy(alloc)?;
+    Ok(Arc::new(alloc, Machine { config, traces })?)
+}
+
 impl Sim {
     /// A machine before its first cycle, with a trace for each core, which keeps what these tables of its run hold.
     /// The only error is out of memory.
@@ -133,13 +177,11 @@ impl Sim {
         requires one_each { length traces.items ≡ config.now.cores }
         ensures { IfOk result (λ sim. sim ≡ first_view (machine_with config.now traces)) }
     {
-        let config = config.copy(alloc)?;
-        let machine = Machine { config, traces };
-        let mut parts = first_cores(alloc, &machine)?;
-        add_channels(alloc, &machine, tables, &mut parts)?;
-        let links = Links::start(alloc, &machine.config)?;
+        let machine = shared_machine(alloc, config, traces)?;
+        let links = Links::start(alloc, config)?;
+        let parts = first_parts(alloc, &machine, tables)?;
         Ok(Sim {
-            machine: Arc::new(alloc, machine)?,
+            machine,
             now: 0,
             phase: 0,
             parts,
@@ -212,8 +254,7 @@ impl Sim {
         let machine: &Machine = &self.machine;
         let cores = stats_of_cores(alloc, machine, &self.parts)?;
         let channels = stats_of_channels(alloc, machine, &self.parts)?;
-        let stats = Stats::of_parts(alloc, self.now, &cores, &channels)?;
-        Ok(stats)
+        Stats::of_parts(alloc, self.now, &cores, &channels)
     }
 
     /// The state in which the machine is left: that of each unit, and the messages in flight.
@@ -228,6 +269,36 @@ impl Sim {
         })
     }
 
+    /// The statistics of the cycles that are over, and the state in which they left the machine.
+    fn told(&self, alloc: Global) -> Result<(Stats, FinalState), AllocError>
+        ensures stats { IfOk result (λ told. told.0 ≡ stats_now self.entry.now) }
+        ensures last { IfOk result (λ told. told.1 ≡ last_now self.entry.now) }
+    {
+        let stats = self.stats(alloc)?;
+        let last = self.final_state(alloc)?;
+        Ok((stats, last))
+    }
+
+    /// The tables of the cycles that are over, where they are asked for.
+    fn into_tables(
+        self,
+        alloc: Global,
+        tables: Tables,
+    ) -> Result<(Option<CommandTable>, Option<RequestTable>), AllocError>
+        ensures commands { IfOk result (λ made. made.0
+            ≡ command_table_if tables.commands self.machine self.now) }
+        ensures requests { IfOk result (λ made. made.1
+            ≡ request_table_if tables.requests self.machine self.now) }
+    {
+        let Sim {
+            machine,
+            now,
+            parts,
+            ..
+        } = self;
+        tables_of(alloc, &machine, now, parts, tables)
+    }
+
     /// What the run of the cycles that are over did and left: the commands of all channels by cycle and then by
     /// channel, and the requests that they serve, if their table is asked for, the statistics, and the state before
     /// the cycle where the simulator stands. The only error is out of memory; a table that is asked for here and was
@@ -235,22 +306,16 @@ impl Sim {
     pub fn outcome(self, alloc: Global, tables: Tables) -> Result<Outcome, AllocError>
         ensures { IfOk result (λ outcome. outcome ≡ outcome_now tables self) }
     {
-        let stats = self.stats(alloc)?;
-        let last = self.final_state(alloc)?;
-        let Sim {
-            machine,
-            now,
-            parts,
-            ..
-        } = self;
-        let Kept { commands, served } = kept_by_channel(alloc, &machine, now, parts, tables)?;
+        let ranks = self.machine.config.ranks;
+        let (stats, last) = self.told(alloc)?;
+        let (commands, requests) = self.into_tables(alloc, tables)?;
         Ok(Outcome {
             tables,
-            commands: command_table(&machine, now, commands),
-            requests: request_table(alloc, &machine, now, served)?,
+            commands,
+            requests,
             stats,
             last,
-            ranks: machine.config.ranks,
+            ranks,
         })
     }
 }

@@ -24,9 +24,9 @@ use std::alloc::{AllocError, Global};
 /// What the channels of a machine kept, by number: the commands of each, and the requests that it served, where a
 /// table is asked for.
 #[derive(Drop)]
-pub(crate) struct Kept {
-    pub(crate) commands: Option<Vec<CommandList>>,
-    pub(crate) served: Option<Vec<ServedList>>,
+struct Kept {
+    commands: Option<Vec<CommandList>>,
+    served: Option<Vec<ServedList>>,
 }
 
 /// No lists, where some are asked for.
@@ -78,15 +78,15 @@ fn add_part(kept: &mut Kept, part: UnitState) -> Result<(), AllocError>
     match part {
         UnitState::Core(_) => Ok(()),
         UnitState::Channel(channel, commands) => {
-            add(&mut kept.commands, commands)?;
-            add(&mut kept.served, list_of(channel))
+            add(&mut kept.served, list_of(channel))?;
+            add(&mut kept.commands, commands)
         }
     }
 }
 
 /// What each channel kept, by number, where these tables are asked for. A channel that did not keep what is asked for
 /// is refused as if there was no memory to keep it.
-pub(crate) fn kept_by_channel(
+fn kept_by_channel(
     alloc: Global,
     machine: &Machine,
     now: Cycle,
@@ -112,7 +112,7 @@ pub(crate) fn kept_by_channel(
 
 /// The commands of all channels, by cycle and then by channel, if they were kept. They stay where they are: no list
 /// is copied, and none is sorted.
-pub(crate) fn command_table(
+fn command_table(
     machine: &Machine,
     now: Cycle,
     lists: Option<Vec<CommandList>>,
@@ -125,7 +125,7 @@ pub(crate) fn command_table(
 
 /// The requests of all channels, by the cycle of their command and then by channel, if they were kept. They stay
 /// where they are as well. The only error is out of memory.
-pub(crate) fn request_table(
+fn request_table(
     alloc: Global,
     machine: &Machine,
     now: Cycle,
@@ -138,4 +138,24 @@ pub(crate) fn request_table(
         Some(lists) => Ok(Some(RequestTable::of(alloc, &machine.config, now, lists)?)),
         None => Ok(None),
     }
+}
+
+/// The tables of all commands and of all requests of a machine, where they are asked for.
+pub(crate) fn tables_of(
+    alloc: Global,
+    machine: &Machine,
+    now: Cycle,
+    parts: Vec<UnitState>,
+    tables: Tables,
+) -> Result<(Option<CommandTable>, Option<RequestTable>), AllocError>
+    requires count { length parts.items ≡ unit_count machine.now.config }
+    requires stand { StandAt machine.now now parts.items }
+    ensures commands { IfOk result (λ made. made.0
+        ≡ command_table_if tables.commands machine.now now) }
+    ensures requests { IfOk result (λ made. made.1
+        ≡ request_table_if tables.requests machine.now now) }
+{
+    let Kept { commands, served } = kept_by_channel(alloc, machine, now, parts, tables)?;
+    let requests = request_table(alloc, machine, now, served)?;
+    Ok((command_table(machine, now, commands), requests))
 }

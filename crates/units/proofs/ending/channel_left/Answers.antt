@@ -17,3 +17,12 @@ returns c =
     left_of (c.in_ok-all_due-in-Channel.ensures {u = tt}) (c.in_ok-open_rows-in-Channel.ensures {u = tt})
     (c.in_ok-requests-in-Channel.ensures {u = tt} s number (channel_steps_of s traces now number) (mail_before s traces now (unit.Channel number) now) stands.0)
     ∙ channel_left_is s traces number now
+
+pub unreachable-unreachable : goal.unreachable-unreachable
+unreachable-unreachable c = subst (IsPart c.args.machine.now (unit.Channel c.args.number) c.args.now) c.in-Core.is c.requires.stands
+
+pub all_due-requires : goal.all_due-requires
+all_due-requires c = record { stands = (subst (IsPart c.args.machine.now (unit.Channel c.args.number) c.args.now) c.in-Channel.is c.requires.stands).0 }
+
+pub open_rows-requires : goal.open_rows-requires
+open_rows-requires c = record { stands = (subst (IsPart c.args.machine.now (unit.Channel c.args.number) c.args.now) c.in-Channel.is c.requires.stands).0 }

@@ -1,9 +1,10 @@
 use Rattle.std.proofs.Common.{◌≡◌, ◌-◌, ◌++◌, [], length, take, Some, None, sym, ap, ap₂, subst, ◌∙◌, arith}
 use Rattle.std.proofs.lemmas.List.{append-nil}
+use Rattle.std.proofs.lemmas.Result.{err_from_is_err_and, IfOk-from_err}
 use Rattle.sim_base.specs.History.{issued_commands, messages_at}
 use Rattle.channel_step.specs.Runs.{issued_in, with_more}
 use Rattle.channel_step.proofs.Running.{with_more-none}
-use Rattle.std.specs.Prelude.{replicate}
+use Rattle.std.specs.Prelude.{replicate, is_err}
 use Rattle.queue.specs.View.{QueueView}
 use Rattle.fr_fcfs.specs.Choices.{command_of, IsFor}
 use Rattle.channel_step.specs.Channels.{IsNextBefore}
@@ -191,3 +192,11 @@ returns-in-None-clause-done c s channel steps mail stands at f =
       commands_are = sym (with_more-none c.args.commands.now);
       messages_are = sym (append-nil c.args.messages.now.items);
     }
+
+pub arrive-arrived-requires : goal.arrive-arrived-requires
+arrive-arrived-requires c = record { until = c.args.cycles.end; before_end = c.requires.span; can_run = c.requires.can_run }
+
+pub returns-in_err-perform-in-Some-clause-done : goal.returns-in_err-perform-in-Some-clause-done
+returns-in_err-perform-in-Some-clause-done c s channel steps mail stands at f =
+    let p = err_from_is_err_and c.from_residual.result c.from_residual.ensures.1 in
+    IfOk-from_err c.from_residual.result _ (ap is_err p.1)

@@ -1,5 +1,6 @@
-use Rattle.std.proofs.Common.{◌≡◌, ◌<◌, ◌∙◌, ℕ, ◌++◌, Option, length, take, drop, true, sym, ap, subst}
+use Rattle.std.proofs.Common.{◌≡◌, ◌<◌, ◌∙◌, ℕ, ◌++◌, Option, length, take, drop, true, sym, ap, subst, arith}
 use Rattle.std.specs.List.{All}
+use Rattle.std.proofs.lemmas.List.{length-take}
 use Rattle.sim_base.specs.History.{issued_commands}
 use Rattle.sim_base.specs.Rules.{open_row}
 use Rattle.bank_ready.specs.Stands.{rank_count}
@@ -92,3 +93,18 @@ returns-clause-in_cycle c s channel steps mail until stands at l f =
     subst (λ k. IsInCycle c.reconsider.new.self s channel steps (mail ++ take k inbox)) (sym due)
     (subst (λ (z : Channel). IsInCycle z s channel steps (mail ++ take (due_count inbox c.args.now) inbox)) (sym c.reconsider.ensures.rest)
     (arrived-stands y s channel steps mail inbox c.args.now until q c.on_arrival.new.self c.reconsider.new.self.ahead h at l f joined c.on_arrival.ensures.banks new known))
+
+pub admit-requires-clause-room : goal.admit-requires-clause-room
+admit-requires-clause-room c = omega (arith, c.make_room.ensures.room, length-take c.due_count-due.result c.args.inbox.now)
+
+pub admit-requires-clause-places : goal.admit-requires-clause-places
+admit-requires-clause-places c = omega (arith, c.make_room.ensures.places, length-take c.due_count-due.result c.args.inbox.now)
+
+pub reconsider-requires-clause-banks : goal.reconsider-requires-clause-banks
+reconsider-requires-clause-banks c =
+    let p = c.requires.can_run in
+    let h = c.make_room.ensures.stands p.s p.channel p.steps p.mail p.stands in
+    omega (arith, h.made_for.banks_are, h.banks_stand.ranks, c.on_arrival.ensures.banks)
+
+pub returns-clause-some : goal.returns-clause-some
+returns-clause-some c = c.due_count-due.ensures

@@ -1,4 +1,4 @@
-use Rattle.std.proofs.Common.{◌≡◌, ◌++◌, false, length, get_or, Some, None, sym, ap, subst, ◌∙◌, arith}
+use Rattle.std.proofs.Common.{◌≡◌, ◌<◌, ◌++◌, false, length, get_or, Some, None, sym, ap, subst, ◌∙◌, arith}
 use Rattle.std.specs.Result.{OnOk}
 use Rattle.std.proofs.lemmas.Result.{on_ok_weaker}
 use Rattle.sim_base.specs.History.{issued_commands, messages_of}
@@ -10,6 +10,7 @@ use Rattle.sim_base.specs.declared.command.Command.TheVariants.{Pre}
 use Rattle.sim_base.specs.declared.place.BankId.{BankId}
 use Rattle.sim_base.specs.declared.place.Place.{Place}
 use Rattle.queue.specs.Log.{absent, LogView}
+use Rattle.channel_step.specs.Channels.{seen_with}
 use Rattle.channel_step.specs.Queued.{request_at}
 use Rattle.channel_step.specs.Runs.{HasIssued}
 use Rattle.channel_step.proofs.Issuing.{seen-told, has-issued, silent-act, silent-pre}
@@ -173,3 +174,13 @@ returns-in-Some-2 c s channel steps mail h chosen =
     let is : needed history r ≡ column_command r = needed-moving history r c.in-Some.row (sym c.in-Some.is ∙ opens) (c.if-row-place.false ∙ ap (λ (q : Place). q.row) place) in
     subst (λ (z : Command). OnOk c.move_data.result (HasIssued c.move_data.new.self s channel steps mail z c.args.commands.now c.move_data.new.commands c.args.messages.now.items c.move_data.new.messages.items)) (sym is)
     (c.move_data.ensures s channel steps mail h (ap Some (sym is) ∙ chosen))
+
+pub bounds-log-slot : goal.bounds-log-slot
+bounds-log-slot c =
+    subst (λ l. c.args.slot < length l) (sym (c.log-2.ensures.log ∙ ap (λ (v : LogView). v.log) c.log.ensures)) c.requires.chosen.place.0
+
+pub move_data-requires-clause-seen : goal.move_data-requires-clause-seen
+move_data-requires-clause-seen c = c.seen-seen.ensures ∙ ap (seen_with c.args.self.now) c.refreshing.ensures
+
+pub move_data-requires-clause-early : goal.move_data-requires-clause-early
+move_data-requires-clause-early c = c.requires.early

@@ -1,4 +1,4 @@
-use Rattle.std.proofs.Common.{◌≡◌, ◌++◌, get_or, sym, ap, ap₂, subst, ◌∙◌}
+use Rattle.std.proofs.Common.{◌≡◌, ◌++◌, get_or, sym, ap, ap₂, subst, ◌∙◌, arith, length, ◌<◌}
 use Rattle.std.proofs.lemmas.Result.{on_ok_weaker}
 use Rattle.sim_base.specs.declared.config.Config.{Config}
 use Rattle.sim_base.specs.History.{messages_of}
@@ -45,3 +45,19 @@ returns c s channel steps mail h chosen =
     ∙ ap (λ (z : Config). before ++ messages_of z c.issue.new.self.number x.cycle (column_command r)) stands.made_for.config_is
     ∙ ap₂ (λ number t. before ++ messages_of s number t (column_command r)) stands.made_for.number_is h.cycle_is))
     c.send.ensures
+
+pub bounds-log-slot : goal.bounds-log-slot
+bounds-log-slot c =
+    subst (λ l. c.args.slot < length l) (sym (c.log-2.ensures.log ∙ ap (λ (v : LogView). v.log) c.log.ensures)) c.requires.doing.within
+
+pub serve-requires : goal.serve-requires
+serve-requires c = c.requires.doing
+
+pub issue-requires-clause-early : goal.issue-requires-clause-early
+issue-requires-clause-early c =
+    let p = c.requires.doing in
+    let ready = c.in_ok-hit.ensures {u = tt} p.s p.channel p.steps p.mail p.is_in p.is_chosen in
+    omega (arith, ready.cycle_is, p.is_in.cycle_is, c.requires.early)
+
+pub send-requires : goal.send-requires
+send-requires c = c.requires.early

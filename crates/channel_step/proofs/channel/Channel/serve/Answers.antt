@@ -53,3 +53,9 @@ returns c s channel steps mail h chosen =
     (subst (λ (q : QueueView). IsReadied (record x { queue = q; bank_candidates = c.on_service.new.self; served = c.keep_served.new.kept }) s channel steps mail (column_command r) hit) (sym c.serve-unblocked.ensures.log)
     (served-readied x s channel steps mail slot c.on_service.new.self c.keep_served.new.kept h c.requires.within c.requires.waits chosen c.on_service.ensures.banks stands
     (c.in_ok-keep_served.ensures ∙ ap (λ (a : Arrived). with_more (rows_in x.served) (served_now x.number x.cycle a.request (not a.activated) ∷ [])) left)))
+
+pub serve-unblocked-requires-clause-within : goal.serve-unblocked-requires-clause-within
+serve-unblocked-requires-clause-within c = c.requires.within
+
+pub serve-unblocked-requires-clause-waits : goal.serve-unblocked-requires-clause-waits
+serve-unblocked-requires-clause-waits c = c.requires.waits

@@ -1,8 +1,9 @@
 -- The parts change a core as what it does in the cycle says.
 use Rattle.std.proofs.Common.{◌≡◌, ◌∙◌, ◌+◌, List, length, sym, ap, refl, subst, arith}
-use Rattle.std.specs.Prelude.{slice_get, None}
+use Rattle.std.specs.Prelude.{slice_get, None, is_err}
 use Rattle.std.specs.Vec.{with_items}
 use Rattle.std.proofs.lemmas.List.{with_items_is}
+use Rattle.std.proofs.lemmas.Result.{IfOk-from_err, err_from_is_err_and}
 use Rattle.statistics.specs.Cores.{core_joined, CoreFits}
 use Rattle.statistics.specs.declared.cores.CoreStats.{CoreStats}
 use Rattle.statistics.specs.declared.final_state.Credits.{Credits}
@@ -70,3 +71,24 @@ look_ahead-requires-clause-within c =
 
 pub look_ahead-requires-clause-room : goal.look_ahead-requires-clause-room
 look_ahead-requires-clause-room c = two_least c.args.self.now.trace _ _ _ c.args.self.now.seen.ahead
+
+pub returns-in_err-wait_for-clause-cycle : goal.returns-in_err-wait_for-clause-cycle
+returns-in_err-wait_for-clause-cycle c = IfOk-from_err c.from_residual.result _ (ap is_err (err_from_is_err_and c.from_residual.result c.from_residual.ensures.1).1)
+
+pub returns-in_err-wait_for-clause-advances : goal.returns-in_err-wait_for-clause-advances
+returns-in_err-wait_for-clause-advances c = IfOk-from_err c.from_residual.result _ (ap is_err (err_from_is_err_and c.from_residual.result c.from_residual.ensures.1).1)
+
+pub returns-in_err-send-clause-cycle : goal.returns-in_err-send-clause-cycle
+returns-in_err-send-clause-cycle c = IfOk-from_err c.from_residual-in_err-send.result _ (ap is_err (err_from_is_err_and c.from_residual-in_err-send.result c.from_residual-in_err-send.ensures.1).1)
+
+pub returns-in_err-send-clause-advances : goal.returns-in_err-send-clause-advances
+returns-in_err-send-clause-advances c = IfOk-from_err c.from_residual-in_err-send.result _ (ap is_err (err_from_is_err_and c.from_residual-in_err-send.result c.from_residual-in_err-send.ensures.1).1)
+
+pub send-requires-clause-early : goal.send-requires-clause-early
+send-requires-clause-early c = c.requires.early
+
+pub returns-clause-cycle : goal.returns-clause-cycle
+returns-clause-cycle c = refl
+
+pub look_ahead-requires-clause-second : goal.look_ahead-requires-clause-second
+look_ahead-requires-clause-second c = c.args.self.now.known.second

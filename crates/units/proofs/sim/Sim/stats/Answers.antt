@@ -1,4 +1,5 @@
-use Rattle.std.proofs.Common.{◌∙◌, sym, ap, ap₂, subst}
+use Rattle.std.proofs.Common.{◌≡◌, ◌∙◌, sym, ap, ap₂, subst}
+use Rattle.std.specs.Prelude.{IfOk}
 use Rattle.std.specs.Arc.{arc_value}
 use Rattle.statistics.specs.Values.{RunStats}
 use Rattle.units.specs.Parts.{StandAt}
@@ -21,7 +22,8 @@ returns c =
     (subst (λ parts. StandAt machine f.now parts) (sym c.deref-2.ensures.value) c.self.invariant.stand) in
     let cores = (c.in_ok-cores.ensures {u = tt}) f.now for_cores ∙ ap (λ (m : Machine). each_core_stats m f.now) e in
     let channels = (c.in_ok-channels.ensures {u = tt}) f.now for_channels ∙ ap (λ (m : Machine). each_channel_stats m f.now) e in
-    c.in_ok-stats.ensures {u = tt}
-    ∙ ap₂ {C = RunStats} (λ xs ys. record { cycles = f.now; cores = xs; channels = ys }) (c.deref-3.ensures.value ∙ cores) (c.deref-4.ensures.value ∙ channels)
+    subst (λ told. IfOk c.of_parts.result (λ x. x ≡ told))
+    (ap₂ {C = RunStats} (λ xs ys. record { cycles = f.now; cores = xs; channels = ys }) (c.deref-3.ensures.value ∙ cores) (c.deref-4.ensures.value ∙ channels)
     ∙ stats-are s traces f.now
-    ∙ ap (λ (v : SimView). stats_now v) c.self.view_is
+    ∙ ap (λ (v : SimView). stats_now v) c.self.view_is)
+    c.of_parts.ensures

@@ -1,0 +1,41 @@
+use Rattle.std.proofs.Common.{Result, Ok, Err, refl, ap, ◌∙◌}
+use Rattle.std.specs.declared.alloc.AllocError.{AllocError}
+use Rattle.std.specs.Prelude.{fold}
+use Rattle.std.specs.Result.{OnErr}
+use Rattle.sim_base.specs.History.{by_age, insert_by_age}
+use Rattle.links.specs.Rings.{messages_in}
+use Rattle.links.proofs.flight.take_up.Goals as goal
+
+on_err : (P : Type 0) (r : Result (Unit {0}) AllocError) → P → OnErr r P
+on_err P (Ok x) h = tt
+on_err P (Err x) h = h
+
+pub put_one-requires-clause-rings : goal.put_one-requires-clause-rings
+put_one-requires-clause-rings c = c.requires.rings
+
+pub put_all-requires-clause-rings : goal.put_all-requires-clause-rings
+put_all-requires-clause-rings c = c.in_ok-make_room_for.ensures.grows.rings c.args.channels 0 c.requires.rings
+
+pub put_all-requires-clause-room : goal.put_all-requires-clause-room
+put_all-requires-clause-room c = c.in_ok-make_room_for.ensures.room
+
+pub returns-in_err-sort_if_many-clause-same : goal.returns-in_err-sort_if_many-clause-same
+returns-in_err-sort_if_many-clause-same c = c.sort_if_many.ensures.same
+
+pub returns-in_err-sort_if_many-clause-err : goal.returns-in_err-sort_if_many-clause-err
+returns-in_err-sort_if_many-clause-err c = on_err _ _ refl
+
+pub returns-in_err-make_room_for-clause-rings : goal.returns-in_err-make_room_for-clause-rings
+returns-in_err-make_room_for-clause-rings c = c.make_room_for.ensures.grows.rings c.args.channels 0 c.requires.rings
+
+pub returns-in_err-make_room_for-clause-err : goal.returns-in_err-make_room_for-clause-err
+returns-in_err-make_room_for-clause-err c = on_err _ _ c.make_room_for.ensures.grows.messages
+
+pub returns-clause-ok : goal.returns-clause-ok
+returns-clause-ok c =
+    c.put_all.ensures.messages
+    ∙ ap (λ ms. fold insert_by_age (by_age ms) c.sort_if_many.new.messages) c.in_ok-make_room_for.ensures.grows.messages
+    ∙ c.sort_if_many.ensures.puts (messages_in c.args.rings.now.items)
+
+pub returns-clause-same : goal.returns-clause-same
+returns-clause-same c = c.sort_if_many.ensures.same
