@@ -1,12 +1,15 @@
 -- Lists of which one item is changed, or that have one item more; and messages sorted one by one.
 use Rattle.std.proofs.Common.{◌≡◌, ◌≢◌, ℕ, ◌+◌, ◌<◌, List, [], ◌∷◌, ◌++◌, ◌⊎◌, inl, inr, length, get_or, set, take, sym, ap, subst, ◌∙◌, get_or-set_other, get_or-set_same, below_more, arith}
 use Rattle.std.proofs.lemmas.Bool.{cases_eq}
-use Rattle.std.proofs.lemmas.List.{get_or_push, take_more}
+use Rattle.std.specs.declared.vec.Vec.{Vec}
+use Rattle.std.specs.declared.alloc.Global.{Global}
+use Rattle.std.proofs.lemmas.List.{get_or_default, get_or_push, take_more}
 use Rattle.std.proofs.lemmas.List.Elements.{filter-append}
 use Rattle.std.proofs.Math.ListN.{get_or-append}
 use Rattle.sim_base.specs.declared.config.Config.{Config}
 use Rattle.sim_base.specs.declared.message.Message.{Message}
 use Rattle.units.specs.Flight.{among, goes_among}
+use Rattle.shards.specs.Lists.{SameOtherColumns, SameWidths}
 
 module _ {X : Type 0} where
   -- what holds of the item that is changed, and of the others
@@ -24,6 +27,27 @@ module _ {X : Type 0} where
       below_more (λ k. P k (get_or (xs ++ x ∷ []) k d)) n
       (λ k l. subst (P k) (sym (get_or-append xs (x ∷ []) d k (omega (arith, e, l)))) (before k l))
       (subst (P n) (sym (get_or_push xs x d n e)) last)
+
+-- rows of which one is changed have the widths that it keeps
+pub widths-set : (first rows : List (Vec (Vec Message Global) Global)) (n : ℕ) (row new : Vec (Vec Message Global) Global) → n < length rows
+    → length new.items ≡ length (get_or rows n row).items → SameWidths first rows → SameWidths first (set rows n new)
+widths-set first rows n row new l width same i d =
+    at_set (λ v. length v.items ≡ length (get_or first i d).items) rows n i new d l
+    (λ e. width
+    ∙ ap (λ (v : Vec (Vec Message Global) Global). length v.items) (get_or_default rows n row d l ∙ ap (λ k. get_or rows k d) (sym e))
+    ∙ same i d)
+    (λ e. same i d)
+
+-- and the other lists that it keeps
+pub others-set : (index : ℕ) (first rows : List (Vec (Vec Message Global) Global)) (n : ℕ) (row new : Vec (Vec Message Global) Global) → n < length rows
+    → ((j : ℕ) (f : Vec Message Global) → j ≢ index → get_or new.items j f ≡ get_or (get_or rows n row).items j f)
+    → SameOtherColumns index first rows → SameOtherColumns index first (set rows n new)
+others-set index first rows n row new l kept same i j d f other =
+    at_set (λ v. get_or v.items j f ≡ get_or (get_or first i d).items j f) rows n i new d l
+    (λ e. kept j f other
+    ∙ ap (λ (v : Vec (Vec Message Global) Global). get_or v.items j f) (get_or_default rows n row d l ∙ ap (λ k. get_or rows k d) (sym e))
+    ∙ same i j d f other)
+    (λ e. same i j d f other)
 
 -- a list that has gained the next message, if that goes there, has gained what goes there of one message more
 pub sorted-more : (s : Config) (first past : ℕ) (sent : List Message) (n : ℕ) (d : Message) (old new : List Message) → n < length sent

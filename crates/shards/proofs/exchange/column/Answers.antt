@@ -1,10 +1,10 @@
-use Rattle.std.proofs.Common.{◌≡◌, ◌<◌, ◌∙◌, ℕ, length, get_or, refl, sym, ap, arith}
+use Rattle.std.proofs.Common.{◌≡◌, ◌<◌, ◌∙◌, length, length-set, get_or, refl, sym, ap, arith}
 use Rattle.std.specs.Vec.{with_items}
 use Rattle.std.specs.declared.vec.Vec.{Vec}
 use Rattle.std.specs.declared.alloc.Global.{Global}
 use Rattle.std.proofs.lemmas.List.{with_items_is, get_or_default, length_push}
 use Rattle.sim_base.specs.declared.message.Message.{Message}
-use Rattle.shards.proofs.Columns.{at_set, at_push}
+use Rattle.shards.proofs.Columns.{at_set, at_push, widths-set, others-set}
 use Rattle.shards.proofs.exchange.column.Goals as goal
 
 pub loop-row-init : goal.loop-row-init
@@ -38,25 +38,16 @@ loop-row-preserved c =
     let new = with_items old c.taken.new.row in
     let is : new.items ≡ c.taken.new.row = with_items_is old c.taken.new.row (count ∙ sym old.ok.0) in
     let less : n < length at.rows = omega (arith, c.loop-row-test.true, at.auto.rows) in
-    let same : (i : ℕ) (d : Vec (Vec Message Global) Global) → i ≡ n → old ≡ get_or at.rows i d = λ i d e. get_or_default at.rows n row d less ∙ ap (λ k. get_or at.rows k d) (sym e) in
     record {
       left = λ i d l. at_set (λ v. v ≡ get_or rows i d) at.rows n i new d less (λ e. absurd (omega (arith, e, l))) (λ e. at.invariant.left i d (omega (arith, l)));
-      widths = λ i d. at_set (λ v. length v.items ≡ length (get_or rows i d).items) at.rows n i new d less
-          (λ e. ap length is ∙ count ∙ ap (λ (v : Vec (Vec Message Global) Global). length v.items) (same i d e) ∙ at.invariant.widths i d)
-          (λ e. at.invariant.widths i d);
-      others = λ i j d f other. at_set (λ v. get_or v.items j f ≡ get_or (get_or rows i d).items j f) at.rows n i new d less
-          (λ e. ap (λ z. get_or z j f) is
-          ∙ taken.others j f other
-          ∙ ap (λ z. get_or z j f) items
-          ∙ ap (λ (v : Vec (Vec Message Global) Global). get_or v.items j f) (same i d e)
-          ∙ at.invariant.others i j d f other)
-          (λ e. at.invariant.others i j d f other);
+      widths = widths-set rows at.rows n row new less (ap length is ∙ count) at.invariant.widths;
+      others = others-set index rows at.rows n row new less (λ j f other. ap (λ z. get_or z j f) is ∙ taken.others j f other ∙ ap (λ z. get_or z j f) items) at.invariant.others;
       height = let long = ap length c.in_ok-push.ensures.items in let grown = length_push at.column.items c.taken.result in omega (arith, long, grown, at.invariant.height);
       each = λ i d f g l. ap (λ z. get_or z i f) c.in_ok-push.ensures.items
           ∙ at_push (λ k v. v ≡ get_or (get_or rows k d).items index g) at.column.items n c.taken.result f at.invariant.height (λ k b. at.invariant.each k d f g b)
           (taken.taken g
           ∙ ap (λ z. get_or z index g) items
-          ∙ ap (λ (v : Vec (Vec Message Global) Global). get_or v.items index g) (same n d refl ∙ at.invariant.left n d (omega arith)))
+          ∙ ap (λ (v : Vec (Vec Message Global) Global). get_or v.items index g) (get_or_default at.rows n row d less ∙ at.invariant.left n d (omega arith)))
           i l;
     }
 
@@ -71,3 +62,32 @@ returns c =
       height = at.invariant.height ∙ over;
       each = λ i d f g l. at.invariant.each i d f g (omega (arith, over, l));
     }
+
+pub returns-in_err-column-clause-widths : goal.returns-in_err-column-clause-widths
+returns-in_err-column-clause-widths c i d = refl
+
+pub returns-in_err-column-clause-others : goal.returns-in_err-column-clause-others
+returns-in_err-column-clause-others c i j d f other = refl
+
+pub returns-in_err-push-clause-count : goal.returns-in_err-push-clause-count
+returns-in_err-push-clause-count c = length-set c.loop-row.rows c.loop-row.row-index _ ∙ c.loop-row.auto.rows
+
+pub returns-in_err-push-clause-widths : goal.returns-in_err-push-clause-widths
+returns-in_err-push-clause-widths c =
+    let at = c.loop-row in
+    let row = c.row-item.result in
+    let old = get_or at.rows at.row-index row in
+    let count = c.taken.ensures.count ∙ ap length c.deref_mut.ensures.value in
+    let is = with_items_is old c.taken.new.row (count ∙ sym old.ok.0) in
+    widths-set c.args.rows.now at.rows at.row-index row (with_items old c.taken.new.row) (omega (arith, c.loop-row-test.true, at.auto.rows)) (ap length is ∙ count) at.invariant.widths
+
+pub returns-in_err-push-clause-others : goal.returns-in_err-push-clause-others
+returns-in_err-push-clause-others c =
+    let at = c.loop-row in
+    let row = c.row-item.result in
+    let items = c.deref_mut.ensures.value in
+    let old = get_or at.rows at.row-index row in
+    let count = c.taken.ensures.count ∙ ap length items in
+    let is = with_items_is old c.taken.new.row (count ∙ sym old.ok.0) in
+    others-set c.args.index c.args.rows.now at.rows at.row-index row (with_items old c.taken.new.row) (omega (arith, c.loop-row-test.true, at.auto.rows))
+    (λ j f other. ap (λ z. get_or z j f) is ∙ c.taken.ensures.others j f other ∙ ap (λ z. get_or z j f) items) at.invariant.others
