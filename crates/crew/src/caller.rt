@@ -7,7 +7,7 @@ use crate::returned::Returned;
 use crate::rule::BoardName;
 use crate::seats::{Board, PutSeat, TakeSeat};
 use crate::shared::Shared;
-use crate::work::{DoneOf, Work};
+use crate::work::{DoneOf, Work, run_one};
 use std::alloc::{AllocError, Global};
 use std::sync::Wait;
 use std::sync::atomic::Ordering;
@@ -86,7 +86,7 @@ fn run_all<T: Drop, D: DoneOf<T> + Drop, W: Work<T, D>>(
 {
     let mut results = Vec::new(alloc);
     for task in tasks {
-        results.push(work.run(alloc, 0, task)?)?;
+        run_one(alloc, work, 0, task, &mut results)?;
     }
     Ok(results)
 }
@@ -127,6 +127,24 @@ fn add_returned<T: Drop, D: DoneOf<T> + Drop, B: BoardName>(
     results.append(&mut more)
 }
 
+// Adds what a thread returned to the results, or waits until one returns something.
+fn receive<T: Drop, D: DoneOf<T> + Drop, W: Work<T, D>, B: BoardName, R: Wait>(
+    shared: &Shared<'_, T, D, W, B, R>,
+    seat: &mut PutSeat<T, B>,
+    results: &mut Vec<D>,
+) -> Result<(), AllocError>
+    requires { seat.old.returned ≡ map D.task results.old.items }
+    ensures { OnOk result (seat.new ≡ put_view seat.old.put (map D.task results.new.items)) }
+{
+    let rt = shared.context.rt;
+    let seen = shared.results_ready.count();
+    if let Some(returned) = shared.returned.pop(rt) {
+        return add_returned(&shared.board, seat, results, returned?);
+    }
+    shared.results_ready.wait_past(rt, shared.limits, seen);
+    Ok(())
+}
+
 // Adds what threads return to the results, until all that was put was returned.
 fn gather<T: Drop, D: DoneOf<T> + Drop, W: Work<T, D>, B: BoardName, R: Wait>(
     shared: &Shared<'_, T, D, W, B, R>,
@@ -139,16 +157,11 @@ fn gather<T: Drop, D: DoneOf<T> + Drop, W: Work<T, D>, B: BoardName, R: Wait>(
     ensures seat { OnOk result (seat.new ≡ put_view seat.old.put (map D.task results.new.items)) }
     ensures whole { OnOk result (IsPermutation seat.old.put (map D.task results.new.items)) }
 {
-    let rt = shared.context.rt;
-    for _ in rt.forever() {
+    for _ in shared.context.rt.forever() {
         if shared.board.missing(seat, put, results.len()) == 0 {
             return Ok(());
         }
-        let seen = shared.results_ready.count();
-        match shared.returned.pop(rt) {
-            Some(returned) => add_returned(&shared.board, seat, results, returned?)?,
-            None => shared.results_ready.wait_past(rt, shared.limits, seen),
-        }
+        receive(shared, seat, results)?;
     }
     unreachable!()
 }

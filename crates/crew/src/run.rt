@@ -78,6 +78,23 @@ fn start<
     Ok(())
 }
 
+// Runs the phases with the threads that were started.
+fn run_phased<
+    T: Drop,
+    D: DoneOf<T> + Drop,
+    W: Work<T, D>,
+    B: BoardName,
+    R: Wait,
+    E,
+    C: PhasedRun<T, D, E>,
+>(shared: &Shared<'_, T, D, W, B, R>, seat: PutSeat<T, B>, phased: C) -> Result<E, AllocError>
+    requires { seat ≡ put_view [] [] }
+    ensures { IfOk result (C.gives phased) }
+{
+    let mut crew = Crew::new(shared, seat);
+    phased.run(shared.context.alloc, &mut crew)
+}
+
 // Starts the threads, and runs the phases with them.
 fn run_started<
     's,
@@ -102,8 +119,7 @@ fn run_started<
 {
     let mut seat = seat;
     start(scope, shared, &mut seat, workers)?;
-    let mut crew = Crew::new(shared, seat);
-    match phased.run(shared.context.alloc, &mut crew) {
+    match run_phased(shared, seat, phased) {
         Ok(end) => Ok(end),
         Err(AllocError) => Err(Refused::Memory),
     }

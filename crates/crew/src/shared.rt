@@ -1,12 +1,12 @@
 //! Where tasks wait for threads, and what came of them for the caller; and what a thread does there.
 
-ghost use Rattle.std.specs.Prelude.{◌≡◌, ◌<◌, [], ◌∷◌, ◌++◌, IfSome, IfNone, OnOk, IfOk};
+ghost use Rattle.std.specs.Prelude.{◌≡◌, ◌<◌, [], ◌∷◌, ◌++◌, map, IsTrue, IfSome, IfNone, OnOk, IfOk};
 
 use crate::returned::Returned;
 use crate::rule::BoardName;
 use crate::seats::{Board, TakeSeat};
 use crate::signal::{Signal, WaitLimits};
-use crate::work::{DoneOf, Work};
+use crate::work::{DoneOf, Work, run_one};
 use crossbeam_queue::ArrayQueue;
 use std::alloc::{AllocError, Global};
 use std::sync::Wait;
@@ -97,6 +97,41 @@ impl<'a, T: Drop, D: DoneOf<T> + Drop, W: Work<T, D>, B: BoardName, R: Wait> Sha
         task
     }
 
+    // Takes the task in front and runs it, where there is one. The only error is out of memory.
+    fn run_next(
+        &self,
+        worker: usize,
+        seat: &mut TakeSeat<T, B>,
+        results: &mut Vec<D>,
+    ) -> Result<bool, AllocError>
+        requires { seat.old ≡ map D.task results.old.items }
+        ensures { OnOk result (seat.new ≡ map D.task results.new.items) }
+    {
+        let Some(task) = self.next_task(worker, seat, results.is_empty()) else {
+            return Ok(false);
+        };
+        run_one(self.context.alloc, self.context.work, worker, task, results)?;
+        Ok(true)
+    }
+
+    // Takes tasks and runs them until the board is empty at one moment.
+    fn run_tasks(
+        &self,
+        worker: usize,
+        seat: &mut TakeSeat<T, B>,
+        results: &mut Vec<D>,
+    ) -> Result<(), AllocError>
+        requires { seat.old ≡ map D.task results.old.items }
+        ensures { OnOk result (seat.new ≡ map D.task results.new.items) }
+    {
+        for _ in self.context.rt.forever() {
+            if !self.run_next(worker, seat, results)? {
+                break;
+            }
+        }
+        Ok(())
+    }
+
     /// Takes tasks and runs them until the board is empty at one moment. The only error is out of memory.
     pub(crate) fn claim(
         &self,
@@ -106,14 +141,8 @@ impl<'a, T: Drop, D: DoneOf<T> + Drop, W: Work<T, D>, B: BoardName, R: Wait> Sha
         requires { seat.old ≡ [] }
         ensures { OnOk result (seat.new ≡ []) }
     {
-        let context = &self.context;
-        let mut results = Vec::new(context.alloc);
-        for _ in context.rt.forever() {
-            let Some(task) = self.next_task(worker, seat, results.is_empty()) else {
-                break;
-            };
-            results.push(context.work.run(context.alloc, worker, task)?)?;
-        }
+        let mut results = Vec::new(self.context.alloc);
+        self.run_tasks(worker, seat, &mut results)?;
         let theirs = self.board.cut(seat);
         Ok(Returned {
             seat: theirs,
@@ -135,6 +164,25 @@ impl<'a, T: Drop, D: DoneOf<T> + Drop, W: Work<T, D>, B: BoardName, R: Wait> Sha
         self.results_ready.raise();
     }
 
+    // Runs tasks and returns what came of them, or that memory was refused. Whether it was not.
+    fn work_off(&self, worker: usize, seat: &mut TakeSeat<T, B>) -> bool
+        requires { seat.old ≡ [] }
+        ensures { IsTrue result → seat.new ≡ [] }
+    {
+        match self.claim(worker, seat) {
+            Ok(returned) => {
+                if !returned.results.is_empty() {
+                    self.send(Ok(returned));
+                }
+                true
+            }
+            Err(AllocError) => {
+                self.send(Err(AllocError));
+                false
+            }
+        }
+    }
+
     /// What a thread does until it is told that the run is over: it runs tasks, returns what came of them, and waits
     /// for more. Where memory is refused, it says so and ends.
     pub(crate) fn serve(&self, worker: usize, seat: TakeSeat<T, B>)
@@ -143,18 +191,7 @@ impl<'a, T: Drop, D: DoneOf<T> + Drop, W: Work<T, D>, B: BoardName, R: Wait> Sha
         let mut seat = seat;
         for _ in self.context.rt.forever() {
             let seen = self.tasks_ready.count();
-            match self.claim(worker, &mut seat) {
-                Ok(returned) => {
-                    if !returned.results.is_empty() {
-                        self.send(Ok(returned));
-                    }
-                }
-                Err(AllocError) => {
-                    self.send(Err(AllocError));
-                    break;
-                }
-            }
-            if self.over.load(Ordering::SeqCst) {
+            if !self.work_off(worker, &mut seat) || self.over.load(Ordering::SeqCst) {
                 break;
             }
             self.tasks_ready

@@ -7,3 +7,4 @@ pub mod Whole
 pub mod Unloading
 pub mod Phases
 pub mod Setting
+pub mod Columns

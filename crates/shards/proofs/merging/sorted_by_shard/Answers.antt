@@ -1,12 +1,21 @@
-use Rattle.std.proofs.Common.{[], ◌∷◌, ◌++◌, length, map, refl, rules, ap, sym, ◌∙◌, append_assoc, arith}
+use Rattle.std.proofs.Common.{◌≡◌, List, [], ◌∷◌, ◌++◌, length, length-append, get_or, map, refl, rules, ap, sym, subst, ◌∙◌, append_assoc, arith}
+use Rattle.std.specs.Prelude.{All}
 use Rattle.std.specs.Vec.Iter.{into_iter_items}
 use Rattle.std.proofs.lemmas.List.{map-append, length-map, length_push}
+use Rattle.std.proofs.Math.Seq.{get_or-append_seam}
 use Rattle.std.proofs.lemmas.Result.{err_from_is_err_and}
-use Rattle.shards.specs.Merging.{first_fault, results_at}
+use Rattle.shards.specs.Merging.{IsOf, first_fault, results_at}
 use Rattle.shards.specs.Jobs.{JobView}
 use Rattle.shards.proofs.Placing.{results-count, first-none_yet, first-found, first-end}
 use Rattle.units.proofs.Standing.{all-yielded, nothing_left}
 use Rattle.shards.proofs.merging.sorted_by_shard.Goals as goal
+
+-- what holds of all items holds of the next
+all-next : (P : JobView → Type 0) (xs done rest : List JobView) (x : JobView) → done ++ x ∷ rest ≡ xs → All P xs → P x
+all-next P xs done rest x e all =
+    let long = ap length e in
+    let here = ap (λ z. get_or z (length done) x) (sym e) ∙ get_or-append_seam done x rest x in
+    subst P here (all (length done) x (omega (arith, long, length-append done (x ∷ rest))))
 
 pub loop-done-init : goal.loop-done-init
 loop-done-init c =
@@ -67,3 +76,13 @@ returns-clause-ok c =
           ∙ first-end p (map (λ (d : JobView). d.name) at.yielded),
       at.invariant.4 ∙ ap (λ ds. results_at p (map (λ (d : JobView). d.name) ds)) all,
     )
+
+pub put-requires-clause-count : goal.put-requires-clause-count
+put-requires-clause-count c = c.loop-done.invariant.3
+
+pub put-requires-clause-of : goal.put-requires-clause-of
+put-requires-clause-of c =
+    let at = c.loop-done in
+    let x = c.in-Some.done in
+    let whole = ap (λ z. at.yielded ++ z) (sym c.in-Some.ensures.steps.0) ∙ at.invariant.0 ∙ c.into_iter-done-iterator.ensures.into_iter_gives.0 in
+    all-next (IsOf c.args.phase.now) c.args.results.items at.yielded _ x whole c.requires.of

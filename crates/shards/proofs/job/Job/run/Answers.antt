@@ -1,4 +1,4 @@
-use Rattle.std.proofs.Common.{◌≡◌, ℕ, length, sym, ap, ap₂, subst, ◌∙◌}
+use Rattle.std.proofs.Common.{◌≡◌, ◌-◌, ℕ, suc, length, sym, ap, ap₂, subst, ◌∙◌, arith}
 use Rattle.std.specs.Arc.{arc_value}
 use Rattle.std.specs.Vec.{with_items}
 use Rattle.std.specs.declared.vec.Vec.{Vec}
@@ -6,14 +6,69 @@ use Rattle.std.specs.declared.alloc.Global.{Global}
 use Rattle.std.specs.declared.sync.Arc.{Arc}
 use Rattle.std.proofs.lemmas.List.{with_items_is}
 use Rattle.links.specs.InFlight.{InFlight}
-use Rattle.shards.specs.Lists.{AreSortedByShard, lists_of, with_lists}
-use Rattle.shards.specs.Shards.{HasGone, HoldWhatWasSent, Sleeps, sent_of_shard}
-use Rattle.shards.specs.Jobs.{IsDone}
+use Rattle.sim_base.specs.Locality.{TravelsFor}
+use Rattle.shards.specs.Lists.{AllEmpty, AreSortedByShard, lists_of, with_lists}
+use Rattle.shards.specs.Shards.{HasGone, HoldWhatWasSent, IsSplit, IsWithin, Sleeps, sent_of_shard}
+use Rattle.shards.specs.Jobs.{IsDone, JobView}
 use Rattle.wake_words.specs.Wakes.{AreLowered}
 use Rattle.units.specs.declared.machine.Machine.{Machine}
 use Rattle.shards.specs.declared.shard.Shard.{Shard}
 use Rattle.shards.proofs.Jobs.{taken-up, job-ends}
 use Rattle.shards.proofs.job.Job.run.Goals as goal
+
+pub take_up-requires : goal.take_up-requires
+take_up-requires c =
+    let gone = c.self.invariant.before.gone in
+    subst IsWithin (sym c.deref_mut.ensures.value) (omega (arith, gone.within, gone.words_count))
+
+pub go-requires-clause-order : goal.go-requires-clause-order
+go-requires-clause-order c = c.self.invariant.next
+
+pub go-requires-clause-early : goal.go-requires-clause-early
+go-requires-clause-early c = c.self.invariant.early
+
+pub go-requires-clause-travels : goal.go-requires-clause-travels
+go-requires-clause-travels c =
+    let name = c.self.inside.name in
+    let machine = ap (λ (x : Shard). x.machine) (c.deref_mut-3.ensures.value ∙ (c.in_ok-take_up.ensures {u = tt}).same) ∙ ap (λ (x : Shard). x.machine) c.deref_mut.ensures.value in
+    subst (λ (x : Arc Machine Global). TravelsFor (arc_value x).config (name.until - name.from)) (sym machine) c.self.invariant.travels
+
+pub sort_sent-requires-clause-split : goal.sort_sent-requires-clause-split
+sort_sent-requires-clause-split c =
+    let shard = c.self.inside.shard.value in
+    let up = c.deref_mut-3.ensures.value ∙ (c.in_ok-take_up.ensures {u = tt}).same in
+    let went = c.in_ok-wake.ensures {u = tt} in
+    let old = c.deref_mut.ensures.value in
+    let machine = ap (λ (x : Shard). x.machine) c.deref.ensures ∙ went.machine ∙ ap (λ (x : Shard). x.machine) up ∙ ap (λ (x : Shard). x.machine) old in
+    let bounds = ap (λ (x : Shard). x.bounds) c.deref.ensures ∙ went.bounds ∙ ap (λ (x : Shard). x.bounds) up ∙ ap (λ (x : Shard). x.bounds) old in
+    subst (λ (x : Arc Machine Global). IsSplit (arc_value x).config c.deref.result.now.bounds.items) (sym machine)
+    (subst (λ (x : Vec ℕ Global). IsSplit (arc_value shard.machine).config x.items) (sym bounds) c.self.invariant.before.split)
+
+pub sort_sent-requires-clause-count : goal.sort_sent-requires-clause-count
+sort_sent-requires-clause-count c =
+    let inbound = c.self.inside.inbound in
+    let up = c.in_ok-take_up.ensures {u = tt} in
+    let bounds = ap (λ (x : Shard). x.bounds) c.deref.ensures ∙ (c.in_ok-wake.ensures {u = tt}).bounds ∙ ap (λ (x : Shard). x.bounds) (c.deref_mut-3.ensures.value ∙ up.same) ∙ ap (λ (x : Shard). x.bounds) c.deref_mut.ensures.value in
+    let many = up.count ∙ ap length c.deref_mut-2.ensures.value in
+    let lists = with_items_is inbound c.take_up.new.lists (many ∙ sym inbound.ok.0) in
+    ap suc (ap length c.deref_mut-4.ensures.value ∙ ap length lists ∙ many) ∙ c.self.invariant.before.count ∙ sym (ap (λ (x : Vec ℕ Global). length x.items) bounds)
+
+pub sort_sent-requires-clause-empty : goal.sort_sent-requires-clause-empty
+sort_sent-requires-clause-empty c =
+    let inbound = c.self.inside.inbound in
+    let up = c.in_ok-take_up.ensures {u = tt} in
+    let lists = with_items_is inbound c.take_up.new.lists (up.count ∙ ap length c.deref_mut-2.ensures.value ∙ sym inbound.ok.0) in
+    subst AllEmpty (sym (c.deref_mut-4.ensures.value ∙ lists)) up.empty
+
+pub returns : goal.returns
+returns c =
+    let name = c.self.inside.name in
+    let up = c.deref_mut-3.ensures.value ∙ (c.in_ok-take_up.ensures {u = tt}).same in
+    let went = c.in_ok-wake.ensures {u = tt} in
+    let old = c.deref_mut.ensures.value in
+    let machine = went.machine ∙ ap (λ (x : Shard). x.machine) up ∙ ap (λ (x : Shard). x.machine) old in
+    let bounds = went.bounds ∙ ap (λ (x : Shard). x.bounds) up ∙ ap (λ (x : Shard). x.bounds) old in
+    ap₂ {C = JobView} (λ (m : Arc Machine Global) (b : Vec ℕ Global). record { machine = arc_value m; bounds = b.items; name = name }) machine bounds ∙ c.self.view_is
 
 pub go-requires-clause-asleep : goal.go-requires-clause-asleep
 go-requires-clause-asleep c =
