@@ -75,3 +75,6 @@ returns-in_err-run-clause-now c = IfOk-from_err c.from_residual-in_err-run.resul
 
 pub returns-clause-now : goal.returns-clause-now
 returns-clause-now c = refl
+
+pub forget_taken-requires-2 : goal.forget_taken-requires-2
+forget_taken-requires-2 c = c.requires.open.is_session.has_replies
