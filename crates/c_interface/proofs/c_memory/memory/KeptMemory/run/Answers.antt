@@ -2,6 +2,7 @@ use Rattle.std.proofs.Common.{◌≡◌, ◌∙◌, Ok, Err, ap, sym, subst}
 use Rattle.sessions.specs.Memories.{IsMemory, IsOpenMemory}
 use Rattle.sessions.specs.Sessions.{IsAnswer, end_refusal}
 use Rattle.sessions.specs.declared.memory_session.memory.MemorySession.{MemorySession}
+use Rattle.c_interface.specs.Kept.{IsCallAnswer}
 use Rattle.c_interface.specs.declared.fault.CallFault.TheVariants as call
 use Rattle.c_interface.proofs.Keeping.{well-open, well-put, passed, refused}
 use Rattle.c_interface.proofs.CMemoryKeeping.{put-in, lent, lent-same}
@@ -58,3 +59,13 @@ returns-in-Err-clause-config c s of other =
     put-in (λ (x : MemorySession). x.config ≡ s) c.put-in-Err.new.self.handle.value _ c.put-in-Err.ensures.memory
     ((c.in-Err.ensures {u = tt}).config
     ∙ lent (λ (x : MemorySession). x.config ≡ s) c.args.self.now.handle.value c.in-Some.memory.value c.deref_mut.result.now (c.in-Some.ensures {u = tt}).memory c.deref_mut.ensures.value of)
+
+pub returns-in-Err-Memory-clause-answer : goal.returns-in-Err-Memory-clause-answer
+returns-in-Err-Memory-clause-answer c m is =
+    let fault = c.in-Err-Memory.field-0 in
+    let same : c.deref_mut.result.now ≡ m = lent-same c.args.self.now.handle.value c.in-Some.memory.value c.deref_mut.result.now m (c.in-Some.ensures {u = tt}).memory c.deref_mut.ensures.value is in
+    subst (λ e. IsCallAnswer {A = Unit {0}} (end_refusal m.cycle c.args.until) (Err (call.Session e))) c.in-Err-Memory.field-0-is
+    (refused (end_refusal m.cycle c.args.until) fault (subst (λ (x : MemorySession). IsAnswer {A = Unit {0}} (end_refusal x.cycle c.args.until) (Err fault)) same (c.in-Err-Memory.ensures {u = tt}).answer))
+
+pub returns-in-Err-Memory-clause-well : goal.returns-in-Err-Memory-clause-well
+returns-in-Err-Memory-clause-well c = (c.in-Some.ensures {u = tt}).well
