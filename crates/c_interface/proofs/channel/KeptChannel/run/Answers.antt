@@ -1,9 +1,10 @@
-use Rattle.std.proofs.Common.{◌≡◌, ◌∙◌, sym, subst, ap, Ok, Err}
+use Rattle.std.proofs.Common.{◌≡◌, ◌∙◌, sym, subst, ap, Ok, Err, rules}
 use Rattle.sessions.specs.Sessions.{IsSession, IsOpen, IsAnswer, end_refusal}
+use Rattle.sessions.specs.declared.channel_session.fault.SessionFault.TheVariants.{Memory}
 use Rattle.sessions.specs.declared.channel_session.session.Session.{Session}
 use Rattle.c_interface.specs.Kept.{IsCallAnswer}
 use Rattle.c_interface.specs.declared.fault.CallFault.TheVariants as call
-use Rattle.c_interface.proofs.Keeping.{well-open, passed, refused, well-put, put-back, lent-fit, lent-is}
+use Rattle.c_interface.proofs.Keeping.{well-open, passed, refused, well-put, put-back, lent-fit, lent-is, lent-well}
 use Rattle.c_interface.proofs.channel.KeptChannel.run.Goals as goal
 
 pub run-requires : goal.run-requires
@@ -73,3 +74,17 @@ returns-in-Err-Memory-clause-answer c s p is h =
 
 pub returns-in-Err-Memory-clause-well : goal.returns-in-Err-Memory-clause-well
 returns-in-Err-Memory-clause-well c = (c.in-Some.ensures {u = tt}).well
+
+pub returns-in-Err-clause-well : goal.returns-in-Err-clause-well
+returns-in-Err-clause-well c =
+    let kept = c.args.self.now in
+    let other : c.in-Err.fault ≡ Memory → ⊥ = search rules in
+    well-put IsOpen c.put-in-Err.new.self.is_open c.put-in-Err.new.self.handle.value c.run.new.self c.put-in-Err.ensures.«open» c.put-in-Err.ensures.session
+    (subst IsOpen (sym ((c.in-Err.ensures {u = tt}).same other))
+    (lent-well IsOpen kept.is_open kept.handle.value c.in-Some.session.value c.deref_mut.result.now (c.in-Some.ensures {u = tt}).session c.deref_mut.ensures.value c.requires.well))
+
+pub returns-in-Err-clause-lost : goal.returns-in-Err-clause-lost
+returns-in-Err-clause-lost c e =
+    let other : c.in-Err.fault ≡ Memory → ⊥ = search rules in
+    let same : c.in-Err.fault ≡ Memory = cc in
+    absurd (other same)
