@@ -9,7 +9,7 @@ use Rattle.sim_base.specs.Values.{Values, values_of}
 use Rattle.sim_base.specs.declared.config.Config.{Config}
 use Rattle.sim_base.specs.declared.fault.Fault.{Fault}
 use Rattle.c_interface.specs.Channels.{IsNewSession, open_refusal}
-use Rattle.c_interface.specs.Kept.{IsWellAt, IsMemory, IsOpenAnswer, IsCallAnswer}
+use Rattle.c_interface.specs.Kept.{IsWellAt, IsThere, IsMemory, IsOpenAnswer, IsCallAnswer}
 use Rattle.c_interface.specs.declared.fault.CallFault.{CallFault}
 use Rattle.c_interface.specs.declared.fault.CallFault.TheVariants as call
 
@@ -100,3 +100,16 @@ value-or other None = other
 pub same-value : {A : Type 0} (kept : Option A) (a b : A) → Some a ≡ kept → kept ≡ Some b → a ≡ b
 unfolding value-or
 same-value kept a b is was = ap (value-or a) is ∙ ap (value-or a) was
+
+-- what was put in, and what was taken out and lent
+pub put-back : {A : Type 0} (IsFit : A → Type 0) (kept : Option A) (value : A) → kept ≡ Some value → IsFit value → IsThere IsFit kept
+put-back IsFit kept value is h = subst (IsThere IsFit) (sym is) h
+
+pub lent-fit : {A : Type 0} (IsFit : A → Type 0) (kept : Option A) (value now : A) → Some value ≡ kept → now ≡ value → IsThere IsFit kept → IsFit now
+lent-fit IsFit kept value now is same h = subst IsFit (sym same) (subst (IsThere IsFit) (sym is) h)
+
+pub lent-is : {A : Type 0} (kept : Option A) (value now other : A) → Some value ≡ kept → now ≡ value → kept ≡ Some other → now ≡ other
+lent-is kept value now other is same was = same ∙ same-value kept value other is was
+
+pub lent-well : {A : Type 0} (IsFit : A → Type 0) (is_open : Bool) (kept : Option A) (value now : A) → Some value ≡ kept → now ≡ value → IsWellAt IsFit is_open kept → IsFit now
+lent-well IsFit is_open kept value now is same h = subst IsFit (sym same) (well-open IsFit is_open kept value is h)

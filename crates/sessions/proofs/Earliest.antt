@@ -1,20 +1,16 @@
 -- The earliest of several cycles, when one more is looked at.
 use Rattle.std.proofs.Common.{◌≡◌, ℕ, ◌+◌, ◌<◌, ◌≤◌, Bool, true, false, ltb, eqb, Option, Some, None, refl, sym, subst, arith}
 use Rattle.std.specs.Prelude.{IfSome, if◌then◌else◌}
-use Rattle.std.proofs.lemmas.Bool.{ltb-true, ltb-false, eqb-true}
-use Rattle.std.proofs.lemmas.Bool.Decides.{nat_tests}
+use Rattle.std.proofs.lemmas.Bool.{ltb-true, ltb-false, eqb-true, eqb-false}
 use Rattle.sessions.specs.Earliest.{sooner, IsEarliestAt, IsEarliest}
 
 -- a number below one more is below, or is that one
 pub below-more : (P : ℕ → Type 0) (n : ℕ) → ((k : ℕ) → k < n → P k) → P n → (k : ℕ) → k < n + 1 → P k
 below-more P n h last k l = by (eqb k n) refl
   where
-    unequal : eqb k n ≡ false → k ≡ n → ⊥
-    unequal e same = grind (arith, nat_tests)
-
     by : (b : Bool) → eqb k n ≡ b → P k
     by true e = subst P (sym (eqb-true _ _ e)) last
-    by false e = h k (let other : k ≡ n → ⊥ = unequal e in omega arith)
+    by false e = h k (let other : k ≡ n → ⊥ = eqb-false k n e in omega arith)
 
 none-more : (cycles : ℕ → Option ℕ) (n : ℕ) → ((k : ℕ) → k < n → cycles k ≡ None) → cycles n ≡ None → (k : ℕ) → k < n + 1 → cycles k ≡ None
 none-more cycles n h last = below-more (λ k. cycles k ≡ None) n h last

@@ -1,9 +1,11 @@
-use Rattle.std.proofs.Common.{◌≡◌, ◌∙◌, Ok, Err, ap, sym, subst}
+use Rattle.std.proofs.Common.{◌≡◌, ◌∙◌, Ok, Err, ap, sym, subst, rules}
 use Rattle.sessions.specs.Memories.{IsMemory, IsOpenMemory}
 use Rattle.sessions.specs.Sessions.{IsAnswer, end_refusal}
+use Rattle.sessions.specs.declared.channel_session.fault.SessionFault.TheVariants.{Memory}
 use Rattle.sessions.specs.declared.memory_session.memory.MemorySession.{MemorySession}
+use Rattle.c_interface.specs.Kept.{IsCallAnswer}
 use Rattle.c_interface.specs.declared.fault.CallFault.TheVariants as call
-use Rattle.c_interface.proofs.Keeping.{well-open, well-put, passed, refused}
+use Rattle.c_interface.proofs.Keeping.{well-open, well-put, passed, refused, lent-well}
 use Rattle.c_interface.proofs.CMemoryKeeping.{put-in, lent, lent-same}
 use Rattle.c_interface.proofs.c_memory.memory.KeptMemory.run.Goals as goal
 
@@ -58,3 +60,27 @@ returns-in-Err-clause-config c s of other =
     put-in (λ (x : MemorySession). x.config ≡ s) c.put-in-Err.new.self.handle.value _ c.put-in-Err.ensures.memory
     ((c.in-Err.ensures {u = tt}).config
     ∙ lent (λ (x : MemorySession). x.config ≡ s) c.args.self.now.handle.value c.in-Some.memory.value c.deref_mut.result.now (c.in-Some.ensures {u = tt}).memory c.deref_mut.ensures.value of)
+
+pub returns-in-Err-Memory-clause-answer : goal.returns-in-Err-Memory-clause-answer
+returns-in-Err-Memory-clause-answer c m is =
+    let fault = c.in-Err-Memory.field-0 in
+    let same : c.deref_mut.result.now ≡ m = lent-same c.args.self.now.handle.value c.in-Some.memory.value c.deref_mut.result.now m (c.in-Some.ensures {u = tt}).memory c.deref_mut.ensures.value is in
+    subst (λ e. IsCallAnswer {A = Unit {0}} (end_refusal m.cycle c.args.until) (Err (call.Session e))) c.in-Err-Memory.field-0-is
+    (refused (end_refusal m.cycle c.args.until) fault (subst (λ (x : MemorySession). IsAnswer {A = Unit {0}} (end_refusal x.cycle c.args.until) (Err fault)) same (c.in-Err-Memory.ensures {u = tt}).answer))
+
+pub returns-in-Err-Memory-clause-well : goal.returns-in-Err-Memory-clause-well
+returns-in-Err-Memory-clause-well c = (c.in-Some.ensures {u = tt}).well
+
+pub returns-in-Err-clause-well : goal.returns-in-Err-clause-well
+returns-in-Err-clause-well c =
+    let kept = c.args.self.now in
+    let other : c.in-Err.fault ≡ Memory → ⊥ = search rules in
+    well-put IsOpenMemory c.put-in-Err.new.self.is_open c.put-in-Err.new.self.handle.value c.run.new.self c.put-in-Err.ensures.«open» c.put-in-Err.ensures.memory
+    (subst IsOpenMemory (sym ((c.in-Err.ensures {u = tt}).same other))
+    (lent-well IsOpenMemory kept.is_open kept.handle.value c.in-Some.memory.value c.deref_mut.result.now (c.in-Some.ensures {u = tt}).memory c.deref_mut.ensures.value c.requires.well))
+
+pub returns-in-Err-clause-lost : goal.returns-in-Err-clause-lost
+returns-in-Err-clause-lost c e =
+    let other : c.in-Err.fault ≡ Memory → ⊥ = search rules in
+    let same : c.in-Err.fault ≡ Memory = cc in
+    absurd (other same)

@@ -1,9 +1,9 @@
-use Rattle.std.proofs.Common.{◌≡◌, Ok, Err, sym, subst}
+use Rattle.std.proofs.Common.{◌≡◌, ◌∙◌, Ok, Err, sym, subst}
 use Rattle.sessions.specs.Sessions.{IsAnswer}
 use Rattle.sim_base.specs.declared.config.Config.{Config}
 use Rattle.sessions.specs.Memories.{IsMemory, IsOpenMemory, memory_refusal, with_request}
 use Rattle.sessions.specs.declared.memory_session.memory.MemorySession.{MemorySession}
-use Rattle.c_interface.proofs.Keeping.{well-open, passed, refused}
+use Rattle.c_interface.proofs.Keeping.{well-open, well-put, passed, refused}
 use Rattle.c_interface.proofs.CMemoryKeeping.{put-in, lent, lent-same}
 use Rattle.c_interface.proofs.c_memory.memory.KeptMemory.send.Goals as goal
 
@@ -41,3 +41,35 @@ pub returns-in-Err-clause-left : goal.returns-in-Err-clause-left
 returns-in-Err-clause-left c pasts h =
     put-in (λ x. IsMemory x pasts) c.put.new.self.handle.value _ c.put.ensures.memory
     ((c.in-Err.ensures {u = tt}).left pasts (lent (λ x. IsMemory x pasts) c.args.self.now.handle.value c.in-Some.memory.value c.deref_mut.result.now (c.in-Some.ensures {u = tt}).memory c.deref_mut.ensures.value h))
+
+pub returns-in-Ok-clause-now : goal.returns-in-Ok-clause-now
+returns-in-Ok-clause-now c cycle h =
+    put-in (λ (x : MemorySession). x.cycle ≡ cycle) c.put.new.self.handle.value _ c.put.ensures.memory
+    ((c.in-Ok.ensures {u = tt}).now
+    ∙ lent (λ (x : MemorySession). x.cycle ≡ cycle) c.args.self.now.handle.value c.in-Some.memory.value c.deref_mut.result.now (c.in-Some.ensures {u = tt}).memory c.deref_mut.ensures.value h)
+
+pub returns-in-Ok-clause-config : goal.returns-in-Ok-clause-config
+returns-in-Ok-clause-config c s of =
+    put-in (λ (x : MemorySession). x.config ≡ s) c.put.new.self.handle.value _ c.put.ensures.memory
+    ((c.in-Ok.ensures {u = tt}).config
+    ∙ lent (λ (x : MemorySession). x.config ≡ s) c.args.self.now.handle.value c.in-Some.memory.value c.deref_mut.result.now (c.in-Some.ensures {u = tt}).memory c.deref_mut.ensures.value of)
+
+pub returns-in-Ok-clause-well : goal.returns-in-Ok-clause-well
+returns-in-Ok-clause-well c =
+    well-put IsOpenMemory c.put.new.self.is_open c.put.new.self.handle.value c.send-result.new.self c.put.ensures.«open» c.put.ensures.memory (c.in-Ok.ensures {u = tt}).«open»
+
+pub returns-in-Err-clause-now : goal.returns-in-Err-clause-now
+returns-in-Err-clause-now c cycle h =
+    put-in (λ (x : MemorySession). x.cycle ≡ cycle) c.put.new.self.handle.value _ c.put.ensures.memory
+    ((c.in-Err.ensures {u = tt}).now
+    ∙ lent (λ (x : MemorySession). x.cycle ≡ cycle) c.args.self.now.handle.value c.in-Some.memory.value c.deref_mut.result.now (c.in-Some.ensures {u = tt}).memory c.deref_mut.ensures.value h)
+
+pub returns-in-Err-clause-config : goal.returns-in-Err-clause-config
+returns-in-Err-clause-config c s of =
+    put-in (λ (x : MemorySession). x.config ≡ s) c.put.new.self.handle.value _ c.put.ensures.memory
+    ((c.in-Err.ensures {u = tt}).config
+    ∙ lent (λ (x : MemorySession). x.config ≡ s) c.args.self.now.handle.value c.in-Some.memory.value c.deref_mut.result.now (c.in-Some.ensures {u = tt}).memory c.deref_mut.ensures.value of)
+
+pub returns-in-Err-clause-well : goal.returns-in-Err-clause-well
+returns-in-Err-clause-well c =
+    well-put IsOpenMemory c.put.new.self.is_open c.put.new.self.handle.value c.send-result.new.self c.put.ensures.«open» c.put.ensures.memory (c.in-Err.ensures {u = tt}).«open»

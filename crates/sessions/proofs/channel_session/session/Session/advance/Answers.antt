@@ -1,4 +1,5 @@
 use Rattle.std.proofs.Common.{◌≡◌, ◌∙◌, take, drop, refl, sym, subst, ap}
+use Rattle.std.proofs.lemmas.Result.{IfOk-from_err}
 use Rattle.channel_step.specs.Fit.{IsFit}
 use Rattle.channel_step.specs.Runs.{CanRun, IsDone}
 use Rattle.sessions.specs.Keeps.{steps_of}
@@ -53,3 +54,27 @@ returns-clause-done c p h =
       has_replies = still-within kept.taken kept.all.items c.run.new.messages.items finished.sent c.forget_taken-2.ensures.within finished.messages_behind;
     })
     gone
+
+pub run-requires-clause-span : goal.run-requires-clause-span
+run-requires-clause-span c = c.requires.span
+
+pub run-requires-clause-until : goal.run-requires-clause-until
+run-requires-clause-until c = c.requires.until
+
+pub returns-in_err-forget_taken-clause-done : goal.returns-in_err-forget_taken-clause-done
+returns-in_err-forget_taken-clause-done c = λ p h. IfOk-from_err c.from_residual.result _ c.from_residual.ensures.0
+
+pub returns-in_err-forget_taken-clause-now : goal.returns-in_err-forget_taken-clause-now
+returns-in_err-forget_taken-clause-now c = IfOk-from_err c.from_residual.result _ c.from_residual.ensures.0
+
+pub returns-in_err-run-clause-done : goal.returns-in_err-run-clause-done
+returns-in_err-run-clause-done c = λ p h. IfOk-from_err c.from_residual-in_err-run.result _ c.from_residual-in_err-run.ensures.0
+
+pub returns-in_err-run-clause-now : goal.returns-in_err-run-clause-now
+returns-in_err-run-clause-now c = IfOk-from_err c.from_residual-in_err-run.result _ c.from_residual-in_err-run.ensures.0
+
+pub returns-clause-now : goal.returns-clause-now
+returns-clause-now c = refl
+
+pub forget_taken-requires-2 : goal.forget_taken-requires-2
+forget_taken-requires-2 c = c.requires.open.is_session.has_replies
