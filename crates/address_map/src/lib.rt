@@ -52,8 +52,8 @@ fn set_field(place: &mut Place, field: Field, value: u32)
     }
 }
 
-/// Where an address lies: the number of its line of 64 bytes, field by field from the low end in the configured order. What
-/// lies above the last field is left out.
+/// Where an address lies: the number of its line of 64 bytes, field by field from the low end in the configured order.
+/// What lies above the last field is left out.
 pub fn place_of(config: &Config, address: u64) -> Place
     ensures value { result ≡ place_of config.now address }
     ensures range { PlaceInRange config.now result }

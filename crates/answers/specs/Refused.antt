@@ -107,7 +107,8 @@ pub record IsStatsTable (table : List ℕ) : Type 0 where
   pub stats : RunStats
   pub rows_are : records_of table ≡ stats_header ∷ stats_rows stats
 
--- the records of a table are just those of statistics, under a configuration that is right and has the run's numbers of cores and channels
+-- the records of a table are just those of statistics, under a configuration that is right and has the run's numbers of
+-- cores and channels
 pub record IsStatsUnder (document table : List ℕ) : Type 0 where
   pub machine : Config
   pub stats : RunStats

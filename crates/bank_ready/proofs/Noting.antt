@@ -91,7 +91,8 @@ joint ranks xs ys groups after u v until own group count group_count e =
           omega (arith, e k);
     }
 
--- The later ones of the words of banks and of their groups, where only those of the banks were raised, only those of the groups, or none.
+-- The later ones of the words of banks and of their groups, where only those of the banks were raised, only those of
+-- the groups, or none.
 pub joint-own : (ranks : ℕ) (xs ys groups : List ℕ) (u until : ℕ → ℕ) → IsLifted xs ys u → length xs ≡ 16 * ranks → ((k : ℕ) → u k ≡ until k)
     → IsRaised (16 * ranks) (λ k. max (get_or xs k 0) (get_or groups (k / 4) 0)) (λ k. max (get_or ys k 0) (get_or groups (k / 4) 0)) until
 joint-own ranks xs ys groups u until own count e =

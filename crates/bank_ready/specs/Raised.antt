@@ -41,7 +41,8 @@ AreSameFrom old new end = (k d : ℕ) → end ≤ k → slice_index_or new k d �
 abbrev pub data_until : Timing → ℕ → Kind → Kind → BankId → ℕ → ℕ
 data_until t cycle earlier later bank k = held_until t cycle earlier later (group_relation_from bank k)
 
--- from which cycle on an ACT to a bank, and in its rank a window of ACTs up to its end, hold back no ACT in the group with a number
+-- from which cycle on an ACT to a bank, and in its rank a window of ACTs up to its end, hold back no ACT in the group
+-- with a number
 abbrev pub act_until : Timing → ℕ → BankId → ℕ → ℕ → ℕ
 act_until t cycle bank end k = max (data_until t cycle Act Act bank k) (groups_rank_until bank.rank end k)
 

@@ -13,12 +13,13 @@ use Rattle.sim_base.specs.Rules.{is_kind, kind_of, rank_of}
 use Rattle.timing.specs.Relation.{relation_to}
 use Rattle.timing.specs.Holds.{hold}
 
--- From which cycle on a command no longer holds back a later one whose banks relate to its own like this: from the gap after its own
--- cycle on, and from 0 on where no rule binds the two.
+-- From which cycle on a command no longer holds back a later one whose banks relate to its own like this: from the gap
+-- after its own cycle on, and from 0 on where no rule binds the two.
 unfoldable pub held_until : Timing → ℕ → Kind → Kind → Relation → ℕ
 held_until t cycle earlier later relation = unwrap_or (option_map (λ gap. cycle + gap) (hold t earlier later relation)) 0
 
--- From which cycle on a command of a history no longer holds back a later one of a kind in a rank, which names this bank, if it names one.
+-- From which cycle on a command of a history no longer holds back a later one of a kind in a rank, which names this
+-- bank, if it names one.
 abbrev pub held_by : Timing → Kind → ℕ → Option BankId → IssuedCommand → ℕ
 held_by t later rank bank i = held_until t i.cycle (kind_of i.command) later (relation_to i.command rank bank)
 

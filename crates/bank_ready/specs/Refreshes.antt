@@ -16,7 +16,8 @@ use Rattle.sim_base.specs.declared.command.IssuedCommand.{IssuedCommand}
 use Rattle.sim_base.specs.History.{below}
 use Rattle.sim_base.specs.Scheduling.{refreshes}
 
--- the cycles from one refresh of a rank to the next, 0 where there are none; the ranks; and how often each rank was refreshed
+-- the cycles from one refresh of a rank to the next, 0 where there are none; the ranks; and how often each rank was
+-- refreshed
 pub record RefreshCounts : Type 0 where
   pub interval : ℕ
   pub ranks : ℕ
@@ -76,8 +77,9 @@ pub record IsCountable (counts : RefreshCounts) : Type 0 where
   pub ranks_in : counts.ranks ≤ 4
   pub issued_in : (rank : ℕ) → slice_index counts.issued rank * counts.interval < 2 ^ 62
 
--- the last cycle in which no rank has a refresh that is due, as long as none is issued: the last of the interval that follows those
--- which the rank with the fewest refreshes had, or the last cycle that there is, where there are no refreshes
+-- the last cycle in which no rank has a refresh that is due, as long as none is issued: the last of the interval that
+-- follows those which the rank with the fewest refreshes had, or the last cycle that there is, where there are no
+-- refreshes
 pub record IsQuietTo (counts : RefreshCounts) (quiet : ℕ) : Type 0 where
   pub never : counts.interval ≡ 0 → quiet ≡ 18446744073709551615
   pub ends : 0 < counts.interval → (fewest : ℕ) × IsFewest counts fewest × (quiet + 1 ≡ (fewest + 1) * counts.interval)

@@ -41,9 +41,9 @@ Ascends (i ∷ history) = Each (λ (j : IssuedCommand). i.cycle < j.cycle) histo
 abbrev pub IsFloor : Timing → List IssuedCommand → Kind → ℕ → Type 0
 IsFloor t history later floor = (rank : ℕ) (bank : Option BankId) → floor ≤ ready_from t history later rank bank
 
--- The cycles of the commands ascend. Each word is the least cycle from which on none of them holds back such a command (an ACT, also
--- by the four-activate window), each floor is a cycle before which they allow no such command in any bank,
--- and each window has the last four ACTs of its rank.
+-- The cycles of the commands ascend. Each word is the least cycle from which on none of them holds back such a command
+-- (an ACT, also by the four-activate window), each floor is a cycle before which they allow no such command in any
+-- bank, and each window has the last four ACTs of its rank.
 pub record StandsFor (banks : Banks) (s : Config) (history : List IssuedCommand) : Type 0 where
   pub timing : banks.delays.value ≡ s.timing
   pub ranks : rank_count banks ≡ s.ranks

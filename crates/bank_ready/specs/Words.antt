@@ -55,16 +55,19 @@ rank_until rank until k = if rank == k / 16 then until else 0
 abbrev pub groups_rank_until : ℕ → ℕ → ℕ → ℕ
 groups_rank_until rank until k = if rank == k / 4 then until else 0
 
--- to which cycle the word of the group with this number is raised: those of this rank, one of them to a cycle of its own
+-- to which cycle the word of the group with this number is raised: those of this rank, one of them to a cycle of its
+-- own
 abbrev pub group_until : ℕ → ℕ → ℕ → ℕ → ℕ → ℕ
 group_until rank group same_group other_group k =
     if rank == k / 4 then (if group == k % 4 then same_group else other_group) else 0
 
--- to which cycle the word of the group with this number is raised: those of one rank to one cycle, those of the others to another
+-- to which cycle the word of the group with this number is raised: those of one rank to one cycle, those of the others
+-- to another
 abbrev pub ranks_until : ℕ → ℕ → ℕ → ℕ → ℕ
 ranks_until rank same_rank other_rank k = if rank == k / 4 then same_rank else other_rank
 
--- to which cycle the word of the group with this number is raised: the group of a bank, the others of its rank, those of the other ranks
+-- to which cycle the word of the group with this number is raised: the group of a bank, the others of its rank, those
+-- of the other ranks
 abbrev pub all_groups_until : BankId → ℕ → ℕ → ℕ → ℕ → ℕ
 all_groups_until bank same_group other_group other_rank k =
     if bank.rank == k / 4 then (if bank.group == k % 4 then same_group else other_group) else other_rank
@@ -73,12 +76,13 @@ all_groups_until bank same_group other_group other_rank k =
 abbrev pub relation_from : BankId → ℕ → Relation
 relation_from bank k = if bank.rank == k / 16 then relation_in_rank (Some bank) (Some (bank_at k)) else OtherRank
 
--- how a bank relates to the group with this number, each rank having places for four groups: to its own group, as to another bank of it
+-- how a bank relates to the group with this number, each rank having places for four groups: to its own group, as to
+-- another bank of it
 abbrev pub group_relation_from : BankId → ℕ → Relation
 group_relation_from bank k = if bank.rank == k / 4 then (if bank.group == k % 4 then SameGroup else OtherGroup) else OtherRank
 
--- From which cycle on each command of the bank with this number is no longer held back, as it is kept: for an ACT, a RD and a WR it is
--- the later of the bank's own word and its group's.
+-- From which cycle on each command of the bank with this number is no longer held back, as it is kept: for an ACT, a RD
+-- and a WR it is the later of the bank's own word and its group's.
 abbrev pub act_word : Banks → ℕ → ℕ
 act_word banks k = max (slice_index_or banks.act.items k 0) (slice_index_or banks.act_groups.items (k / 4) 0)
 
@@ -118,7 +122,8 @@ moves_data Pre = false
 moves_data Prea = false
 moves_data Ref = false
 
--- the last four ACTs of a rank that had none, and after one more, which no longer counts for the four-activate window from `end` on
+-- the last four ACTs of a rank that had none, and after one more, which no longer counts for the four-activate window
+-- from `end` on
 abbrev pub no_acts : Window
 no_acts = record { oldest = 0; second = 0; third = 0; last = 0 }
 
@@ -137,8 +142,8 @@ window_from t rank history = fold pushed no_acts (window_ends t rank history)
 abbrev pub word_from : Timing → List IssuedCommand → Kind → ℕ → ℕ
 word_from t history later k = ready_from t history later (k / 16) (Some (bank_at k))
 
--- From which cycle on no command of a history holds back an ACT of the bank, and the ACT is not the fifth one within the four-activate
--- window: that ends with the oldest of the last four.
+-- From which cycle on no command of a history holds back an ACT of the bank, and the ACT is not the fifth one within
+-- the four-activate window: that ends with the oldest of the last four.
 abbrev pub act_word_from : Timing → List IssuedCommand → ℕ → ℕ
 act_word_from t history k = max (word_from t history Act k) (window_from t (k / 16) history).oldest
 

@@ -18,8 +18,9 @@ use timing::gap_table::GapTable;
 #[derive(Drop)]
 pub struct Banks {
     delays: Box<GapTable>,
-    /// The least cycle from which on each command of a bank is no longer held back, by the bank's number: for an ACT, a RD and a WR
-    /// it is the later of the bank's own word and its group's, by the group's number among those of all ranks.
+    /// The least cycle from which on each command of a bank is no longer held back, by the bank's number: for an ACT, a
+    /// RD and a WR it is the later of the bank's own word and its group's, by the group's number among those of all
+    /// ranks.
     act: Vec<Cycle>,
     act_groups: Vec<Cycle>,
     rd: Vec<Cycle>,
@@ -77,8 +78,8 @@ impl Banks {
         })
     }
 
-    /// The least cycle from which on a command of this kind, which names the bank with this number, is no longer held back: by the
-    /// distances to the commands before it and, for an ACT, by the four-activate window.
+    /// The least cycle from which on a command of this kind, which names the bank with this number, is no longer held
+    /// back: by the distances to the commands before it and, for an ACT, by the four-activate window.
     #[inline(always)]
     pub fn earliest_in(&self, kind: Kind, bank: usize) -> Cycle
         requires kind { IsTrue (names_bank kind) }
@@ -155,8 +156,8 @@ impl Banks {
         note_act_in_rank(delays, &mut self.ranks, bank.rank, cycle, last);
     }
 
-    /// Notes a RD or a WR, in its bank, in the words of RDs and WRs of the groups of each rank, in the floors of all banks, and in
-    /// the words of the whole rank.
+    /// Notes a RD or a WR, in its bank, in the words of RDs and WRs of the groups of each rank, in the floors of all
+    /// banks, and in the words of the whole rank.
     #[inline(always)]
     fn note_data(&mut self, kind: Kind, bank: BankId, cycle: Cycle)
         requires kind { IsTrue (moves_data kind) }
@@ -245,8 +246,8 @@ impl Banks {
         raise_rank_words(delays, &mut self.ranks, rank, cycle, Kind::Ref);
     }
 
-    /// Notes a command that is issued in a cycle later than those of all commands noted before. It is small, so that a caller that knows the
-    /// kind of its command calls the function of that kind.
+    /// Notes a command that is issued in a cycle later than those of all commands noted before. It is small, so that a
+    /// caller that knows the kind of its command calls the function of that kind.
     #[inline(always)]
     pub fn note(&mut self, command: Command, cycle: Cycle)
         requires rank { rank_of command < rank_count self.old }

@@ -102,8 +102,8 @@ impl Refresh {
         self.owed(now, rank)
     }
 
-    /// The first cycle from `now` on in which a refresh of some rank is due, as long as no other is issued; None where there are
-    /// no refreshes.
+    /// The first cycle from `now` on in which a refresh of some rank is due, as long as no other is issued; None where
+    /// there are no refreshes.
     pub fn next_due(&self, now: Cycle) -> Option<Cycle>
         ensures none { IsNone result ↔ (self.now.interval ≡ 0) }
         ensures next { IfSome result (IsFirstDue (lowest_owed self.now) now) }
@@ -131,8 +131,8 @@ impl Refresh {
         self.ranks
     }
 
-    /// The first cycle from `now` on in which a refresh of a rank is due, as long as no other of it is issued; None where there
-    /// are no refreshes.
+    /// The first cycle from `now` on in which a refresh of a rank is due, as long as no other of it is issued; None
+    /// where there are no refreshes.
     pub fn first_due(&self, now: Cycle, rank: u32) -> Option<Cycle>
         requires { rank < self.now.ranks }
         ensures none { IsNone result ↔ (self.now.interval ≡ 0) }

@@ -1,5 +1,5 @@
-//! What a channel keeps of the commands that were issued: columns with a word for each bank or for each group, and what it keeps
-//! of each rank.
+//! What a channel keeps of the commands that were issued: columns with a word for each bank or for each group, and what
+//! it keeps of each rank.
 
 ghost use Rattle.std.specs.Prelude.{◌≡◌, ◌+◌, ◌*◌, ◌%◌, ◌^◌, ◌<◌, ◌≤◌, ℕ, IsTrue, IfSome, IfOk, length, replicate};
 ghost use Rattle.sim_base.specs.Places.{is_bank};
@@ -17,8 +17,8 @@ use sim_base::place::BankId;
 use std::alloc::{AllocError, Global};
 use timing::gap_table::GapTable;
 
-/// The last four ACTs of a rank, by the cycle from which on each no longer counts for the four-activate window; 0 for each
-/// that there has not been.
+/// The last four ACTs of a rank, by the cycle from which on each no longer counts for the four-activate window; 0 for
+/// each that there has not been.
 #[derive(Clone, Copy)]
 pub(crate) struct Window {
     pub(crate) oldest: Cycle,
@@ -225,8 +225,8 @@ pub(crate) fn raise_ranks(words: &mut [Cycle], rank: u32, same_rank: Cycle, othe
     }
 }
 
-/// Raises the words of all groups, that of the group of a bank to one cycle, those of the others of its rank to another, and those
-/// of the other ranks to a third.
+/// Raises the words of all groups, that of the group of a bank to one cycle, those of the others of its rank to
+/// another, and those of the other ranks to a third.
 #[inline(always)]
 pub(crate) fn raise_all_groups(
     words: &mut [Cycle],
@@ -258,8 +258,8 @@ pub(crate) struct DataCommand {
     pub(crate) cycle: Cycle,
 }
 
-/// Raises the words of the groups for a kind of command that moves data after another one. Gives the least of the cycles up to
-/// which that one holds them back: in its own group, in another group and in another rank.
+/// Raises the words of the groups for a kind of command that moves data after another one. Gives the least of the
+/// cycles up to which that one holds them back: in its own group, in another group and in another rank.
 #[inline(always)]
 pub(crate) fn raise_data(
     delays: &GapTable,
@@ -285,8 +285,8 @@ pub(crate) fn raise_data(
     same_group.min(other_group).min(other_rank)
 }
 
-/// Raises the words of the groups for ACTs after an ACT of a bank, and those of its rank to the end of a four-activate window as
-/// well.
+/// Raises the words of the groups for ACTs after an ACT of a bank, and those of its rank to the end of a four-activate
+/// window as well.
 #[inline(always)]
 #[tactic(auto, unfolding(sim_base::specs::Rules::is_bound), using(crate::proofs::Bounds::act_other_rank, crate::proofs::Places::act_raised))]
 pub(crate) fn raise_acts(

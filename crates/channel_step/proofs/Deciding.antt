@@ -48,7 +48,8 @@ made-in_banks c s channel ranks h e = subst (λ n. All (IsInBanks n) (all_reques
 pub cycle-in_banks : (c : Channel) (now : ℕ) → IsInSomeCycle c now → All (IsInBanks (rank_count c.banks)) (all_requests c.queue.log)
 cycle-in_banks c now h = made-in_banks c h.s h.channel (rank_count c.banks) h.is_in.made_for h.is_in.banks_stand.ranks
 
--- what would be chosen for the queue in a later cycle is what the channel does in it, if nothing is issued and nothing arrives before it
+-- what would be chosen for the queue in a later cycle is what the channel does in it, if nothing is issued and nothing
+-- arrives before it
 pub cycle-later : (c : Channel) (s : Config) (channel : ℕ) (steps : List (Option Command)) (mail : List Message) (cycle : ℕ) → IsInCycle c s channel steps mail → length steps ≤ cycle
     → choice_in s (issued_commands channel steps) c.queue cycle ≡ choice s channel (steps ++ replicate (cycle - length steps) None) mail
 cycle-later c s channel steps mail cycle h l =

@@ -73,7 +73,8 @@ idle-fit s channel steps mail inbox now until n at f late is =
           omega (arith, x, f.room (n + k) (omega arith));
     }
 
--- what is known of the way of a channel from a cycle on, in which the first n messages arrive, to the next one with an arrival
+-- what is known of the way of a channel from a cycle on, in which the first n messages arrive, to the next one with an
+-- arrival
 pub record Goes (s : Config) (channel : ℕ) (steps : List (Option Command)) (mail inbox : List Message) (now until n end : ℕ) : Type 0 where
   pub at : length steps ≡ now
   pub fit : IsFit s channel steps mail inbox now until

@@ -1,4 +1,5 @@
--- How a channel is readied for a command: what the command does to its log, its candidates and the requests that it keeps.
+-- How a channel is readied for a command: what the command does to its log, its candidates and the requests that it
+-- keeps.
 use Rattle.std.proofs.Common.{◌≡◌, ℕ, ◌+◌, ◌<◌, true, false, cond, eqb, get_or, List, [], ◌∷◌, ◌++◌, length, Option, Some, None, refl, sym, ap, ap₂, subst, ◌∙◌, arith}
 use Rattle.std.specs.Prelude.{not, Vec}
 use Rattle.std.specs.declared.alloc.Global.{Global}

@@ -71,7 +71,8 @@ drain_decided-in_cycle c s channel steps mail h =
       keeps_served = h.keeps_served;
     }
 
--- a channel is in its next cycle, if it is equal to one that was between two cycles and has decided whether it drains its writes
+-- a channel is in its next cycle, if it is equal to one that was between two cycles and has decided whether it drains
+-- its writes
 pub settled_stands : (c d : Channel) (s : Config) (channel : ℕ) (steps : List (Option Command)) (mail : List Message)
     → d ≡ record c { queue = drain_decided c.queue } → StandsFor c s channel steps mail → IsInCycle d s channel steps mail
 settled_stands c d s channel steps mail e h = subst (λ x. IsInCycle x s channel steps mail) (sym e) (drain_decided-in_cycle c s channel steps mail h)

@@ -65,8 +65,8 @@ use Rattle.channel_step.specs.declared.counting.Seen.{Seen}
 abbrev pub CandidatesStand : BankCandidates → List Arrived → List IssuedCommand → Type 0
 CandidatesStand bank_candidates log history = CandidatesStandFor bank_candidates log (rows_after history)
 
--- The channel with a number, of a machine with a configuration, has room in its queue for a request for each credit and candidates for
--- each bank, and never had more requests in it; each request that has arrived asks for one of the banks.
+-- The channel with a number, of a machine with a configuration, has room in its queue for a request for each credit and
+-- candidates for each bank, and never had more requests in it; each request that has arrived asks for one of the banks.
 pub record IsMadeFor (c : Channel) (s : Config) (channel : ℕ) : Type 0 where
   pub config_is : c.config ≡ s
   pub number_is : c.number ≡ channel
@@ -82,13 +82,15 @@ pub record IsMadeFor (c : Channel) (s : Config) (channel : ℕ) : Type 0 where
 abbrev pub IsQuiet : Config → List IssuedCommand → QueueView → ℕ → ℕ → Type 0
 IsQuiet s history queue from end = (t : ℕ) → from ≤ t → t < end → choice_in s history queue t ≡ None
 
--- what was chosen needs a command that is issued in a cycle, and none is in the cycles from a given one on and before that
+-- what was chosen needs a command that is issued in a cycle, and none is in the cycles from a given one on and before
+-- that
 pub record IsAheadAt (s : Config) (history : List IssuedCommand) (queue : QueueView) (from cycle : ℕ) (choice : Choice) : Type 0 where
   pub then_is : choice_in s history queue cycle ≡ command_of s history queue.log choice
   pub none_before : IsQuiet s history queue from cycle
   pub place : IsFor s.ranks queue.log choice
 
--- what is known of the next command from a cycle on: nothing; or that none is ever issued; or its cycle, and what needs it
+-- what is known of the next command from a cycle on: nothing; or that none is ever issued; or its cycle, and what needs
+-- it
 abbrev pub IsAhead : Config → List IssuedCommand → QueueView → ℕ → Ahead → Type 0
 IsAhead s history queue from Unknown = Unit {0}
 IsAhead s history queue from (Known None) = (t : ℕ) → from ≤ t → choice_in s history queue t ≡ None
@@ -126,16 +128,19 @@ pub record HasMore (c : Channel) (s : Config) (history : List IssuedCommand) (ea
   pub high_is : s.write_high ≡ c.queue.high
   pub earlier_is : earlier.log ≡ take older c.queue.log
 
--- these are the requests that these commands served, wherever it is told when each request came that these messages carry
+-- these are the requests that these commands served, wherever it is told when each request came that these messages
+-- carry
 abbrev pub AreServed : List ServedRequest → List IssuedCommand → List Message → Type 0
 AreServed rows history mail =
     (arrivals : Source → ℕ) → Each (λ r. r.arrival ≡ arrivals (source_of r)) (requests_of mail) → rows ≡ served_requests arrivals history
 
--- the requests that are kept, if they are, are those that these commands served, wherever it is told when each request came that these messages carry
+-- the requests that are kept, if they are, are those that these commands served, wherever it is told when each request
+-- came that these messages carry
 abbrev pub KeepsServed : Option (Vec ServedRequest Global) → List IssuedCommand → List Message → Type 0
 KeepsServed kept history mail = IfSome kept (λ rows. AreServed rows.items history mail)
 
--- All that a channel keeps between two cycles is what its steps so far, one a cycle, and the messages that arrived in them make of it.
+-- All that a channel keeps between two cycles is what its steps so far, one a cycle, and the messages that arrived in
+-- them make of it.
 pub record StandsFor (c : Channel) (s : Config) (channel : ℕ) (steps : Steps) (mail : List Message) : Type 0 where
   pub made_for : IsMadeFor c s channel
   pub cycle_is : c.cycle ≡ length steps
@@ -204,22 +209,24 @@ pub record IsInSomeCycle (c : Channel) (now : ℕ) : Type 0 where
   pub is_in : IsInCycle c s channel steps mail
   pub at : length steps ≡ now
 
--- The next command that is issued after these steps, if nothing arrives any more: it is what the channel does in this cycle, which
--- is before another one, and none is issued in the cycles before it.
+-- The next command that is issued after these steps, if nothing arrives any more: it is what the channel does in this
+-- cycle, which is before another one, and none is issued in the cycles before it.
 pub record IsNextIn (s : Config) (channel : ℕ) (steps : Steps) (mail : List Message) (end cycle : ℕ) (command : Command) : Type 0 where
   pub from_now : length steps ≤ cycle
   pub before_end : cycle < end
   pub idle : IsIdle s channel steps mail (cycle - length steps)
   pub command_is : Some command ≡ choice s channel (idle_until steps (length steps) cycle) mail
 
--- the next command that is issued after these steps, if nothing arrives any more, and what needs it: a request of a log, or a rank
+-- the next command that is issued after these steps, if nothing arrives any more, and what needs it: a request of a
+-- log, or a rank
 pub record IsNeededIn (s : Config) (channel : ℕ) (steps : Steps) (mail : List Message) (log : List Arrived) (end cycle : ℕ) (chosen : Choice) : Type 0 where
   pub command : Command
   pub place : IsFor s.ranks log chosen
   pub needed : command_of s (issued_commands channel steps) log chosen ≡ Some command
   pub is_next : IsNextIn s channel steps mail end cycle command
 
--- what needs the next command that is issued after these steps and before a cycle, if nothing arrives any more, or none where none is
+-- what needs the next command that is issued after these steps and before a cycle, if nothing arrives any more, or none
+-- where none is
 abbrev pub IsNextBefore : Config → ℕ → Steps → List Message → List Arrived → ℕ → Option (ℕ × Choice) → Type 0
 IsNextBefore s channel steps mail log end (Some next) = IsNeededIn s channel steps mail log end next.0 next.1
 IsNextBefore s channel steps mail log end None = IsIdle s channel steps mail (end - length steps)
@@ -249,6 +256,7 @@ after_cycle c seen command hit = record c { cycle = c.cycle + 1; ahead = Unknown
 abbrev pub idle_cycle : Channel → ℕ → ChannelStats
 idle_cycle c now = cycle_with_hit c.config (seen_of c now).queued (seen_of c now).refreshing (seen_of c now).draining None false
 
--- the statistics of a channel after the cycles before another one, each of which is like the next one, and in which it issues nothing
+-- the statistics of a channel after the cycles before another one, each of which is like the next one, and in which it
+-- issues nothing
 abbrev pub passed : Channel → ℕ → ChannelStats
 passed c until = channel_joined c.stats (channel_times (until - c.cycle) (idle_cycle c c.cycle))

@@ -8,8 +8,8 @@ use Rattle.statistics.specs.Counts.{one_if}
 use Rattle.statistics.specs.Channels.{issues, draining_of}
 use Rattle.statistics.specs.declared.channels.ChannelStats.{ChannelStats}
 
--- the statistics of a cycle with a queue of this length, in which a refresh is due or not, the channel drains its writes or not,
--- and does this, which moves data of a row hit or not
+-- the statistics of a cycle with a queue of this length, in which a refresh is due or not, the channel drains its
+-- writes or not, and does this, which moves data of a row hit or not
 abbrev pub cycle_with_hit : Config → ℕ → Bool → Bool → Option Command → Bool → ChannelStats
 cycle_with_hit s queued has_due drains o hit =
     record {

@@ -36,7 +36,8 @@ is_named_by command r = is_of (source_in command) r
 abbrev pub IsUnnamed : List IssuedCommand → Request → Type 0
 IsUnnamed history r = Each (λ (i : IssuedCommand). is_named_by i.command r ≡ false) history
 
--- each message arrives before those that follow it, or with them on a lower link: so at most one arrives on a link in a cycle
+-- each message arrives before those that follow it, or with them on a lower link: so at most one arrives on a link in a
+-- cycle
 abbrev pub ComeByAge : List Message → Type 0
 ComeByAge [] = Unit {0}
 ComeByAge (m ∷ ms) = Each (λ (n : Message). is_before m n ≡ true) ms × ComeByAge ms

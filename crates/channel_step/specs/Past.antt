@@ -25,8 +25,8 @@ Steps = List (Option Command)
 abbrev pub requests_of : List Message → List Request
 requests_of mail = filter_map (λ m. request_in m.load) mail
 
--- A request for a channel, as the message that carries it tells: it comes from a core of the machine on that core's link, says
--- when it arrives and on which link, and lies where its address does, which is in this channel.
+-- A request for a channel, as the message that carries it tells: it comes from a core of the machine on that core's
+-- link, says when it arrives and on which link, and lies where its address does, which is in this channel.
 pub record IsRequestOf (s : Config) (channel : ℕ) (m : Message) (r : Request) : Type 0 where
   pub core : r.core < s.cores
   pub link : m.link ≡ request_link s r.core channel
@@ -57,8 +57,8 @@ Differ (r ∷ rs) = Each (IsOther r) rs × Differ rs
 abbrev pub is_named : List IssuedCommand → Request → Bool
 is_named history r = list_any (λ i. is_act_for (source_of r) i.command) history
 
--- The steps of a channel, one a cycle, and the messages that arrived in those cycles: each carries a request, and no two requests
--- are of one entry.
+-- The steps of a channel, one a cycle, and the messages that arrived in those cycles: each carries a request, and no
+-- two requests are of one entry.
 pub record IsPast (s : Config) (channel : ℕ) (steps : List (Option Command)) (mail : List Message) : Type 0 where
   pub requests : Each (CarriesRequest s channel) mail
   pub arrived : Each (λ (m : Message). m.arrival < length steps) mail

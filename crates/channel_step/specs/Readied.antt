@@ -92,8 +92,9 @@ row_of channel now command = record { cycle = now; channel = channel; command = 
 abbrev pub commands_with : ℕ → Steps → Command → List IssuedCommand
 commands_with channel steps command = followed_by (issued_commands channel steps) channel (length steps) command
 
--- What a channel is in the cycle after these steps once its queue, its candidates and the requests that it keeps are as after a command
--- that it chose, which may move data of a row hit. Its banks, its refreshes and its statistics have still to take note of it.
+-- What a channel is in the cycle after these steps once its queue, its candidates and the requests that it keeps are as
+-- after a command that it chose, which may move data of a row hit. Its banks, its refreshes and its statistics have
+-- still to take note of it.
 pub record IsReadied (c : Channel) (s : Config) (channel : ℕ) (steps : Steps) (mail : List Message) (command : Command) (hit : Bool) : Type 0 where
   pub made_for : IsMadeFor c s channel
   pub cycle_is : c.cycle ≡ length steps

@@ -45,15 +45,16 @@ abbrev pub first_arrival : List Message → ℕ → ℕ
 first_arrival [] until = until
 first_arrival (m ∷ ms) until = m.arrival
 
--- A channel has issued a command in the cycle after these steps: the command, where commands are kept, and what is sent for it were put
--- behind what two lists held.
+-- A channel has issued a command in the cycle after these steps: the command, where commands are kept, and what is sent
+-- for it were put behind what two lists held.
 pub record HasIssued (c : Channel) (s : Config) (channel : ℕ) (steps : Steps) (mail : List Message) (command : Command) (commands commands_then : Option (List IssuedCommand)) (messages messages_then : List Message) : Type 0 where
   pub stands : StandsFor c s channel (steps ++ Some command ∷ []) mail
   pub commands_are : commands_then ≡ with_command commands channel (length steps) command
   pub messages_are : messages_then ≡ messages ++ messages_at s channel (length steps) (Some command)
 
--- After the cycles from one on and before another a channel stands for the steps of its run and for the messages that arrived in
--- them; the others are fit for the rest of the span; and these commands and messages are those that were added.
+-- After the cycles from one on and before another a channel stands for the steps of its run and for the messages that
+-- arrived in them; the others are fit for the rest of the span; and these commands and messages are those that were
+-- added.
 pub record HasRun (c : Channel) (s : Config) (channel : ℕ) (steps : Steps) (mail inbox : List Message) (from now until arrived : ℕ) (commands : List IssuedCommand) (messages : List Message) : Type 0 where
   pub stands : StandsFor c s channel (channel_run s channel steps (mail ++ inbox) (now - from)) (mail ++ take arrived inbox)
   pub fit : IsFit s channel (channel_run s channel steps (mail ++ inbox) (now - from)) (mail ++ take arrived inbox) (drop arrived inbox) now until
@@ -61,8 +62,8 @@ pub record HasRun (c : Channel) (s : Config) (channel : ℕ) (steps : Steps) (ma
   pub commands_are : issued_commands channel (channel_run s channel steps (mail ++ inbox) (now - from)) ≡ issued_commands channel steps ++ commands
   pub messages_are : channel_messages s channel (channel_run s channel steps (mail ++ inbox) (now - from)) ≡ channel_messages s channel steps ++ messages
 
--- After some more cycles, from one on and before another, the same holds, and what is new was added to these commands, where they
--- are kept, and messages.
+-- After some more cycles, from one on and before another, the same holds, and what is new was added to these commands,
+-- where they are kept, and messages.
 pub record HasAdvanced (c : Channel) (s : Config) (channel : ℕ) (steps : Steps) (mail inbox : List Message) (now then until arrived : ℕ) (commands commands_then : Option (List IssuedCommand)) (messages messages_then : List Message) : Type 0 where
   pub issued : List IssuedCommand
   pub sent : List Message
@@ -70,8 +71,9 @@ pub record HasAdvanced (c : Channel) (s : Config) (channel : ℕ) (steps : Steps
   pub commands_are : commands_then ≡ with_more commands issued
   pub messages_are : messages_then ≡ messages ++ sent
 
--- After a span a channel stands for the steps of its run over it and for all messages that were sent to it. The commands, where
--- they are kept, and the messages of the longer steps beyond those of the earlier ones were put behind what two lists held.
+-- After a span a channel stands for the steps of its run over it and for all messages that were sent to it. The
+-- commands, where they are kept, and the messages of the longer steps beyond those of the earlier ones were put behind
+-- what two lists held.
 pub record IsDone (c : Channel) (s : Config) (channel : ℕ) (steps : Steps) (mail inbox : List Message) (from until : ℕ) (commands commands_then : Option (List IssuedCommand)) (messages messages_then : List Message) : Type 0 where
   pub issued : List IssuedCommand
   pub sent : List Message

@@ -18,8 +18,8 @@ use Rattle.channel_step.specs.Past.{Steps, requests_of, CarriesRequest, Differ, 
 abbrev pub marks_of : List IssuedCommand → List Request → List Bool
 marks_of history requests = map (is_named history) requests
 
--- The requests that wait, whether the channel drained its writes in the last cycle, for which of the requests an ACT was issued,
--- and the statistics, are those of these steps and the messages that arrived in them.
+-- The requests that wait, whether the channel drained its writes in the last cycle, for which of the requests an ACT
+-- was issued, and the statistics, are those of these steps and the messages that arrived in them.
 pub record Recalls (queue : List Request) (drained : Bool) (marks : List Bool) (stats : ChannelStats) (s : Config) (channel : ℕ) (steps : Steps) (mail : List Message) : Type 0 where
   pub past : IsPast s channel steps mail
   pub queue_is : queue ≡ queued_requests (issued_commands channel steps) mail (length steps)
@@ -27,8 +27,8 @@ pub record Recalls (queue : List Request) (drained : Bool) (marks : List Bool) (
   pub marks_are : marks ≡ marks_of (issued_commands channel steps) queue
   pub stats_are : stats ≡ channel_stats s channel steps mail
 
--- The requests that wait in the cycle after these steps, with what arrives in it, whether the channel drains its writes in it,
--- for which of the requests an ACT was issued, and the statistics, are those of these steps and these messages.
+-- The requests that wait in the cycle after these steps, with what arrives in it, whether the channel drains its writes
+-- in it, for which of the requests an ACT was issued, and the statistics, are those of these steps and these messages.
 pub record HasJoined (queue : List Request) (drained : Bool) (marks : List Bool) (stats : ChannelStats) (s : Config) (channel : ℕ) (steps : Steps) (mail : List Message) : Type 0 where
   pub requests : Each (CarriesRequest s channel) mail
   pub arrived : Each (λ (m : Message). m.arrival < length steps + 1) mail

@@ -99,7 +99,8 @@ impl Channel {
         })
     }
 
-    /// Keeps the requests that the channel serves, each with what is known of it then. The channel is before its first cycle.
+    /// Keeps the requests that the channel serves, each with what is known of it then. The channel is before its first
+    /// cycle.
     pub fn keep_served(&mut self, alloc: Global)
         ensures stands { (s : Config) (number : ℕ)
             → StandsFor self.old s number [] [] → StandsFor self.new s number [] [] }
@@ -172,8 +173,8 @@ impl Channel {
         self.bank_candidates.open_row(bank)
     }
 
-    /// The first cycle from `from` on, where the channel stands, in which it issues a command, if nothing arrives; None where
-    /// there is none.
+    /// The first cycle from `from` on, where the channel stands, in which it issues a command, if nothing arrives; None
+    /// where there is none.
     pub fn next_act(&mut self, from: Cycle) -> Option<Cycle>
         requires { StandsAt self.old from }
         ensures same { self.new ≡ self.old }
@@ -187,8 +188,8 @@ impl Channel {
         }
     }
 
-    /// The first cycle with a command from `now` on, if nothing arrives, and that command; None where there is none. It is looked for
-    /// only if it is not known yet.
+    /// The first cycle with a command from `now` on, if nothing arrives, and that command; None where there is none. It
+    /// is looked for only if it is not known yet.
     #[inline(always)]
     fn find(&self, now: Cycle) -> Option<(Cycle, Choice)>
         requires places { AreInBanks (rank_count self.now.banks) self.now.queue.log }
@@ -229,8 +230,8 @@ impl Channel {
         }
     }
 
-    /// The next command that the channel issues, and in which cycle, if that is before `end` and nothing arrives before that. Otherwise
-    /// what was found is kept.
+    /// The next command that the channel issues, and in which cycle, if that is before `end` and nothing arrives before
+    /// that. Otherwise what was found is kept.
     fn look(&mut self, now: Cycle, end: Cycle) -> Option<(Cycle, Choice)>
         requires { IsInSomeCycle self.old now }
         ensures same_queue { self.new.queue ≡ self.old.queue }
@@ -263,8 +264,8 @@ impl Channel {
         }
     }
 
-    /// Counts a cycle in which a command is issued, which may move data of a row hit. The cycle is then over, and what comes next
-    /// is not known.
+    /// Counts a cycle in which a command is issued, which may move data of a row hit. The cycle is then over, and what
+    /// comes next is not known.
     #[inline(always)]
     fn count(&mut self, seen: Seen, command: Command, hit: bool)
         requires cycle { self.old.cycle < 2 ^ 62 }
@@ -280,8 +281,8 @@ impl Channel {
         *cycle += 1;
     }
 
-    /// Counts the cycles before `until`, in each of which the same is seen as in the next one, and nothing is issued. They are
-    /// then over.
+    /// Counts the cycles before `until`, in each of which the same is seen as in the next one, and nothing is issued.
+    /// They are then over.
     fn pass(&mut self, refreshing: bool, until: Cycle)
         requires until { self.old.cycle < until }
         requires refreshing { refreshing ≡ is_some (lowest_owed self.old.refresh self.old.cycle) }
@@ -297,7 +298,8 @@ impl Channel {
         *cycle = until;
     }
 
-    /// The first cycle before `until` from which on a refresh is due, as long as no REF is issued; `until`, where there is none.
+    /// The first cycle before `until` from which on a refresh is due, as long as no REF is issued; `until`, where there
+    /// is none.
     #[tactic(auto, using(crate::proofs::Dues::due_from_next, crate::proofs::Dues::never_due))]
     fn due_from(&self, until: Cycle) -> Cycle
         requires { self.now.cycle ≤ until }
@@ -331,8 +333,8 @@ impl Channel {
         self.queue.decide_drain();
     }
 
-    /// Counts the cycles from this one on and before `until`, at most 2^62, in which nothing is issued, and nothing arrives except in
-    /// the first. The channel is in the cycle `until` then.
+    /// Counts the cycles from this one on and before `until`, at most 2^62, in which nothing is issued, and nothing
+    /// arrives except in the first. The channel is in the cycle `until` then.
     #[inline(always)]
     fn wait(&mut self, until: Cycle)
         requires in_cycle { IsInSomeCycle self.old self.old.cycle }
@@ -355,7 +357,8 @@ impl Channel {
         }
     }
 
-    /// Takes note of a command for which the channel is readied, and counts the cycle. It is added to the commands, where they are kept.
+    /// Takes note of a command for which the channel is readied, and counts the cycle. It is added to the commands,
+    /// where they are kept.
     #[inline(always)]
     fn issue(
         &mut self,
@@ -379,7 +382,8 @@ impl Channel {
         keep(self.number, now, command, commands)
     }
 
-    /// Readies the channel for what a rank needs that is to be refreshed: a PREA, where a row is open in it, and else its REF.
+    /// Readies the channel for what a rank needs that is to be refreshed: a PREA, where a row is open in it, and else
+    /// its REF.
     #[inline(always)]
     fn ready_rank(&mut self, rank: u32) -> Command
         requires { IsChosen self.old (chosen.Refresh rank) }
@@ -450,8 +454,8 @@ impl Channel {
         }
     }
 
-    /// Readies the channel for the RD or WR of the request at a place, which no longer waits then, and tells whether it is a row hit. On
-    /// an error the request is not added to those that are kept.
+    /// Readies the channel for the RD or WR of the request at a place, which no longer waits then, and tells whether it
+    /// is a row hit. On an error the request is not added to those that are kept.
     #[inline(always)]
     fn serve(&mut self, slot: usize) -> Result<bool, AllocError>
         requires { IsDoing self.old slot (data_command self.old slot) }
@@ -500,8 +504,8 @@ impl Channel {
         send(&self.config, self.number, now, &request, messages)
     }
 
-    /// Issues what the request at a place needs: an ACT where no row of its bank is open, a PRE where another one is, and else its RD or
-    /// WR. On an error some of it may not be done.
+    /// Issues what the request at a place needs: an ACT where no row of its bank is open, a PRE where another one is,
+    /// and else its RD or WR. On an error some of it may not be done.
     #[inline(always)]
     fn issue_for(
         &mut self,
@@ -558,7 +562,8 @@ impl Channel {
         }
     }
 
-    /// Whether what was found is known to be still the next command, now that the requests from a place on have arrived.
+    /// Whether what was found is known to be still the next command, now that the requests from a place on have
+    /// arrived.
     #[inline(always)]
     fn keeps_found(&self, found: Option<(Cycle, Choice)>, older: usize) -> bool
         requires places { AreInBanks (rank_count self.now.banks) self.now.queue.log }
@@ -592,7 +597,8 @@ impl Channel {
         }
     }
 
-    /// Forgets the command that was found, where one of the requests from a place on, which have arrived, may go before it.
+    /// Forgets the command that was found, where one of the requests from a place on, which have arrived, may go before
+    /// it.
     #[inline(always)]
     fn reconsider(&mut self, older: usize)
         requires places { AreInBanks (rank_count self.old.banks) self.old.queue.log }
@@ -609,7 +615,8 @@ impl Channel {
         }
     }
 
-    /// Looks for all candidates anew, since those that wait have moved to the front of the log, where none has its old place.
+    /// Looks for all candidates anew, since those that wait have moved to the front of the log, where none has its old
+    /// place.
     #[inline(never)]
     fn renew(&mut self)
         ensures stands { (c : Channel)
@@ -633,8 +640,8 @@ impl Channel {
         }
     }
 
-    /// Takes in those of these messages that arrive in a cycle, and decides whether the channel drains its writes in it. Returns
-    /// how many they are.
+    /// Takes in those of these messages that arrive in a cycle, and decides whether the channel drains its writes in
+    /// it. Returns how many they are.
     fn arrive(&mut self, inbox: &[Message], now: Cycle) -> usize
         requires { CanStep self.old inbox.now now }
         ensures some { result ≡ length (take_while (λ m. m.arrival == now) inbox.now) }
@@ -657,9 +664,10 @@ impl Channel {
         due
     }
 
-    /// Goes on from the first of these cycles, where the channel stands, over the next one in which it issues a command, or over all
-    /// before the next one in which something arrives, if that comes first; and no further than their end. What it issues, where that is kept, and
-    /// sends is added to the commands and messages. On an error some of it may be missing.
+    /// Goes on from the first of these cycles, where the channel stands, over the next one in which it issues a
+    /// command, or over all before the next one in which something arrives, if that comes first; and no further than
+    /// their end. What it issues, where that is kept, and sends is added to the commands and messages. On an error some
+    /// of it may be missing.
     #[inline(always)]
     fn advance(
         &mut self,
@@ -714,7 +722,8 @@ impl Channel {
         self.ahead = Ahead::Known(self.find(from));
     }
 
-    /// Looks for the next command, where it is not known, so that whoever asks when the channel acts, or runs it on, need not look again.
+    /// Looks for the next command, where it is not known, so that whoever asks when the channel acts, or runs it on,
+    /// need not look again.
     #[inline(always)]
     fn foresee(&mut self, from: Cycle)
         requires { StandsAt self.old from }
@@ -728,9 +737,9 @@ impl Channel {
     }
 
     /// Runs the channel over these cycles, in which these messages arrive, by arrival and then
-    /// by link. What it issues, where commands are kept, and sends is put behind what the commands and messages hold. The only error is
-    /// out of memory; what the channel and the lists hold is then not known. It goes from one cycle in which something arrives or is issued to the next, and
-    /// skips those between.
+    /// by link. What it issues, where commands are kept, and sends is put behind what the commands and messages hold.
+    /// The only error is out of memory; what the channel and the lists hold is then not known. It goes from one cycle
+    /// in which something arrives or is issued to the next, and skips those between.
     #[inline(never)]
     pub fn run(
         &mut self,

@@ -21,7 +21,8 @@ AllUpTo cycle rows = Each (λ row. row.cycle ≤ cycle) rows
 abbrev pub AllAfter : ℕ → List IssuedCommand → Type 0
 AllAfter cycle rows = Each (λ row. cycle < row.cycle) rows
 
--- Of the first `count` lists, the one at this place begins in this cycle. Those before it begin later, and those after it no sooner.
+-- Of the first `count` lists, the one at this place begins in this cycle. Those before it begin later, and those after
+-- it no sooner.
 pub record IsNextOf (lists : List (List IssuedCommand)) (count place cycle : ℕ) : Type 0 where
   pub within : place < count
   pub starts : first_cycle (slice_index_or lists place []) ≡ Some cycle

@@ -26,8 +26,8 @@ abbrev pub command_with : Kind → Operands → Command
 command_with kind operands =
     command_of kind operands.bank.rank operands.bank.group operands.bank.bank operands.row operands.column operands.source.core operands.source.entry
 
--- the row that numbers of few bytes stand for: the channel is the lowest 8 bits below the row, and the rank, the group and the bank are 2 bits
--- each below the column
+-- the row that numbers of few bytes stand for: the channel is the lowest 8 bits below the row, and the rank, the group
+-- and the bank are 2 bits each below the column
 abbrev pub row_kept : Kind → ℕ → ℕ → ℕ → ℕ → ℕ → IssuedCommand
 row_kept kind cycle entry row_and_channel column_and_bank core =
     record {

@@ -10,8 +10,9 @@ use sim_base::place::BankId;
 use std::marker::Model;
 use std::mem::size_of;
 
-/// A command whose numbers are those of a usual machine and trace: cycles and entries below 2^32, rows below 2^24, columns below 2^10, channels and
-/// cores below 2^8, and ranks, groups and banks below 4. Operands that it does not have are 0.
+/// A command whose numbers are those of a usual machine and trace: cycles and entries below 2^32, rows below 2^24,
+/// columns below 2^10, channels and cores below 2^8, and ranks, groups and banks below 4. Operands that it does not
+/// have are 0.
 #[derive(Drop)]
 pub(crate) struct Compact {
     cycle: u32,

@@ -58,8 +58,9 @@ fn parts_of<'a>(alloc: Global, lefts: &[Left<'a>], cycle: Cycle) -> Result<Parts
 }
 
 impl CommandTable {
-    /// The table in pieces, which make up the table one after another: each ends where one of its lists has given `most` commands (one, for 0),
-    /// including those of the same cycle, and the last, which may be empty, ends where the table does. The only error is out of memory.
+    /// The table in pieces, which make up the table one after another: each ends where one of its lists has given
+    /// `most` commands (one, for 0), including those of the same cycle, and the last, which may be empty, ends where
+    /// the table does. The only error is out of memory.
     pub fn pieces(&self, alloc: Global, most: usize) -> Result<Vec<Rows<'_>>, AllocError>
         ensures { IfOk result (λ pieces. flat_map (λ piece. piece) pieces.items ≡ self.now) }
     {

@@ -17,8 +17,8 @@ pub(crate) enum Kept {
     Whole(Vec<IssuedCommand>),
 }
 
-/// Commands in the order in which they were put in. Each takes 16 bytes, as long as the numbers of all are those of a usual machine and trace
-/// (`Compact`); once one has a greater number, each takes 56.
+/// Commands in the order in which they were put in. Each takes 16 bytes, as long as the numbers of all are those of a
+/// usual machine and trace (`Compact`); once one has a greater number, each takes 56.
 #[derive(Drop)]
 pub struct CommandList {
     kept: Kept,

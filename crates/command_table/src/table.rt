@@ -11,7 +11,8 @@ use sim_base::message::Cycle;
 use std::alloc::{AllocError, Global};
 use std::marker::Model;
 
-/// The commands of several lists as one table: by cycle, and those of a cycle by their list. Nothing is copied to make it or to read it.
+/// The commands of several lists as one table: by cycle, and those of a cycle by their list. Nothing is copied to make
+/// it or to read it.
 #[derive(Drop)]
 pub struct CommandTable {
     lists: Vec<CommandList>,
@@ -151,7 +152,8 @@ impl CommandTable {
         CommandTable { lists }
     }
 
-    /// The table with just these rows, none of which has an earlier cycle than one before it. The only error is out of memory.
+    /// The table with just these rows, none of which has an earlier cycle than one before it. The only error is out of
+    /// memory.
     pub fn of_rows(alloc: Global, rows: &[IssuedCommand]) -> Result<Self, AllocError>
         requires rising { IsRising rows.now }
         ensures { IfOk result (λ table. table ≡ rows.now) }

@@ -39,8 +39,8 @@ headings_text layout others =
 unfoldable pub runs_text : Layout → List (List ℕ) → ℕ → List ℕ → List ℕ
 runs_text layout names others lines = head_text layout names ++ headings_text layout others ++ lines
 
--- runs beside the first of them: their names and headings, a line for each measure, and one for p99 where it is known of each run; nothing for no
--- runs
+-- runs beside the first of them: their names and headings, a line for each measure, and one for p99 where it is known
+-- of each run; nothing for no runs
 abbrev pub comparison_text : Layout → List (List ℕ) → List RunStats → List (Option ℕ) → List ℕ
 comparison_text layout names [] tails = []
 comparison_text layout names (base ∷ others) tails = runs_text layout names (length others) (lines_text layout base others tails)

@@ -79,7 +79,8 @@ rest-silent s core trace steps mail until h n l =
     silent-by s core trace steps mail (issued_before steps) n (λ k from to. absurd (omega arith))
     (λ m k. let e : issued_before (core_run s core trace steps mail m) ≡ issued_before steps = ap issued_before (h.rests m) ∙ idle-issued steps m in omega (arith, e))
 
--- a core sends nothing in the cycles that it takes to issue the Plain entries before its next Read or Write, each cycle its width of them
+-- a core sends nothing in the cycles that it takes to issue the Plain entries before its next Read or Write, each cycle
+-- its width of them
 pub plain-silent : (a : CoreView) (first_at second_at cycles until : ℕ) (entry : Entry) → IsSeen a.trace a.stats.issued first_at second_at entry
     → (first_at < length a.trace → a.stats.issued + cycles * a.config.width ≤ first_at) → until ≤ a.now + cycles
     → (s : Config) (core : ℕ) (trace : List Entry) (steps : List CoreStep) (mail : List Message) → StandsFor s core trace steps mail a → IsSilentUntil s core trace steps mail until

@@ -24,8 +24,8 @@ all_others e (read ∷ reads) h =
     ap (λ b. cond (not b) (read ∷ filter (is_other e) reads) (filter (is_other e) reads)) (ne_eqb read.entry e (λ same. omega (arith, h.0)))
     ∙ ap (λ l. read ∷ l) (all_others e reads h.1)
 
--- The Read of a number is looked for among those from a place on. Those before it moved up by a place, which leaves the first
--- place free; the last of them is at hand, and those from the next place on stand where they were.
+-- The Read of a number is looked for among those from a place on. Those before it moved up by a place, which leaves the
+-- first place free; the last of them is at hand, and those from the next place on stand where they were.
 pub record IsCarrying (entry : ℕ) (old : List OutstandingRead) (first : ℕ) (places : List OutstandingRead) (place : ℕ) (held : OutstandingRead) : Type 0 where
   pub front : List OutstandingRead
   pub back : List OutstandingRead

@@ -7,8 +7,8 @@ use Rattle.core_window.specs.declared.outstanding.OutstandingRead.{OutstandingRe
 use Rattle.sim_base.specs.declared.trace.Stop.{Stop}
 use Rattle.sim_base.specs.declared.trace.Stop.TheVariants as stop
 
--- As many entries issue as the width and the window have room for, up to the second memory entry, and, where there is no
--- credit for the first, up to the first.
+-- As many entries issue as the width and the window have room for, up to the second memory entry, and, where there is
+-- no credit for the first, up to the first.
 abbrev pub issue_count : ℕ → ℕ → ℕ → ℕ → ℕ → ℕ → Bool → ℕ
 issue_count width window number retired_by_end first_at second_at lacks =
     let most = min (min width (window - (number - retired_by_end))) (second_at - number) in

@@ -21,7 +21,8 @@ use Rattle.core_window.specs.OneCycle.{cycle_counts, more_credit, credits_of_kin
 use Rattle.core_window.specs.Steady.{steady_counts}
 use Rattle.core_window.specs.declared.outstanding.OutstandingRead.{OutstandingRead}
 
--- statistics with the cycle `now` more, in which a core with a trace of this length does this; its replies are not counted
+-- statistics with the cycle `now` more, in which a core with a trace of this length does this; its replies are not
+-- counted
 abbrev pub counted_cycle : CoreStats → CoreStep → Stop → Option MemoryEntry → ℕ → ℕ → CoreStats
 counted_cycle stats core_step why memory len now = core_joined stats (cycle_counts core_step why memory stats.retired len now)
 
@@ -33,7 +34,8 @@ counted_cycles stats core_step why n = core_joined stats (core_times n (steady_c
 abbrev pub with_reads : List OutstandingRead → Option MemoryEntry → ℕ → List OutstandingRead
 with_reads outstanding memory now = outstanding ++ reads_issued memory now
 
--- a core sends in a cycle the request of the memory entry that issues, if one does: it is put behind what was sent before
+-- a core sends in a cycle the request of the memory entry that issues, if one does: it is put behind what was sent
+-- before
 abbrev pub SendsFor : Option MemoryEntry → Config → ℕ → ℕ → List Message → List Message → Type 0
 SendsFor memory s core now before after = after ≡ before ++ requests_issued s core now memory
 
@@ -45,8 +47,8 @@ read_of entry outstanding = find (λ read. read.entry == entry) outstanding
 abbrev pub without_read : ℕ → List OutstandingRead → List OutstandingRead
 without_read entry outstanding = filter (λ read. not (read.entry == entry)) outstanding
 
--- The Read of a number that is among those that wait is taken out of them: the others still wait. Where it is not among them,
--- nothing is said.
+-- The Read of a number that is among those that wait is taken out of them: the others still wait. Where it is not among
+-- them, nothing is said.
 abbrev pub IsTakenOut : ℕ → List OutstandingRead → Option OutstandingRead → List OutstandingRead → Type 0
 IsTakenOut entry old taken new =
     (read : OutstandingRead) → read_of entry old ≡ Some read → (taken ≡ Some read) × (new ≡ without_read entry old)
@@ -59,7 +61,8 @@ counted_reply stats waited = record stats { replies = stats.replies + 1; read_la
 abbrev pub HasRoom : Access → Credits → Type 0
 HasRoom access credits = credits_of_kind access credits + 1 < 2 ^ 64
 
--- One credit more is held for the channel at a place, and for each other channel what was. It has to be counted only where there is room.
+-- One credit more is held for the channel at a place, and for each other channel what was. It has to be counted only
+-- where there is room.
 abbrev pub IsCreditedAt : ℕ → Access → List Credits → List Credits → Type 0
 IsCreditedAt place access old new =
     (channel : ℕ) (c : Credits) → slice_get old channel ≡ Some c

@@ -49,15 +49,16 @@ abbrev pub IsByArrival : List Message → Type 0
 IsByArrival [] = Unit {0}
 IsByArrival (m ∷ ms) = Each (λ n. m.arrival ≤ n.arrival) ms × IsByArrival ms
 
--- Messages that may arrive at a core in the cycles from one on and before another, where it did these steps and had this mail.
+-- Messages that may arrive at a core in the cycles from one on and before another, where it did these steps and had
+-- this mail.
 pub record Fit (s : Config) (core : ℕ) (trace : List Entry) (steps : List CoreStep) (mail : List Message) (from until : ℕ) (inbox : List Message) : Type 0 where
   -- they arrive in these cycles: the core would not see a later one, and an earlier one would change what it did
   pub from_then : Each (λ m. from ≤ m.arrival) inbox
   pub until_then : Each (λ m. m.arrival < until) inbox
   -- they stand in the order of their arrival, so that the core takes them one after the other
   pub in_order : IsByArrival inbox
-  -- each may come in its cycle, after those before it: the core can tell which Read a reply is of, and counts no more credits
-  -- than it ever had
+  -- each may come in its cycle, after those before it: the core can tell which Read a reply is of, and counts no more
+  -- credits than it ever had
   pub due : (before after : List Message) (m : Message) → inbox ≡ before ++ m ∷ after
       → IsDue s core trace (core_run s core trace steps (mail ++ inbox) (m.arrival - from)) (mail ++ before) m
 
@@ -71,8 +72,10 @@ pub record MayRun (view : CoreView) (from until : ℕ) (inbox : List Message) : 
   pub stands : StandsFor s core trace steps mail view
   pub fit : Fit s core trace steps mail from until inbox
 
--- A core goes over a span of cycles, in which these messages arrive, from one state to another, and sends these messages:
--- whatever past it stood for that the arrivals are fit for, it then stands for the longer run, and has sent what that run sends more.
+-- A core goes over a span of cycles, in which these messages arrive, from one state to another, and sends these
+-- messages:
+-- whatever past it stood for that the arrivals are fit for, it then stands for the longer run, and has sent what that
+-- run sends more.
 abbrev pub Runs : CoreView → ℕ → ℕ → List Message → CoreView → List Message → Type 0
 Runs before from until inbox after sent =
     (s : Config) (core : ℕ) (trace : List Entry) (steps : List CoreStep) (mail : List Message)
@@ -80,7 +83,8 @@ Runs before from until inbox after sent =
     → StandsFor s core trace (core_run s core trace steps (mail ++ inbox) (until - from)) (mail ++ inbox) after
     × (core_messages s core trace (core_run s core trace steps (mail ++ inbox) (until - from)) ≡ core_messages s core trace steps ++ sent)
 
--- a core goes over a span of cycles, in which these messages arrive, and what it sends is put behind what a list held before
+-- a core goes over a span of cycles, in which these messages arrive, and what it sends is put behind what a list held
+-- before
 pub record RunsOnto (before : CoreView) (from until : ℕ) (inbox : List Message) (after : CoreView) (held holds : List Message) : Type 0 where
   pub sent : List Message
   pub behind : holds ≡ held ++ sent

@@ -34,7 +34,8 @@ IsSeenFrom trace from ahead = IsSeen trace from ahead.first_at ahead.second_at a
 abbrev pub WasSeen : List Entry → ℕ → EntriesAhead → Type 0
 WasSeen trace number ahead = (from : ℕ) × (from ≤ number) × IsSeenFrom trace from ahead
 
--- where the first lies and which the second is, is known right by the digits of an address, whichever configuration they are of
+-- where the first lies and which the second is, is known right by the digits of an address, whichever configuration
+-- they are of
 abbrev pub IsKnownBy : Digits → List Entry → EntriesAhead → Type 0
 IsKnownBy digits trace ahead = (s : Config) → IsDigits s digits → IsKnown s trace ahead
 
@@ -42,7 +43,8 @@ IsKnownBy digits trace ahead = (s : Config) → IsDigits s digits → IsKnown s 
 abbrev pub StaysKnown : Digits → List Entry → EntriesAhead → EntriesAhead → Type 0
 StaysKnown digits trace old new = (s : Config) → IsDigits s digits → IsKnown s trace old → IsKnown s trace new
 
--- the number up to which entries may issue by the width, the window and the end of the trace, where `retired_by_end` entries were retired
+-- the number up to which entries may issue by the width, the window and the end of the trace, where `retired_by_end`
+-- entries were retired
 abbrev pub issue_limit : Config → ℕ → ℕ → ℕ → ℕ
 issue_limit config number retired_by_end len = min (number + min config.width (config.window - (number - retired_by_end))) len
 

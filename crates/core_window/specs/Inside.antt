@@ -80,7 +80,8 @@ Sends n a b sent =
     → StandsAt s core trace (core_run s core trace steps mail n) mail b
     × (core_messages s core trace (core_run s core trace steps mail n) ≡ core_messages s core trace steps ++ sent)
 
--- in n cycles in which no further message comes, a core comes to another state, and what it sends is put behind what a list held before
+-- in n cycles in which no further message comes, a core comes to another state, and what it sends is put behind what a
+-- list held before
 pub record Advances (n : ℕ) (a : CoreView) (before : List Message) (b : CoreView) (after : List Message) : Type 0 where
   pub sent : List Message
   pub behind : after ≡ before ++ sent
@@ -109,7 +110,8 @@ pub record IsReceiving (view : CoreView) (m : Message) : Type 0 where
   pub now : m.arrival ≡ length steps
   pub due : IsDue s core trace steps mail m
 
--- within a span a core has taken a number of messages of its inbox, and sent these; no other comes before the cycle where it stands
+-- within a span a core has taken a number of messages of its inbox, and sent these; no other comes before the cycle
+-- where it stands
 pub record IsMidway (s : Config) (core : ℕ) (trace : List Entry) (steps : List CoreStep) (mail : List Message) (from until : ℕ) (inbox : List Message) (taken : ℕ) (view : CoreView) (sent : List Message) : Type 0 where
   pub since : from ≤ view.now
   pub stands : StandsAt s core trace (core_run s core trace steps (mail ++ inbox) (view.now - from)) (mail ++ take taken inbox) view
@@ -117,8 +119,8 @@ pub record IsMidway (s : Config) (core : ℕ) (trace : List Entry) (steps : List
   pub others : Each (λ m. view.now ≤ m.arrival) (drop taken inbox)
   pub until_then : view.now ≤ until
 
--- one core may do what another may: they may differ in the cycle where they stand, and in what they counted, except for the entries
--- that they issued and retired
+-- one core may do what another may: they may differ in the cycle where they stand, and in what they counted, except for
+-- the entries that they issued and retired
 pub record IsLike (a v : CoreView) : Type 0 where
   pub config : v.config ≡ a.config
   pub entries : v.trace ≡ a.trace

@@ -82,8 +82,8 @@ abbrev pub is_write_among : Option MemoryEntry → Bool
 is_write_among None = false
 is_write_among (Some e) = is_write e.entry
 
--- what statistics count in a cycle, except for replies: it has this core_step, this cause to stop and this memory entry; the numbers
--- are the entries of the trace retired before it, the length of the trace, and the cycle
+-- what statistics count in a cycle, except for replies: it has this core_step, this cause to stop and this memory
+-- entry; the numbers are the entries of the trace retired before it, the length of the trace, and the cycle
 abbrev pub cycle_counts : CoreStep → Stop → Option MemoryEntry → ℕ → ℕ → ℕ → CoreStats
 cycle_counts core_step why memory before len now =
     record {
@@ -109,8 +109,8 @@ pub record IsLast (s : Config) (core : ℕ) (trace : List Entry) (inbox sent : L
   pub second : number + m ≤ second_at
   pub first : lacks ≡ true → number + m ≤ first_at
 
--- a core that issued entries up to a number, and had retired `retired_by_end` of them, may issue from there on: the memory entries ahead
--- are known, and whether it lacks a credit for the first of them
+-- a core that issued entries up to a number, and had retired `retired_by_end` of them, may issue from there on: the
+-- memory entries ahead are known, and whether it lacks a credit for the first of them
 pub record MayIssue (s : Config) (core : ℕ) (trace : List Entry) (inbox sent : List Message) (now number retired_by_end first_at second_at : ℕ) (lacks : Bool) : Type 0 where
   pub within : number ≤ length trace
   pub retired : retired_by_end ≤ number

@@ -35,7 +35,8 @@ credits_had s core mail channel access = credit_cap s access + count_by (is_cred
 abbrev pub credits_spent : Config → ℕ → List Entry → List CoreStep → ℕ → Access → ℕ
 credits_spent s core trace steps channel access = count_by (λ m. is_request_for channel access m.load) (core_messages s core trace steps)
 
--- What holds of the steps of a core, one a cycle, and of the messages that it had, those of the next cycle perhaps included.
+-- What holds of the steps of a core, one a cycle, and of the messages that it had, those of the next cycle perhaps
+-- included.
 pub record IsPast (s : Config) (core : ℕ) (trace : List Entry) (steps : List CoreStep) (mail : List Message) : Type 0 where
   -- a trace has at most 2^62 entries
   pub fits : length trace ≤ 2 ^ 62
@@ -56,7 +57,8 @@ pub record IsPast (s : Config) (core : ℕ) (trace : List Entry) (steps : List C
   -- no credit was spent that the core did not have
   pub paid : (channel : ℕ) (access : Access) → credits_spent s core trace steps channel access ≤ credits_had s core mail channel access
 
--- A core did what these steps say, one a cycle, and had these messages in those cycles: it stands at the cycle after them.
+-- A core did what these steps say, one a cycle, and had these messages in those cycles: it stands at the cycle after
+-- them.
 pub record StandsFor (s : Config) (core : ℕ) (trace : List Entry) (steps : List CoreStep) (mail : List Message) (view : CoreView) : Type 0 where
   -- it has this configuration, this number and this trace
   pub config : view.config ≡ s

@@ -20,8 +20,8 @@ use Rattle.core_window.specs.OneCycle.{IsWork, cycle_counts, is_read_among, is_w
 use Rattle.core_window.specs.Views.{CoreView}
 use Rattle.core_window.specs.declared.outstanding.OutstandingRead.{OutstandingRead}
 
--- what statistics count in a cycle with this core_step and this cause to stop, in which neither a memory entry issues nor the last
--- entry of the trace retires
+-- what statistics count in a cycle with this core_step and this cause to stop, in which neither a memory entry issues
+-- nor the last entry of the trace retires
 abbrev pub steady_counts : CoreStep → Stop → CoreStats
 steady_counts core_step why = cycle_counts core_step why None 0 0 0
 
@@ -41,16 +41,16 @@ with_stop a stop.Credit n = record a { stop_credit = a.stop_credit + n }
 abbrev pub with_memory : CoreStats → Option MemoryEntry → CoreStats
 with_memory a memory = record a { reads = a.reads + one_if (is_read_among memory); writes = a.writes + one_if (is_write_among memory) }
 
--- In each of n cycles a core does the same and stops for the same cause, while no message comes: no memory entry issues in
--- them, and the last entry of the trace does not retire in them.
+-- In each of n cycles a core does the same and stops for the same cause, while no message comes: no memory entry issues
+-- in them, and the last entry of the trace does not retire in them.
 pub record IsSteady (a : CoreView) (n : ℕ) (core_step : CoreStep) (why : Stop) : Type 0 where
   pub works : (k : ℕ) → k < n → (s : Config) (core : ℕ) (trace : List Entry) (steps : List CoreStep) (mail : List Message)
       → StandsAt s core trace steps mail (steady_view a core_step why k) → IsWork s core trace steps mail core_step why None
   pub unfinished : (n * core_step.retired ≡ 0) ⊎ (a.stats.retired + n * core_step.retired < length a.trace)
 
--- The window of a core that issues its width of Plain entries in each of n cycles lets it retire r of them in each: those that
--- are done by then, and no more than the width; and it has room for those that issue. Before them, `issued` entries were issued
--- and `retired` retired.
+-- The window of a core that issues its width of Plain entries in each of n cycles lets it retire r of them in each:
+-- those that are done by then, and no more than the width; and it has room for those that issue. Before them, `issued`
+-- entries were issued and `retired` retired.
 pub record IsFlow (width window issued retired : ℕ) (outstanding : List OutstandingRead) (r n : ℕ) : Type 0 where
   pub retires : (k : ℕ) → k < n → r ≡ min width (first_undone (issued + k * width) outstanding - (retired + k * r))
   pub room : (k : ℕ) → k < n → issued + k * width + width ≤ retired + k * r + r + window

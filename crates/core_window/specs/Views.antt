@@ -6,8 +6,8 @@ use Rattle.statistics.specs.declared.cores.CoreStats.{CoreStats}
 use Rattle.statistics.specs.declared.final_state.Credits.{Credits}
 use Rattle.core_window.specs.declared.outstanding.OutstandingRead.{OutstandingRead}
 
--- a core: its configuration, its number and its trace, the cycle where it stands, its Reads without a reply, the credits that
--- it holds for each channel, and what it did
+-- a core: its configuration, its number and its trace, the cycle where it stands, its Reads without a reply, the
+-- credits that it holds for each channel, and what it did
 pub record CoreView : Type 0 where
   pub config : Config
   pub core : ℕ

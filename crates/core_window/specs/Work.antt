@@ -53,7 +53,8 @@ HasMemoryAhead c = c.found.first_at < length c.trace
 abbrev pub DoesWork : CoreView → CycleWork → Type 0
 DoesWork view work = Does view work.core_step work.why work.memory
 
--- in each of the cycles of a flow a window with these numbers takes in the width of entries, and as many retire as the flow says
+-- in each of the cycles of a flow a window with these numbers takes in the width of entries, and as many retire as the
+-- flow says
 abbrev pub IsFlowOf : WindowNumbers → List OutstandingRead → Flow → Type 0
 IsFlowOf numbers outstanding flow =
     IsFlow numbers.width numbers.window numbers.issued numbers.retired outstanding flow.retired flow.cycles

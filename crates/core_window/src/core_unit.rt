@@ -247,7 +247,8 @@ impl Core {
         }
     }
 
-    /// The cycles, at most `most` of them, in which the core issues its width of Plain entries and does the same in each.
+    /// The cycles, at most `most` of them, in which the core issues its width of Plain entries and does the same in
+    /// each.
     fn flow(&self, most: u64) -> Flow
         requires { IsStanding (view_of self.now) }
         ensures steady { IsSteadyFlow (view_of self.now) result }
@@ -324,8 +325,8 @@ impl Core {
         self.pass(cycle_work.core_step, cycle_work.why, until - self.cycle);
     }
 
-    /// Goes on by the cycles, at most up to a cycle, in which the core issues its width of Plain entries and does the same in
-    /// each, if there are any.
+    /// Goes on by the cycles, at most up to a cycle, in which the core issues its width of Plain entries and does the
+    /// same in each, if there are any.
     fn flow_on(&mut self, until: Cycle)
         requires stands { IsStanding (view_of self.old) }
         requires order { self.old.cycle < until }
@@ -432,9 +433,9 @@ impl Core {
         })
     }
 
-    /// Runs the cycles from `from`, where the core stands, up to but not including `until`, below 2^62. The messages that arrive in
-    /// them are given; those that the core sends in them are put behind what `sent` holds. The only error is out of memory; what the
-    /// core and the list hold is then not known.
+    /// Runs the cycles from `from`, where the core stands, up to but not including `until`, below 2^62. The messages
+    /// that arrive in them are given; those that the core sends in them are put behind what `sent` holds. The only
+    /// error is out of memory; what the core and the list hold is then not known.
     pub fn run(
         &mut self,
         inbox: &[Message],
@@ -469,8 +470,8 @@ impl Core {
         }
     }
 
-    /// The first cycle from `from`, where the core stands, in which it retires or issues an entry, while no message comes; none,
-    /// where it never does.
+    /// The first cycle from `from`, where the core stands, in which it retires or issues an entry, while no message
+    /// comes; none, where it never does.
     fn next_act(&self, from: Cycle) -> Option<Cycle>
         requires at { self.now.cycle ≡ from }
         requires stands { MayRest (view_of self.now) }
@@ -489,7 +490,8 @@ impl Core {
         self.next_work(from)
     }
 
-    /// A number of cycles that surely pass before the core issues its next Read or Write: in each it issues at most its width of entries.
+    /// A number of cycles that surely pass before the core issues its next Read or Write: in each it issues at most its
+    /// width of entries.
     fn plain_cycles(&self) -> u64
         ensures { HasMemoryAhead self.now
             → StaysBelowFirst self.now (result * self.now.config.width) }
@@ -504,8 +506,8 @@ impl Core {
         )
     }
 
-    /// A cycle, not before `from`, where the core stands, before which it sends nothing, while no message comes. It is the last of all
-    /// cycles where the core does nothing until a message comes, or has no Read or Write left.
+    /// A cycle, not before `from`, where the core stands, before which it sends nothing, while no message comes. It is
+    /// the last of all cycles where the core does nothing until a message comes, or has no Read or Write left.
     pub fn silent_until(&self, from: Cycle) -> Cycle
         requires at { self.now.cycle ≡ from }
         requires stands { MayRest (view_of self.now) }

@@ -12,8 +12,8 @@ pub struct Flow {
     pub cycles: u64,
 }
 
-/// The numbers of a core by which entries go through its window: how many entries it issued and retired, and how many of the
-/// next ones are Plain, except for the last of its trace.
+/// The numbers of a core by which entries go through its window: how many entries it issued and retired, and how many
+/// of the next ones are Plain, except for the last of its trace.
 #[derive(Clone, Copy)]
 pub struct WindowNumbers {
     pub width: u16,
@@ -36,8 +36,8 @@ pub(crate) fn cycles_within(entries: u64, width: u16, most: u64) -> u64
     }
 }
 
-/// The cycles, at most `most` of them, in which the core issues its width of Plain entries and does the same in each. Where it can't
-/// do so in the next cycle, there are none.
+/// The cycles, at most `most` of them, in which the core issues its width of Plain entries and does the same in each.
+/// Where it can't do so in the next cycle, there are none.
 pub fn flow_of(numbers: &WindowNumbers, outstanding: &[OutstandingRead], most: u64) -> Flow
     requires positive { 0 < numbers.now.width }
     requires order { numbers.now.retired ≤ numbers.now.issued }

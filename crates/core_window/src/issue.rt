@@ -16,8 +16,8 @@ use sim_base::config::Config;
 use sim_base::place::Place;
 use sim_base::trace::{Entry, Stop};
 
-/// The number of the next Read or Write from a number on, before which `before` of them stand, and the entry itself; the length
-/// of the trace, where there is none.
+/// The number of the next Read or Write from a number on, before which `before` of them stand, and the entry itself;
+/// the length of the trace, where there is none.
 fn next_or_end(trace: &Trace, from: u64, before: u64) -> MemoryEntry
     requires { from ≤ length trace.now }
     ensures next { IsNextOrEnd trace.now from result.number }
@@ -32,8 +32,8 @@ fn next_or_end(trace: &Trace, from: u64, before: u64) -> MemoryEntry
     }
 }
 
-/// The numbers of the next two memory entries, or the length of the trace, and these entries, with the place where the first
-/// lies.
+/// The numbers of the next two memory entries, or the length of the trace, and these entries, with the place where the
+/// first lies.
 #[derive(Clone, Copy)]
 pub struct EntriesAhead {
     pub first_at: u64,
@@ -43,7 +43,8 @@ pub struct EntriesAhead {
     pub second: Entry,
 }
 
-/// The memory entry behind the one of this number, before which `before` of them stand; the length of the trace, where there is none.
+/// The memory entry behind the one of this number, before which `before` of them stand; the length of the trace, where
+/// there is none.
 fn entry_behind(trace: &Trace, number: u64, before: u64) -> MemoryEntry
     requires { number ≤ length trace.now }
     ensures inside { IsNextBehind trace.now number result.number }
@@ -79,7 +80,8 @@ pub fn ahead_of(digits: &Digits, trace: &Trace, first: MemoryEntry, before: u64)
     }
 }
 
-/// The second of two memory entries becomes the first, and the one behind it is looked for. `before` of them stand before it.
+/// The second of two memory entries becomes the first, and the one behind it is looked for. `before` of them stand
+/// before it.
 #[tactic(auto, using(crate::proofs::Foreseeing::seen_from))]
 pub fn go_to_second(digits: &Digits, trace: &Trace, ahead: &mut EntriesAhead, before: u64)
     requires { ahead.old.second_at ≤ length trace.now }
@@ -95,8 +97,8 @@ pub fn go_to_second(digits: &Digits, trace: &Trace, ahead: &mut EntriesAhead, be
     ahead.second = next.entry;
 }
 
-/// Looks for the next two memory entries from a number on, where the first of those found earlier may have issued, and the
-/// second has not. `before` of them stand before that number.
+/// Looks for the next two memory entries from a number on, where the first of those found earlier may have issued, and
+/// the second has not. `before` of them stand before that number.
 #[tactic(auto, using(crate::proofs::Foreseeing::seen_still))]
 pub fn look_ahead(
     digits: &Digits,
@@ -133,7 +135,8 @@ pub struct Issue {
     pub why: Stop,
 }
 
-/// How far a core is in its trace: how long that is, the number of the next entry that issues, and how many entries were retired.
+/// How far a core is in its trace: how long that is, the number of the next entry that issues, and how many entries
+/// were retired.
 #[derive(Clone, Copy)]
 pub struct Progress {
     pub len: u64,
@@ -193,8 +196,8 @@ pub fn most_issued(config: &Config, progress: Progress) -> u64
     (number + u64::from(config.width).min(room)).min(progress.len)
 }
 
-/// How many entries issue, and why no more: the memory entries ahead are known, and whether the core lacks a credit for the first of
-/// them, if this is near enough to issue.
+/// How many entries issue, and why no more: the memory entries ahead are known, and whether the core lacks a credit for
+/// the first of them, if this is near enough to issue.
 pub fn issue_of(config: &Config, progress: Progress, ahead: &EntriesAhead, lacks: bool) -> Issue
     requires { progress.number ≤ 2 ^ 62 }
     ensures why { result.why ≡ cause_of config.now

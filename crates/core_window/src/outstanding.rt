@@ -25,8 +25,8 @@ pub struct OutstandingReads {
     ghost within: { free ≤ length places.items },
 }
 
-/// Takes the Read with this number out of those from a place on: each Read before it moves up by a place, and the first place
-/// becomes free.
+/// Takes the Read with this number out of those from a place on: each Read before it moves up by a place, and the first
+/// place becomes free.
 fn take_from(places: &mut [OutstandingRead], first: usize, entry: u64) -> Option<OutstandingRead>
     requires inside { first < length places.old }
     requires order { IsByNumber (drop first places.old) }

@@ -16,7 +16,8 @@ fn first_undone(outstanding: &[OutstandingRead], issued: u64) -> u64
     }
 }
 
-/// How many entries retire, where `retired` entries have retired already: up to the first that isn't done, and no more than the width.
+/// How many entries retire, where `retired` entries have retired already: up to the first that isn't done, and no more
+/// than the width.
 pub fn retire_count(width: u16, outstanding: &[OutstandingRead], issued: u64, retired: u64) -> u16
     ensures { result ≡ min width (first_undone issued outstanding.now - retired) }
 {

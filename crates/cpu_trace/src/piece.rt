@@ -33,8 +33,8 @@ fn split_line(text: &[u8]) -> (&[u8], Option<&[u8]>)
     }
 }
 
-// Adds the entries of the lines at the start of a text, up to the first that does not have the usual form or that there is
-// no room for. Gives the number of these lines, and what follows them.
+// Adds the entries of the lines at the start of a text, up to the first that does not have the usual form or that there
+// is no room for. Gives the number of these lines, and what follows them.
 fn add_usual_lines<'a>(entries: &mut Entries, text: &'a [u8]) -> Result<(u64, &'a [u8]), AllocError>
     ensures { IfOk result (λ read. IsReadUpTo text.now (Some entries.old) read.0 read.1.now
         (Some entries.new)) }
@@ -65,7 +65,8 @@ fn keep_usual_lines<'a>(
     }
 }
 
-// In most traces a Read or a Write entry takes at least this many bytes of the text. Where it takes fewer, the room grows.
+// In most traces a Read or a Write entry takes at least this many bytes of the text. Where it takes fewer, the room
+// grows.
 const BYTES_OF_ENTRY: usize = 10;
 
 /// Reads the lines of a piece, one after another.

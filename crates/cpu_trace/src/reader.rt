@@ -33,8 +33,8 @@ fn read_text<R: Threads + Sync>(
     }
 }
 
-/// Reads a core's trace as `read_trace` does, with the same faults, but in pieces of at least `size` bytes if its text is longer. Tests use it
-/// to read short texts in pieces.
+/// Reads a core's trace as `read_trace` does, with the same faults, but in pieces of at least `size` bytes if its text
+/// is longer. Tests use it to read short texts in pieces.
 pub fn read_trace_in_pieces<R: Threads + Sync>(
     rt: &R,
     alloc: Global,

@@ -34,7 +34,8 @@ impl Trace {
         Ok(Trace { entries })
     }
 
-    /// The trace with these entries, of which there are at most 2^62: for callers, such as tests, whose entries are not in a text.
+    /// The trace with these entries, of which there are at most 2^62: for callers, such as tests, whose entries are not
+    /// in a text.
     pub fn from_entries(alloc: Global, entries: &[Entry]) -> Result<Trace, AllocError>
         requires { length entries.now ≤ 2 ^ 62 }
         ensures { IfOk result (λ trace. trace ≡ entries.now) }
@@ -65,8 +66,8 @@ impl Trace {
         self.entries.entry_at(number)
     }
 
-    /// The first Read or Write entry from a number on. All entries before it, from that number on, are Plain; where there
-    /// is none, all entries from that number on are.
+    /// The first Read or Write entry from a number on. All entries before it, from that number on, are Plain; where
+    /// there is none, all entries from that number on are.
     pub fn next_memory(&self, from: u64) -> Option<MemoryEntry>
         ensures found { IfSome result (IsNextMemory self.now from) }
         ensures none { IfNone result (IsPlainBetween self.now from (length self.now)) }

@@ -31,8 +31,8 @@ fn digit_of(radix: u64, byte: u8) -> Option<u64>
     if digit < radix { Some(digit) } else { None }
 }
 
-// The number that the digits among the first `end` bytes of a text write, up to the first that is none, and what follows
-// them; none if no digit is read. It is inlined, so that each radix has a loop of its own.
+// The number that the digits among the first `end` bytes of a text write, up to the first that is none, and what
+// follows them; none if no digit is read. It is inlined, so that each radix has a loop of its own.
 #[inline(always)]
 fn split_within(radix: u64, end: usize, text: &[u8]) -> Option<(u64, &[u8])>
     requires lower { 2 ≤ radix }

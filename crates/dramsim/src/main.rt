@@ -15,7 +15,8 @@ use std::thread::Threads;
 use std::{env, io};
 use whole_files::files::HostFiles;
 
-// Hands the words, the files, the streams and the threads of the host over. The progress of a run is shown if standard error is a terminal.
+// Hands the words, the files, the streams and the threads of the host over. The progress of a run is shown if standard
+// error is a terminal.
 fn perform_words<T: Threads + Wait + Sync>(rt: &HostRuntime, threads: &T) -> io::Result<u8> {
     let arguments: Vec<String> = env::args(rt)?.collect(rt.alloc())?;
     let words: Vec<&str> = arguments

@@ -10,12 +10,14 @@ use Rattle.sim_base.specs.Rules.{is_legal}
 use Rattle.sim_base.specs.Scheduling.{needed}
 use Rattle.fr_fcfs.specs.Requests.{is_hit}
 
--- What a request needs may not be issued before a cycle. It is not a row hit, unless what is chosen for the cycle moves data.
+-- What a request needs may not be issued before a cycle. It is not a row hit, unless what is chosen for the cycle moves
+-- data.
 pub record ComesAfter (s : Config) (history : List IssuedCommand) (cycle : ℕ) (hit : Bool) (r : Request) : Type 0 where
   pub late : (t : ℕ) → t < cycle → is_legal s history t (needed history r) ≡ false
   pub no_hit : hit ≡ false → is_hit history r ≡ false
 
--- If a command was chosen for a cycle before a change, it still is after it, and the earlier cycles with no command still have none.
+-- If a command was chosen for a cycle before a change, it still is after it, and the earlier cycles with no command
+-- still have none.
 pub record KeepsNext (before after : ℕ → Option Command) (cycle : ℕ) (command : Command) : Type 0 where
   pub then_is : before cycle ≡ Some command → after cycle ≡ Some command
   pub none_before : (t : ℕ) → t < cycle → before t ≡ None → after t ≡ None

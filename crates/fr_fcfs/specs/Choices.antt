@@ -23,8 +23,8 @@ use Rattle.fr_fcfs.specs.Requests.{candidates_of}
 use Rattle.fr_fcfs.specs.declared.choice.Choice.{Choice}
 use Rattle.fr_fcfs.specs.declared.choice.Choice.TheVariants as chosen
 
--- The banks and the refreshes stand for the commands so far, under a configuration with this many groups and the queue's `high`,
--- and the candidates for the queue and the rows that are open.
+-- The banks and the refreshes stand for the commands so far, under a configuration with this many groups and the
+-- queue's `high`, and the candidates for the queue and the rows that are open.
 pub record StandFor (bank_candidates : BankCandidates) (banks : Banks) (refresh : RefreshCounts) (queue : QueueView) (groups : ℕ) (s : Config) (history : List IssuedCommand) : Type 0 where
   pub banks_stand : BanksStandFor banks s history
   pub candidates_stand : CandidatesStandFor bank_candidates queue.log (rows_after history)
@@ -36,7 +36,8 @@ pub record StandFor (bank_candidates : BankCandidates) (banks : Banks) (refresh 
 abbrev pub choice_in : Config → List IssuedCommand → QueueView → ℕ → Option Command
 choice_in s history queue now = choice_between s history now (candidates_of s queue) (lowest_due s history now)
 
--- the command that is needed by what was chosen: by the request at a place of a log, or by a rank that is to be refreshed
+-- the command that is needed by what was chosen: by the request at a place of a log, or by a rank that is to be
+-- refreshed
 abbrev pub command_of : Config → List IssuedCommand → List Arrived → Choice → Option Command
 command_of s history log (chosen.Request slot) = option_map (needed history) (slice_get (all_requests log) slot)
 command_of s history log (chosen.Refresh rank) = Some (refresh_command s history rank)

@@ -141,8 +141,8 @@ abbrev pub IsAt : Bool → Option ℕ → Option ℕ → ℕ → Type 0
 IsAt true hits rows slot = hits ≡ Some slot
 IsAt false hits rows slot = (hits ≡ None) × (rows ≡ Some slot)
 
--- An offer is the first from now on, where in each cycle the first ready row hit and the first other ready request have these
--- places: nothing is ready before its cycle.
+-- An offer is the first from now on, where in each cycle the first ready row hit and the first other ready request have
+-- these places: nothing is ready before its cycle.
 pub record IsBestOffer (now : ℕ) (hits rows : ℕ → Option ℕ) (o : Offer) : Type 0 where
   pub from_now : now ≤ o.cycle
   pub none_before : (cycle : ℕ) → now ≤ cycle → cycle < o.cycle → (hits cycle ≡ None) × (rows cycle ≡ None)

@@ -53,7 +53,8 @@ fn moves_data(kind: Kind) -> bool
     matches!(kind, Kind::Rd | Kind::Wr)
 }
 
-/// Whether what a request needs may not be issued before a cycle, and is not a row hit, unless a row hit is chosen for the cycle.
+/// Whether what a request needs may not be issued before a cycle, and is not a row hit, unless a row hit is chosen for
+/// the cycle.
 #[inline(always)]
 fn comes_after(
     bank_candidates: &BankCandidates,
@@ -102,8 +103,9 @@ fn chosen_moves_data(bank_candidates: &BankCandidates, log: &[Arrived], choice: 
     }
 }
 
-/// Whether what was found, the next cycle with a command and what needs it, is known to stay the same now that the requests of the log
-/// from a place on have arrived. It stays if none of them goes before it. If the channel ever drains its writes, none is looked at, and it is not known.
+/// Whether what was found, the next cycle with a command and what needs it, is known to stay the same now that the
+/// requests of the log from a place on have arrived. It stays if none of them goes before it. If the channel ever
+/// drains its writes, none is looked at, and it is not known.
 #[inline(always)]
 pub fn stays(
     queue: &Queue,

@@ -29,8 +29,8 @@ pub enum Choice {
     Refresh(u32),
 }
 
-/// What the next command of a channel depends on: its queue, its banks as requests ask for them and as commands hold them back,
-/// the refreshes of its ranks, and how many groups each rank has.
+/// What the next command of a channel depends on: its queue, its banks as requests ask for them and as commands hold
+/// them back, the refreshes of its ranks, and how many groups each rank has.
 #[derive(Clone, Copy)]
 pub struct ChannelParts<'a> {
     pub queue: &'a Queue,
@@ -68,8 +68,8 @@ fn next_of_requests(
     }
 }
 
-/// Takes the refresh of a rank, which may be due from some cycle on and holds all else back then, into the first cycle with a
-/// command and what needs it. Nothing is written where they stay.
+/// Takes the refresh of a rank, which may be due from some cycle on and holds all else back then, into the first cycle
+/// with a command and what needs it. Nothing is written where they stay.
 #[inline(always)]
 fn with_refresh(
     next: &mut Option<(Cycle, Choice)>,
@@ -105,8 +105,9 @@ fn with_refresh(
     }
 }
 
-/// The first cycle with a command from `now` on, if the queue stays as it is, and what needs it; None where there is none. What a
-/// rank that is to be refreshed needs goes first, and holds the requests back; of these, row hits go first, and then the oldest.
+/// The first cycle with a command from `now` on, if the queue stays as it is, and what needs it; None where there is
+/// none. What a rank that is to be refreshed needs goes first, and holds the requests back; of these, row hits go
+/// first, and then the oldest.
 #[inline(always)]
 pub fn next(parts: &ChannelParts<'_>, now: Cycle) -> Option<(Cycle, Choice)>
     requires places { AreInBanks (rank_count parts.now.banks.now) parts.now.queue.now.log }

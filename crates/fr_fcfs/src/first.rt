@@ -117,7 +117,8 @@ fn hit(bank_candidates: &BankCandidates, accesses: Accesses) -> BankSet
     reads.union(writes)
 }
 
-/// What opens or closes rows from a cycle on, for the requests of the accesses that go: an ACT of closed banks, or a PRE of open ones.
+/// What opens or closes rows from a cycle on, for the requests of the accesses that go: an ACT of closed banks, or a
+/// PRE of open ones.
 #[derive(Clone, Copy)]
 struct RowCommands {
     kind: Kind,
@@ -132,8 +133,9 @@ struct DataCommands {
     now: Cycle,
 }
 
-/// Takes what opens or closes the row of one more bank into the best offer so far. Some request of the accesses that go asks for the bank,
-/// and none for its open row. The request is looked for only where the command may be issued soon enough.
+/// Takes what opens or closes the row of one more bank into the best offer so far. Some request of the accesses that go
+/// asks for the bank, and none for its open row. The request is looked for only where the command may be issued soon
+/// enough.
 #[inline(always)]
 fn with_row(
     best: &mut Offer,
@@ -159,7 +161,8 @@ fn with_row(
     improve(best, ready, false, slot, commands.now);
 }
 
-/// Takes the row hit of one more bank into the best offer so far. It is looked for only where it may be issued soon enough.
+/// Takes the row hit of one more bank into the best offer so far. It is looked for only where it may be issued soon
+/// enough.
 #[inline(always)]
 fn with_hit(
     best: &mut Offer,
@@ -184,8 +187,8 @@ fn with_hit(
     }
 }
 
-/// Takes what opens or closes rows into the best offer so far, in some banks, which requests of the accesses that go ask for, but not for
-/// the open row. Those banks were left, beside others.
+/// Takes what opens or closes rows into the best offer so far, in some banks, which requests of the accesses that go
+/// ask for, but not for the open row. Those banks were left, beside others.
 #[inline(always)]
 fn with_rows_of(
     best: &mut Offer,
@@ -215,8 +218,8 @@ fn with_rows_of(
     }
 }
 
-/// Takes what opens or closes a row into the best offer so far, in all banks that are asked for. A row hit keeps its bank from being
-/// closed.
+/// Takes what opens or closes a row into the best offer so far, in all banks that are asked for. A row hit keeps its
+/// bank from being closed.
 #[inline(always)]
 fn with_rows(
     best: &mut Offer,
@@ -272,8 +275,8 @@ fn with_all_hits(
     }
 }
 
-/// Takes the row hits of one access into the best offer so far, if they go. They are left out where none may be issued by its
-/// cycle.
+/// Takes the row hits of one access into the best offer so far, if they go. They are left out where none may be issued
+/// by its cycle.
 #[inline(always)]
 fn with_hits(
     best: &mut Offer,

@@ -29,7 +29,8 @@ pub(crate) struct Offer {
     pub(crate) slot: usize,
 }
 
-/// Whether an offer goes before another: it is for an earlier cycle, or in the same one as a row hit, or else for an older request.
+/// Whether an offer goes before another: it is for an earlier cycle, or in the same one as a row hit, or else for an
+/// older request.
 #[inline(always)]
 fn goes_before(a: Offer, b: Offer) -> bool
     ensures { result ≡ goes_before a b }
@@ -43,8 +44,8 @@ fn goes_before(a: Offer, b: Offer) -> bool
     a.slot < b.slot
 }
 
-/// Makes the best offer so far that of a request whose need may be issued from a cycle on, if that goes before. Its fields are written
-/// one by one, and only then, so that nothing is copied for a bank that does not improve it.
+/// Makes the best offer so far that of a request whose need may be issued from a cycle on, if that goes before. Its
+/// fields are written one by one, and only then, so that nothing is copied for a bank that does not improve it.
 #[inline(always)]
 pub(crate) fn improve(best: &mut Offer, ready: Cycle, hit: bool, slot: usize, now: Cycle)
     ensures { best.new ≡ better_of (offer_from now ready hit slot) best.old }
@@ -71,8 +72,8 @@ pub(crate) fn ready(banks: &Banks, bank: usize, kind: Kind) -> Cycle
     banks.earliest_in(kind, bank)
 }
 
-/// The offer that goes first of all banks, from now on, where the channel ever drains: requests of one access go. It is out of line, so
-/// that the search of a channel that never drains can be compiled into its caller.
+/// The offer that goes first of all banks, from now on, where the channel ever drains: requests of one access go. It is
+/// out of line, so that the search of a channel that never drains can be compiled into its caller.
 #[inline(never)]
 fn first_of_one_access(
     queue: &Queue,

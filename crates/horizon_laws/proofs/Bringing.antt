@@ -67,7 +67,8 @@ unit-overdue s traces a b (Core core) =
     ∙ ap by_age (filter-append due xs ys ∙ ap₂ (λ x y. x ++ y) none (none-overdue s (Core core) a (answers_sent s traces b)))
     ∙ by_age-puts []
 
--- what arrives at a channel before a cycle, not further beyond the cores than any request travels, was sent before the cycle where they stand
+-- what arrives at a channel before a cycle, not further beyond the cores than any request travels, was sent before the
+-- cycle where they stand
 pub channel-known : (s : Config) (traces : List (List Entry)) (a until channel : ℕ) → RequestsTravelFor s (until - a)
     → mail_before s traces until (Channel channel) until ≡ mail_before s traces a (Channel channel) until
 channel-known s traces a until channel t =

@@ -1,4 +1,5 @@
--- A machine in turns: what is brought to the units of a kind, what holds after a turn, and how far it may be left alone.
+-- A machine in turns: what is brought to the units of a kind, what holds after a turn, and how far it may be left
+-- alone.
 use Rattle.std.proofs.Common.{◌≡◌, ℕ, ◌+◌, ◌-◌, ◌^◌, ◌<◌, ◌≤◌, true, false, List, [], ◌++◌, ◌⊎◌, inl, inr, length, get_or, take, drop, refl, sym, ap, ap₂, subst, ◌∙◌, length-append, arith}
 use Rattle.std.specs.Prelude.{fold, flat_map, All}
 use Rattle.std.proofs.lemmas.Bool.{cases_lt, true≢false}

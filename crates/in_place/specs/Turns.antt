@@ -15,7 +15,7 @@ use Rattle.units.specs.Units.{unit_count}
 use Rattle.units.specs.declared.machine.Machine.{Machine}
 use Rattle.wake_words.specs.Wakes.{IsAsleep, Waits, sleeper_at}
 use Rattle.wake_words.specs.declared.timed_unit.TimedUnit.{TimedUnit}
-use Rattle.in_place.specs.declared.taking_turns.Standing.{Standing}
+use Rattle.in_place.specs.declared.taking_turns.TurnCycles.{TurnCycles}
 use Rattle.in_place.specs.declared.taking_turns.UnitsByKind.{UnitsByKind}
 
 -- the links with what is in flight where the cores stand at one cycle and the channels at another
@@ -60,14 +60,14 @@ abbrev pub AllAsleep : Machine → ℕ → UnitsByKind → InFlight → Type 0
 AllAsleep machine now kinds links = IsAsleep machine 0 now (all_units kinds) (all_words kinds) links
 
 -- a machine is between two turns, where it stands so
-abbrev pub InTurnsAt : Machine → Standing → UnitsByKind → InFlight → Type 0
+abbrev pub InTurnsAt : Machine → TurnCycles → UnitsByKind → InFlight → Type 0
 InTurnsAt machine at kinds links =
     AreByKind machine kinds × AreInTurns machine at.cores_at at.channels_at (all_units kinds) (all_words kinds) links
 
 -- where a machine stands when its channels have gone on to a cycle
-abbrev pub channels_to : ℕ → Standing → Standing
+abbrev pub channels_to : ℕ → TurnCycles → TurnCycles
 channels_to until at = record at { channels_at = until }
 
 -- where a machine stands when its cores have
-abbrev pub cores_to : ℕ → Standing → Standing
+abbrev pub cores_to : ℕ → TurnCycles → TurnCycles
 cores_to until at = record at { cores_at = until }

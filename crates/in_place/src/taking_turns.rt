@@ -25,7 +25,7 @@ pub(crate) struct UnitsByKind {
 
 /// Where the cores of a machine stand, and where its channels do.
 #[derive(Clone, Copy)]
-struct Standing {
+struct TurnCycles {
     cores_at: Cycle,
     channels_at: Cycle,
 }
@@ -35,7 +35,7 @@ fn channels_turn(
     machine: &Machine,
     traffic: &mut Traffic,
     kinds: &mut UnitsByKind,
-    at: Standing,
+    at: TurnCycles,
     until: Cycle,
 ) -> Result<(), AllocError>
     requires turns { InTurnsAt machine.now at kinds.old traffic.old.links }
@@ -68,7 +68,7 @@ fn cores_turn(
     machine: &Machine,
     traffic: &mut Traffic,
     kinds: &mut UnitsByKind,
-    at: Standing,
+    at: TurnCycles,
     until: Cycle,
 ) -> Result<(), AllocError>
     requires turns { InTurnsAt machine.now at kinds.old traffic.old.links }
@@ -114,7 +114,7 @@ fn wakes_before(words: &[Cycle], cycle: Cycle) -> bool
 }
 
 /// Where a machine in turns goes on from: where neither kind is past the least word, or the limit, from there.
-fn later(kinds: &UnitsByKind, at: Standing, limit: Cycle) -> Standing
+fn later(kinds: &UnitsByKind, at: TurnCycles, limit: Cycle) -> TurnCycles
     requires order { at.channels_at ≤ at.cores_at }
     requires within { at.cores_at ≤ limit }
     ensures turns { (machine : Machine) (links : InFlight)
@@ -130,7 +130,7 @@ fn later(kinds: &UnitsByKind, at: Standing, limit: Cycle) -> Standing
     }
     let core_wake = next_wake(core_words, limit);
     let begin = next_wake(channel_words, core_wake);
-    Standing {
+    TurnCycles {
         cores_at: begin,
         channels_at: begin,
     }
@@ -156,7 +156,7 @@ pub(crate) fn run_to(
 {
     let request = least_request_latency(&machine.config);
     let way_back = least_way_back(&machine.config);
-    let mut at = Standing {
+    let mut at = TurnCycles {
         cores_at: from,
         channels_at: from,
     };

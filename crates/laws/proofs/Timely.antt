@@ -1,5 +1,5 @@
--- A rank whose refresh is due has it in time. While it is due, the channel closes the rank's banks and refreshes it, once the
--- ranks before it are refreshed.
+-- A rank whose refresh is due has it in time. While it is due, the channel closes the rank's banks and refreshes it,
+-- once the ranks before it are refreshed.
 use Rattle.std.proofs.Common.{◌≡◌, ℕ, zero, suc, ◌+◌, ◌-◌, ◌*◌, ◌/◌, ◌<◌, ◌≤◌, Bool, true, false, cond, List, [], ◌∷◌, ◌++◌, Option, Some, None, refl, sym, ap, subst, ◌∙◌, ◌⊎◌, inl, inr, arith, add-zero}
 use Rattle.std.specs.Prelude.{count_by}
 use Rattle.std.specs.Option.{IfSome}
@@ -27,8 +27,8 @@ use Rattle.laws.proofs.Counting.{test_in}
 use Rattle.laws.proofs.Due.{refreshed, refreshed-more, refreshed-by, is_due, chosen-refresh, lowest-due, lowest-at, due-more, due-from, not_early, not_wanted}
 use Rattle.laws.proofs.Legal.{chosen, take-channel_steps_of, history_of-more, Each-history_of}
 
--- Rank j lacks its refresh of interval m for long: from `begin` on m refreshes are due, from `start` on the ranks before it
--- have theirs, and its last one stands before `old`.
+-- Rank j lacks its refresh of interval m for long: from `begin` on m refreshes are due, from `start` on the ranks
+-- before it have theirs, and its last one stands before `old`.
 record Late (s : Config) (traces : List (List Entry)) (k j m begin start old : ℕ) : Type 0 where
   pub channel : k < s.channels
   pub rank : j < s.ranks

@@ -1,5 +1,5 @@
--- The data bus of a channel. A RD has its data on the bus in the four cycles that begin nCL cycles after it, and a WR in
--- the four that begin nCWL cycles after it.
+-- The data bus of a channel. A RD has its data on the bus in the four cycles that begin nCL cycles after it, and a WR
+-- in the four that begin nCWL cycles after it.
 --     has_data_in t cycle i      a command has data on the bus in a cycle
 --     DataBusIsShared s traces n      in no cycle do two commands of a channel have data on its bus
 use Rattle.std.specs.Prelude.{ℕ, ◌+◌, ◌<◌, ◌≤◌, nat_lt, nat_le, Bool, false, ◌&&◌, List, count_by}

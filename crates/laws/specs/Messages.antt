@@ -37,7 +37,8 @@ abbrev pub memory_entry : Access → ℕ → Entry
 memory_entry access.Read address = Read address
 memory_entry access.Write address = Write address
 
--- a message carries this request to a channel: that of an entry which its core has issued, with the entry's kind and address
+-- a message carries this request to a channel: that of an entry which its core has issued, with the entry's kind and
+-- address
 pub record IsRequestTo (s : Config) (traces : List (List Entry)) (history : List MachineStep) (channel : ℕ) (m : Message) (r : Request) : Type 0 where
   pub core : r.core < s.cores
   pub entry : slice_get (trace_of traces r.core) r.entry ≡ Some (memory_entry r.access r.address)

@@ -16,8 +16,8 @@ abbrev pub refreshes_by : Config → List (List Entry) → ℕ → ℕ → ℕ �
 refreshes_by s traces n channel rank cycle =
     count_by (λ i. refreshes rank i.command) (issued_commands channel (take (cycle + 1) (channel_steps_of s traces n channel)))
 
--- Where there are refreshes, the m-th REF of each rank stands at m * nREFI + refresh_slack or earlier, if that cycle is one of
--- the run.
+-- Where there are refreshes, the m-th REF of each rank stands at m * nREFI + refresh_slack or earlier, if that cycle is
+-- one of the run.
 abbrev pub RefreshesAreInTime : Config → List (List Entry) → ℕ → Type 0
 RefreshesAreInTime s traces n =
     (channel rank m : ℕ) → channel < s.channels → rank < s.ranks → 0 < s.timing.n_refi →

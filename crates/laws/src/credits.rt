@@ -5,8 +5,8 @@ ghost use Rattle.sim_base.specs.declared.config.Config.{Config};
 ghost use Rattle.sim_base.specs.declared.trace.Entry.{Entry};
 ghost use Rattle.laws.specs.Credits.{CreditsAreNeverOverspent, CreditsComeBackOnce, QueuesAreBounded};
 
-/// A core never sends a channel more requests of a kind than its credits allow, and no more credits come back than there
-/// were requests: it always holds between none and all of those that it began with.
+/// A core never sends a channel more requests of a kind than its credits allow, and no more credits come back than
+/// there were requests: it always holds between none and all of those that it began with.
 pub fn credits_are_never_overspent()
     ensures spent { (s : Config) (traces : List (List Entry)) (n : ℕ) → CreditsAreNeverOverspent s traces n }
     ensures back { (s : Config) (traces : List (List Entry)) (n : ℕ) → CreditsComeBackOnce s traces n }

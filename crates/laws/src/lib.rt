@@ -1,5 +1,5 @@
-//! Laws of the one-clock machine: theorems about its definition, for every configuration, all traces and any number of cycles.
-//! Each is a public function with an empty body, whose contract is the law.
+//! Laws of the one-clock machine: theorems about its definition, for every configuration, all traces and any number of
+//! cycles. Each is a public function with an empty body, whose contract is the law.
 #![tactic(auto)]
 
 pub mod commands;

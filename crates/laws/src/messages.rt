@@ -12,8 +12,8 @@ pub fn links_carry_one_a_cycle()
     ensures { (s : Config) (traces : List (List Entry)) (n : ℕ) → LinksCarryOneACycle s traces n }
 {}
 
-/// Each message to a channel is the request of an entry that its core has issued, as the core's trace has it; each message to a
-/// core is a reply or a credit of a channel; and no entry is requested twice.
+/// Each message to a channel is the request of an entry that its core has issued, as the core's trace has it; each
+/// message to a core is a reply or a credit of a channel; and no entry is requested twice.
 pub fn messages_fit_their_links()
     ensures requests { (s : Config) (traces : List (List Entry)) (n : ℕ) → RequestsFit s traces n }
     ensures answers { (s : Config) (traces : List (List Entry)) (n : ℕ) → AnswersFit s traces n }

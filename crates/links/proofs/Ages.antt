@@ -1,4 +1,5 @@
--- Messages by age: two that differ in arrival or link can be put in in either order, and a list in order stays as it is.
+-- Messages by age: two that differ in arrival or link can be put in in either order, and a list in order stays as it
+-- is.
 use Rattle.std.proofs.Common.{◌≡◌, ℕ, ◌≤◌, ltb, ◌||◌, Bool, true, false, ◌&&◌, eqb, List, [], ◌∷◌, ◌++◌, refl, sym, ap, ◌∙◌, subst, append-nil, append_assoc, arith}
 use Rattle.std.specs.Prelude.{filter, slice_get, All, IfSome}
 use Rattle.std.specs.Option.{option_map}

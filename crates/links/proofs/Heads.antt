@@ -152,7 +152,8 @@ due_by_head until ms head s e =
     let due = head_due until ms s in
     (e ∙ due.0, ap (λ z. drop (length z) ms) e ∙ due.1)
 
--- what stands behind as many messages of a ring as arrive before the cycle arrives later, also when the ring is read again
+-- what stands behind as many messages of a ring as arrive before the cycle arrives later, also when the ring is read
+-- again
 pub behind_due : (until count : ℕ) (ms xs ys : List Message) → by_age ms ≡ ms → ms ≡ xs → ms ≡ ys → count ≡ length (filter (arrives_before until) xs)
     → (count ≤ length ys) × (drop count ys ≡ filter (arrives_later until) ys)
 behind_due until count ms xs ys s e f h =

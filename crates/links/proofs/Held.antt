@@ -1,4 +1,5 @@
--- The messages in rings: those to a unit stand in its rings, and a message that is put into its ring is put in among all.
+-- The messages in rings: those to a unit stand in its rings, and a message that is put into its ring is put in among
+-- all.
 use Rattle.std.proofs.Common.{ℕ, suc, zero, ◌+◌, ◌*◌, ◌-◌, ◌/◌, ◌%◌, ◌<◌, ◌≤◌, ◌≡◌, Bool, true, false, not, ◌&&◌, ◌||◌, eqb, ltb, cond, get_or, length, set, List, [], ◌∷◌, ◌++◌, append-nil, append_assoc, Some, None, refl, sym, ap, ap₂, ◌∙◌, subst, inl, inr, ◌⊎◌, arith}
 use Rattle.std.specs.Prelude.{filter, fold}
 use Rattle.std.specs.List.{AllByRecursion as Each}

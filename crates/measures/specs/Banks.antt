@@ -53,9 +53,10 @@ bank_at place = record { rank = place / 16; group = place / 4 % 4; bank = place 
 unfoldable pub every_bank : List BankId
 every_bank = map bank_at (below 64)
 
--- What a bank did, over the commands of its channel: its ACTs, RDs and WRs; how often it was told to close its row, by its PREs and the
--- PREAs of its rank; its conflicts, which are its PREs, each issued for a request that needs another row than the open one; and its row
--- hits, which are its RDs and WRs for whose request it had no ACT.
+-- What a bank did, over the commands of its channel: its ACTs, RDs and WRs; how often it was told to close its row, by
+-- its PREs and the
+-- PREAs of its rank; its conflicts, which are its PREs, each issued for a request that needs another row than the open
+-- one; and its row hits, which are its RDs and WRs for whose request it had no ACT.
 unfoldable pub counts_in : List IssuedCommand → BankId → BankCounts
 counts_in commands bank = record {
   bank = bank;

@@ -14,8 +14,8 @@ abbrev pub at_rank : List ℕ → ℕ → Option ℕ
 at_rank values zero = None
 at_rank values (suc place) = slice_get values place
 
--- The percentile by the nearest rank: one of the values, such that at least this share of them, in percent, is at or below it; and the least
--- of the values of which that is true.
+-- The percentile by the nearest rank: one of the values, such that at least this share of them, in percent, is at or
+-- below it; and the least of the values of which that is true.
 pub record IsPercentile (values : List ℕ) (percent value : ℕ) : Type 0 where
   pub is_one : Contains values value
   pub enough : percent * length values ≤ 100 * at_most value values

@@ -53,8 +53,8 @@ impl SortedValues {
         SortedValues { values }
     }
 
-    /// The percentile by the nearest rank: the least of the values with at least `percent` per cent of them at or below it; 100 gives the
-    /// greatest. None of no values.
+    /// The percentile by the nearest rank: the least of the values with at least `percent` per cent of them at or below
+    /// it; 100 gives the greatest. None of no values.
     #[tactic(auto, using(crate::proofs::Ranks::rank_gives, crate::proofs::Ranks::rank_none))]
     pub fn percentile(&self, percent: u64) -> Option<u64>
         requires some { 0 < percent }

@@ -1,4 +1,5 @@
-//! What the requests of a run say of time: how long reads took, and how long requests waited in the queue of their channel.
+//! What the requests of a run say of time: how long reads took, and how long requests waited in the queue of their
+//! channel.
 
 pub mod latency;
 pub mod waiting;

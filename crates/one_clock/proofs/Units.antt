@@ -1,4 +1,5 @@
--- A list with one element for each unit, in which the units below i have what they get next, and the others what they had.
+-- A list with one element for each unit, in which the units below i have what they get next, and the others what they
+-- had.
 use Rattle.std.proofs.Common.{◌≡◌, ℕ, suc, Bool, true, false, ◌&&◌, Option, Some, None, ◌+◌, ◌<◌, List, [], ◌∷◌, ◌++◌, length, map, get_or, drop, refl, sym, ap, ap₂, subst, ◌∙◌, ◌-◌, append_assoc, length-append, length-drop, zero-add, add-one, drop-cons, arith}
 use Rattle.std.proofs.Math.ListN.{set, drop_of_length-le}
 use Rattle.std.proofs.Math.Seq.{set-append_seam, get_or-append_seam}

@@ -14,8 +14,8 @@ use std::alloc::{AllocError, Global};
 use std::process::Abort;
 use std::thread::Threads;
 
-/// The caller alone puts a few commands together. 40,000 of one channel are 20 pieces, which is enough for threads: each
-/// puts a piece together, and several rounds of pieces are written.
+/// The caller alone puts a few commands together. 40,000 of one channel are 20 pieces, which is enough for threads:
+/// each puts a piece together, and several rounds of pieces are written.
 static COUNTS: [u64; 3] = [0, 3, 40_000];
 
 /// Commands of `count` cycles, one in each.

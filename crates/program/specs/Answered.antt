@@ -208,7 +208,8 @@ abbrev pub IsRefusedBy : Refusal → List (List ℕ) → Seen → Seen → Type 
 IsRefusedBy refusal words old new =
     LeavesAll refusal old.held new.held old.opened new.opened ⊎ IsUndone refusal words old new
 
--- for some refusal, the words are none that the program knows, or memory was refused, and nothing was touched; or what they ask for has not been done
+-- for some refusal, the words are none that the program knows, or memory was refused, and nothing was touched; or what
+-- they ask for has not been done
 pub record IsRefused (words : List (List ℕ)) (old new : Seen) : Type 0 where
   pub refusal : Refusal
   pub left : IsRefusedBy refusal words old new

@@ -47,7 +47,8 @@ abbrev pub IsRunFault : ℕ → ℕ → List (List ℕ) → Fault → Type 0
 IsRunFault cycles workers (document ∷ texts) fault = IsRefusal document texts cycles workers fault
 IsRunFault cycles workers _ fault = ⊥
 
--- what is wrong with the configuration and the traces of a run, or a worker's start; or nothing is wrong with them, and the folder of the run is refused
+-- what is wrong with the configuration and the traces of a run, or a worker's start; or nothing is wrong with them, and
+-- the folder of the run is refused
 abbrev pub IsRunRefusal : List ℕ → List (List ℕ) → ℕ → ℕ → Fault → Type 0
 IsRunRefusal document texts cycles workers fault =
     IsRefusal document texts cycles workers fault ⊎ ((fault ≡ Write) × IsOk (input_of document texts cycles workers))

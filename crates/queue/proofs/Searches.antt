@@ -60,7 +60,8 @@ none_narrower_all p q log weaker is =
     found_none p log (length log) (omega arith)
     (none_narrower p q log (length log) weaker (none_before q log (length log) (subst (λ o. before (length log) o ≡ None) is refl)))
 
--- whether a request at a place may be served and passes a test, where the test was made of the request that was read there
+-- whether a request at a place may be served and passes a test, where the test was made of the request that was read
+-- there
 pub tested : (test : Request → Bool) (log xs : List Arrived) (slot : ℕ) (e : Arrived) (wanted : Bool) (d : Request × ℕ) → slot < length log → xs ≡ log
     → wanted ≡ test (get_or xs slot e).request → passes test (get_or (entries log) slot d) ≡ (is_marked (get_or (eligible_column log) slot 0) && wanted)
 tested test log xs slot e wanted d within same is =

@@ -57,8 +57,8 @@ unblocked_head asked p b apart = elim (cases_Bool b.waits) [
   | inr none ↦ ap (λ w. mark (w && not (with_line asked p b.request.place))) none ∙ ap (λ w. mark (w && not (asked b.request.place))) (sym none)
 ]
 
--- Where the line of a request that goes was not asked for before, the next one for it becomes eligible. It stands at place k; past the
--- end there is none.
+-- Where the line of a request that goes was not asked for before, the next one for it becomes eligible. It stands at
+-- place k; past the end there is none.
 unblocked : (asked : Place → Bool) (p : Place) (log : List Arrived) (k : ℕ) → asked p ≡ false → ((j : ℕ) → j < k → is_for p (get_or log j absent) ≡ false)
     → (k < length log → is_for p (get_or log k absent) ≡ true) → set (marks_after (with_line asked p) log) k 1 ≡ marks_after asked log
 unblocked asked p [] k before none here = refl
@@ -139,7 +139,8 @@ served_blocked log slot within waits blocked =
     ∙ sym (cleared_marks older later a slot long waits)
     ∙ ap (λ (l : List Arrived). set (eligible_column l) slot 0) (sym whole)
 
--- the marks once a request is served that was first of its line: the next one for the line, at place k, is no longer blocked
+-- the marks once a request is served that was first of its line: the next one for the line, at place k, is no longer
+-- blocked
 pub served_first : (log : List Arrived) (slot k : ℕ) → slot < length log → waits_at log slot ≡ true → is_marked (get_or (eligible_column log) slot 0) ≡ true → slot < k
     → ((j : ℕ) → slot < j → j < k → is_for (get_or log slot absent).request.place (get_or log j absent) ≡ false)
     → (k < length log → is_for (get_or log slot absent).request.place (get_or log k absent) ≡ true)

@@ -31,7 +31,8 @@ use Rattle.queue.specs.Log.{eligible_column, waiting_requests}
 abbrev pub bank_number : Place → ℕ
 bank_number place = (place.rank * 4 + place.group) * 4 + place.bank
 
--- whether a request may be served in bit 7, whether it writes in bit 6, and the number of a bank modulo 64 in bits 0 to 5
+-- whether a request may be served in bit 7, whether it writes in bit 6, and the number of a bank modulo 64 in bits 0 to
+-- 5
 abbrev pub tag_word : Bool → Access → ℕ → ℕ
 tag_word eligible access bank = (mark eligible * 2 + write_bit access) * 64 + bank % 64
 

@@ -19,8 +19,8 @@ view_of q =
       drain_decided = q.drain_decided;
     }
 
--- Those that wait are counted, and the writes among them. What is kept of a drain is right for these writes. There are places for as
--- many requests as may wait.
+-- Those that wait are counted, and the writes among them. What is kept of a drain is right for these writes. There are
+-- places for as many requests as may wait.
 pub record AreKept (q : Inside) : Type 0 where
   pub waiting_are : q.waiting ≡ length (waiting_requests q.log.log)
   pub writes_are : q.writes ≡ write_count (waiting_requests q.log.log)

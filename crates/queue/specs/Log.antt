@@ -1,4 +1,5 @@
--- The requests that have arrived at a channel, by age. Each keeps its place when it is served, so that no other one moves.
+-- The requests that have arrived at a channel, by age. Each keeps its place when it is served, so that no other one
+-- moves.
 --     absent      what a read past the end of a log would give
 --     waiting log      those that wait
 --     waiting_requests log, all_requests log      the requests that wait, and all that have arrived

@@ -5,8 +5,8 @@ use Rattle.queue.specs.declared.request_log.RequestLog.TheInside.{Inside}
 use Rattle.queue.specs.Log.{waiting_requests}
 use Rattle.queue.specs.Columns.{tag_column, blocked_count, slot_of_line, slot_of_row, AreCounted}
 
--- The tags are those of the log, each counter counts its lines or its rows among the requests that wait, and those that are blocked are
--- counted. There is room for `places` requests, which are fewer than 2^16 - 1.
+-- The tags are those of the log, each counter counts its lines or its rows among the requests that wait, and those that
+-- are blocked are counted. There is room for `places` requests, which are fewer than 2^16 - 1.
 pub record AreKept (l : Inside) : Type 0 where
   pub tags_are : l.tags.items ≡ tag_column l.log.items
   pub blocked_are : l.blocked ≡ blocked_count l.log.items

@@ -30,12 +30,14 @@ pub record IsServed (earlier : List Arrived) (slot : ℕ) (unblocked : Option �
   pub marks_are : eligible_column log ≡ marks_once_served earlier slot unblocked
   pub next : IfSome unblocked (λ k. k < length log)
 
--- The candidates of a bank to read or to write, where this row is open, once a request that may be served now is taken in, if there is one.
+-- The candidates of a bank to read or to write, where this row is open, once a request that may be served now is taken
+-- in, if there is one.
 pub record AreFirstWith (log : List Arrived) (bank : ℕ) (access : Access) (row : Option ℕ) (unblocked : Option ℕ) (candidates : AccessCandidates) : Type 0 where
   pub oldest_is : earlier candidates.oldest (passing (asks bank access) log unblocked) ≡ first_place (asks bank access) log
   pub hit_is : earlier candidates.hit (passing (hits bank access row) log unblocked) ≡ first_place (hits bank access row) log
 
--- The candidates of the bank and the access of a request that has been served, once a request that may be served now is taken in, if any is.
+-- The candidates of the bank and the access of a request that has been served, once a request that may be served now is
+-- taken in, if any is.
 abbrev pub AreFirstWithout : Departure → List Arrived → Option ℕ → Option ℕ → AccessCandidates → Type 0
 AreFirstWithout departure log row unblocked candidates = AreFirstWith log departure.bank departure.access row unblocked candidates
 

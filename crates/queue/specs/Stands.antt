@@ -48,8 +48,9 @@ oldest_of_bank candidates bank = earlier (candidates_to candidates bank access.R
 abbrev pub row_of_bank : BankCandidates → ℕ → Option ℕ
 row_of_bank candidates bank = (candidates_of_bank candidates bank).row
 
--- Every request asks for one of the banks, and for a row of 32 bits; the row of each bank is the one that is open, each candidate is
--- the place of the first such request, and each counter says how many requests that wait ask for its bank and access.
+-- Every request asks for one of the banks, and for a row of 32 bits; the row of each bank is the one that is open, each
+-- candidate is the place of the first such request, and each counter says how many requests that wait ask for its bank
+-- and access.
 pub record StandsFor (candidates : BankCandidates) (log : List Arrived) (open_rows : ℕ → Option ℕ) : Type 0 where
   pub within : All (λ r. bank_number r.place < bank_count candidates) (all_requests log)
   pub rows_fit : RowsFit (all_requests log)

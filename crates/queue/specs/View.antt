@@ -12,8 +12,8 @@ use Rattle.queue.specs.declared.request_log.Arrived.{Arrived}
 use Rattle.queue.specs.Log.{waiting, waiting_requests, with_arrival}
 use Rattle.queue.specs.Columns.{write_count}
 
--- how many requests may wait, how many have places, the numbers of writes with which a drain begins and ends, the requests that have
--- arrived by age, of which some wait, and whether the queue drained when that was last decided
+-- how many requests may wait, how many have places, the numbers of writes with which a drain begins and ends, the
+-- requests that have arrived by age, of which some wait, and whether the queue drained when that was last decided
 pub record QueueView : Type 0 where
   pub room : ℕ
   pub places : ℕ
@@ -22,8 +22,8 @@ pub record QueueView : Type 0 where
   pub log : List Arrived
   pub drain_decided : Bool
 
--- how many requests there are places for, where so many may wait: those that wait move to the front once in so many arrivals as there are
--- further places
+-- how many requests there are places for, where so many may wait: those that wait move to the front once in so many
+-- arrivals as there are further places
 abbrev pub places_for : ℕ → ℕ
 places_for room = min (room * 2 + 256) 65534
 

@@ -1,5 +1,5 @@
-//! The candidates of a channel's log of requests: of each bank, to read and to write, the first request that may be served, and the
-//! first of these that asks for the bank's open row.
+//! The candidates of a channel's log of requests: of each bank, to read and to write, the first request that may be
+//! served, and the first of these that asks for the bank's open row.
 
 pub mod all_banks;
 mod entry;

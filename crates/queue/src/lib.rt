@@ -16,8 +16,8 @@ use std::marker::Model;
 /// The highest number of places that a log may have.
 const MOST_PLACES: usize = 65_534;
 
-/// Those that wait move to the front where more than twice as many and these have arrived since they last did, so that a log in which few
-/// wait stays short, and its places in the caches.
+/// Those that wait move to the front where more than twice as many and these have arrived since they last did, so that
+/// a log in which few wait stays short, and its places in the caches.
 const SPARE_PLACES: usize = 256;
 
 /// Whether a queue with `writes` writes drains, given whether it drained before.
@@ -71,8 +71,8 @@ impl Queue {
     ghost use Rattle.std.specs.Prelude.{IfSome};
     ghost use Rattle.queue.specs.Log.{waiting_requests, served_at, activated_at, waits_at, eligible_column, is_eligible_at, marks_once_served};
 
-    /// An empty queue in which `room` requests may wait, and which drains its writes from `high` of them down to `low`, and never
-    /// if `high` is 0. Only this call allocates memory.
+    /// An empty queue in which `room` requests may wait, and which drains its writes from `high` of them down to `low`,
+    /// and never if `high` is 0. Only this call allocates memory.
     #[tactic(auto, unfolding(crate::specs::Log::waiting))]
     pub fn with_room(alloc: Global, room: usize, high: u32, low: u32) -> Result<Self, AllocError>
         requires room { room < 2 ^ 16 - 1 }
@@ -107,8 +107,8 @@ impl Queue {
         &self.log
     }
 
-    /// Makes places for `count` requests that arrive. Where too few are left, or far more than wait are in use, those that wait move to
-    /// the front; the call tells whether they did.
+    /// Makes places for `count` requests that arrive. Where too few are left, or far more than wait are in use, those
+    /// that wait move to the front; the call tells whether they did.
     #[inline(always)]
     pub fn make_room(&mut self, count: usize) -> bool
         requires { length (waiting_requests self.old.log) + count ≤ self.old.room }
@@ -138,8 +138,8 @@ impl Queue {
         }
     }
 
-    /// Serves the request at a place, which no longer waits then. Returns the place of the next one for its line, if that was blocked by it
-    /// and may be served now.
+    /// Serves the request at a place, which no longer waits then. Returns the place of the next one for its line, if
+    /// that was blocked by it and may be served now.
     #[inline(always)]
     pub fn serve(&mut self, slot: usize) -> Option<usize>
         requires within { slot < length self.old.log }

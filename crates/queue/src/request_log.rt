@@ -1,4 +1,5 @@
-//! The requests that have arrived at a channel, by age, each at a place that it keeps until those that wait are moved to the front.
+//! The requests that have arrived at a channel, by age, each at a place that it keeps until those that wait are moved
+//! to the front.
 
 mod lines;
 pub mod words;
@@ -59,8 +60,8 @@ fn keep_waiting(log: &[Arrived], tags: &mut Vec<u8>)
     tags.truncate(to);
 }
 
-/// The requests that have arrived at a channel, by age. A request that is served keeps its place, so that no other one moves, until there
-/// is no place left for one that arrives.
+/// The requests that have arrived at a channel, by age. A request that is served keeps its place, so that no other one
+/// moves, until there is no place left for one that arrives.
 #[derive(Drop)]
 pub struct RequestLog {
     /// How many requests there are places for.
@@ -70,7 +71,8 @@ pub struct RequestLog {
     tags: Vec<u8>,
     /// How many requests wait that are blocked by an older one of their line.
     blocked: usize,
-    /// How many requests that wait are for the lines of each counter. There are so many counters that few count two lines.
+    /// How many requests that wait are for the lines of each counter. There are so many counters that few count two
+    /// lines.
     lines: Vec<u16>,
     /// The highest of these counters.
     mask: usize,
@@ -97,7 +99,8 @@ impl RequestLog {
     ghost use Rattle.queue.specs.Log.{is_eligible_at, marks_once_served};
     ghost use Rattle.queue.specs.Columns.{tag_column, NoneAsksForRow};
 
-    /// No requests, with places for so many of them, of which at most `room` wait at a time. Only this call allocates memory.
+    /// No requests, with places for so many of them, of which at most `room` wait at a time. Only this call allocates
+    /// memory.
     #[tactic(auto, unfolding(crate::specs::Log::waiting, crate::specs::Log::eligible_column, crate::specs::Columns::tag_column))]
     pub fn with_places(alloc: Global, places: usize, room: usize) -> Result<Self, AllocError>
         requires { places < 2 ^ 16 - 1 }
@@ -135,8 +138,9 @@ impl RequestLog {
         self.log.len()
     }
 
-    /// The tag of each request, by age, which says in one byte what a search for a bank asks for: of one that waits, bit 7 is 1 where it
-    /// may be served, bit 6 where it is a write, and bits 0 to 5 have the number of its bank modulo 64; one that was served has 127.
+    /// The tag of each request, by age, which says in one byte what a search for a bank asks for: of one that waits,
+    /// bit 7 is 1 where it may be served, bit 6 where it is a write, and bits 0 to 5 have the number of its bank modulo
+    /// 64; one that was served has 127.
     #[inline(always)]
     pub fn tags(&self) -> &[u8]
         ensures { result.now ≡ tag_column self.now.log }
@@ -191,8 +195,8 @@ impl RequestLog {
         self.blocked += usize::from(asked);
     }
 
-    /// Serves the request at a place, which no longer waits then. Returns the place of the next one for its line, if that was blocked by it
-    /// and may be served now.
+    /// Serves the request at a place, which no longer waits then. Returns the place of the next one for its line, if
+    /// that was blocked by it and may be served now.
     #[inline(always)]
     pub fn serve(&mut self, slot: usize) -> Option<usize>
         requires within { slot < length self.old.log }

@@ -68,7 +68,8 @@ beginning_by old mid new lines more first part = record {
   };
 }
 
--- lines that the stream took whole, and what explains them, whole or a beginning of it as the answer to the last write says
+-- lines that the stream took whole, and what explains them, whole or a beginning of it as the answer to the last write
+-- says
 pub explained_by : {T E : Type 0} (answer : Result T E) (refused : Bool) (old mid new : Option (List ℕ)) (lines text more : List ℕ) → text ≡ lines → Appends old mid text
     → OnOk answer (Appends mid new more) → AppendsBeginning mid new more → OnErr answer (IsTrue refused) → IsExplained refused old new lines
 explained_by (Ok _) refused old mid new lines text more same first whole part is = record {

@@ -1,5 +1,5 @@
--- What the stream that refusals are told on takes, in the words of contracts. There `E.Write` is what the stream says of
--- itself.
+-- What the stream that refusals are told on takes, in the words of contracts. There `E.Write` is what the stream says
+-- of itself.
 --     Takes stream old new text, TakesBeginning stream old new text      it took a text, or a beginning of one
 --     TakesRefusal stream old new refusal      it took the lines of a refusal, and what explains them
 --     Tells stream old new refusal      the same; or a beginning of that, where it has refused

@@ -57,8 +57,8 @@ fn write_line<E: Write>(errors: &mut ErrorStream<E>, page: LargePage) -> io::Res
     put(errors, line_of(page).as_bytes())
 }
 
-/// Tells what is warned of, as far as the stream takes it, in one line that needs no memory. It is told whole unless the
-/// stream refuses. Where there is nothing to warn of, nothing is told.
+/// Tells what is warned of, as far as the stream takes it, in one line that needs no memory. It is told whole unless
+/// the stream refuses. Where there is nothing to warn of, nothing is told.
 pub fn write_warning<E: Write>(errors: &mut ErrorStream<E>, warning: Option<LargePage>)
     ensures told { Warns E.Write errors.old errors.new warning }
     ensures silent { warning ≡ None → errors.new ≡ errors.old }

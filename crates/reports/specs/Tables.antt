@@ -24,7 +24,8 @@ held contents writer table = append_known (contents writer) (waiting table)
 abbrev pub IsWhole : Table → Type 0
 IsWhole table = table.lost ≡ None
 
--- if no row was lost up to then, none had been lost before, and this text was added to what the writer and the table hold
+-- if no row was lost up to then, none had been lost before, and this text was added to what the writer and the table
+-- hold
 abbrev pub AddsRows : {W : Type 0} → (W → Option (List ℕ)) → W → Table → W → Table → List ℕ → Type 0
 AddsRows contents writer table writer' table' text =
     IsWhole table' → IsWhole table × Appends (held contents writer table) (held contents writer' table') text

@@ -228,12 +228,12 @@ pub fn write_commands<W: Write>(
     write_whole(alloc, &CommandLines { ranks }, &rows, writer)
 }
 
-/// Writes the table of commands as `write_commands` does, put together by several threads. If there are few commands, or
-/// only one thread, the caller alone puts it together.
+/// Writes the table of commands as `write_commands` does, put together by several threads. If there are few commands,
+/// or only one thread, the caller alone puts it together.
 ///
 /// In addition to the memory of `write_commands`, the call takes that of the texts of twice as many pieces as there are
-/// threads, each of at most 2,048 commands per channel: of those that are written, and of those that are put together in
-/// the meantime.
+/// threads, each of at most 2,048 commands per channel: of those that are written, and of those that are put together
+/// in the meantime.
 ///
 /// # Errors
 ///

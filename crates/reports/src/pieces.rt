@@ -129,7 +129,8 @@ fn write_texts<W: Write>(texts: &[Vec<u8>], writer: &mut W) -> Result<(), Fault>
     Ok(())
 }
 
-/// The threads that put the text of a table together: at most `count` threads of the host `rt`, with memory from `alloc`.
+/// The threads that put the text of a table together: at most `count` threads of the host `rt`, with memory from
+/// `alloc`.
 #[derive(Drop)]
 pub struct TableThreads<'a, R> {
     pub rt: &'a R,

@@ -42,8 +42,8 @@ static SHORT_LEGEND: [LegendEntry; 3] = [
     },
 ];
 
-/// The mean times of the answered reads of a channel, in hundredths of a cycle: to the channel, in its queue, from RD to the end of the data, which is 0
-/// where it is not known, and from there to the core.
+/// The mean times of the answered reads of a channel, in hundredths of a cycle: to the channel, in its queue, from RD
+/// to the end of the data, which is 0 where it is not known, and from there to the core.
 #[derive(Clone, Copy)]
 struct Parts {
     there: u64,
@@ -197,7 +197,8 @@ fn greatest_of(all: &[Parts]) -> u64 {
     greatest
 }
 
-/// Appends a bar for each of so many channels, with a legend. `data` is how many cycles the data of a read take from the RD on, where that is known.
+/// Appends a bar for each of so many channels, with a legend. `data` is how many cycles the data of a read take from
+/// the RD on, where that is known.
 pub(crate) fn put_breakdown(
     alloc: Global,
     channels: usize,

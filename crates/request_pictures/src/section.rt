@@ -20,9 +20,9 @@ fn data_cycles(n_cl: Option<u32>) -> Option<u64> {
     }
 }
 
-/// Appends what the requests of a run tell: how long the reads of each core took, how that changed over the run, and for each channel where
-/// the time of its reads went, of which the time from the RD to the end of the data is apart from the way back only where nCL is given. Where
-/// no reply came it says so.
+/// Appends what the requests of a run tell: how long the reads of each core took, how that changed over the run, and
+/// for each channel where the time of its reads went, of which the time from the RD to the end of the data is apart
+/// from the way back only where nCL is given. Where no reply came it says so.
 pub fn put_requests(
     alloc: Global,
     stats: &Stats,

@@ -1,4 +1,5 @@
-//! The median and the 99th percentile of read latency over the run, in steps of equal length, the last of which may be shorter.
+//! The median and the 99th percentile of read latency over the run, in steps of equal length, the last of which may be
+//! shorter.
 
 use crate::drawing::axes::Quantity;
 use crate::drawing::markup::{LegendEntry, Piece};

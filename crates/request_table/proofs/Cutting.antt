@@ -92,7 +92,8 @@ at-dropped p t h (row ∷ rows) = by (p row) refl (at-dropped p t h rows)
         ap (at t) (cond-true _ _ _ e) ∙ cond-false _ _ _ (ne_eqb row.served t other) ∙ k
     by false e k = ap (at t) (cond-false _ _ _ e) ∙ k
 
--- if each list keeps all requests that are served in a cycle, all lists together keep them; if each keeps none, they keep none
+-- if each list keeps all requests that are served in a cycle, all lists together keep them; if each keeps none, they
+-- keep none
 
 all-here : (t : ℕ) (f : List ServedRequest → List ServedRequest) → ((rows : List ServedRequest) → at t (f rows) ≡ at t rows) → (lists : List (List ServedRequest)) → served_at (map f lists) t ≡ served_at lists t
 all-here t f h [] = refl

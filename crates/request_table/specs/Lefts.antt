@@ -13,20 +13,22 @@ abbrev pub first_cycle : List ServedRequest → Option ℕ
 first_cycle [] = None
 first_cycle (row ∷ rest) = Some row.served
 
--- Of the first `count` lists, the one at this place begins in this cycle. Those before it begin later, and those after it no sooner.
+-- Of the first `count` lists, the one at this place begins in this cycle. Those before it begin later, and those after
+-- it no sooner.
 pub record IsNextOf (lists : List (List ServedRequest)) (count place cycle : ℕ) : Type 0 where
   pub within : place < count
   pub starts : first_cycle (slice_index_or lists place []) ≡ Some cycle
   pub before : (k : ℕ) → k < place → IfSome (first_cycle (slice_index_or lists k [])) (λ first. cycle < first)
   pub behind : (k : ℕ) → place < k → k < count → IfSome (first_cycle (slice_index_or lists k [])) (λ first. cycle ≤ first)
 
--- Of the first `count` lists, the one that begins first, with its place and cycle, or none where none of them has a request.
+-- Of the first `count` lists, the one that begins first, with its place and cycle, or none where none of them has a
+-- request.
 abbrev pub IsNextAmong : List (List ServedRequest) → ℕ → Option Next → Type 0
 IsNextAmong lists count None = (k : ℕ) → k < count → slice_index_or lists k [] ≡ []
 IsNextAmong lists count (Some next) = IsNextOf lists count next.place next.cycle
 
--- `found` is the next one of the lists before a place; if the list there begins in this cycle, where it has a request, `result` is the next one of
--- those up to the place
+-- `found` is the next one of the lists before a place; if the list there begins in this cycle, where it has a request,
+-- `result` is the next one of those up to the place
 abbrev pub IsSooner : Option Next → ℕ → Option ℕ → Option Next → Type 0
 IsSooner found place cycle result =
     (lists : List (List ServedRequest)) → IsNextAmong lists place found → first_cycle (slice_index_or lists place []) ≡ cycle → IsNextAmong lists (place + 1) result

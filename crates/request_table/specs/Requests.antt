@@ -20,7 +20,8 @@ use Rattle.sim_base.specs.declared.message.Access.{Access}
 use Rattle.sim_base.specs.declared.message.Access.TheVariants.{Read, Write}
 use Rattle.request_table.specs.declared.times.RequestTimes.{RequestTimes}
 
--- the cycle in which the request of an entry reaches a channel: its core issues the entry, and the request travels the link of the two
+-- the cycle in which the request of an entry reaches a channel: its core issues the entry, and the request travels the
+-- link of the two
 abbrev pub arrival_of : Config → List MachineStep → ℕ → Source → ℕ
 arrival_of s history channel source = issue_cycle (steps_of_core source.core history) source.entry + latency s (request_link s source.core channel)
 
@@ -28,7 +29,8 @@ arrival_of s history channel source = issue_cycle (steps_of_core source.core his
 abbrev pub if_within : ℕ → ℕ → Option ℕ
 if_within cycles cycle = if nat_lt cycle cycles then Some cycle else None
 
--- the cycle in which the data of a read comes to its core: nCL cycles after its RD the burst of 4 begins, and it leaves when it is over
+-- the cycle in which the data of a read comes to its core: nCL cycles after its RD the burst of 4 begins, and it leaves
+-- when it is over
 abbrev pub reply_cycle : Config → ℕ → ℕ → ℕ → ℕ
 reply_cycle s core channel served = served + s.timing.n_cl + 4 + latency s (reply_link s core channel)
 

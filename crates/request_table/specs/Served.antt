@@ -26,7 +26,8 @@ served_by arrivals hit channel cycle (Pre bank source) = None
 served_by arrivals hit channel cycle (Prea rank) = None
 served_by arrivals hit channel cycle (Ref rank) = None
 
--- the request whose data one of these commands moves, if it moves any: it is a hit where none of them is an ACT in its name
+-- the request whose data one of these commands moves, if it moves any: it is a hit where none of them is an ACT in its
+-- name
 abbrev pub served_in : (Source → ℕ) → List IssuedCommand → IssuedCommand → Option ServedRequest
 served_in arrivals history i = served_by arrivals (is_hit history i.command) i.channel i.cycle i.command
 

@@ -40,7 +40,8 @@ rows_up_to cycle rows = filter (λ row. nat_le row.served cycle) rows
 abbrev pub rows_after : ℕ → List ServedRequest → List ServedRequest
 rows_after cycle rows = filter (λ row. nat_lt cycle row.served) rows
 
--- when a served request was where, in a run of so many cycles: it was issued as long before it came to its channel as it travelled
+-- when a served request was where, in a run of so many cycles: it was issued as long before it came to its channel as
+-- it travelled
 abbrev pub times_of : Config → ℕ → ServedRequest → RequestTimes
 times_of s cycles request =
     record {

@@ -38,8 +38,8 @@ fn lefts_after<'a>(
 }
 
 impl<'a> Rows<'a> {
-    /// Takes the requests that were served up to the cycle in which one of the lists has given `most` more (one, for 0), including those of
-    /// the same cycle, if a list has so many.
+    /// Takes the requests that were served up to the cycle in which one of the lists has given `most` more (one, for
+    /// 0), including those of the same cycle, if a list has so many.
     fn take_piece(&mut self, alloc: Global, most: usize) -> Result<Option<Rows<'a>>, AllocError>
         ensures { IfOk result (λ piece. self.old ≡ unwrap_or piece [] ++ self.new) }
     {
@@ -53,8 +53,9 @@ impl<'a> Rows<'a> {
 }
 
 impl RequestTable {
-    /// The table in pieces, which make up the table one after another: each ends where one of its lists has given `most` requests (one, for 0),
-    /// including those of the same cycle, and the last, which may be empty, ends where the table does. The only error is out of memory.
+    /// The table in pieces, which make up the table one after another: each ends where one of its lists has given
+    /// `most` requests (one, for 0), including those of the same cycle, and the last, which may be empty, ends where
+    /// the table does. The only error is out of memory.
     pub fn pieces(&self, alloc: Global, most: usize) -> Result<Vec<Rows<'_>>, AllocError>
         ensures { IfOk result (λ pieces. flat_map (λ piece. piece) pieces.items ≡ self.now) }
     {

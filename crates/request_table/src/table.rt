@@ -12,8 +12,8 @@ use sim_base::message::Cycle;
 use std::alloc::{AllocError, Global};
 use std::marker::Model;
 
-/// The requests that the channels of a run served: by cycle, and those of a cycle by their list. Nothing is copied to make it or to read it:
-/// each takes the 32 bytes in which its channel kept it.
+/// The requests that the channels of a run served: by cycle, and those of a cycle by their list. Nothing is copied to
+/// make it or to read it: each takes the 32 bytes in which its channel kept it.
 #[derive(Drop)]
 pub struct RequestTable {
     lists: Vec<ServedList>,
@@ -136,8 +136,8 @@ impl<'a> Rows<'a> {
 }
 
 impl RequestTable {
-    /// The table of these lists of requests that were served in a run of so many cycles of a machine with this configuration. The only error is out of
-    /// memory.
+    /// The table of these lists of requests that were served in a run of so many cycles of a machine with this
+    /// configuration. The only error is out of memory.
     pub fn of(
         alloc: Global,
         config: &Config,

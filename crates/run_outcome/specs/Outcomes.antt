@@ -22,7 +22,8 @@ usual_tables = record { commands = true; stats = true; last = true; requests = f
 abbrev pub if_asked : {A : Type 0} → Bool → A → Option A
 if_asked asked table = if asked then Some table else None
 
--- the commands of a history and the requests that they serve, if their table is asked for, its statistics, and the state that it leaves
+-- the commands of a history and the requests that they serve, if their table is asked for, its statistics, and the
+-- state that it leaves
 unfoldable pub outcome_after : Tables → Config → List (List Entry) → List MachineStep → RunOutcome
 outcome_after tables s traces history =
     record {

@@ -6,8 +6,8 @@ use Rattle.request_table.specs.declared.times.RequestTimes.{RequestTimes}
 use Rattle.statistics.specs.Values.{RunStats, LastState}
 use Rattle.run_outcome.specs.declared.tables.Tables.{Tables}
 
--- The tables that were asked for; the commands, and the requests, if their table was; the statistics and the state at the end of a run; and
--- how many ranks a channel has.
+-- The tables that were asked for; the commands, and the requests, if their table was; the statistics and the state at
+-- the end of a run; and how many ranks a channel has.
 pub record RunOutcome : Type 0 where
   pub tables : Tables
   pub commands : Option (List IssuedCommand)

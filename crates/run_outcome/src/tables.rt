@@ -17,7 +17,8 @@ pub struct Tables {
 }
 
 impl Tables {
-    /// The tables that are asked for where nothing else is said: those of the commands, the statistics and the final state.
+    /// The tables that are asked for where nothing else is said: those of the commands, the statistics and the final
+    /// state.
     pub fn usual() -> Tables
         ensures { result ≡ usual_tables }
     {

@@ -85,12 +85,12 @@ fn a_machine_works_where_something_happens(rt: HostRuntime) {
     }
 }
 
-/// A core reads a line in cycle 0, and another one 43 Plain entries later, in cycle 22. A lap is shared out if something
-/// is in flight when it begins. In cycle 0 nothing is, so the caller runs 8 cycles. In 8 the first reply is, so the next
-/// 8 cycles are shared out: phases begin in 8, and in 15, where it comes. In 16 nothing is, and the caller runs 8 cycles
-/// again, though the next lap to be shared out has 16. In 24 the second request is, which comes then and is read: phases
-/// begin in 24, in 26 with its credit and in 34 with its reply. From 40 on nothing is. Each phase has a job for the core
-/// and one for the channel.
+/// A core reads a line in cycle 0, and another one 43 Plain entries later, in cycle 22. A lap is shared out if
+/// something is in flight when it begins. In cycle 0 nothing is, so the caller runs 8 cycles. In 8 the first reply is,
+/// so the next 8 cycles are shared out: phases begin in 8, and in 15, where it comes. In 16 nothing is, and the caller
+/// runs 8 cycles again, though the next lap to be shared out has 16. In 24 the second request is, which comes then and
+/// is read: phases begin in 24, in 26 with its credit and in 34 with its reply. From 40 on nothing is. Each phase has a
+/// job for the core and one for the channel.
 #[test]
 fn a_lap_run_alone_is_short_behind_one_shared_out(rt: HostRuntime) {
     let sharing = Sharing {

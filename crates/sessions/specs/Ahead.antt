@@ -11,7 +11,8 @@ use Rattle.sim_base.specs.declared.message.Message.{Message}
 use Rattle.sessions.specs.Keeps.{steps_of}
 use Rattle.sessions.specs.Sessions.{Past}
 
--- what the definition's channel issues in a cycle for all that was sent, where it issues nothing from now on and before that
+-- what the definition's channel issues in a cycle for all that was sent, where it issues nothing from now on and before
+-- that
 abbrev pub command_then : Past → ℕ → ℕ → Option Command
 command_then p now cycle = choice p.s p.channel (steps_of p.s p.channel p.sent now ++ replicate (cycle - now) None) p.sent
 
@@ -30,8 +31,8 @@ earlier (Some one) (Some other) = Some (min one other)
 earlier (Some one) None = Some one
 earlier None other = other
 
--- A channel acts in a cycle, and in none from now on and before that, if nothing more is sent to it: it issues nothing before that
--- cycle; and in it, it issues a command, or a request that was sent arrives.
+-- A channel acts in a cycle, and in none from now on and before that, if nothing more is sent to it: it issues nothing
+-- before that cycle; and in it, it issues a command, or a request that was sent arrives.
 pub record IsNextAt (p : Past) (now cycle : ℕ) : Type 0 where
   pub from_now : now ≤ cycle
   pub idle : (t : ℕ) → now ≤ t → t < cycle → command_then p now t ≡ None

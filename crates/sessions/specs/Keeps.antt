@@ -24,8 +24,8 @@ steps_of s channel sent now = channel_run s channel [] sent now
 abbrev pub waiting : Config → ℕ → List Message → ℕ → ℕ
 waiting s channel sent now = length (queued_requests (issued_commands channel (steps_of s channel sent now)) sent now)
 
--- A channel stands for what the definition's channel does before a cycle, for the requests that were sent. Of these, some arrived
--- before that cycle, and the others are on their way:
+-- A channel stands for what the definition's channel does before a cycle, for the requests that were sent. Of these,
+-- some arrived before that cycle, and the others are on their way:
 --     requests, by_age, late      they come from cores of the machine, by arrival and then by link, at that cycle or later
 --     differ, asked      no two of all are of one entry, and each entry was asked for
 --     room      there is a place for each of those that wait or are on their way

@@ -1,4 +1,5 @@
--- What is sent to a session, and which entries were asked for: for each core, those below its first entry that may be asked for.
+-- What is sent to a session, and which entries were asked for: for each core, those below its first entry that may be
+-- asked for.
 --     request_of s channel sent      the request with its place and link
 --     message_of s channel sent      the message that carries it
 --     is_unasked firsts core entry      an entry may be asked for

@@ -30,8 +30,8 @@ use Rattle.sessions.specs.declared.channel_session.fault.SessionFault.TheVariant
 use Rattle.sessions.specs.declared.channel_session.requests.SentRequest.{SentRequest}
 use Rattle.sessions.specs.declared.channel_session.session.Session.{Session}
 
--- a channel of a machine with a configuration, the messages that were sent to it, in their order, and the commands and replies that
--- were taken from it
+-- a channel of a machine with a configuration, the messages that were sent to it, in their order, and the commands and
+-- replies that were taken from it
 pub record Past : Type 0 where
   pub s : Config
   pub channel : ℕ
@@ -63,8 +63,8 @@ statistics_of p now = channel_stats p.s p.channel (steps_of p.s p.channel p.sent
 abbrev pub waiting_of : Past → ℕ → ℕ
 waiting_of p now = waiting p.s p.channel p.sent now
 
--- A session has a past: what was taken from it, and then what it still holds, are just the commands and replies of the definition's
--- channel before the cycle where it stands.
+-- A session has a past: what was taken from it, and then what it still holds, are just the commands and replies of the
+-- definition's channel before the cycle where it stands.
 pub record IsSession (session : Session) (p : Past) : Type 0 where
   pub config_is : session.config ≡ p.s
   pub number_is : session.number ≡ p.channel
@@ -109,8 +109,9 @@ with_reply p None = p
 abbrev pub number_refusal : Config → ℕ → Option SessionFault
 number_refusal s channel = if nat_lt channel s.channels then None else Some NoSuchChannel
 
--- Why a request is refused where so many requests wait, if it is: its core or its channel is not there, it arrives in a cycle that is
--- over, or not after all that are on their way, its entry cannot be asked for any more, or there is no credit for it.
+-- Why a request is refused where so many requests wait, if it is: its core or its channel is not there, it arrives in a
+-- cycle that is over, or not after all that are on their way, its entry cannot be asked for any more, or there is no
+-- credit for it.
 abbrev pub refusal : Session → ℕ → SentRequest → Option SessionFault
 refusal session waits r =
     if nat_le session.config.cores r.core then Some NoSuchCore

@@ -51,8 +51,8 @@ fn place_before(config: &Config, parts: usize, count: usize) -> usize
 }
 
 /// Where each of `count` shards begins, and the number of units: a shard is of cores alone, or of channels alone (but
-/// one shard has all units), and is about as large as the next of its kind, so that those of channels, which have most to do, all have about the
-/// same amount to do.
+/// one shard has all units), and is about as large as the next of its kind, so that those of channels, which have most
+/// to do, all have about the same amount to do.
 pub(crate) fn bounds_for(
     alloc: Global,
     config: &Config,

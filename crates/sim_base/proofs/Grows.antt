@@ -1,4 +1,5 @@
--- With one step more, what was sent grows by what is sent in that cycle, wherever in the list of all messages it stands.
+-- With one step more, what was sent grows by what is sent in that cycle, wherever in the list of all messages it
+-- stands.
 use Rattle.std.proofs.Common.{ℕ, zero, suc, ◌+◌, ◌*◌, ◌/◌, ◌%◌, ◌<◌, ◌≡◌, Bool, true, false, eqb, List, [], ◌∷◌, ◌++◌, length, take, drop, ◌-◌, Option, Some, None, refl, sym, ap, ap₂, ◌∙◌, add-zero, arith}
 use Rattle.std.specs.Prelude.{filter, flat_map, fold, sum_by}
 use Rattle.std.specs.Option.{IfSome}

@@ -1,5 +1,5 @@
--- Messages by arrival and then by link: the order stays where some are left out, and does not depend on the order in which
--- messages of different links are put in.
+-- Messages by arrival and then by link: the order stays where some are left out, and does not depend on the order in
+-- which messages of different links are put in.
 use Rattle.std.proofs.Common.{Bool, true, false, cond, eqb, ◌≡◌, List, [], ◌∷◌, ◌++◌, refl, sym, ap, ◌∙◌, arith}
 use Rattle.std.specs.Prelude.{filter}
 use Rattle.std.specs.List.{AllByRecursion as Each}

@@ -1,5 +1,5 @@
--- The state that is left after the steps of a whole run of n cycles. Each is stated for one unit, by its own steps and its
--- inbox. What arrives in cycle n is still in flight: no credit of it is held, and no request of it is queued.
+-- The state that is left after the steps of a whole run of n cycles. Each is stated for one unit, by its own steps and
+-- its inbox. What arrives in cycle n is still in flight: no credit of it is held, and no request of it is queued.
 --     credits_left s core trace steps inbox access channel      the credits that a core holds for a channel
 --     due_left s channel steps      the refreshes that are due, rank by rank
 --     banks s      the banks of a channel, by rank, group and number

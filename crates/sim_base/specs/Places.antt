@@ -20,7 +20,8 @@ field_size s Group = s.groups
 field_size s Bank = 4
 field_size s Row = s.rows
 
--- the value of a field in the number x, whose digits from the low end are these fields; 0 for a field that is not among them
+-- the value of a field in the number x, whose digits from the low end are these fields; 0 for a field that is not among
+-- them
 unfoldable pub digit_of : Config → Field → List Field → ℕ → ℕ
 digit_of s field [] x = 0
 digit_of s field (f ∷ fs) x = if is_field field f then x % field_size s field else digit_of s field fs (x / field_size s f)

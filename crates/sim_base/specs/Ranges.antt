@@ -21,7 +21,8 @@ pub record MachineInRange (cores channels : ℕ) : Type 0 where
   pub channels_in : Within 1 16 channels
   pub channels_power : IsTrue (is_power_of_two channels)
 
--- a channel has 1, 2 or 4 ranks of 2 or 4 groups, and a bank has up to 262144 rows of up to 1024 lines, each a power of two
+-- a channel has 1, 2 or 4 ranks of 2 or 4 groups, and a bank has up to 262144 rows of up to 1024 lines, each a power of
+-- two
 pub record MemoryInRange (ranks groups columns rows : ℕ) : Type 0 where
   pub ranks_in : Within 1 4 ranks
   pub ranks_power : IsTrue (is_power_of_two ranks)
@@ -57,7 +58,8 @@ OverridesInRange overrides = All (λ o. LatencyInRange o.latency) overrides
 abbrev pub DistanceInRange : ℕ → Type 0
 DistanceInRange cycles = Within 1 100000 cycles
 
--- each distance between commands is at least one cycle; only the switch between ranks and the interval of refreshes may be 0
+-- each distance between commands is at least one cycle; only the switch between ranks and the interval of refreshes may
+-- be 0
 pub record TimingInRange (t : Timing) : Type 0 where
   pub n_rcd : DistanceInRange t.n_rcd
   pub n_rp : DistanceInRange t.n_rp

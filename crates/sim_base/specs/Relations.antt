@@ -20,8 +20,8 @@ use Rattle.sim_base.specs.declared.timing.Timing.{Timing}
 abbrev pub refresh_slack_of : Timing → ℕ → ℕ
 refresh_slack_of t ranks = max t.n_ras (max t.n_rtp (t.n_cwl + 4 + t.n_wr)) + t.n_rp + (ranks - 1) * (t.n_rp + 1)
 
--- A burst takes 4 cycles of the data bus, so a WR after a RD, and two commands of a kind, leave room for it; and a distance
--- within a group is no less than that across groups.
+-- A burst takes 4 cycles of the data bus, so a WR after a RD, and two commands of a kind, leave room for it; and a
+-- distance within a group is no less than that across groups.
 pub record DistancesFit (t : Timing) : Type 0 where
   pub write_after_read : t.n_cl + 4 ≤ t.n_rtw + t.n_cwl
   pub bursts : 4 ≤ t.n_ccd_s
@@ -49,7 +49,8 @@ LinksDiffer overrides = IsDistinct (λ a b. a == b) (map (λ o. o.link) override
 abbrev pub RanksHaveField : ℕ → List Field → Type 0
 RanksHaveField ranks fields = 1 < ranks → count_by (is_field Rank) fields ≡ 1
 
--- where a channel ever drains its writes, it begins at more of them than it ends at, and the cores' credits allow that many
+-- where a channel ever drains its writes, it begins at more of them than it ends at, and the cores' credits allow that
+-- many
 pub record DrainFits (cores write_credits write_high write_low : ℕ) : Type 0 where
   pub ends_below : 0 < write_high + write_low → write_low < write_high
   pub reachable : write_high ≤ cores * write_credits

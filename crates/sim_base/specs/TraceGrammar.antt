@@ -40,7 +40,8 @@ IsGap bytes = IsTrue (list_all is_separator bytes)
 abbrev pub IsApart : List ℕ → Type 0
 IsApart bytes = 0 < length bytes → IsTrue (is_separator (slice_index bytes 0))
 
--- a line begins with a token that writes a number, possibly after separators, and the rest of it stands apart from that token
+-- a line begins with a token that writes a number, possibly after separators, and the rest of it stands apart from that
+-- token
 pub record BeginsWithNumber (line : List ℕ) (number : ℕ) (rest : List ℕ) : Type 0 where
   pub gap : List ℕ
   pub token : List ℕ
@@ -76,8 +77,9 @@ pub record StandsForTrace (text : List ℕ) (entries : List Entry) : Type 0 wher
   pub each_line : AllZip StandsForLine lines parts
   pub are_entries : entries ≡ flat_map (λ part. part) parts
 
--- What a fault says about a text that it refuses as a core's trace: a text with a bad line stands for nothing, and one that is too long
--- stands for more than 2^62 entries. Out of memory says nothing about it, and there is no other refusal.
+-- What a fault says about a text that it refuses as a core's trace: a text with a bad line stands for nothing, and one
+-- that is too long stands for more than 2^62 entries. Out of memory says nothing about it, and there is no other
+-- refusal.
 abbrev pub IsRefusedBy : List ℕ → Fault → Type 0
 IsRefusedBy text (TraceLine core line cause) = (entries : List Entry) → ¬ StandsForTrace text entries
 IsRefusedBy text (TraceTooLong core) = (entries : List Entry) × StandsForTrace text entries × (2 ^ 62 < length entries)

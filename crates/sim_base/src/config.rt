@@ -146,7 +146,8 @@ impl Config {
             .find(|o| o.link == link)
     }
 
-    /// How many cycles a message travels on a link, from 1 to 1,000,000: the latency of its override, or else of its kind.
+    /// How many cycles a message travels on a link, from 1 to 1,000,000: the latency of its override, or else of its
+    /// kind.
     #[tactic(auto, unfolding(crate::specs::Config::latency))]
     pub fn latency(&self, link: LinkId) -> u32
         ensures value { result ≡ latency self.now link }

@@ -111,7 +111,8 @@ impl Request {
         }
     }
 
-    /// The command that it needs next where this row of its bank is open, or none is: ACT opens its row, PRE closes another one.
+    /// The command that it needs next where this row of its bank is open, or none is: ACT opens its row, PRE closes
+    /// another one.
     #[inline]
     pub fn needed_at(self, open_row: Option<u32>) -> Command
         ensures { result ≡ needed_at open_row self }

@@ -45,10 +45,11 @@ pub fn run_input<R: Threads + Wait + Sync, G: Gate + Sync, W: Watch>(
 
 /// Runs the machine that a configuration and one trace per core describe, for at most `options.cycles` cycles, and
 /// returns its commands and the times of its requests, if their tables are asked for, its statistics and the state in
-/// which it ends. At most as many workers run it as are named, 1 to 64, each in a thread of its own, and `options.workers.sharing` says when they
-/// share it out; one worker is the thread of the caller, which runs it in place. A worker passes the gate at the
-/// beginning and at the end of each job of a phase. The watcher is told how far the run is, and when it has ended. The
-/// result does not depend on the workers, when they share, the gate or the watcher.
+/// which it ends. At most as many workers run it as are named, 1 to 64, each in a thread of its own, and
+/// `options.workers.sharing` says when they share it out; one worker is the thread of the caller, which runs it in
+/// place. A worker passes the gate at the beginning and at the end of each job of a phase. The watcher is told how far
+/// the run is, and when it has ended. The result does not depend on the workers, when they share, the gate or the
+/// watcher.
 ///
 /// The input is tested in this order: the configuration, the number of traces, the number of workers (1 to 64), the
 /// limit (at most 10^12 cycles), and the traces by core. The first fault is returned. `Fault::Memory` may come at any

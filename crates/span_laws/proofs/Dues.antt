@@ -1,4 +1,5 @@
--- What arrives at a core of a run in a cycle of a span: a reply to a Read that waits for it, or a credit that the core spent.
+-- What arrives at a core of a run in a cycle of a span: a reply to a Read that waits for it, or a credit that the core
+-- spent.
 use Rattle.std.proofs.Common.{◌≡◌, ℕ, zero, suc, ◌+◌, ◌<◌, ◌≤◌, ◌⊎◌, inl, inr, Bool, true, false, cond, eqb, ltb, ◌||◌, List, [], ◌∷◌, ◌++◌, take, refl, sym, ap, ap₂, subst, ◌∙◌, arith}
 use Rattle.std.specs.Prelude.{filter, count_by, map}
 use Rattle.std.specs.List.{AllByRecursion as Each, list_any}

@@ -1,4 +1,5 @@
--- How long a run surely lasts: a core retires no more than its width in a cycle, and a message is in flight up to its arrival.
+-- How long a run surely lasts: a core retires no more than its width in a cycle, and a message is in flight up to its
+-- arrival.
 use Rattle.std.proofs.Common.{◌≡◌, ℕ, zero, suc, ◌+◌, ◌-◌, ◌*◌, ◌<◌, ◌≤◌, Bool, true, false, cond, ◌&&◌, ◌||◌, List, [], ◌∷◌, length, ap, subst, ◌∙◌, add-zero, add-suc, arith}
 use Rattle.std.specs.Prelude.{count_by, min}
 use Rattle.std.specs.List.{list_any, range_with_len}

@@ -1,5 +1,5 @@
--- What the units of a run send in a span that is no longer than each message travels arrives after it, and the messages by age
--- grow by it in any order of units.
+-- What the units of a run send in a span that is no longer than each message travels arrives after it, and the messages
+-- by age grow by it in any order of units.
 use Rattle.std.proofs.Common.{◌≡◌, ℕ, zero, suc, ◌+◌, ◌-◌, ◌<◌, ◌≤◌, false, eqb, List, [], ◌∷◌, ◌++◌, length, Option, Some, None, sym, ap, ap₂, subst, ◌∙◌, add-zero, add-suc, append_assoc, arith}
 use Rattle.std.specs.Prelude.{flat_map}
 use Rattle.std.specs.Option.{IfSome}

@@ -60,8 +60,8 @@ abbrev pub moves_hit : List IssuedCommand → Option Command → Bool
 moves_hit history None = false
 moves_hit history (Some command) = is_hit history command
 
--- the statistics of a cycle with a queue of this length, in which a refresh is due or not, the channel drains its writes
--- or not, and does this
+-- the statistics of a cycle with a queue of this length, in which a refresh is due or not, the channel drains its
+-- writes or not, and does this
 unfoldable pub channel_cycle_with : Config → List IssuedCommand → ℕ → Bool → Bool → Option Command → ChannelStats
 channel_cycle_with s history queued has_due drains o =
     record {
@@ -103,7 +103,8 @@ channel_none =
       draining = None;
     }
 
--- the statistics of two stretches of cycles: each count is the sum of both, and the greatest length of the queue the greater
+-- the statistics of two stretches of cycles: each count is the sum of both, and the greatest length of the queue the
+-- greater
 abbrev pub channel_joined : ChannelStats → ChannelStats → ChannelStats
 channel_joined a b =
     record {
@@ -121,8 +122,8 @@ channel_joined a b =
       draining = sum_of_counts a.draining b.draining;
     }
 
--- the statistics of n cycles that are each like this one: each count is n times as great, except for the greatest length of
--- the queue
+-- the statistics of n cycles that are each like this one: each count is n times as great, except for the greatest
+-- length of the queue
 abbrev pub channel_times : ℕ → ChannelStats → ChannelStats
 channel_times n a =
     record {
@@ -140,8 +141,8 @@ channel_times n a =
       draining = if n == 0 then None else option_map (λ count. n * count) a.draining;
     }
 
--- the statistics of a cycle with a queue of this length, in which a refresh is due or not, the channel drains its writes or not,
--- and nothing is issued; cycles of draining are counted where there is such a count
+-- the statistics of a cycle with a queue of this length, in which a refresh is due or not, the channel drains its
+-- writes or not, and nothing is issued; cycles of draining are counted where there is such a count
 abbrev pub quiet_cycle : Option ℕ → ℕ → Bool → Bool → ChannelStats
 quiet_cycle drained queued has_due drains =
     record channel_none {

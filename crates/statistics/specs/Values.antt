@@ -29,7 +29,8 @@ pub record LastChannel : Type 0 where
   pub open_rows : List OpenRow
   pub queue : List Request
 
--- the state of each core and each channel, by number, and the messages that are still to arrive, by arrival and then by link
+-- the state of each core and each channel, by number, and the messages that are still to arrive, by arrival and then by
+-- link
 pub record LastState : Type 0 where
   pub cores : List LastCore
   pub channels : List LastChannel

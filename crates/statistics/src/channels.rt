@@ -68,8 +68,8 @@ impl ChannelStats {
         Self::default()
     }
 
-    /// The statistics of these cycles and of those that follow them: each count is the sum of both, and the greatest length
-    /// of the queue the greater of both.
+    /// The statistics of these cycles and of those that follow them: each count is the sum of both, and the greatest
+    /// length of the queue the greater of both.
     pub fn joined(self, more: ChannelStats) -> ChannelStats
         requires { ChannelFits (channel_joined self more) }
         ensures { result ≡ channel_joined self more }
@@ -115,8 +115,8 @@ impl ChannelStats {
         }
     }
 
-    /// Adds `cycles` cycles, in each of which the queue has this length, a refresh is due or not, the channel drains its writes
-    /// or not, and nothing is issued.
+    /// Adds `cycles` cycles, in each of which the queue has this length, a refresh is due or not, the channel drains
+    /// its writes or not, and nothing is issued.
     #[inline(always)]
     pub fn add_cycles(&mut self, cycles: u64, queued: usize, refreshing: bool, draining: bool)
         requires some { 0 < cycles }

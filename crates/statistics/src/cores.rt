@@ -42,8 +42,8 @@ impl CoreStats {
         Self::default()
     }
 
-    /// The statistics of these cycles and of those that follow them: each count is the sum of both, and the finish is the
-    /// last that is there.
+    /// The statistics of these cycles and of those that follow them: each count is the sum of both, and the finish is
+    /// the last that is there.
     pub fn joined(self, more: CoreStats) -> CoreStats
         requires { CoreFits (core_joined self more) }
         ensures { result ≡ core_joined self more }

@@ -6,8 +6,8 @@ ghost use Rattle.sim_base.specs.declared.message.Message.{Message};
 ghost use Rattle.sim_base.specs.declared.trace.Entry.{Entry};
 ghost use Rattle.statistics.specs.Joining.{CoresJoin, ChannelsJoin, CoreStepsJoin, ChannelStepsJoin, CoreCyclesMultiply, ChannelCyclesMultiply};
 
-/// The statistics of each unit of a run, cut in two at any cycle, are those of its first cycles joined with those of the
-/// others.
+/// The statistics of each unit of a run, cut in two at any cycle, are those of its first cycles joined with those of
+/// the others.
 #[tactic(auto, using(crate::proofs::RunStretches::cores_join, crate::proofs::RunStretches::channels_join))]
 pub fn runs_join()
     ensures cores { (s : Config) (traces : List (List Entry)) (from n : ℕ)

@@ -10,8 +10,8 @@ use sim_base::config::Config;
 use sim_base::timing::Timing;
 use std::marker::Model;
 
-/// How far a kind of command holds another back, by the relation of their banks: the distances, 0 where no rule binds the two, and
-/// which of them a rule does bind.
+/// How far a kind of command holds another back, by the relation of their banks: the distances, 0 where no rule binds
+/// the two, and which of them a rule does bind.
 #[derive(Clone, Copy)]
 struct HoldsBetween {
     cycles: [u64; 4],

@@ -27,8 +27,8 @@ fn relation_of_banks(earlier: Option<BankId>, later: Option<BankId>) -> Relation
     }
 }
 
-/// How the banks of a command relate to those of a later one in a rank, which names this bank, if it names one. A command
-/// that names no bank applies to each bank of its rank.
+/// How the banks of a command relate to those of a later one in a rank, which names this bank, if it names one. A
+/// command that names no bank applies to each bank of its rank.
 pub fn relation_to(earlier: Command, rank: u32, bank: Option<BankId>) -> Relation
     ensures { result ≡ relation_to earlier rank bank }
 {
@@ -65,8 +65,8 @@ fn make_sum(number: u32, earlier: Kind, later: Kind, scope: Scope, cycles: u64) 
     }
 }
 
-/// The rules between two commands, each with its number and its distance in cycles. Where several bind two commands, the
-/// greatest distance holds.
+/// The rules between two commands, each with its number and its distance in cycles. Where several bind two commands,
+/// the greatest distance holds.
 pub fn rules(timing: &Timing) -> [Rule; 30]
     ensures { result ≡ rules timing.now }
 {

@@ -41,7 +41,8 @@ pub record IsReadyFor (machine : Machine) (unit : MachineUnit) (part : UnitState
   pub stands : IsPart machine unit from part
   pub mail : inbox ≡ mail_in machine.config machine.traces.items until unit from until
 
--- A unit of some machine stands for its part of a run at the beginning of a span. The messages are those that arrive at it in the span.
+-- A unit of some machine stands for its part of a run at the beginning of a span. The messages are those that arrive at
+-- it in the span.
 pub record IsReady (part : UnitState) (inbox : List Message) (from until : ℕ) : Type 0 where
   pub machine : Machine
   pub unit : MachineUnit
@@ -54,7 +55,8 @@ pub record HasRun (machine : Machine) (unit : MachineUnit) (from until : ℕ) (p
   pub stands : IsPart machine unit until part
   pub sent : sent_at machine until unit ≡ sent_at machine from unit ++ messages
 
--- A unit of a machine stands for its part of a run at the end of a span. What it sends in the span is put behind what a list held before.
+-- A unit of a machine stands for its part of a run at the end of a span. What it sends in the span is put behind what a
+-- list held before.
 pub record HasRunOnto (machine : Machine) (unit : MachineUnit) (from until : ℕ) (part : UnitState) (held holds : List Message) : Type 0 where
   pub messages : List Message
   pub behind : holds ≡ held ++ messages

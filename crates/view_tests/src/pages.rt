@@ -284,8 +284,8 @@ fn pages_of_runs(rt: HostRuntime) {
 // The commands of a read, but for a RD in a channel that the run does not have.
 static OTHERS: [IssuedCommand; 3] = [ACT, IssuedCommand { channel: 1, ..RD }, PRE];
 
-// Asserts how the writing of a page of a run of these cycles and commands ends, and that nothing of it is there where it
-// is refused.
+// Asserts how the writing of a page of a run of these cycles and commands ends, and that nothing of it is there where
+// it is refused.
 fn assert_ended(
     rt: &impl Abort,
     alloc: Global,

@@ -1,4 +1,5 @@
--- A machine goes on to a cycle that is not past any of its wake words: no unit is touched, and the links stay as they are.
+-- A machine goes on to a cycle that is not past any of its wake words: no unit is touched, and the links stay as they
+-- are.
 use Rattle.std.proofs.Common.{◌≡◌, ℕ, zero, suc, ◌+◌, ◌-◌, ◌<◌, ◌≤◌, List, [], ◌∷◌, ◌++◌, length, replicate, get_or, ◌⊎◌, inl, inr, refl, sym, ap, ap₂, subst, ◌∙◌, add-zero, append-nil, arith}
 use Rattle.std.specs.Prelude.{filter, flat_map, fold, All}
 use Rattle.std.proofs.lemmas.Bool.{cases_lt}

@@ -17,8 +17,8 @@ use Rattle.wake_words.proofs.Jumping.{some-unit}
 use Rattle.units.specs.declared.machine.Machine.{Machine}
 use Rattle.wake_words.proofs.Waiting.{untouched}
 
--- Of so many units, at places from one on, the first have gone over the span, and the others wait; what those sent stands in the list, and
--- what was due at them is out of the links.
+-- Of so many units, at places from one on, the first have gone over the span, and the others wait; what those sent
+-- stands in the list, and what was due at them is out of the links.
 pub record AreTaken (machine : Machine) (first count here there until : ℕ) (units : List TimedUnit) (words : List ℕ) (sent : List Message) (old links : InFlight) (place : ℕ) : Type 0 where
   pub exist : first + count ≤ unit_count machine.config
   pub units_count : length units ≡ count

@@ -102,7 +102,8 @@ pub untouched-none : (machine : Machine) (u : MachineUnit) (here there until : �
     → mail_in machine.config machine.traces.items there u here until ≡ []
 untouched-none machine u here there until sleeper w h = none-part machine.config machine.traces.items there sleeper.at sleeper.wake here until u h.behind w h.may.none
 
--- a unit that is woken is run from its own cycle, however far back that is, with what arrives at it from where its kind stands
+-- a unit that is woken is run from its own cycle, however far back that is, with what arrives at it from where its kind
+-- stands
 pub woken-ready : (machine : Machine) (u : MachineUnit) (here there until : ℕ) (sleeper : Sleeper) (inbox : List Message) → Exists machine.config u → here ≤ until → until ≤ 10 ^ 12
     → IsKnown machine there until u → Waits machine u here there sleeper → inbox ≡ mail_in machine.config machine.traces.items there u here until → IsReadyFor machine u sleeper.part inbox sleeper.at until
 woken-ready machine u here there until sleeper mail k l early known h e =

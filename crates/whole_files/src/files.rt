@@ -7,7 +7,7 @@ ghost use Rattle.std.specs.Io.KnownBytes.{Keeps, WriteAppends};
 ghost use Rattle.std.specs.IoError.{raw_os_error};
 ghost use Rattle.whole_files.specs.Files.{Held, SameFiles, SameBut, IsRenamed, IsReadFault, IsWriteFault};
 
-use crate::host_answers::{Standing, bytes_read, folder_at, stands_at, written};
+use crate::host_answers::{PathKind, bytes_read, folder_at, stands_at, written};
 use refusal::reason::Reason;
 use sim_base::fault::Fault;
 use std::alloc::Global;
@@ -200,8 +200,8 @@ impl<R: Files + AllocGlobal> FileSet for HostFiles<'_, R> {
     fn test_place(&mut self, path: &str) -> Result<(), Reason> {
         let alloc = self.rt.alloc();
         match stands_at(alloc, path, fs::symlink_metadata(self.rt, path))? {
-            Standing::File => test_writing(alloc, self.rt, path),
-            Standing::Nothing | Standing::Other => Ok(()),
+            PathKind::File => test_writing(alloc, self.rt, path),
+            PathKind::Nothing | PathKind::Other => Ok(()),
         }
     }
 

@@ -50,7 +50,7 @@ pub(crate) fn written<T>(alloc: Global, path: &str, answer: io::Result<T>) -> Re
 
 /// What stands at a path and may give way to a file.
 #[derive(Clone, Copy)]
-pub(crate) enum Standing {
+pub(crate) enum PathKind {
     Nothing,
     /// A file, if it may be written.
     File,
@@ -64,12 +64,12 @@ pub(crate) fn stands_at(
     alloc: Global,
     path: &str,
     answer: io::Result<Metadata>,
-) -> Result<Standing, Reason>
+) -> Result<PathKind, Reason>
     ensures folder { IfOk answer (λ found. IsFolder found → result ≡ Err Fault.Write) }
-    ensures file { IfOk answer (λ found. IsPlainFile found → result ≡ Ok Standing.File) }
+    ensures file { IfOk answer (λ found. IsPlainFile found → result ≡ Ok PathKind.File) }
     ensures other { IfOk answer (λ found. (¬ IsFolder found) → (¬ IsPlainFile found)
-        → result ≡ Ok Standing.Other) }
-    ensures nothing { IfErr answer (λ e. IsMissing e → result ≡ Ok Standing.Nothing) }
+        → result ≡ Ok PathKind.Other) }
+    ensures nothing { IfErr answer (λ e. IsMissing e → result ≡ Ok PathKind.Nothing) }
     ensures untold { IfErr answer (λ e. (¬ IsMissing e) → result ≡ Err Fault.Write) }
     ensures fault { IfErr result (λ e. e ≡ Fault.Write) }
 {
@@ -80,9 +80,9 @@ pub(crate) fn stands_at(
             path,
             &"a folder stands there",
         )),
-        Ok(found) if found.is_file() => Ok(Standing::File),
-        Ok(_) => Ok(Standing::Other),
-        Err(error) if error.kind() == ErrorKind::NotFound => Ok(Standing::Nothing),
+        Ok(found) if found.is_file() => Ok(PathKind::File),
+        Ok(_) => Ok(PathKind::Other),
+        Err(error) if error.kind() == ErrorKind::NotFound => Ok(PathKind::Nothing),
         Err(error) => Err(Reason::of_host(alloc, Fault::Write, path, &error)),
     }
 }

@@ -263,7 +263,7 @@ impl<N: Runner + Drop> Mode for InShards<N> {
 
 /// Where a run stands: its machine at a cycle before which the run does not end, and what it keeps for its watcher.
 #[derive(Drop)]
-struct Standing {
+struct RunState {
     sim: Sim,
     state: WatchState,
     ghost goes_on: { NotEnded sim.machine 0 sim.now },
@@ -271,7 +271,7 @@ struct Standing {
 }
 
 /// A run before its first cycle. Only memory can be refused.
-fn begin(alloc: Global, machine: MachineInput<'_>, options: RunOptions) -> Result<Standing, Fault>
+fn begin(alloc: Global, machine: MachineInput<'_>, options: RunOptions) -> Result<RunState, Fault>
     requires one_trace_a_core { length machine.traces.items ≡ machine.config.now.cores }
     ensures first { IfOk result (λ run.
         run.sim ≡ first_view (machine_with machine.entry.config.now machine.entry.traces)) }
@@ -287,7 +287,7 @@ fn begin(alloc: Global, machine: MachineInput<'_>, options: RunOptions) -> Resul
         look: 0,
     };
     let sim = Sim::start(alloc, config, traces, options.tables)?;
-    Ok(Standing { sim, state })
+    Ok(RunState { sim, state })
 }
 
 /// A run from where it stands to its end, in the stretches that the watcher wants. Only memory can be refused.
@@ -295,7 +295,7 @@ fn finish<W: Watch, M: Mode>(
     alloc: Global,
     watch: &mut W,
     options: RunOptions,
-    run: Standing,
+    run: RunState,
     mode: &mut M,
 ) -> Result<Outcome, Fault>
     requires not_past { run.sim.now ≤ options.cycles }
@@ -303,7 +303,7 @@ fn finish<W: Watch, M: Mode>(
     ensures outcome { IfOk result (λ o. o ≡ outcome_of_machine options run.sim.machine) }
     ensures refused { IfErr result (λ fault. fault ≡ Fault.Memory) }
 {
-    let Standing { sim, state } = run;
+    let RunState { sim, state } = run;
     let mut sim = sim;
     let mut state = state;
     while let Some(stop) = sim.next_stop(options.cycles) {
@@ -333,15 +333,15 @@ fn run_unshared<W: Watch>(
     alloc: Global,
     watch: &mut W,
     options: RunOptions,
-    run: Standing,
-) -> Result<Standing, Fault>
+    run: RunState,
+) -> Result<RunState, Fault>
     requires not_past { run.sim.now ≤ options.cycles }
     requires limit { options.cycles ≤ 10 ^ 12 }
     ensures same { IfOk result (λ after. after.sim.machine ≡ run.sim.machine) }
     ensures not_past { IfOk result (λ after. after.sim.now ≤ options.cycles) }
     ensures refused { IfErr result (λ fault. fault ≡ Fault.Memory) }
 {
-    let Standing { sim, state } = run;
+    let RunState { sim, state } = run;
     let mut sim = sim;
     let mut state = state;
     let mut lap = options.workers.sharing.first_lap.max(1);
@@ -351,7 +351,7 @@ fn run_unshared<W: Watch>(
         sim = run_alone(sim, alloc, until)?;
         lap = lap.saturating_mul(2);
     }
-    Ok(Standing { sim, state })
+    Ok(RunState { sim, state })
 }
 
 /// A run that a crew takes from where it stands to its end.
@@ -360,7 +360,7 @@ struct CrewRun<'a, W: Watch> {
     watch: &'a mut W,
     options: RunOptions,
     split: Split,
-    run: Standing,
+    run: RunState,
     ghost not_past: { run.sim.now ≤ options.cycles },
     ghost limit: { options.cycles ≤ 10 ^ 12 },
 }
@@ -413,7 +413,7 @@ fn run_together<R: Threads + Wait + Sync, G: Gate + Sync, W: Watch>(
     alloc: Global,
     hooks: Hooks<'_, G, W>,
     options: RunOptions,
-    run: Standing,
+    run: RunState,
 ) -> Result<Outcome, Fault>
     requires some { 1 ≤ options.workers.count }
     requires few { options.workers.count ≤ 64 }
@@ -476,12 +476,12 @@ fn run_watched<R: Threads + Wait + Sync, G: Gate + Sync, W: Watch>(
 
 /// Runs a machine over one trace a core, up to a limit of at most 10^12 cycles or, where the configuration ends it
 /// drained, until all is done, and gives its commands and the times of its requests, if their tables are asked for, its
-/// statistics and the state in which it ends. It is run by at most as many workers as are named, 1 to 64: the caller, and threads that are
-/// started once, where `options.workers.sharing` first says that they share the machine out. Up to there, and with one
-/// worker, it is run in the thread of the caller, in place. The watcher is told how far the run is, and when it has
-/// ended. What comes out depends on neither it, nor the workers, nor how they share, nor the order in which they end:
-/// it is what the one-clock machine does. Only the host can refuse: memory (fault 10), or, where there are several
-/// workers, a worker's start (fault 11). All workers have ended when this returns.
+/// statistics and the state in which it ends. It is run by at most as many workers as are named, 1 to 64: the caller,
+/// and threads that are started once, where `options.workers.sharing` first says that they share the machine out. Up to
+/// there, and with one worker, it is run in the thread of the caller, in place. The watcher is told how far the run is,
+/// and when it has ended. What comes out depends on neither it, nor the workers, nor how they share, nor the order in
+/// which they end: it is what the one-clock machine does. Only the host can refuse: memory (fault 10), or, where there
+/// are several workers, a worker's start (fault 11). All workers have ended when this returns.
 pub fn run_machine<R: Threads + Wait + Sync, G: Gate + Sync, W: Watch>(
     rt: &R,
     alloc: Global,

@@ -14,10 +14,10 @@ pub struct Sharing {
     /// It is shared out while at least this many messages are in flight. They are counted at the beginning of each lap:
     /// where there are fewer, the caller runs the machine alone up to the next one.
     pub messages: usize,
-    /// How many cycles the first lap has; 0 is taken as 1. Each lap that is shared out has twice as many as the last such
-    /// lap. One that is not has as many as the first, and twice as many as the one before where that was not shared out
-    /// either: so the workers soon go on where, in a refresh, little was in flight for a while. Each stretch that a
-    /// watcher asks for begins with a first lap.
+    /// How many cycles the first lap has; 0 is taken as 1. Each lap that is shared out has twice as many as the last
+    /// such lap. One that is not has as many as the first, and twice as many as the one before where that was not
+    /// shared out either: so the workers soon go on where, in a refresh, little was in flight for a while. Each stretch
+    /// that a watcher asks for begins with a first lap.
     pub first_lap: Cycle,
     /// How many shards there are for each worker; 0 is taken as 1. There are never more than 64 in all, nor more than
     /// units.
@@ -43,8 +43,8 @@ impl Sharing {
 impl Default for Sharing {
     /// Where it is worth its cost. With 16 units or fewer the caller alone takes less time than waking other threads
     /// does, and so it does where fewer than 96 messages are in flight: that is about what is sent in a phase, and less
-    /// than four workers need to make up for their waits. Each worker has two shards: one of channels, and one of cores,
-    /// which have less to do and fill what is left of a phase.
+    /// than four workers need to make up for their waits. Each worker has two shards: one of channels, and one of
+    /// cores, which have less to do and fill what is left of a phase.
     fn default() -> Sharing
         ensures { result ≡ record { units = 17; messages = 96; first_lap = 4096; shards = 2 } }
     {

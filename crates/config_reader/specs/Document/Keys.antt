@@ -33,7 +33,8 @@ data_at ms k = get_member (key_name k) ms
 abbrev pub integer_at : Members → Key → Option ℤ
 integer_at ms k = option_and_then as_integer (data_at ms k)
 
--- an integer as a number from low up to high: a value that is not an integer is refused first, then one that is out of range
+-- an integer as a number from low up to high: a value that is not an integer is refused first, then one that is out of
+-- range
 abbrev pub in_range : Key → ℕ → ℕ → Option ℤ → Result ℕ Fault
 in_range k low high None = Err (ConfigKey k)
 in_range k low high (Some (pos n)) = if nat_le low n && nat_le n high then Ok n else Err (ConfigRange k)

@@ -119,6 +119,7 @@ abbrev pub end_from : Option Data → Result Bool Fault
 end_from None = Ok false
 end_from (Some d) = end_named (as_str d)
 
--- whether the run ends as soon as all is done: `drained`; with `limit`, or where the key is left out, it ends only at the limit
+-- whether the run ends as soon as all is done: `drained`; with `limit`, or where the key is left out, it ends only at
+-- the limit
 unfoldable pub end_of : Members → Result Bool Fault
 end_of ms = end_from (data_at ms key.End)

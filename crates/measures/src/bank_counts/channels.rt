@@ -47,8 +47,9 @@ fn counts_of(alloc: Global, commands: &[IssuedCommand]) -> Result<Vec<BankCounts
     Ok(counts)
 }
 
-/// What each bank of a channel did that a command of the channel names, by rank, group and bank: ranks below 4, groups and banks below 4
-/// each. Row hits are those of the bank alone: RDs and WRs for whose request it had no ACT. The only error is out of memory.
+/// What each bank of a channel did that a command of the channel names, by rank, group and bank: ranks below 4, groups
+/// and banks below 4 each. Row hits are those of the bank alone: RDs and WRs for whose request it had no ACT. The only
+/// error is out of memory.
 #[tactic(auto, unfolding(crate::specs::Banks::channel_counts))]
 pub fn channel_counts(
     alloc: Global,

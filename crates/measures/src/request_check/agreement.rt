@@ -111,13 +111,15 @@ fn check_channels(stats: &Stats, requests: &[RequestTimes]) -> Result<(), Mismat
     Ok(())
 }
 
-/// Whether requests can be those of the run that statistics are of: each is of a core, a channel and cycles of the run; of each core, as many
-/// replies came as the statistics have, and took as long in all; and of each channel the reads, the writes and the row hits are as many.
+/// Whether requests can be those of the run that statistics are of: each is of a core, a channel and cycles of the run;
+/// of each core, as many replies came as the statistics have, and took as long in all; and of each channel the reads,
+/// the writes and the row hits are as many.
 ///
 /// # Errors
 ///
-/// The first of these that is not so: `Mismatch::Stranger` for the first request that is not of the run, and else, of the first count that differs,
-/// `Mismatch::Excess` with the first request by which it is too much, or `Mismatch::Lack`.
+/// The first of these that is not so: `Mismatch::Stranger` for the first request that is not of the run, and else, of
+/// the first count that differs, `Mismatch::Excess` with the first request by which it is too much, or
+/// `Mismatch::Lack`.
 pub fn check_requests(stats: &Stats, requests: &[RequestTimes]) -> Result<(), Mismatch>
     ensures same { OnOk result (AreOfRun stats.now requests.now) }
     ensures other { IfErr result (IsMismatch stats.now requests.now) }
@@ -127,8 +129,8 @@ pub fn check_requests(stats: &Stats, requests: &[RequestTimes]) -> Result<(), Mi
     check_channels(stats, requests)
 }
 
-/// The row of the table of these requests in which they stop being those of the run, where 0 is the header: that of the request at fault, or, where some
-/// are missing, the first that is not there.
+/// The row of the table of these requests in which they stop being those of the run, where 0 is the header: that of the
+/// request at fault, or, where some are missing, the first that is not there.
 pub fn row_of(mismatch: Mismatch, stats: &Stats, requests: &[RequestTimes]) -> u64
     requires { IsMismatch stats.now requests.now mismatch }
     ensures { result ≡ row_of mismatch (length requests.now) }

@@ -75,7 +75,8 @@ fn summary(replies: u64, values: &SortedValues) -> Option<Latencies>
     })
 }
 
-/// The percentiles of the latencies of the reads whose reply came in the run; none where no reply came. The only error is out of memory.
+/// The percentiles of the latencies of the reads whose reply came in the run; none where no reply came. The only error
+/// is out of memory.
 pub fn latency_percentiles(
     alloc: Global,
     requests: &[RequestTimes],

@@ -1,4 +1,5 @@
-//! What each channel did: over the run in steps of equal length, the last of which may be shorter, and in the window of the timeline.
+//! What each channel did: over the run in steps of equal length, the last of which may be shorter, and in the window of
+//! the timeline.
 
 ghost use Rattle.std.specs.Prelude.{◌<◌};
 
@@ -126,7 +127,8 @@ impl Channel {
         })
     }
 
-    // Whether a command of a bank that has a lane is a row hit: a RD or a WR of a row that was opened in another's name.
+    // Whether a command of a bank that has a lane is a row hit: a RD or a WR of a row that was opened in another's
+    // name.
     fn hit_in_lane(&self, command: Command) -> Option<bool> {
         for lane in &self.lanes {
             if lane.is_named_by(command) {
@@ -136,7 +138,8 @@ impl Channel {
         None
     }
 
-    // Whether a command is a row hit. A bank that is new joins the lanes, as the first one of a rank does of whose banks there is none.
+    // Whether a command is a row hit. A bank that is new joins the lanes, as the first one of a rank does of whose
+    // banks there is none.
     fn is_hit(&mut self, command: Command) -> Result<bool, AllocError> {
         if let Some(hit) = self.hit_in_lane(command) {
             return Ok(hit);

@@ -26,7 +26,8 @@ impl Form {
     }
 }
 
-/// What the numbers of a run are measured by: its cycles, the cycles that a REF takes, if that is known, and the clock in kHz, if it is given.
+/// What the numbers of a run are measured by: its cycles, the cycles that a REF takes, if that is known, and the clock
+/// in kHz, if it is given.
 #[derive(Clone, Copy)]
 pub(crate) struct Measures {
     pub(crate) cycles: u64,
@@ -62,7 +63,8 @@ fn drain_of(cycles: u64, channel: &ChannelStats) -> Cell {
     }
 }
 
-/// A RD or WR moves 64 bytes, and a kHz is 1,000 cycles a second: a GB/s is so many of them in as many cycles as the clock has kHz.
+/// A RD or WR moves 64 bytes, and a kHz is 1,000 cycles a second: a GB/s is so many of them in as many cycles as the
+/// clock has kHz.
 const MOVES_OF_A_GIGABYTE: u64 = 15_625;
 
 /// The data that a channel moved in a run of `cycles` cycles, in GB/s.
@@ -76,8 +78,8 @@ pub(crate) fn data_rate(cycles: u64, channel: &ChannelStats, khz: u64) -> Cell {
     )
 }
 
-/// The numbers of a channel in a run of `cycles` cycles, in the order of their columns. The last is the share of the cycles that its
-/// REFs take, `refresh` of them each.
+/// The numbers of a channel in a run of `cycles` cycles, in the order of their columns. The last is the share of the
+/// cycles that its REFs take, `refresh` of them each.
 pub(crate) fn channel_cells(cycles: u64, channel: &ChannelStats, refresh: u64) -> [Cell; 10] {
     let accesses = channel.rd.saturating_add(channel.wr);
     [

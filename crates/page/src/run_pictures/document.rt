@@ -23,8 +23,9 @@ use std::io::{self, Write};
 /// More cores than this have a summary, with their table and their bars folded.
 const MOST_CORES: usize = 16;
 
-/// What a document shows: a run, its configuration, its clock in kHz and its requests if they are given, and the window of its timeline, which
-/// is from a cycle up to, but not including, another. The commands are taken in the order of the list.
+/// What a document shows: a run, its configuration, its clock in kHz and its requests if they are given, and the window
+/// of its timeline, which is from a cycle up to, but not including, another. The commands are taken in the order of the
+/// list.
 #[derive(Clone, Copy)]
 pub struct Run<'a> {
     pub stats: &'a Stats,
@@ -160,7 +161,8 @@ fn put_latency(alloc: Global, run: &Run<'_>, out: &mut Markup) {
     put_requests(alloc, run.stats, n_cl, requests, out);
 }
 
-// The tables, and what the channels did if there are commands. A REF is drawn for as long as it takes, or for a cycle if that is not known.
+// The tables, and what the channels did if there are commands. A REF is drawn for as long as it takes, or for a cycle
+// if that is not known.
 fn put_run(alloc: Global, run: &Run<'_>, out: &mut Markup) {
     let stats = run.stats;
     let refresh = match run.config {
@@ -210,8 +212,8 @@ fn put_document(alloc: Global, run: &Run<'_>, out: &mut Markup) {
     out.push_str(TAIL);
 }
 
-/// Writes a run as one HTML document: its statistics, how long its reads took if its requests are given, what its channels did over the whole
-/// run, and what they did in the window, one command after the other.
+/// Writes a run as one HTML document: its statistics, how long its reads took if its requests are given, what its
+/// channels did over the whole run, and what they did in the window, one command after the other.
 ///
 /// # Errors
 ///

@@ -1,4 +1,5 @@
-//! The whole run in steps: a plot of each measure for each channel. A picture's units are the run's cycles and the values of its axis.
+//! The whole run in steps: a plot of each measure for each channel. A picture's units are the run's cycles and the
+//! values of its axis.
 
 use crate::run_pictures::activity::{Activity, Channel, Step, Value};
 use request_pictures::drawing::axes::Quantity;
@@ -152,7 +153,8 @@ struct Axes {
     top: u64,
 }
 
-// Goes on with the path of a series by the value of a step, after the one before it or, where that has none, from a new beginning.
+// Goes on with the path of a series by the value of a step, after the one before it or, where that has none, from a new
+// beginning.
 fn put_step(axes: Axes, place: usize, value: u64, joined: bool, out: &mut Markup) {
     let start = axes.step.saturating_mul(place as u64);
     let end = start.saturating_add(axes.step).min(axes.cycles);

@@ -37,7 +37,8 @@ fn put_fields(fields: &[Field], out: &mut Markup) {
     out.push_str("</li>");
 }
 
-// The keys of a configuration whose values are numbers, but for `link`: those before its timing, and those of its timing.
+// The keys of a configuration whose values are numbers, but for `link`: those before its timing, and those of its
+// timing.
 fn numbers_of(config: &Config) -> [(Key, u32); 13] {
     [
         (Key::Cores, u32::from(config.cores)),
@@ -89,7 +90,8 @@ fn put_others(fields: &[Field], ends_drained: bool, links: u64, out: &mut Markup
     out.push_str("</ul>\n");
 }
 
-/// Appends the keys of a configuration with their values; of the links with a latency of their own only how many there are.
+/// Appends the keys of a configuration with their values; of the links with a latency of their own only how many there
+/// are.
 pub(crate) fn put_settings(config: &Config, out: &mut Markup) {
     let fields = config.fields.as_slice();
     let links = config.overrides.as_slice().len() as u64;

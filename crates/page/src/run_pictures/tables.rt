@@ -28,8 +28,8 @@ fn head_if(number: Option<u64>, heading: &'static str) -> &'static str {
     }
 }
 
-// The cells of a channel: the share of its REFs is left out where it is not known how many cycles one takes, and its data rate where the clock
-// is not given.
+// The cells of a channel: the share of its REFs is left out where it is not known how many cycles one takes, and its
+// data rate where the clock is not given.
 fn put_channel_cells(measures: Measures, channel: &ChannelStats, out: &mut Markup) {
     let cycles = measures.cycles;
     let cells = channel_cells(cycles, channel, measures.refresh.unwrap_or(0));
@@ -90,8 +90,8 @@ fn core_cell(measures: Measures, core: &CoreStats, column: usize) -> Option<Cell
         .copied()
 }
 
-// The least, the median and the greatest number that there is in a column of the cores' table. The median of an even count is the lower
-// of the two in the middle.
+// The least, the median and the greatest number that there is in a column of the cores' table. The median of an even
+// count is the lower of the two in the middle.
 fn summary_of(
     alloc: Global,
     measures: Measures,

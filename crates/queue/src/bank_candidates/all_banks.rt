@@ -12,7 +12,8 @@ use sim_base::message::{Access, Request};
 use sim_base::place::BankId;
 use std::alloc::{AllocError, Global};
 
-/// Of each bank of a channel, by number, the first requests that may be served, to read and to write, and the row that is open.
+/// Of each bank of a channel, by number, the first requests that may be served, to read and to write, and the row that
+/// is open.
 #[derive(Drop)]
 pub struct BankCandidates {
     /// The row that is open in each bank.

@@ -12,12 +12,12 @@ use crate::request_log::words::write_bit;
 use sim_base::message::Access;
 use std::alloc::{AllocError, Global};
 
-/// The places of the candidates of all banks: of each bank and access the first request that may be served, and the first of these that
-/// asks for the open row.
+/// The places of the candidates of all banks: of each bank and access the first request that may be served, and the
+/// first of these that asks for the open row.
 #[derive(Drop)]
 pub(crate) struct Places {
-    /// Four words per bank: the oldest and the first hit of its reads, and of its writes. Each is one more than a place, and 0 where
-    /// there is none.
+    /// Four words per bank: the oldest and the first hit of its reads, and of its writes. Each is one more than a
+    /// place, and 0 where there is none.
     words: Vec<u16>,
     /// For each of the four, the banks whose word is not 0.
     sets: [BankSet; 4],
@@ -268,8 +268,8 @@ impl Places {
         }
     }
 
-    /// Looks for the next candidate, behind the request that was served, if that was the candidate: the next one of its bank and
-    /// access, and for a row if one is given.
+    /// Looks for the next candidate, behind the request that was served, if that was the candidate: the next one of its
+    /// bank and access, and for a row if one is given.
     #[inline(always)]
     fn replace(&mut self, log: &RequestLog, departure: Departure, hit: bool, row: Option<u32>)
         requires bank { HasBank self.old departure.bank }

@@ -31,7 +31,8 @@ fn asks_for_row(request: &Request, row: u32) -> bool
     request.place.row == row
 }
 
-/// Whether some request that waits may be of a bank and an access, and ask for a row if one is given: false only where none is and does.
+/// Whether some request that waits may be of a bank and an access, and ask for a row if one is given: false only where
+/// none is and does.
 #[inline(always)]
 fn may_be_wanted(log: &RequestLog, bank: usize, access: Access, row: Option<u32>) -> bool
     ensures { result ≡ false → NonePasses (wants bank access row) log.now.log }
@@ -42,8 +43,8 @@ fn may_be_wanted(log: &RequestLog, bank: usize, access: Access, row: Option<u32>
     }
 }
 
-/// The first request from a place on that may be served, is of a bank and an access, and asks for a row if one is given. Each
-/// such request has the tag that is searched for, and most others do not.
+/// The first request from a place on that may be served, is of a bank and an access, and asks for a row if one is
+/// given. Each such request has the tag that is searched for, and most others do not.
 pub(crate) fn first_from(
     log: &RequestLog,
     from: usize,
@@ -93,7 +94,8 @@ pub(crate) fn first_hit(
     first_from(log, oldest + 1, bank, access, Some(row))
 }
 
-/// The first such request that asks for the open row, if one is open, where the first of them all is known, if there is one.
+/// The first such request that asks for the open row, if one is open, where the first of them all is known, if there is
+/// one.
 pub(crate) fn first_open_hit(
     log: &RequestLog,
     oldest: Option<usize>,

@@ -21,8 +21,8 @@ fn is_for(place: Place, arrived: Arrived) -> bool
     arrived.waits && arrived.request.place.is_line(place)
 }
 
-/// The place of the first request from a place on that waits for a line, of those that may be served, or else of those that may not.
-/// Their tags are searched for, which most other requests do not have.
+/// The place of the first request from a place on that waits for a line, of those that may be served, or else of those
+/// that may not. Their tags are searched for, which most other requests do not have.
 #[inline(never)]
 pub(crate) fn next_for_line(
     eligible: bool,
@@ -51,7 +51,8 @@ pub(crate) fn next_for_line(
     None
 }
 
-/// Whether a request that waits asks for the line of a place. `alike` is 0 only where none does. The oldest that does may be served.
+/// Whether a request that waits asks for the line of a place. `alike` is 0 only where none does. The oldest that does
+/// may be served.
 #[inline(always)]
 pub(crate) fn is_line_asked(place: Place, alike: u16, log: &[Arrived], tags: &[u8]) -> bool
     requires alike { alike ≡ 0 → asks_for_line place (waiting_requests log.now) ≡ false }
@@ -64,7 +65,8 @@ pub(crate) fn is_line_asked(place: Place, alike: u16, log: &[Arrived], tags: &[u
 /// From so many requests on there are fewer counters for each.
 const MANY: usize = 4_096;
 
-/// How many counters there are at least for so many requests: 16 for each, or 4 where they are many, since few queues are ever nearly full.
+/// How many counters there are at least for so many requests: 16 for each, or 4 where they are many, since few queues
+/// are ever nearly full.
 fn wanted_for(room: usize) -> usize
     ensures { result < 2 ^ 30 }
 {
@@ -75,7 +77,8 @@ fn wanted_for(room: usize) -> usize
     }
 }
 
-/// Counters that count nothing, for `room` requests, and the highest of them: a power of two of them, so that few requests share one.
+/// Counters that count nothing, for `room` requests, and the highest of them: a power of two of them, so that few
+/// requests share one.
 pub(crate) fn counters(alloc: Global, room: usize) -> Result<(Vec<u16>, usize), AllocError>
     ensures masked { IfOk result (λ made. made.1 < length made.0.items) }
     ensures lines { IfOk result (λ made. AreCounted (slot_of_line made.1) made.0.items []) }

@@ -40,8 +40,8 @@ pub(crate) fn write_bit(access: Access) -> usize
     }
 }
 
-/// A tag of these parts: bit 7 says whether a request may be served, bit 6 whether it writes, and bits 0 to 5 have the number of
-/// its bank modulo 64.
+/// A tag of these parts: bit 7 says whether a request may be served, bit 6 whether it writes, and bits 0 to 5 have the
+/// number of its bank modulo 64.
 #[inline(always)]
 pub fn tag_word(eligible: bool, access: Access, bank: u64) -> u8
     ensures { result ≡ tag_word eligible access bank }
@@ -62,8 +62,8 @@ pub(crate) fn line_slot(place: Place, mask: usize) -> usize
     (line.wrapping_mul(11_400_714_819_323_198_485) >> 32) as usize & mask
 }
 
-/// One of the counters up to `mask`, the same for all requests for a row of a bank, to write or to read: those to write have the
-/// counter behind that of those to read.
+/// One of the counters up to `mask`, the same for all requests for a row of a bank, to write or to read: those to write
+/// have the counter behind that of those to read.
 #[tactic(auto, unfolding(crate::specs::Columns::row_slot))]
 #[inline(always)]
 pub(crate) fn row_slot(bank: usize, access: Access, row: u32, mask: usize) -> usize

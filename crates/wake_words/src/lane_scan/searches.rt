@@ -58,7 +58,8 @@ pub fn first_below(words: &[u64], bound: u64) -> Option<usize>
     None
 }
 
-/// Goes on over the words from a place on, N at a time, until fewer than N are left. Gives where that is, and the least word so far.
+/// Goes on over the words from a place on, N at a time, until fewer than N are left. Gives where that is, and the least
+/// word so far.
 fn least_from<const N: usize>(words: &[u64], from: usize, least: u64) -> (usize, u64)
     requires begun { from ≤ length words.now }
     requires so_far { least ≡ least_of (take from words.now) }

@@ -1,4 +1,5 @@
--- The request is the one at its place, and what stands behind it says whether another one of its line is no longer blocked.
+-- The request is the one at its place, and what stands behind it says whether another one of its line is no longer
+-- blocked.
 use Rattle.std.proofs.Common.{◌≡◌, ◌≢◌, ◌⊎◌, ◌+◌, ◌-◌, ◌<◌, ℕ, Bool, true, false, not, cond, List, Vec, Global, length, get_or, set, vec_capacity, refl, sym, ap, subst, ◌∙◌, inl, inr, arith}
 use Rattle.std.proofs.lemmas.List.{get_or_default, get_or-set_same, length-set}
 use Rattle.std.specs.Vec.{with_item}

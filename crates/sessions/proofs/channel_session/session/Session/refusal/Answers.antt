@@ -1,4 +1,5 @@
--- The first tests of a request: its core is there, its channel is that of its address, and it does not arrive in the past.
+-- The first tests of a request: its core is there, its channel is that of its address, and it does not arrive in the
+-- past.
 use Rattle.std.proofs.Common.{◌≡◌, ◌<◌, ◌∙◌, ℕ, Some, true, eqb, refl, sym, ap}
 use Rattle.std.proofs.lemmas.Bool.{le-leb, lt-leb, lt-ltb, ne_eqb, eq-eqb}
 use Rattle.sim_base.specs.Places.{place_of}
