@@ -1,5 +1,5 @@
 -- What the candidates of all banks stand for, when those of one bank change.
-use Rattle.std.proofs.Common.{◌≡◌, ℕ, ◌+◌, ◌*◌, ◌/◌, ◌%◌, ◌^◌, ◌<◌, ◌≤◌, Bool, true, false, cond, ◌&&◌, eqb, ltb, List, [], ◌∷◌, ◌++◌, length, map, get_or, set, take, drop, replicate, Option, Some, None, refl, sym, ap, subst, ◌∙◌, inl, inr, arith, get_or-set_same, get_or-set_other}
+use Rattle.std.proofs.Common.{◌≡◌, ◌≢◌, ℕ, ◌+◌, ◌*◌, ◌/◌, ◌%◌, ◌^◌, ◌<◌, ◌≤◌, Bool, true, false, cond, ◌&&◌, eqb, ltb, List, [], ◌∷◌, ◌++◌, length, map, get_or, set, take, drop, replicate, Option, Some, None, refl, sym, ap, subst, ◌∙◌, inl, inr, arith, get_or-set_same, get_or-set_other}
 use Rattle.std.proofs.lemmas.Bool.{cases_lt, cases_eq, eq-eqb, ne_eqb, cond-true, cond-false, lt-ltb, le-ltb, and_from, and_parts, eqb-true, false_from_ne_true}
 use Rattle.std.proofs.lemmas.List.{get_or-replicate, length-replicate, length-set, length-take-le, map-append, get_or_at}
 use Rattle.std.proofs.lemmas.List.Elements.{All-push}
@@ -26,6 +26,9 @@ use Rattle.queue.specs.Candidates.{asks, hits, passes, first_place, AreFirst, Ar
 use Rattle.queue.specs.Moves.{earlier}
 use Rattle.queue.specs.Served.{IsServed, AreFirstWith}
 use Rattle.queue.specs.Places.{candidate_in, access_in}
+use Rattle.queue.specs.Sets.{is_in}
+use Rattle.queue.specs.declared.bank_candidates.sets.BankSet.{BankSet}
+use Rattle.std.specs.Option.{is_some}
 use Rattle.queue.specs.Stands.{bank_count, candidates_of_bank, StandsFor, StandsUpTo, with_row, closed_in}
 use Rattle.queue.proofs.BankCandidatesCounted.{AreCounted}
 use Rattle.queue.proofs.Entries.{eligible_append}
@@ -379,3 +382,11 @@ bank_at_number b group_in bank_in =
     let group : ((b.rank * 4 + b.group) * 4 + b.bank) / 4 % 4 ≡ b.group = omega arith in
     let own : ((b.rank * 4 + b.group) * 4 + b.bank) % 4 ≡ b.bank = omega arith in
     λ i. record { rank = rank i; group = group i; bank = own i }
+
+-- the banks in which a row is open, once that of one is another
+pub opened_are : (rows : List (Option ℕ)) (old new : BankSet) (number : ℕ) (row : Option ℕ) → number < length rows → ((k : ℕ) → is_in old k ≡ is_some (get_or rows k None))
+    → is_in new number ≡ is_some row → ((k : ℕ) → k ≢ number → is_in new k ≡ is_in old k) → (k : ℕ) → is_in new k ≡ is_some (get_or (set rows number row) k None)
+opened_are rows old new number row exists were same others k = elim (cases_eq k number) [
+  | inl here ↦ ap (is_in new) here ∙ same ∙ ap is_some (sym (ap (λ n. get_or (set rows number row) n None) here ∙ get_or-set_same rows number row None exists))
+  | inr apart ↦ others k apart ∙ were k ∙ ap is_some (sym (get_or-set_other rows number k row None apart))
+]

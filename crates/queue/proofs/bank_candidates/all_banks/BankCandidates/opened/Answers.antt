@@ -1,13 +1,26 @@
 -- The first request for the row is found, to read and to write.
-use Rattle.std.proofs.Common.{◌≡◌, ℕ, ◌<◌, Some, length, set, sym, subst, ◌∙◌}
+use Rattle.std.proofs.Common.{◌≡◌, ℕ, ◌*◌, ◌<◌, ◌≤◌, Some, length, set, sym, ap, subst, ◌∙◌}
+use Rattle.std.proofs.lemmas.List.{length-set}
 use Rattle.sim_base.specs.declared.message.Access.TheVariants as access
 use Rattle.sim_base.specs.declared.message.Access.{Access}
 use Rattle.queue.specs.Candidates.{AreFirst, access_number}
 use Rattle.queue.specs.Places.{access_in}
 use Rattle.queue.specs.Stands.{with_row}
 use Rattle.queue.proofs.OneBank.{number_bank, numbers_apart}
-use Rattle.queue.proofs.Stood.{AreStanding, to_parts, from_parts, row_stand}
+use Rattle.queue.proofs.Stood.{opened_are, AreStanding, to_parts, from_parts, row_stand}
 use Rattle.queue.proofs.bank_candidates.all_banks.BankCandidates.opened.Goals as goal
+
+pub invariant_of-self : goal.invariant_of-self
+invariant_of-self c =
+    let old = c.args.self.now in
+    let rows = old.rows.items in
+    let long = length-set rows c.number_of-number.result (Some c.args.row) in
+    record {
+      few = subst (λ n. n ≤ 64) (sym long) old.few;
+      open_are = opened_are rows old.open_banks c.with-self.result c.number_of-number.result (Some c.args.row) (subst (λ n. n < length rows) (sym c.number_of-number.ensures) c.requires) old.open_are c.with-self.ensures.same c.with-self.ensures.others;
+      all_places = c.open-2.ensures.room ∙ c.open.ensures.room ∙ old.all_places ∙ sym (ap (λ n. 4 * n) long);
+      all_counts = old.all_counts ∙ sym (ap (λ n. 2 * n) long);
+    }
 
 pub returns-clause-stands : goal.returns-clause-stands
 returns-clause-stands c open_rows stands =
