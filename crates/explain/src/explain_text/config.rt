@@ -10,7 +10,6 @@ use sim_base::fault::Fault;
 use sim_base::key::{DOCUMENT_KEYS, Key};
 use std::alloc::{AllocError, Global};
 use toml::Table;
-use toml::de::Error;
 
 // What is wrong at a place of a document, and the line of that place.
 fn place_text<'a>(
@@ -47,20 +46,13 @@ fn syntax_text(alloc: Global, document: &[u8]) -> Result<String, AllocError> {
     }
 }
 
-// An empty table, unless memory was refused.
-fn no_table(alloc: Global, error: &Error) -> Result<Table, AllocError> {
-    match error.is_memory() {
-        true => Err(AllocError),
-        false => Ok(Table::new(alloc)),
-    }
-}
-
 // The table of a document; an empty one where the document is not TOML.
 fn table_of(alloc: Global, document: &[u8]) -> Result<Table, AllocError> {
     let text = str::from_utf8(document).unwrap_or("");
     match toml::table_from_str(alloc, text) {
         Ok(table) => Ok(table),
-        Err(error) => no_table(alloc, &error),
+        Err(error) if error.is_memory() => Err(AllocError),
+        Err(_) => Ok(Table::new(alloc)),
     }
 }
 

@@ -1,15 +1,9 @@
 //! Lines of a text, and places in it.
 
-fn is_line_feed(byte: &u8) -> bool {
-    *byte == b'\n'
-}
-
 /// The line of a text that has this number, counted from 1.
 pub(crate) fn line_at(text: &[u8], number: u64) -> Option<&[u8]> {
-    match usize::try_from(number) {
-        Ok(number) if number > 0 => text.split(is_line_feed).nth(number - 1),
-        _ => None,
-    }
+    let index = usize::try_from(number.checked_sub(1)?).ok()?;
+    text.split(|byte| *byte == b'\n').nth(index)
 }
 
 /// A place in a text: its line, and the character on that line, both counted from 1.

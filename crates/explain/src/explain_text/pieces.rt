@@ -37,27 +37,17 @@ fn fill(
     pieces: &[Piece<'_>],
 ) -> Result<(), AllocError> {
     let mut pieces = pieces.iter();
-    for part in form.split('{') {
-        let pushed = match part.strip_prefix('}') {
-            Some(words) => push_before(alloc, text, pieces.next(), words),
-            None => text.push_str(part),
+    for words in form.split_inclusive("{}") {
+        let (words, piece) = match words.strip_suffix("{}") {
+            Some(words) => (words, pieces.next()),
+            None => (words, None),
         };
-        pushed?;
+        text.push_str(words)?;
+        if let Some(piece) = piece {
+            push(alloc, text, *piece)?;
+        }
     }
     Ok(())
-}
-
-// Adds a piece, if there is one, and the words behind it.
-fn push_before(
-    alloc: Global,
-    text: &mut String,
-    piece: Option<&Piece<'_>>,
-    words: &str,
-) -> Result<(), AllocError> {
-    if let Some(piece) = piece {
-        push(alloc, text, *piece)?;
-    }
-    text.push_str(words)
 }
 
 /// Adds a piece to a text.
