@@ -164,8 +164,8 @@ impl<'a, T: Drop, D: DoneOf<T> + Drop, W: Work<T, D>, B: BoardName, R: Wait> Sha
         self.results_ready.raise();
     }
 
-    // Runs tasks and returns what came of them, or that memory was refused. Whether it was not.
-    fn work_off(&self, worker: usize, seat: &mut TakeSeat<T, B>) -> bool
+    // Runs tasks and returns what came of them, or that memory was refused. Gives whether the thread goes on.
+    fn serve_once(&self, worker: usize, seat: &mut TakeSeat<T, B>) -> bool
         requires { seat.old ≡ [] }
         ensures { IsTrue result → seat.new ≡ [] }
     {
@@ -191,7 +191,7 @@ impl<'a, T: Drop, D: DoneOf<T> + Drop, W: Work<T, D>, B: BoardName, R: Wait> Sha
         let mut seat = seat;
         for _ in self.context.rt.forever() {
             let seen = self.tasks_ready.count();
-            if !self.work_off(worker, &mut seat) || self.over.load(Ordering::SeqCst) {
+            if !self.serve_once(worker, &mut seat) || self.over.load(Ordering::SeqCst) {
                 break;
             }
             self.tasks_ready
