@@ -1,49 +1,42 @@
 //! Why a session refuses a call.
 
 use std::alloc::{AllocError, AllocFailed};
-use std::error::Error;
 use std::fmt;
+use thiserror::Error;
 
 /// Why a session refuses a call.
-#[derive(Clone, Copy, PartialEq, Eq)]
+#[derive(Clone, Copy, PartialEq, Eq, Error)]
 pub enum SessionFault {
     /// The machine has no channel with this number.
+    #[error("no such channel")]
     NoSuchChannel,
     /// The machine has no core with this number.
+    #[error("no such core")]
     NoSuchCore,
     /// The address lies in another channel.
+    #[error("an address of another channel")]
     OtherChannel,
     /// The request arrives in a cycle that is over.
+    #[error("an arrival in the past")]
     InThePast,
     /// A request that was sent earlier arrives later, or in the same cycle on the same link or a higher one.
+    #[error("an arrival out of order")]
     OutOfOrder,
     /// The entry, or a later one, of this core was asked for already; or it is 2^64 - 1.
+    #[error("an entry that cannot be asked for any more")]
     EntryPassed,
     /// As many requests wait or are on their way as there are credits.
+    #[error("no credit")]
     NoCredit,
     /// The run would end in a cycle that is over.
+    #[error("an end in the past")]
     EndPassed,
     /// The run would end after cycle 2^62.
+    #[error("an end after cycle 2^62")]
     EndTooLate,
     /// Memory was refused.
+    #[error("memory")]
     Memory,
-}
-
-impl fmt::Display for SessionFault {
-    fn fmt<W: fmt::Write>(&self, f: &mut fmt::Formatter<W>) -> fmt::Result {
-        f.write_str(match self {
-            SessionFault::NoSuchChannel => "no such channel",
-            SessionFault::NoSuchCore => "no such core",
-            SessionFault::OtherChannel => "an address of another channel",
-            SessionFault::InThePast => "an arrival in the past",
-            SessionFault::OutOfOrder => "an arrival out of order",
-            SessionFault::EntryPassed => "an entry that cannot be asked for any more",
-            SessionFault::NoCredit => "no credit",
-            SessionFault::EndPassed => "an end in the past",
-            SessionFault::EndTooLate => "an end after cycle 2^62",
-            SessionFault::Memory => "memory",
-        })
-    }
 }
 
 impl fmt::Debug for SessionFault {
@@ -51,8 +44,6 @@ impl fmt::Debug for SessionFault {
         fmt::Display::fmt(self, f)
     }
 }
-
-impl Error for SessionFault {}
 
 impl From<AllocError> for SessionFault {
     ghost use Rattle.std.specs.Prelude.{◌≡◌};
