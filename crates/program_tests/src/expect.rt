@@ -1,13 +1,30 @@
-//! An assertion as a call, which costs the proof of a test far less than what the macro writes in its place.
+//! Assertions as calls, which cost the proof of a test far less than what the macros write in its place.
 
 ghost use Rattle.std.specs.Prelude.{◌≡◌, true};
 
 use std::fmt::Debug;
 use std::process::Abort;
 
-/// Ends the test where a value is not the one that is wanted, and prints both, and at which case it is.
+/// Ends the test where a value is not the one that is wanted, and prints both.
+pub fn expect<T: PartialEq + Debug>(rt: &impl Abort, found: &T, want: &T)
+    ensures { T.eq found.now want.now ≡ true }
+{
+    assert_eq!(rt; found, want);
+}
+
+/// Ends the test where a value is not the one that is wanted, and prints both, and at which case that is.
 pub fn expect_at<T: PartialEq + Debug, N: Debug>(rt: &impl Abort, case: &N, found: &T, want: &T)
     ensures { T.eq found.now want.now ≡ true }
 {
     assert_eq!(rt; found, want, "at {case:?}");
+}
+
+/// Ends the test where one of some parts of a text, with a blank line between two, is not there, or is where none is
+/// wanted.
+pub fn expect_parts(rt: &impl Abort, text: &str, parts: &str, are_there: bool) {
+    for part in parts.split("\n\n") {
+        if !part.is_empty() {
+            expect_at(rt, &part, &text.contains(part), &are_there);
+        }
+    }
 }

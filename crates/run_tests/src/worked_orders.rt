@@ -9,7 +9,7 @@ use crate::ordered_runs::{AsTheyCome, Reversed, run_by};
 use crate::outcomes::{Run, plain_tables, tables_of};
 use crate::same::{texts_with, worked_runs};
 use fixtures::worked_runs::{FAST_LINK, Run as Row};
-use ordered::order::Order;
+use reference::order::Order;
 use shards::job::Done;
 use std::alloc::Global;
 use std::process::Abort;

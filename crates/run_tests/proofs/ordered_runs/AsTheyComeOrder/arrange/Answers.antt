@@ -1,4 +1,4 @@
-use Rattle.ordered.proofs.Given.{each-given}
+use Rattle.reference.proofs.Given.{each-given}
 use Rattle.run_tests.proofs.ordered_runs.AsTheyComeOrder.arrange.Goals as goal
 
 pub returns-clause-given : goal.returns-clause-given

@@ -3,7 +3,7 @@ use Rattle.std.specs.Prelude.{Any}
 use Rattle.std.proofs.lemmas.List.Elements.{All-append}
 use Rattle.shards.specs.Jobs.{JobView}
 use Rattle.shards.specs.declared.job.JobName.{JobName}
-use Rattle.ordered.proofs.Given.{each-given}
+use Rattle.reference.proofs.Given.{each-given}
 use Rattle.run_tests.proofs.ordered_runs.BringsOrder.arrange.Goals as goal
 
 -- what has the name of one of some results is one of them

@@ -1,4 +1,4 @@
-use Rattle.ordered.proofs.Given.{permuted-given}
+use Rattle.reference.proofs.Given.{permuted-given}
 use Rattle.run_tests.proofs.ordered_runs.ReversedOrder.arrange.Goals as goal
 
 pub returns-clause-given : goal.returns-clause-given

@@ -2,7 +2,7 @@ use Rattle.std.proofs.Common.{◌≡◌, ℕ, ◌++◌, take, drop, IsPermutatio
 use Rattle.std.proofs.lemmas.List.{take-append-drop}
 use Rattle.std.proofs.lemmas.List.Sorted.{IsPermutation-append_comm}
 use Rattle.shards.specs.Jobs.{JobView}
-use Rattle.ordered.proofs.Given.{permuted-given}
+use Rattle.reference.proofs.Given.{permuted-given}
 use Rattle.run_tests.proofs.worked_orders.TurnedOrder.arrange.Goals as goal
 
 -- the first of a list put behind the others

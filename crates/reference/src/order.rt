@@ -6,7 +6,7 @@ use shards::job::Done;
 pub trait Order {
     ghost use Rattle.std.specs.Prelude.{ℕ, List};
     ghost use Rattle.shards.specs.Jobs.{JobView};
-    ghost use Rattle.ordered.specs.Runs.{BringsNoneIn};
+    ghost use Rattle.reference.specs.Orders.{BringsNoneIn};
 
     // Which lists it may give for the results of the phase with a number. Each order says it: this default lets none
     // through.

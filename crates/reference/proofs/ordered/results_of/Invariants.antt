@@ -1,7 +1,7 @@
 -- The jobs so far have their results.
 use Rattle.std.proofs.Common.{◌≡◌, ◌++◌, length}
 use Rattle.std.specs.Vec.Iter.{into_iter_items, into_iter_len}
-use Rattle.ordered.proofs.run.results_of.Given as goal
+use Rattle.reference.proofs.ordered.results_of.Given as goal
 
 abbrev pub invariant-loop-job : goal.invariant-loop-job
 invariant-loop-job l =

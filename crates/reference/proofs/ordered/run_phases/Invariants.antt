@@ -2,8 +2,8 @@
 -- is not past the stop; in each round it comes nearer to it.
 use Rattle.std.proofs.Common.{◌≡◌, ◌≤◌, ◌-◌}
 use Rattle.shards.specs.Phases.{shards_in, sim_of}
-use Rattle.ordered.specs.Runs.{HasCome}
-use Rattle.ordered.proofs.run.run_phases.Given as goal
+use Rattle.reference.specs.Orders.{HasCome}
+use Rattle.reference.proofs.ordered.run_phases.Given as goal
 
 abbrev pub invariant-loop-sim : goal.invariant-loop-sim
 invariant-loop-sim g l =

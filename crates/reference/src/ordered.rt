@@ -3,7 +3,7 @@
 ghost use Rattle.std.specs.Prelude.{◌≡◌, ◌≢◌, ◌<◌, ◌≤◌, ◌^◌, IfOk, IfErr};
 ghost use Rattle.shards.specs.Phases.{ended, jobs_of};
 ghost use Rattle.units.specs.Views.{HasReached};
-ghost use Rattle.ordered.specs.Runs.{Fits, HasCome, IsMisfit, IsWhyStopped, OnlyPermutes, run_fault};
+ghost use Rattle.reference.specs.Orders.{Fits, HasCome, IsMisfit, IsWhyStopped, OnlyPermutes, run_fault};
 ghost use Rattle.units.specs.Stops.{stop_of};
 
 use crate::order::Order;

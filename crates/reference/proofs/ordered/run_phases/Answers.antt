@@ -3,9 +3,9 @@ use Rattle.std.proofs.lemmas.Result.{err_from_is_err_and}
 use Rattle.units.specs.Views.{SimView}
 use Rattle.shards.specs.Phases.{ShardedView, ended, shards_in, sim_of}
 use Rattle.shards.specs.Planning.{IsPlanned}
-use Rattle.ordered.specs.Runs.{HasCome, IsNext}
-use Rattle.ordered.proofs.Coming.{come-none, come-on, come-phase, why-on, why-phase}
-use Rattle.ordered.proofs.run.run_phases.Goals as goal
+use Rattle.reference.specs.Orders.{HasCome, IsNext}
+use Rattle.reference.proofs.Coming.{come-none, come-on, come-phase, why-on, why-phase}
+use Rattle.reference.proofs.ordered.run_phases.Goals as goal
 
 pub loop-sim-init : goal.loop-sim-init
 loop-sim-init g c =

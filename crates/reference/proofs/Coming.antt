@@ -4,7 +4,7 @@ use Rattle.sim_base.specs.declared.fault.Fault.{Fault}
 use Rattle.units.specs.Views.{SimView}
 use Rattle.shards.specs.Jobs.{JobView}
 use Rattle.shards.specs.Phases.{IsPhaseOf, PhaseView, ended, sim_of}
-use Rattle.ordered.specs.Runs.{AreFitted, Fits, HasCome, IsAsFar, IsMisfit, IsNext, IsWhyStopped, StopsAtMisfit, after}
+use Rattle.reference.specs.Orders.{AreFitted, Fits, HasCome, IsAsFar, IsMisfit, IsNext, IsWhyStopped, StopsAtMisfit, after}
 
 far-same : (sim : SimView) → IsAsFar sim sim
 far-same sim = record { machine_is = refl; phase_is = refl; since = omega arith }

@@ -2,8 +2,8 @@
 -- limit, and did not end on the way; in each round it comes nearer to the limit.
 use Rattle.std.proofs.Common.{◌≡◌, ◌≤◌, ◌-◌}
 use Rattle.units.specs.Drained.{NotEnded}
-use Rattle.ordered.specs.Runs.{HasCome}
-use Rattle.ordered.proofs.run.run_in_order.Given as goal
+use Rattle.reference.specs.Orders.{HasCome}
+use Rattle.reference.proofs.ordered.run_in_order.Given as goal
 
 abbrev pub invariant-loop-stop : goal.invariant-loop-stop
 invariant-loop-stop g l =

@@ -1,11 +1,11 @@
 use Rattle.std.proofs.Common.{◌≡◌, ◌<◌, true, refl, sym, ap, ◌∙◌, arith}
 use Rattle.std.proofs.lemmas.Result.{err_from_is_err_and}
 use Rattle.units.specs.Runs.{ends_at}
-use Rattle.ordered.proofs.Coming.{come-none, come-on, why-on}
-use Rattle.ordered.proofs.Stopped.{only-memory}
-use Rattle.ordered.proofs.Stopping.{on-next}
+use Rattle.reference.proofs.Coming.{come-none, come-on, why-on}
+use Rattle.reference.proofs.Stopped.{only-memory}
+use Rattle.reference.proofs.Stopping.{on-next}
 use Rattle.units.proofs.Stopping.{stands-at_stop}
-use Rattle.ordered.proofs.run.run_in_order.Goals as goal
+use Rattle.reference.proofs.ordered.run_in_order.Goals as goal
 
 pub returns-in_err-sim-clause-stopped : goal.returns-in_err-sim-clause-stopped
 returns-in_err-sim-clause-stopped g c =

@@ -1,8 +1,8 @@
 use Rattle.std.proofs.Common.{subst, ◌∙◌}
 use Rattle.shards.specs.Phases.{jobs_of}
-use Rattle.ordered.proofs.Given.{of_phase}
-use Rattle.ordered.proofs.Stopped.{misfits}
-use Rattle.ordered.proofs.run.run_phase.Goals as goal
+use Rattle.reference.proofs.Given.{of_phase}
+use Rattle.reference.proofs.Stopped.{misfits}
+use Rattle.reference.proofs.ordered.run_phase.Goals as goal
 
 pub merge-requires : goal.merge-requires
 merge-requires g c = record { of = of_phase c.args.phase _ _ (c.in_ok-results_of.ensures ∙ c.requires.jobs) c.arrange-results.ensures.given }

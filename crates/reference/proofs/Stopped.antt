@@ -9,7 +9,7 @@ use Rattle.shards.specs.Jobs.{JobView}
 use Rattle.shards.specs.Merging.{fault_in}
 use Rattle.shards.specs.Phases.{PhaseView, jobs_of}
 use Rattle.shards.proofs.Whole.{whole-fits}
-use Rattle.ordered.specs.Runs.{IsMisfit, IsWhyStopped, OnlyPermutes, run_fault}
+use Rattle.reference.specs.Orders.{IsMisfit, IsWhyStopped, OnlyPermutes, run_fault}
 
 second : {P Q : Type 0} → (P → ⊥) → P ⊎ Q → Q
 second h (inl p) = absurd (h p)
