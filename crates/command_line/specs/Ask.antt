@@ -16,8 +16,8 @@ use Rattle.sim_base.specs.declared.fault.Fault.{Fault}
 use Rattle.sim_base.specs.declared.fault.Fault.TheVariants.{Memory, CommandLine}
 use Rattle.command_line.specs.Clock.{clock_of}
 use Rattle.command_line.specs.Tables.{tables_of}
-use Rattle.run_outcome.specs.Outcomes.{usual_tables}
-use Rattle.run_outcome.specs.declared.tables.Tables.{Tables}
+use Rattle.statistics.specs.Outcomes.{usual_tables}
+use Rattle.statistics.specs.declared.tables.Tables.{Tables}
 use Rattle.command_line.specs.CommandLine.{program_app}
 use Rattle.sim_base.specs.TraceText.{number_of}
 use Rattle.command_line.specs.declared.words.Ask.{Ask}

@@ -3,7 +3,7 @@
 ghost use Rattle.std.specs.Prelude.{◌≡◌, Some, fold, map, IfOk};
 ghost use Rattle.command_line.specs.Tables.{no_tables, with_table, and_table, tables_of};
 
-use run_outcome::tables::Tables;
+use statistics::tables::Tables;
 use std::alloc::{AllocError, Global};
 
 const NONE: Tables = Tables {

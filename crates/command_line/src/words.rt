@@ -13,8 +13,8 @@ use clap::error::{Error, ErrorKind};
 use clap::{ArgMatches, Command};
 use cpu_trace::number::read_number;
 use refusal::reason::Reason;
-use run_outcome::tables::Tables;
 use sim_base::fault::Fault;
+use statistics::tables::Tables;
 use std::alloc::{AllocError, Global};
 use strsim::osa_distance;
 

@@ -19,9 +19,9 @@ use Rattle.sim_base.specs.declared.message.Access.TheVariants as access
 use Rattle.sim_base.specs.declared.trace.Entry.{Entry}
 use Rattle.statistics.specs.declared.final_state.Credits.{Credits}
 use Rattle.plain_steps.specs.Plain.{CoreView}
-use Rattle.run_outcome.specs.Outcomes.{outcome_of}
-use Rattle.run_outcome.specs.Values.{RunOutcome}
-use Rattle.run_outcome.specs.declared.tables.Tables.{Tables}
+use Rattle.statistics.specs.Outcomes.{outcome_of}
+use Rattle.statistics.specs.Values.{RunOutcome}
+use Rattle.statistics.specs.declared.tables.Tables.{Tables}
 use Rattle.one_clock.specs.Cycles.{steps_before}
 use Rattle.one_clock.specs.declared.run_cycle.RunCycle.{RunCycle}
 

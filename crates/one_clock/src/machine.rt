@@ -2,7 +2,7 @@
 
 ghost use Rattle.std.specs.Prelude.{◌≡◌, ◌<◌, ◌≤◌, ◌^◌, length, filter, IfOk, OnOk};
 ghost use Rattle.plain_steps.specs.Plain.{is_late};
-ghost use Rattle.run_outcome.specs.Outcomes.{if_asked};
+ghost use Rattle.statistics.specs.Outcomes.{if_asked};
 ghost use Rattle.command_table.specs.Tables.{IsRising};
 ghost use Rattle.one_clock.specs.Cycles.{core_before, core_after, cores_before, cores_after};
 ghost use Rattle.one_clock.specs.Cycles.{channel_before, channel_after, channels_before, channels_after};
@@ -23,8 +23,6 @@ use cpu_trace::trace::Trace;
 use plain_steps::channel_cycle::ChannelCycle;
 use plain_steps::scheduling::ChannelStep;
 use plain_steps::{cores, mail, scheduling};
-use run_outcome::outcome::Outcome;
-use run_outcome::tables::Tables;
 use sim_base::command::IssuedCommand;
 use sim_base::config::Config;
 use sim_base::history::CoreStep;
@@ -33,7 +31,9 @@ use sim_base::trace::Stop;
 use statistics::channels::ChannelStats;
 use statistics::cores::CoreStats;
 use statistics::final_state::{ChannelState, CoreState, FinalState};
+use statistics::outcome::Outcome;
 use statistics::stats::Stats;
+use statistics::tables::Tables;
 use std::alloc::{AllocError, Global};
 use timing::gap_table::GapTable;
 
@@ -410,7 +410,7 @@ impl Machine {
     }
 
     /// What the run leaves if it ends before this cycle, where these tables are asked for.
-    #[tactic(auto, unfolding(run_outcome::specs::Outcomes::outcome_of, run_outcome::specs::Outcomes::outcome_after, statistics::specs::Runs::stats_of, statistics::specs::Runs::final_of), using(crate::proofs::Next::length_run))]
+    #[tactic(auto, unfolding(statistics::specs::Outcomes::outcome_of, statistics::specs::Outcomes::outcome_after, statistics::specs::Runs::stats_of, statistics::specs::Runs::final_of), using(crate::proofs::Next::length_run))]
     fn outcome(self, cycle: &RunCycle<'_>, tables: Tables) -> Result<Outcome, AllocError>
         requires machine { HoldsBefore cycle.now self }
         ensures { IfOk result (λ outcome. outcome ≡ outcome_before tables cycle.now) }

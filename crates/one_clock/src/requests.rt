@@ -1,7 +1,7 @@
 //! The requests that a run served.
 
 ghost use Rattle.std.specs.Prelude.{◌≡◌, IfOk, IfSome};
-ghost use Rattle.run_outcome.specs.Outcomes.{if_asked};
+ghost use Rattle.statistics.specs.Outcomes.{if_asked};
 ghost use Rattle.one_clock.specs.Cycles.{cores_before, channels_before};
 ghost use Rattle.one_clock.specs.Cycles.{arrival_in, is_hit_in, request_for, request_of_row, requests_of_rows, requests_before};
 ghost use Rattle.one_clock.specs.Held.{HoldsBefore};

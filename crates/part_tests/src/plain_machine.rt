@@ -5,9 +5,9 @@ use cpu_trace::trace::Trace;
 use fixtures::one_read::{CHANNELS, CORES};
 use fixtures::small::small;
 use one_clock::machine::run_plain;
-use run_outcome::outcome::Outcome;
-use run_outcome::tables::Tables;
 use sim_base::trace::Entry;
+use statistics::outcome::Outcome;
+use statistics::tables::Tables;
 use std::alloc::Global;
 use std::process::Abort;
 

@@ -4,8 +4,8 @@ use Rattle.sim_base.specs.declared.config.Config.{Config}
 use Rattle.sim_base.specs.declared.fault.Fault.{Fault}
 use Rattle.sim_base.specs.declared.fault.Fault.TheVariants.{Memory, WorkerStart}
 use Rattle.sim_base.specs.declared.trace.Entry.{Entry}
-use Rattle.run_outcome.specs.Values.{RunOutcome}
-use Rattle.run_outcome.specs.declared.tables.Tables.{Tables}
+use Rattle.statistics.specs.Values.{RunOutcome}
+use Rattle.statistics.specs.declared.tables.Tables.{Tables}
 use Rattle.simulation.specs.Runs.{HoldsOfInput, IsRunOf, IsJudgedLegal}
 use Rattle.workers.specs.Runs.{IsRefusedTo}
 use Rattle.whole_files.specs.Files.{Held}

@@ -12,8 +12,8 @@
 --     AskForPage words      the words ask for a page
 use Rattle.std.specs.Prelude.{◌≡◌, ◌⊎◌, ⊤, ℕ, Bool, true, List, [], ◌∷◌, ◌++◌, map, option_map, string_bytes, Option, Some, None, if◌then◌else◌}
 use Rattle.std.specs.Io.KnownBytes.{Appends}
-use Rattle.run_outcome.specs.Values.{RunOutcome}
-use Rattle.run_outcome.specs.declared.tables.Tables.{Tables}
+use Rattle.statistics.specs.Values.{RunOutcome}
+use Rattle.statistics.specs.declared.tables.Tables.{Tables}
 use Rattle.sim_base.specs.declared.config.Config.{Config}
 use Rattle.sim_base.specs.declared.trace.Entry.{Entry}
 use Rattle.simulation.specs.Runs.{IsInput, IsRunOf, IsJudgedLegal}

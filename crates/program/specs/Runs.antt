@@ -16,7 +16,7 @@ use Rattle.std.specs.declared.io.Write.{Ghosts as Stream}
 use Rattle.sim_base.specs.declared.config.Config.{Config}
 use Rattle.sim_base.specs.declared.fault.Fault.{Fault}
 use Rattle.sim_base.specs.declared.trace.Entry.{Entry}
-use Rattle.run_outcome.specs.Values.{RunOutcome}
+use Rattle.statistics.specs.Values.{RunOutcome}
 use Rattle.simulation.specs.Runs.{HoldsOfInput, IsInput, IsRunOf, IsJudgedLegal}
 use Rattle.refusal.specs.Refusals.{fault_of}
 use Rattle.refusal.specs.Streams.{has_refused, stream_of}

@@ -6,9 +6,9 @@ ghost use Rattle.program.specs.Answered.{layout_of};
 use command_line::words::{PageArguments, RunArguments, Share, ShowArguments};
 use compare::layout::Layout;
 use page::window::{View, Window};
-use run_outcome::tables::Tables;
 use show::options::Options;
 use sim_base::message::Cycle;
+use statistics::tables::Tables;
 use workers::sharing::{Sharing, Workers};
 
 /// What a run is asked to be: the file of its configuration, the cycles after which it ends at the latest, its workers,

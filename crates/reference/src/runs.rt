@@ -4,9 +4,9 @@ ghost use Rattle.std.specs.Prelude.{IfOk, IfErr};
 ghost use Rattle.simulation.specs.Runs.{texts_in, IsInputFault, IsRun, IsLegal};
 
 use one_clock::machine::run_plain;
-use run_outcome::outcome::Outcome;
 use sim_base::fault::Fault;
 use simulation::input::{InputTexts, read_input};
+use statistics::outcome::Outcome;
 use std::alloc::Global;
 use std::thread::Threads;
 use workers::input::RunOptions;

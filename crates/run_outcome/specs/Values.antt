@@ -4,7 +4,7 @@ use Rattle.std.specs.Prelude.{ℕ, List, Option}
 use Rattle.sim_base.specs.declared.command.IssuedCommand.{IssuedCommand}
 use Rattle.request_table.specs.declared.times.RequestTimes.{RequestTimes}
 use Rattle.statistics.specs.Values.{RunStats, LastState}
-use Rattle.run_outcome.specs.declared.tables.Tables.{Tables}
+use Rattle.statistics.specs.declared.tables.Tables.{Tables}
 
 -- The tables that were asked for; the commands, and the requests, if their table was; the statistics and the state at
 -- the end of a run; and how many ranks a channel has.

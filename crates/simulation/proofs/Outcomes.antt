@@ -6,9 +6,9 @@ use Rattle.sim_base.specs.declared.trace.Entry.{Entry}
 use Rattle.config_reader.specs.Document.{document_of}
 use Rattle.sim_base.specs.Values.{values_of}
 use Rattle.sim_base.specs.Machine.{cycles_run}
-use Rattle.run_outcome.specs.Outcomes.{outcome_of}
-use Rattle.run_outcome.specs.Values.{RunOutcome}
-use Rattle.run_outcome.specs.declared.tables.Tables.{Tables}
+use Rattle.statistics.specs.Outcomes.{outcome_of}
+use Rattle.statistics.specs.Values.{RunOutcome}
+use Rattle.statistics.specs.declared.tables.Tables.{Tables}
 use Rattle.table_laws.proofs.Lawful.{cycles_are}
 use Rattle.simulation.specs.Outcomes.{HoldsUnder}
 use Rattle.simulation.specs.Runs.{input_of, IsRunOf, HoldsOfRun}

@@ -6,7 +6,7 @@ use Rattle.simulation.specs.Runs.{HoldsOfInput}
 use Rattle.sim_base.specs.declared.config.Config.{Config}
 use Rattle.sim_base.specs.Values.{values_of}
 use Rattle.config_reader.specs.Document.{document_of}
-use Rattle.run_outcome.specs.Values.{RunOutcome}
+use Rattle.statistics.specs.Values.{RunOutcome}
 use Rattle.workers.specs.declared.input.MachineInput.{MachineInput}
 use Rattle.workers.specs.declared.input.RunOptions.{RunOptions}
 

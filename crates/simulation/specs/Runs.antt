@@ -30,9 +30,9 @@ use Rattle.sim_base.specs.Values.{values_of}
 use Rattle.sim_base.specs.TraceText.{◌>>=◌, trace_answer}
 use Rattle.sim_base.specs.History.{commands}
 use Rattle.sim_base.specs.Machine.{run, cycles_run}
-use Rattle.run_outcome.specs.Outcomes.{outcome_of}
-use Rattle.run_outcome.specs.Values.{RunOutcome}
-use Rattle.run_outcome.specs.declared.tables.Tables.{Tables}
+use Rattle.statistics.specs.Outcomes.{outcome_of}
+use Rattle.statistics.specs.Values.{RunOutcome}
+use Rattle.statistics.specs.declared.tables.Tables.{Tables}
 use Rattle.simulation.specs.declared.input.InputTexts.{InputTexts}
 use Rattle.workers.specs.declared.input.MachineInput.{MachineInput}
 use Rattle.workers.specs.declared.input.RunOptions.{RunOptions}

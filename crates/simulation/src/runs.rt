@@ -7,8 +7,8 @@ ghost use Rattle.table_laws.specs.Outcomes.{OwnsDataBus, IsRefreshed, HasBounded
 ghost use Rattle.workers.specs.Runs.{IsRefusedTo};
 
 use crate::input::{InputTexts, read_input};
-use run_outcome::outcome::Outcome;
 use sim_base::fault::Fault;
+use statistics::outcome::Outcome;
 use std::alloc::Global;
 use std::sync::Wait;
 use std::thread::Threads;

@@ -2,14 +2,11 @@
 --     stats_of s traces history      the statistics of each unit
 --     core_last, channel_last      the state of one unit
 --     final_of s traces history      the state before the cycle after a history
---     outcome_after s traces history      both, with the commands
---     outcome_of s traces cycles      the same, for the run of this many cycles
 use Rattle.std.specs.Prelude.{ℕ, List, length, map, filter_map, option_map, Option}
 use Rattle.sim_base.specs.declared.config.Config.{Config}
 use Rattle.sim_base.specs.Counts.{in_flight}
 use Rattle.sim_base.specs.Final.{credits_left, due_left, banks, queue_left}
-use Rattle.sim_base.specs.History.{below, trace_of, steps_of_core, steps_of_channel, issued_commands, commands, retired_before, issued_before, inbox}
-use Rattle.sim_base.specs.Machine.{run}
+use Rattle.sim_base.specs.History.{below, trace_of, steps_of_core, steps_of_channel, issued_commands, retired_before, issued_before, inbox}
 use Rattle.sim_base.specs.MachineStep.{MachineStep}
 use Rattle.sim_base.specs.Rules.{open_row}
 use Rattle.sim_base.specs.declared.command.Command.{Command}
@@ -22,7 +19,7 @@ use Rattle.sim_base.specs.declared.trace.Entry.{Entry}
 use Rattle.sim_base.specs.declared.message.Access.TheVariants as access
 use Rattle.statistics.specs.Channels.{channel_stats}
 use Rattle.statistics.specs.Cores.{core_stats}
-use Rattle.statistics.specs.Values.{RunStats, LastCore, LastChannel, LastState, RunOutcome}
+use Rattle.statistics.specs.Values.{RunStats, LastCore, LastChannel, LastState}
 use Rattle.statistics.specs.declared.channels.ChannelStats.{ChannelStats}
 use Rattle.statistics.specs.declared.cores.CoreStats.{CoreStats}
 use Rattle.statistics.specs.declared.final_state.Credits.{Credits}
@@ -88,12 +85,3 @@ final_of s traces history =
       channels = map (last_of_channel s traces history) (below s.channels);
       in_flight = in_flight s traces history;
     }
-
--- the commands, the statistics and the state that a history leaves
-unfoldable pub outcome_after : Config → List (List Entry) → List MachineStep → RunOutcome
-outcome_after s traces history =
-    record { commands = commands history; stats = stats_of s traces history; last = final_of s traces history; ranks = s.ranks }
-
--- what the run of this many cycles leaves
-unfoldable pub outcome_of : Config → List (List Entry) → ℕ → RunOutcome
-outcome_of s traces cycles = outcome_after s traces (run s traces cycles)

@@ -2,14 +2,16 @@
 --     RunStats      of Stats
 --     LastCore, LastChannel, LastState      of CoreState, ChannelState and FinalState
 --     RunOutcome      of Outcome
-use Rattle.std.specs.Prelude.{ℕ, List}
+use Rattle.std.specs.Prelude.{ℕ, List, Option}
 use Rattle.sim_base.specs.declared.command.IssuedCommand.{IssuedCommand}
 use Rattle.sim_base.specs.declared.message.Message.{Message}
 use Rattle.sim_base.specs.declared.message.Request.{Request}
+use Rattle.request_table.specs.declared.times.RequestTimes.{RequestTimes}
 use Rattle.statistics.specs.declared.channels.ChannelStats.{ChannelStats}
 use Rattle.statistics.specs.declared.cores.CoreStats.{CoreStats}
 use Rattle.statistics.specs.declared.final_state.Credits.{Credits}
 use Rattle.statistics.specs.declared.final_state.OpenRow.{OpenRow}
+use Rattle.statistics.specs.declared.tables.Tables.{Tables}
 
 -- how many cycles a run had, and the statistics of each core and each channel, by number
 pub record RunStats : Type 0 where
@@ -36,9 +38,12 @@ pub record LastState : Type 0 where
   pub channels : List LastChannel
   pub in_flight : List Message
 
--- the commands, the statistics and the state at the end of a run, and how many ranks a channel has
+-- the tables that were asked for; the commands, and the requests, if their table was; the statistics and the state at the
+-- end of a run; and how many ranks a channel has
 pub record RunOutcome : Type 0 where
-  pub commands : List IssuedCommand
+  pub tables : Tables
+  pub commands : Option (List IssuedCommand)
+  pub requests : Option (List RequestTimes)
   pub stats : RunStats
   pub last : LastState
   pub ranks : ℕ

@@ -1,4 +1,5 @@
-//! What a run leaves: statistics of its units, the state in which it ends, and both with the commands as its outcome.
+//! What a run leaves: statistics of its units, the state in which it ends, and both with the tables that were asked for
+//! as its outcome.
 #![tactic(auto)]
 
 pub mod channels;
@@ -7,3 +8,4 @@ pub mod final_state;
 pub mod laws;
 pub mod outcome;
 pub mod stats;
+pub mod tables;

@@ -24,8 +24,8 @@ use Rattle.sim_base.proofs.Lists.{count-cons}
 use Rattle.statistics.specs.Channels.{channel_stats}
 use Rattle.statistics.specs.Runs.{stats_of_channel, last_of_core, last_of_channel, core_last, channel_last, credits_of, stats_of, final_of}
 use Rattle.statistics.specs.Values.{LastCore, LastChannel}
-use Rattle.run_outcome.specs.Outcomes.{outcome_after, outcome_of}
-use Rattle.run_outcome.specs.declared.tables.Tables.{Tables}
+use Rattle.statistics.specs.Outcomes.{outcome_after, outcome_of}
+use Rattle.statistics.specs.declared.tables.Tables.{Tables}
 use Rattle.statistics.specs.declared.channels.ChannelStats.{ChannelStats}
 use Rattle.statistics.specs.declared.final_state.Credits.{Credits}
 use Rattle.laws.specs.Commands.{channel_steps_of}

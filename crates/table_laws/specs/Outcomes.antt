@@ -15,7 +15,7 @@ use Rattle.sim_base.specs.Config.{refresh_slack}
 use Rattle.sim_base.specs.Scheduling.{refreshes}
 use Rattle.sim_base.specs.History.{commands}
 use Rattle.sim_base.specs.Machine.{run}
-use Rattle.run_outcome.specs.Values.{RunOutcome}
+use Rattle.statistics.specs.Values.{RunOutcome}
 use Rattle.laws.specs.Credits.{CreditsAreNeverOverspent, CreditsComeBackOnce}
 use Rattle.laws.specs.DataBus.{has_data_in}
 use Rattle.laws.specs.Tables.{rows_on}

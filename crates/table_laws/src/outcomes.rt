@@ -3,8 +3,8 @@
 ghost use Rattle.std.specs.Prelude.{ℕ, List};
 ghost use Rattle.sim_base.specs.declared.config.Config.{Config};
 ghost use Rattle.sim_base.specs.declared.trace.Entry.{Entry};
-ghost use Rattle.run_outcome.specs.Outcomes.{outcome_of};
-ghost use Rattle.run_outcome.specs.declared.tables.Tables.{Tables};
+ghost use Rattle.statistics.specs.Outcomes.{outcome_of};
+ghost use Rattle.statistics.specs.declared.tables.Tables.{Tables};
 ghost use Rattle.table_laws.specs.Outcomes.{OwnsDataBus, IsRefreshed, HasBoundedQueues, HoldsFewCredits, KeepsCreditsUntil};
 
 /// In a run no cycle of a channel's data bus belongs to two commands. Where ranks are refreshed, the m-th REF of each

@@ -20,10 +20,9 @@ use Rattle.sim_base.specs.declared.config.Config.{Config}
 use Rattle.sim_base.specs.declared.trace.Entry.{Entry}
 use Rattle.sim_base.specs.History.{below, trace_of}
 use Rattle.statistics.specs.Runs.{credits_of, core_last, row_of_bank, open_rows_left, channel_last, last_of_core, last_of_channel}
-use Rattle.statistics.specs.Values.{LastCore, LastChannel, LastState, RunStats}
+use Rattle.statistics.specs.Values.{LastCore, LastChannel, LastState, RunStats, RunOutcome}
 use Rattle.request_table.specs.declared.times.RequestTimes.{RequestTimes}
-use Rattle.run_outcome.specs.Values.{RunOutcome}
-use Rattle.run_outcome.specs.declared.tables.Tables.{Tables}
+use Rattle.statistics.specs.declared.tables.Tables.{Tables}
 use Rattle.laws.proofs.Legal.{length-channel_steps_of}
 use Rattle.core_window.specs.Views.{CoreView}
 use Rattle.span_laws.specs.Cores.{IsCoreAt, core_steps_of}

@@ -9,7 +9,7 @@ use Rattle.sim_base.specs.History.{below, commands}
 use Rattle.sim_base.specs.declared.command.IssuedCommand.{IssuedCommand}
 use Rattle.request_table.specs.Requests.{arrival_of, requests_of}
 use Rattle.request_table.specs.declared.times.RequestTimes.{RequestTimes}
-use Rattle.run_outcome.specs.Outcomes.{if_asked}
+use Rattle.statistics.specs.Outcomes.{if_asked}
 use Rattle.request_table.specs.Served.{served_requests}
 use Rattle.request_table.specs.declared.served_requests.ServedRequest.{ServedRequest}
 use Rattle.units.specs.Runs.{run_of, commands_at}

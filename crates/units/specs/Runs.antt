@@ -25,15 +25,14 @@ use Rattle.sim_base.specs.declared.message.Message.{Message}
 use Rattle.sim_base.specs.declared.message.Unit.{Unit as MachineUnit}
 use Rattle.sim_base.specs.declared.place.BankId.{BankId}
 use Rattle.statistics.specs.Runs.{stats_of, stats_of_core, stats_of_channel, final_of, last_of_core, last_of_channel, row_of_bank}
-use Rattle.statistics.specs.Values.{RunStats, LastCore, LastChannel, LastState}
+use Rattle.statistics.specs.Values.{RunStats, LastCore, LastChannel, LastState, RunOutcome}
 use Rattle.statistics.specs.declared.channels.ChannelStats.{ChannelStats}
 use Rattle.statistics.specs.declared.cores.CoreStats.{CoreStats}
 use Rattle.statistics.specs.declared.final_state.OpenRow.{OpenRow}
 use Rattle.laws.specs.Commands.{history_of}
 use Rattle.links.specs.InFlight.{InFlight}
-use Rattle.run_outcome.specs.Outcomes.{outcome_of}
-use Rattle.run_outcome.specs.Values.{RunOutcome}
-use Rattle.run_outcome.specs.declared.tables.Tables.{Tables}
+use Rattle.statistics.specs.Outcomes.{outcome_of}
+use Rattle.statistics.specs.declared.tables.Tables.{Tables}
 use Rattle.channel_step.specs.declared.channel.Channel.{Channel}
 use Rattle.span_laws.specs.Channels.{IsChannelAt}
 use Rattle.sim_base.specs.Machine.{ends_before}

@@ -9,9 +9,8 @@ use Rattle.std.specs.declared.alloc.Global.{Global}
 use Rattle.sim_base.specs.declared.config.Config.{Config}
 use Rattle.sim_base.specs.declared.message.Message.{Message}
 use Rattle.sim_base.specs.declared.trace.Entry.{Entry}
-use Rattle.statistics.specs.Values.{RunStats, LastState}
-use Rattle.run_outcome.specs.Values.{RunOutcome}
-use Rattle.run_outcome.specs.declared.tables.Tables.{Tables}
+use Rattle.statistics.specs.Values.{RunStats, LastState, RunOutcome}
+use Rattle.statistics.specs.declared.tables.Tables.{Tables}
 use Rattle.units.specs.Runs.{flight_at, is_over_at, stats_at, last_at, outcome_at}
 use Rattle.units.specs.declared.machine.Machine.{Machine}
 

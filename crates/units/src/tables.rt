@@ -17,8 +17,8 @@ use command_table::list::CommandList;
 use command_table::table::CommandTable;
 use request_table::left::ServedList;
 use request_table::table::RequestTable;
-use run_outcome::tables::Tables;
 use sim_base::message::Cycle;
+use statistics::tables::Tables;
 use std::alloc::{AllocError, Global};
 
 /// What the channels of a machine kept, by number: the commands of each, and the requests that it served, where a

@@ -8,7 +8,7 @@ use Rattle.std.proofs.lemmas.Slice.Eq.{bytes_eq-Decides}
 use Rattle.std.proofs.lemmas.Bool.{false≢true}
 use Rattle.sim_base.proofs.Each.{Each-append, Each-map, Each-first, Each-last}
 use Rattle.sim_base.proofs.Ordered.{Each-weaker}
-use Rattle.run_outcome.specs.Values.{RunOutcome}
+use Rattle.statistics.specs.Values.{RunOutcome}
 use Rattle.whole_files.specs.Files.{Held, SameFiles, SameBut, IsRenamed}
 use Rattle.whole_files.specs.Tables.{path_in, commands_name, stats_name, final_name, requests_name, part_name, NamedText, table_named, commands_of, stats_of, final_of, requests_of, tables_in, name_unless, others_in, PlannedText, planned_in, plan_in, from_paths, paths_of, SameOutside, IsApartFrom, AreApart, AreStaged, AreGone, AreRemoved, IsMoved, IsWaiting, ArePlaced, ArePartlyPlaced, IsIn, IsBeside, ArePut, AreTorn, AreKeptBack, IsLeftUnplaced, other_paths, IsWritten, IsLeftBy}
 use Rattle.whole_files.specs.Planned.{planned_of}

@@ -19,8 +19,8 @@
 --     IsUnplaced, IsLeftBy refusal folder run old new      what a refusal leaves
 use Rattle.std.specs.Prelude.{◌≡◌, ◌≢◌, ◌⊎◌, ℕ, ◌<◌, Bool, List, [], ◌∷◌, ◌++◌, length, map, take, drop, codes, is_some, option_map, Option, Some, None, string_bytes, if◌then◌else◌}
 use Rattle.std.specs.List.{AllByRecursion as Each}
-use Rattle.run_outcome.specs.Outcomes.{if_asked}
-use Rattle.run_outcome.specs.Values.{RunOutcome}
+use Rattle.statistics.specs.Outcomes.{if_asked}
+use Rattle.statistics.specs.Values.{RunOutcome}
 use Rattle.reports.specs.Commands.{commands_text}
 use Rattle.reports.specs.Stats.{stats_text}
 use Rattle.reports.specs.Final.{final_text}

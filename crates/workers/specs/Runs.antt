@@ -8,9 +8,9 @@ use Rattle.std.specs.Prelude.{◌≡◌, ◌⊎◌, ℕ, ◌≤◌, List}
 use Rattle.sim_base.specs.Machine.{cycles_run}
 use Rattle.sim_base.specs.declared.config.Config.{Config}
 use Rattle.sim_base.specs.declared.trace.Entry.{Entry}
-use Rattle.run_outcome.specs.Outcomes.{outcome_of}
-use Rattle.run_outcome.specs.Values.{RunOutcome}
-use Rattle.run_outcome.specs.declared.tables.Tables.{Tables}
+use Rattle.statistics.specs.Outcomes.{outcome_of}
+use Rattle.statistics.specs.Values.{RunOutcome}
+use Rattle.statistics.specs.declared.tables.Tables.{Tables}
 use Rattle.sim_base.specs.declared.fault.Fault.{Fault}
 use Rattle.units.specs.declared.machine.Machine.{Machine}
 use Rattle.workers.specs.declared.input.MachineInput.{MachineInput}

@@ -4,9 +4,9 @@ use crate::gate::Gate;
 use crate::sharing::Workers;
 use crate::watch::Watch;
 use cpu_trace::trace::Trace;
-use run_outcome::tables::Tables;
 use sim_base::config::Config;
 use sim_base::message::Cycle;
+use statistics::tables::Tables;
 
 /// A machine that is run: its configuration, and a trace for each core, by number.
 #[derive(Drop)]

@@ -2,7 +2,7 @@
 use Rattle.std.proofs.Common.{◌≡◌, sym, ap, subst, ◌∙◌, arith}
 use Rattle.std.proofs.lemmas.Result.{IfOk-weaker}
 use Rattle.sim_base.specs.Machine.{cycles_run}
-use Rattle.run_outcome.specs.Outcomes.{outcome_of}
+use Rattle.statistics.specs.Outcomes.{outcome_of}
 use Rattle.sim_base.proofs.Cycles.{cycles-none}
 use Rattle.one_clock.proofs.Runs.{cycles_run_more, cycles_run_ends}
 use Rattle.one_clock.proofs.machine.run_plain.Goals as goal

@@ -1,7 +1,7 @@
 -- The run is that of the configuration and the traces.
 use Rattle.std.proofs.Common.{Ok, ap, ◌∙◌}
 use Rattle.sim_base.specs.Machine.{cycles_run}
-use Rattle.run_outcome.specs.Outcomes.{outcome_of}
+use Rattle.statistics.specs.Outcomes.{outcome_of}
 use Rattle.simulation.proofs.TraceLists.{texts_from}
 use Rattle.simulation.specs.Runs.{IsLegalRun}
 use Rattle.simulation.proofs.Judged.{run-judged}

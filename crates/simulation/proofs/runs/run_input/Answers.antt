@@ -1,7 +1,7 @@
 -- The run is that of the configuration and the traces, whatever they were read from.
 use Rattle.std.proofs.Common.{Ok}
 use Rattle.std.proofs.lemmas.Result.{IfOk-weaker}
-use Rattle.run_outcome.specs.Outcomes.{outcome_of}
+use Rattle.statistics.specs.Outcomes.{outcome_of}
 use Rattle.sim_base.specs.Machine.{cycles_run}
 use Rattle.table_laws.proofs.Lawful.{owns_data_bus, is_refreshed, has_bounded_queues, holds_few_credits, keeps_credits_until}
 use Rattle.table_laws.specs.Outcomes.{OwnsDataBus, IsRefreshed, HasBoundedQueues, HoldsFewCredits, KeepsCreditsUntil}

@@ -2,7 +2,7 @@ use Rattle.std.proofs.Common.{◌≡◌, Some, List, Option, sym, ap, subst, ◌
 use Rattle.std.specs.Prelude.{All, Vec, is_some}
 use Rattle.std.specs.declared.alloc.Global.{Global}
 use Rattle.command_table.specs.Tables.{IsRising, table_of}
-use Rattle.run_outcome.specs.Outcomes.{if_asked}
+use Rattle.statistics.specs.Outcomes.{if_asked}
 use Rattle.sim_base.specs.History.{below, commands}
 use Rattle.sim_base.specs.Machine.{run}
 use Rattle.sim_base.specs.declared.command.IssuedCommand.{IssuedCommand}

@@ -3,7 +3,7 @@ use Rattle.std.specs.Prelude.{All, Vec, is_some}
 use Rattle.std.specs.declared.alloc.Global.{Global}
 use Rattle.request_table.specs.Requests.{requests_of}
 use Rattle.request_table.specs.Tables.{AreServed, times_by_cycle}
-use Rattle.run_outcome.specs.Outcomes.{if_asked}
+use Rattle.statistics.specs.Outcomes.{if_asked}
 use Rattle.request_table.specs.declared.served_requests.ServedRequest.{ServedRequest}
 use Rattle.sim_base.specs.History.{below}
 use Rattle.sim_base.specs.Machine.{run}

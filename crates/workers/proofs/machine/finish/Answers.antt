@@ -1,7 +1,7 @@
 -- The run did not end before the cycle where the simulator stands, and ends there: it has so many cycles.
 use Rattle.std.proofs.Common.{◌≡◌, ◌<◌, true, sym, ap, ◌∙◌, arith}
 use Rattle.sim_base.specs.Machine.{cycles_run}
-use Rattle.run_outcome.specs.Outcomes.{outcome_of}
+use Rattle.statistics.specs.Outcomes.{outcome_of}
 use Rattle.units.specs.Runs.{ends_at}
 use Rattle.span_laws.proofs.Over.{cycles-are_counted}
 use Rattle.workers.proofs.machine.finish.Goals as goal

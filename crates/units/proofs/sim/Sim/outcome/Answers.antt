@@ -1,6 +1,6 @@
 use Rattle.std.proofs.Common.{ap, ◌∙◌}
-use Rattle.run_outcome.specs.Outcomes.{outcome_after, outcome_of}
-use Rattle.run_outcome.specs.Values.{RunOutcome}
+use Rattle.statistics.specs.Outcomes.{outcome_after, outcome_of}
+use Rattle.statistics.specs.Values.{RunOutcome}
 use Rattle.units.specs.Views.{SimView}
 use Rattle.units.specs.declared.machine.Machine.{Machine}
 use Rattle.units.proofs.Ended.{outcome_is}

@@ -1,7 +1,7 @@
 //! Which tables of a run are asked for.
 
 ghost use Rattle.std.specs.Prelude.{◌≡◌};
-ghost use Rattle.run_outcome.specs.Outcomes.{usual_tables};
+ghost use Rattle.statistics.specs.Outcomes.{usual_tables};
 
 /// The tables of a run that are asked for. What only the others hold is not kept.
 #[derive(Clone, Copy, PartialEq, Eq, Debug)]

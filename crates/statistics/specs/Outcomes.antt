@@ -11,8 +11,8 @@ use Rattle.sim_base.specs.MachineStep.{MachineStep}
 use Rattle.sim_base.specs.declared.trace.Entry.{Entry}
 use Rattle.request_table.specs.Requests.{requests_of}
 use Rattle.statistics.specs.Runs.{stats_of, final_of}
-use Rattle.run_outcome.specs.Values.{RunOutcome}
-use Rattle.run_outcome.specs.declared.tables.Tables.{Tables}
+use Rattle.statistics.specs.Values.{RunOutcome}
+use Rattle.statistics.specs.declared.tables.Tables.{Tables}
 
 -- the tables of the commands, the statistics and the final state
 abbrev pub usual_tables : Tables
