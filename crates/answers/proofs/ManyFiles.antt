@@ -64,10 +64,6 @@ pub compare_refused : (tells : Type 0) (held : Held) (paths texts : List (List �
     → IsInputFault tells held paths IsCompareFault fault
 compare_refused tells held paths texts fault read refused = found_or_memory tells held paths texts IsCompareFault fault read refused
 
--- memory was refused before the files were read
-pub memory_or_files : (tells : Type 0) (held : Held) (paths : List (List ℕ)) (fault : Fault) → fault ≡ Memory → IsFilesFault tells held paths fault
-memory_or_files tells held paths fault memory = inl memory
-
 -- two lists of which the same is made have as many items
 pub same_count : {A B C : Type 0} (f : A → C) (h : B → C) (xs : List A) (ys : List B) → map f xs ≡ map h ys → length ys ≡ length xs
 same_count f h xs ys same = sym (length-map ys h) ∙ sym (ap length same) ∙ length-map xs f

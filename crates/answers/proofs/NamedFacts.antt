@@ -12,10 +12,10 @@ use Rattle.reports.specs.Stats.{stats_header, stats_rows}
 use Rattle.rule_check.specs.Verdict.{records_of}
 use Rattle.statistics.specs.Values.{RunStats}
 use Rattle.run_tables.specs.Records as Tables
-use Rattle.whole_files.specs.Files.{Held, SameFiles, IsReadFault}
+use Rattle.whole_files.specs.Files.{Held, SameFiles}
 use Rattle.answers.specs.Named.{with_config, IsNamedText, IsConfiguredBy, IsConfigured}
 use Rattle.answers.specs.Pages.{AreTablesIn}
-use Rattle.answers.specs.Refused.{AreTexts, IsFilesFault, IsInputFault, IsReady, IsRowRefusal, IsSizeFault, IsShowFault, IsRightShow, IsPageFault, IsRightPage}
+use Rattle.answers.specs.Refused.{AreTexts, IsInputFault, IsReady, IsRowRefusal, IsSizeFault, IsShowFault, IsRightShow, IsPageFault, IsRightPage}
 use Rattle.answers.proofs.RefusedFacts.{one_text, two_texts, memory_or_row, unless_memory, found_or_memory}
 
 -- ---- files that are read
@@ -35,38 +35,6 @@ named_texts tells held None (Some text) paths texts named read = absurd named
 named_texts tells held (Some path) None paths texts named read = absurd named
 
 -- ---- files that are not read
-
-pub unread_named : (tells : Type 0) (held : Held) (config : Option (List ℕ)) (paths : List (List ℕ)) (fault : Fault) → IsFilesFault tells held (with_config config []) fault
-    → IsFilesFault tells held (with_config config paths) fault
-unread_named tells held None paths fault (inl memory) = inl memory
-unread_named tells held None paths fault (inr lacks) = absurd lacks.1
-unread_named tells held (Some path) paths fault (inl memory) = inl memory
-unread_named tells held (Some path) paths fault (inr (e, inl none)) = inr (e, inl none)
-unread_named tells held (Some path) paths fault (inr (e, inr lacks)) = absurd lacks
-
-unread_beside : (tells : Type 0) (held : Held) (config : Option (List ℕ)) (paths : List (List ℕ)) (fault : Fault) → IsFilesFault tells held paths fault
-    → IsFilesFault tells held (with_config config paths) fault
-unread_beside tells held None paths fault files = files
-unread_beside tells held (Some path) paths fault (inl memory) = inl memory
-unread_beside tells held (Some path) paths fault (inr (e, lacks)) = inr (e, inr lacks)
-
-lacks_first : (tells : Type 0) (old mid : Held) (path : List ℕ) (paths : List (List ℕ)) (fault : Fault) → (tells → SameFiles old mid) → IsReadFault tells (mid path) fault
-    → IsFilesFault tells old (path ∷ paths) fault
-lacks_first tells old mid path paths fault same (inl memory) = inl memory
-lacks_first tells old mid path paths fault same (inr (e, none)) = inr (e, inl (λ t. sym (same t path) ∙ none t))
-
-lacks_second : (tells : Type 0) (held : Held) (path : List ℕ) (paths : List (List ℕ)) (fault : Fault) → IsFilesFault tells held paths fault → IsFilesFault tells held (path ∷ paths) fault
-lacks_second tells held path paths fault (inl memory) = inl memory
-lacks_second tells held path paths fault (inr (e, lacks)) = inr (e, inr lacks)
-
-pub unread_first : (tells : Type 0) (old mid : Held) (config : Option (List ℕ)) (path : List ℕ) (paths : List (List ℕ)) (fault : Fault) → (tells → SameFiles old mid)
-    → IsReadFault tells (mid path) fault → IsFilesFault tells old (with_config config (path ∷ paths)) fault
-unread_first tells old mid config path paths fault same read = unread_beside tells old config (path ∷ paths) fault (lacks_first tells old mid path paths fault same read)
-
-pub unread_second : (tells : Type 0) (old mid : Held) (config : Option (List ℕ)) (one two : List ℕ) (fault : Fault) → (tells → SameFiles old mid)
-    → IsReadFault tells (mid two) fault → IsFilesFault tells old (with_config config (one ∷ two ∷ [])) fault
-unread_second tells old mid config one two fault same read =
-    unread_beside tells old config (one ∷ two ∷ []) fault (lacks_second tells old one (two ∷ []) fault (lacks_first tells old mid two [] fault same read))
 
 -- ---- what they hold
 
@@ -120,13 +88,6 @@ size_refused document text table machine stats fault same configured read refuse
   configured = ap document_of (sym same) ∙ configured;
   fault_is = inr (record { stats = stats; rows_are = read; fault_is = refused });
 }))
-
--- what is wrong with the first table of a page is wrong with the page
-pub page_of_show : (document : Option (List ℕ)) (table commands : List ℕ) (fault : Fault) → (fault ≡ Memory) ⊎ IsShowFault (with_config document (table ∷ [])) fault
-    → (fault ≡ Memory) ⊎ IsPageFault (with_config document (table ∷ commands ∷ [])) fault
-page_of_show document table commands fault (inl memory) = inl memory
-page_of_show None table commands fault (inr refused) = inr refused
-page_of_show (Some text) table commands fault (inr refused) = inr refused
 
 row_of_page : (document : Option (List ℕ)) (table commands : List ℕ) (stats : RunStats) (machine : Option Config) (fault : Fault) → IsConfiguredBy document stats machine
     → (fault ≡ Memory) ⊎ IsRowRefusal fault → (fault ≡ Memory) ⊎ IsPageFault (with_config document (table ∷ commands ∷ [])) fault

@@ -1,19 +1,13 @@
 -- Requests beside the tables of a run: what a screen has of them, and why an answer is refused by them.
 use Rattle.std.proofs.Common.{◌≡◌, ◌⊎◌, inl, inr, ℕ, zero, suc, ◌<◌, List, [], ◌∷◌, ◌++◌, length, map, get_or, Option, Some, None, slice_get, refl, sym, ap, subst, ◌∙◌, arith}
-use Rattle.std.proofs.lemmas.List.{length-map}
 use Rattle.request_table.specs.declared.times.RequestTimes.{RequestTimes}
 use Rattle.sim_base.specs.declared.fault.Fault.{Fault}
 use Rattle.sim_base.specs.declared.fault.Fault.TheVariants.{Memory, CheckRow}
 use Rattle.sim_base.proofs.Lists.{get-push}
 use Rattle.statistics.specs.Values.{RunStats}
 use Rattle.whole_files.specs.Files.{Held, SameFiles}
-use Rattle.answers.specs.Refused.{IsReady, IsAnswerFault, IsRowRefusal, IsShowFault, IsRightShow, IsPageFault, IsRightPage, IsCompareFault, IsRightCompare}
-use Rattle.measures.specs.Agreement.{IsMismatch, row_of}
-use Rattle.measures.specs.declared.request_check.agreement.Mismatch.{Mismatch}
-use Rattle.rule_check.specs.Verdict.{records_of}
-use Rattle.run_tables.specs.Records.{IsRefusedFor}
-use Rattle.run_tables.specs.Requests.{IsRequestTable, HoldsRequests}
-use Rattle.answers.specs.Requests.{requests_path, AreRequestsOf, AreRequestsAt, IsNoRequests, IsRequestsFault, IsTailAt, IsTailIn, AreTails}
+use Rattle.answers.specs.Refused.{IsReady, IsAnswerFault, IsRowRefusal, IsShowFault, IsRightShow, IsPageFault, IsRightPage}
+use Rattle.answers.specs.Requests.{requests_path, AreRequestsAt, IsTailAt, IsTailIn, AreTails}
 use Rattle.answers.proofs.NamedFacts.{row_of_right}
 
 -- a row is refused whose tables are right
@@ -39,26 +33,11 @@ pub page_beside : (tells : Type 0) (held : Held) (paths : List (List ℕ)) (faul
     → IsAnswerFault tells held paths IsPageFault IsRightPage fault
 page_beside tells held paths fault ready refused = beside tells held paths IsPageFault IsRightPage fault row_of_right ready refused
 
-pub compare_beside : (tells : Type 0) (held : Held) (paths : List (List ℕ)) (fault : Fault) → IsReady tells held paths IsRightCompare → (fault ≡ Memory) ⊎ IsRowRefusal fault
-    → IsAnswerFault tells held paths IsCompareFault IsRightCompare fault
-compare_beside tells held paths fault ready refused = beside tells held paths IsCompareFault IsRightCompare fault (λ texts row right. tt) ready refused
-
 -- ---- files that were read before
 
 pub requests_before : (tells : Type 0) (old mid : Held) (path : List ℕ) (stats : RunStats) (requests : Option (List RequestTimes)) → (tells → SameFiles old mid)
     → (tells → AreRequestsAt (mid path) stats requests) → tells → AreRequestsAt (old path) stats requests
 requests_before tells old mid path stats requests same are t = subst (λ found. AreRequestsAt found stats requests) (same t path) (are t)
-
-pub tail_before : (tells : Type 0) (old mid : Held) (path : List ℕ) (stats : RunStats) (tail : Option (Option ℕ)) → (tells → SameFiles old mid) → (tells → IsTailIn (mid path) stats tail) → tells
-    → IsTailIn (old path) stats tail
-tail_before tells old mid path stats tail same is t = subst (λ found. IsTailIn found stats tail) (same t path) (is t)
-
-pub tails_before : (old mid : Held) (dirs : List (List ℕ)) (runs : List RunStats) (tails : List (Option ℕ)) → SameFiles old mid → AreTails dirs mid runs tails → AreTails dirs old runs tails
-tails_before old mid dirs runs tails same (inl have) = inl (record {
-  count = have.count;
-  tails_are = λ k dir run tail d r t. subst (λ found. IsTailAt found run tail) (same (requests_path dir)) (have.tails_are k dir run tail d r t);
-})
-tails_before old mid dirs runs tails same (inr lack) = inr (lack.0, (lack.1.0, lack.1.1, lack.1.2, sym (same (requests_path lack.1.1)) ∙ lack.1.3))
 
 -- ---- percentiles of several runs
 
@@ -82,9 +61,6 @@ abbrev pub TailsSoFar : {A : Type 0} → (A → List ℕ) → Held → List A �
 TailsSoFar now held dirs runs tails = (k : ℕ) (dir : List ℕ) (run : RunStats) (tail : Option ℕ) → slice_get (map now dirs) k ≡ Some dir → slice_get runs k ≡ Some run → slice_get tails k ≡ Some tail
     → IsTailAt (held (requests_path dir)) run tail
 
-pub no_tails : {A : Type 0} (now : A → List ℕ) (held : Held) (dirs : List A) (runs : List RunStats) → TailsSoFar now held dirs runs []
-no_tails now held dirs runs k dir run tail d r t = absurd cc
-
 pub tails_more : {A : Type 0} (now : A → List ℕ) (held : Held) (dirs : List A) (runs : List RunStats) (tails more : List (Option ℕ)) (place : ℕ) (tail : Option ℕ) (d : A) (r : RunStats) → length tails ≡ place
     → TailsSoFar now held dirs runs tails → more ≡ tails ++ tail ∷ [] → IsTailAt (held (requests_path (now (get_or dirs place d)))) (get_or runs place r) tail → TailsSoFar now held dirs runs more
 tails_more now held dirs runs tails more place tail d r count so_far pushed is k dir run other at_dir at_run at_tail =
@@ -98,44 +74,11 @@ tails_more now held dirs runs tails more place tail d r count so_far pushed is k
           (subst (λ x. IsTailAt (held (requests_path dir)) x tail) run_is (subst (λ x. IsTailAt (held (requests_path x)) (get_or runs place r) tail) dir_is is))
     ]
 
-pub all_tails : {A : Type 0} (now : A → List ℕ) (held : Held) (dirs : List A) (runs : List RunStats) (tails : List (Option ℕ)) → length tails ≡ length dirs → TailsSoFar now held dirs runs tails
-    → AreTails (map now dirs) held runs tails
-all_tails now held dirs runs tails count so_far = inl (record { count = count ∙ sym (length-map dirs now); tails_are = so_far })
-
 pub none_at : {A : Type 0} (now : A → List ℕ) (held : Held) (dirs : List A) (runs : List RunStats) (tails : List (Option ℕ)) (k : ℕ) (d : A) → k < length dirs
     → held (requests_path (now (get_or dirs k d))) ≡ None → tails ≡ [] → AreTails (map now dirs) held runs tails
 none_at now held dirs runs tails k d within none empty = inr (empty, (k, now (get_or dirs k d), there now dirs k d within, none))
 
 -- ---- why a table of requests is refused
-
-pub not_rows : (table : List ℕ) (stats : RunStats) (fault : Fault) → IsRefusedFor HoldsRequests (records_of table) fault → IsNoRequests table stats fault
-not_rows table stats (CheckRow row) refused = inl refused
-not_rows table stats Memory refused = tt
-not_rows table stats fault refused = absurd refused
-
-pub other_run : (table : List ℕ) (stats : RunStats) (requests : List RequestTimes) (mismatch : Mismatch) (row : ℕ) (fault : Fault) → IsRequestTable (records_of table) requests → IsMismatch stats requests mismatch
-    → row ≡ row_of mismatch (length requests) → fault ≡ CheckRow row → IsNoRequests table stats fault
-other_run table stats requests mismatch row fault is_table differs row_is fault_is =
-    subst (IsNoRequests table stats) (sym fault_is) (inr (record { requests = requests; mismatch = mismatch; is_table = is_table; differs = differs; row_is = row_is }))
-
-pub kind_of : (table : List ℕ) (stats : RunStats) (fault : Fault) → IsNoRequests table stats fault → (fault ≡ Memory) ⊎ IsRowRefusal fault
-kind_of table stats (CheckRow row) refused = inr tt
-kind_of table stats Memory refused = inl refl
-kind_of table stats fault refused = absurd refused
-
-pub memory_refused : (found : Option (List ℕ)) (stats : RunStats) (fault : Fault) → fault ≡ Memory → IsRequestsFault found stats fault
-memory_refused None stats fault memory = memory
-memory_refused (Some table) stats fault memory = subst (IsNoRequests table stats) (sym memory) tt
-
-pub held_refused : (found : Option (List ℕ)) (table : List ℕ) (stats : RunStats) (fault : Fault) → found ≡ Some table → IsNoRequests table stats fault → IsRequestsFault found stats fault
-held_refused found table stats fault is refused = subst (λ f. IsRequestsFault f stats fault) (sym is) refused
-
-pub held_requests : (found : Option (List ℕ)) (table : List ℕ) (stats : RunStats) (requests : List RequestTimes) → found ≡ Some table → AreRequestsOf table stats requests
-    → AreRequestsAt found stats (Some requests)
-held_requests found table stats requests is are = subst (λ f. AreRequestsAt f stats (Some requests)) (sym is) are
-
-pub held_none : (found : Option (List ℕ)) (stats : RunStats) → found ≡ None → AreRequestsAt found stats None
-held_none found stats is = subst (λ f. AreRequestsAt f stats None) (sym is) tt
 
 -- ---- one folder more
 

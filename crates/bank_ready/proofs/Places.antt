@@ -8,13 +8,6 @@ use Rattle.sim_base.specs.Places.{is_bank}
 use Rattle.sim_base.proofs.Lists.{eqb-swap}
 use Rattle.bank_ready.specs.Words.{bank_at, number_of, relation_from, group_relation_from}
 
-pub bank_at_number : (bank : BankId) → bank.group < 4 → bank.bank < 4 → bank_at (number_of bank) ≡ bank
-bank_at_number bank g b =
-    let rank : number_of bank / 16 ≡ bank.rank = omega arith in
-    let group : number_of bank / 4 % 4 ≡ bank.group = omega arith in
-    let last : number_of bank % 4 ≡ bank.bank = omega arith in
-    λ i. record { rank = rank i; group = group i; bank = last i }
-
 -- a bank with a number is in the rank, the group and the place that its number says
 pub is_bank_parts : (bank : BankId) (k : ℕ) → is_bank (bank_at k) bank ≡ true → (k / 16 ≡ bank.rank) × (k / 4 % 4 ≡ bank.group) × (k % 4 ≡ bank.bank)
 is_bank_parts bank k h =

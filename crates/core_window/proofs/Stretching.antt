@@ -175,11 +175,6 @@ cycle-goes a b until before after l e h =
     let retired_by_end : 1 ≡ b.now - a.now = omega arith in
     record { later = omega arith; until_then = omega arith; advances = subst (λ k. Advances k a before b after) retired_by_end h }
 
-pub counted-fits : (a : CoreView) (n : ℕ) (core_step : CoreStep) (why : Stop) (each : CoreStats) → each ≡ steady_counts core_step why → IsStanding a → IsSteady a n core_step why → 0 < n
-    → length a.trace ≤ 2 ^ 62 → a.now + n < 2 ^ 62 → CoreFits (core_joined a.stats (core_times n each))
-counted-fits a n core_step why each e i h l len early =
-    subst (λ x. CoreFits (core_joined a.stats (core_times n x))) (sym e) (steady-fits a n core_step why i h l len early)
-
 pub ok-both : {T E : Type 0} (r : Result T E) (P Q R : Type 0) → (P → Q → R) → OnOk r P → OnOk r Q → OnOk r R
 ok-both (Ok x) P Q R f p q = f p q
 ok-both (Err e) P Q R f p q = p

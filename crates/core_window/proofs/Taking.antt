@@ -1,11 +1,10 @@
 -- A Read is taken out of those that wait, which are in the order of their numbers.
-use Rattle.std.proofs.Common.{get_or, set, ◌≡◌, ℕ, ◌+◌, ◌<◌, Bool, true, false, cond, not, eqb, List, [], ◌∷◌, ◌++◌, length, take, drop, Option, Some, None, refl, sym, ap, ap₂, subst, ◌∙◌, arith, append_assoc}
+use Rattle.std.proofs.Common.{get_or, set, ◌≡◌, ℕ, ◌+◌, ◌<◌, Bool, true, false, cond, not, eqb, List, [], ◌∷◌, ◌++◌, length, drop, Option, Some, None, refl, sym, ap, ap₂, subst, ◌∙◌, arith, append_assoc}
 use Rattle.std.specs.Prelude.{filter, find}
 use Rattle.std.specs.List.{AllByRecursion as Each}
-use Rattle.std.proofs.Math.ListN.{drop_of_length-le}
 use Rattle.std.proofs.Math.Seq.{get_or-append_seam, set-append_seam}
 use Rattle.std.proofs.lemmas.Bool.{ne_eqb, eq-eqb, eqb-true}
-use Rattle.std.proofs.lemmas.List.{append-nil, drop_more, drop-append-le, length-append, length-take-le, take-append-drop}
+use Rattle.std.proofs.lemmas.List.{append-nil, drop-append-le, length-append}
 use Rattle.sim_base.proofs.Ordered.{Each-weaker}
 use Rattle.core_window.specs.Counting.{read_of, without_read, IsTakenOut}
 use Rattle.core_window.specs.Outstanding.{IsByNumber}
@@ -35,24 +34,6 @@ pub record IsCarrying (entry : ℕ) (old : List OutstandingRead) (first : ℕ) (
   pub found : read_of entry old ≡ read_of entry (held ∷ back)
   pub others : without_read entry old ≡ drop (first + 1) front ++ without_read entry (held ∷ back)
   pub order : IsByNumber (held ∷ back)
-
-pub carrying-first : (entry first : ℕ) (places : List OutstandingRead) (d : OutstandingRead) → first < length places → IsByNumber (drop first places)
-    → IsCarrying entry (drop first places) first places (first + 1) (get_or places first d)
-carrying-first entry first places d l order =
-    let split : drop first places ≡ get_or places first d ∷ drop (first + 1) places = drop_more places first d l in
-    let front : List OutstandingRead = take (first + 1) places in
-    let long : length front ≡ first + 1 = length-take-le (first + 1) places (omega arith) in
-    let none : drop (first + 1) front ≡ [] = drop_of_length-le front (omega (arith, long)) in
-    record {
-      front = front;
-      back = drop (first + 1) places;
-      all = sym (take-append-drop (first + 1) places);
-      at = sym long;
-      inside = omega (arith, long);
-      found = ap (read_of entry) split;
-      others = ap (without_read entry) split ∙ sym (ap (λ l. l ++ without_read entry (get_or places first d ∷ drop (first + 1) places)) none);
-      order = subst IsByNumber split order;
-    }
 
 -- the one at hand is another: it takes the next place, and the one that stood there is at hand
 more : (entry : ℕ) (old : List OutstandingRead) (first : ℕ) (places : List OutstandingRead) (place : ℕ) (held d : OutstandingRead) (front back : List OutstandingRead)
@@ -103,14 +84,6 @@ ended : (entry : ℕ) (old : List OutstandingRead) (held : OutstandingRead) (fro
     → read_of entry old ≡ read_of entry (held ∷ back) → read_of entry old ≡ None
 ended entry old held front [] long other found = found ∙ ap (λ b. cond {A = Option OutstandingRead} b (Some held) None) other
 ended entry old held front (x ∷ back) long other found = absurd (omega (arith, long, length-append front (x ∷ back)))
-
-pub carrying-none : (entry : ℕ) (old : List OutstandingRead) (first : ℕ) (places : List OutstandingRead) (place : ℕ) (held : OutstandingRead) (taken : Option OutstandingRead) (new : List OutstandingRead)
-    → IsCarrying entry old first places place held → place ≡ length places → (held.entry ≡ entry → ⊥) → IsTakenOut entry old taken new
-carrying-none entry old first places place held taken new h end other read is =
-    absurd (not_both read (read_of entry old) (ended entry old held h.front h.back (ap length (sym h.all) ∙ sym end ∙ h.at) (ne_eqb held.entry entry other) h.found) is)
-  where
-    not_both : (r : OutstandingRead) (o : Option OutstandingRead) → o ≡ None → o ≡ Some r → ⊥
-    not_both r o h k = cc
 
 -- the Read that is found has the number
 pub found-own : (e : ℕ) (reads : List OutstandingRead) (read : OutstandingRead) → find (is_it e) reads ≡ Some read → read.entry ≡ e

@@ -51,15 +51,6 @@ pub first_line : (text line : List ℕ) (behind : Option (Bor (List ℕ))) → M
 first_line text line None h = ([], h)
 first_line text line (Some rest) h = (lines_of rest.now, h)
 
--- no line is read yet
-pub IsReadUpTo-none : (text : List ℕ) (so_far : Option (List Entry)) → IsReadUpTo text so_far 0 text so_far
-IsReadUpTo-none text so_far =
-    record {
-      counted = omega arith;
-      is_kept = λ number. ap (λ n. kept_from so_far n (lines_of text)) (omega arith);
-      shorter = omega arith;
-    }
-
 kept_from-good : (so_far : Option (List Entry)) (number : ℕ) (line : List ℕ) (lines : List (List ℕ)) (entries : List Entry) → line_entries line ≡ Ok entries → kept_from so_far number (line ∷ lines) ≡ kept_from (appended so_far entries) (number + 1) lines
 unfolding kept_from
 kept_from-good so_far number line lines entries e =

@@ -1,6 +1,6 @@
 -- A machine in turns begins where all units stand at one cycle, and may be left alone up to the least word.
 use Rattle.std.proofs.Common.{◌≡◌, ℕ, zero, suc, ◌+◌, ◌-◌, ◌/◌, ◌%◌, ◌<◌, ◌≤◌, Bool, true, false, not, cond, ltb, leb, eqb, ◌&&◌, List, [], ◌∷◌, ◌++◌, refl, sym, ap, subst, ◌∙◌, ◌⊎◌, inl, inr, arith}
-use Rattle.std.specs.Prelude.{filter, fold, flat_map, count_by}
+use Rattle.std.specs.Prelude.{filter, fold, flat_map}
 use Rattle.std.specs.List.{AllByRecursion as Each, list_any}
 use Rattle.std.proofs.lemmas.Bool.{leb-true, le-ltb, cases_lt, cond_both, cond-true, cond-false}
 use Rattle.std.proofs.lemmas.Bool.Decides.{nat_tests}
@@ -16,7 +16,7 @@ use Rattle.sim_base.proofs.Below.{flat_map_below_more}
 use Rattle.sim_base.proofs.Arrived.{Each-by_age}
 use Rattle.sim_base.proofs.Each.{Each-all, Each-append}
 use Rattle.sim_base.proofs.Ordered.{Each-weaker}
-use Rattle.sim_base.proofs.Lists.{filter-both, filter-agree, filter-none, count-cons}
+use Rattle.sim_base.proofs.Lists.{filter-both, filter-agree, filter-none}
 use Rattle.sim_base.proofs.Grows.{is_unit-own}
 use Rattle.links.specs.InFlight.{is_due}
 use Rattle.links.proofs.Next.{by_age-empty}
@@ -75,11 +75,6 @@ turns-begin s traces now =
       wait = λ unit k. waits-now s traces now unit;
       holds = sym (flights-meet s traces now);
     }
-
--- by age none, then none
-all-none : (ms : List Message) → count_by (λ m. true) ms ≡ 0 → ms ≡ []
-all-none [] h = refl
-all-none (m ∷ ms) h = let e : count_by (λ (x : Message). true) (m ∷ ms) ≡ 1 + count_by (λ (x : Message). true) ms = count-cons (λ (x : Message). true) m ms in absurd (omega arith)
 
 -- where none is left, none passes
 each-fails : (p : Message → Bool) (ms : List Message) → filter p ms ≡ [] → Each (λ (m : Message). p m ≡ false) ms

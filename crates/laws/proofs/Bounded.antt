@@ -2,13 +2,12 @@
 use Rattle.std.proofs.Common.{◌≡◌, ℕ, zero, suc, ◌+◌, ◌-◌, ◌*◌, ◌%◌, ◌<◌, ◌≤◌, Bool, true, false, ◌&&◌, eqb, ltb, List, [], ◌∷◌, length, refl, sym, ap, subst, ◌∙◌, ◌⊎◌, inl, inr, arith}
 use Rattle.std.specs.Prelude.{count_by, filter, not}
 use Rattle.std.specs.List.{AllByRecursion as Each}
-use Rattle.std.proofs.lemmas.Bool.{cond_both, and_parts, and_from, and_left, eq-eqb, lt-ltb, le-ltb, ltb-true, cases_lt}
+use Rattle.std.proofs.lemmas.Bool.{and_parts, and_from, and_left, eq-eqb, lt-ltb, le-ltb, ltb-true, cases_lt}
 use Rattle.std.proofs.lemmas.List.Sums.{length-filter}
 use Rattle.sim_base.specs.declared.message.Access.{Access}
 use Rattle.sim_base.specs.declared.message.Access.TheVariants as access
 use Rattle.sim_base.specs.Access.{is_access}
 use Rattle.sim_base.specs.declared.config.Config.{Config}
-use Rattle.sim_base.specs.Config.{usual_latency}
 use Rattle.sim_base.specs.History.{inbox, issued_commands}
 use Rattle.sim_base.specs.Scheduling.{is_served, is_queued, queued_requests, queue_in}
 use Rattle.sim_base.specs.Machine.{run}
@@ -106,13 +105,6 @@ queued_requests-bound s traces n k until l =
     all_cores q xs (s.read_credits + s.write_credits) s.cores (Each-weaker _ (λ (r : Request). r.core < s.cores) (λ r h. h.0.core) xs (requests-traced s traces n k))
     (λ c m. of_core s traces n k c l m) in
     omega arith
-
--- each message travels for a cycle at least
-usual-positive : (s : Config) (link : ℕ) → 1 ≤ usual_latency s link
-usual-positive s link =
-    let r = s.latencies_in_range in
-    cond_both (eqb (link % 3) 0) s.request_latency _ (λ x. 1 ≤ x) (λ e. r.request_in.0)
-    (λ e. cond_both (eqb (link % 3) 1) s.reply_latency s.credit_latency (λ x. 1 ≤ x) (λ f. r.reply_in.0) (λ f. r.credit_in.0))
 
 -- the queue in a cycle does not depend on what is done from then on
 pub queue-then : (s : Config) (traces : List (List Entry)) (k : ℕ) → k < s.channels → (n t : ℕ) → t ≤ n

@@ -22,7 +22,7 @@ use Rattle.sim_base.specs.declared.trace.Entry.{Entry}
 use Rattle.sim_base.proofs.Arrived.{put, puts, by_age-puts, Each-puts}
 use Rattle.sim_base.proofs.Below.{flat_map_below_more}
 use Rattle.sim_base.proofs.Each.{Each-append, Each-flat_map_below}
-use Rattle.sim_base.proofs.Grows.{SentBy, messages-grow, core_channel_differ, core_sends-by, channel_sends-by, of_core-by, of_channel-by, has_channels}
+use Rattle.sim_base.proofs.Grows.{SentBy, messages-grow, core_channel_differ, core_sends-by, channel_sends-by, has_channels}
 use Rattle.sim_base.proofs.Ordered.{Each-weaker}
 use Rattle.sim_base.proofs.Spans.{step_of_core-next}
 use Rattle.sim_base.specs.declared.message.Access.TheVariants as access
@@ -122,14 +122,6 @@ no_cores : (s : Config) (f g : ℕ → List Message) → Parts s f g → (p : Me
 no_cores s f g h p k only =
     count-flat_map-none p f s.cores (λ i l. none_from s (Channel k) (Core i) p only (core_channel_differ i k) (f i) (h.cores i l))
 
-count-core : (s : Config) (f g : ℕ → List Message) → Parts s f g → (p : Message → Bool) (c : ℕ) → c < s.cores → OnlyFrom s (Core c) p → count_by p (parts s f g) ≡ count_by p (f c)
-count-core s f g h p c l only =
-    let a : count_by p (parts s f g) ≡ count_by p (flat_map f (below s.cores)) + count_by p (flat_map g (below s.channels)) = count-append p (flat_map f (below s.cores)) _ in
-    let b : count_by p (flat_map g (below s.channels)) ≡ 0 = no_channels s f g h p c only in
-    let d : count_by p (flat_map f (below s.cores)) ≡ count_by p (f c) =
-    count-flat_map-one p f s.cores c l (λ i m e. none_from s (Core c) (Core i) p only (core_from c i e) (f i) (h.cores i m)) in
-    omega arith
-
 count-channel : (s : Config) (f g : ℕ → List Message) → Parts s f g → (p : Message → Bool) (k : ℕ) → k < s.channels → OnlyFrom s (Channel k) p → count_by p (parts s f g) ≡ count_by p (g k)
 count-channel s f g h p k l only =
     let a : count_by p (parts s f g) ≡ count_by p (flat_map f (below s.cores)) + count_by p (flat_map g (below s.channels)) = count-append p (flat_map f (below s.cores)) _ in
@@ -158,16 +150,6 @@ sends-parts : (s : Config) (traces : List (List Entry)) (history : List MachineS
 sends-parts s traces history machine_step =
     record { cores = λ i l. core_sends-by s traces history machine_step i (has_channels s); channels = λ i l. channel_sends-by s history machine_step i l }
 
-messages-parts : (s : Config) (traces : List (List Entry)) (history : List MachineStep) → Parts s (messages_of_core s traces history) (messages_of_channel s history)
-messages-parts s traces history =
-    record { cores = λ i l. of_core-by s traces history i; channels = λ i l. of_channel-by s history i l }
-
--- of what is sent in a cycle, only what this core or channel sends passes the test
-pub sends-core : (s : Config) (traces : List (List Entry)) (history : List MachineStep) (machine_step : MachineStep) (p : Message → Bool) (c : ℕ) → c < s.cores → OnlyFrom s (Core c) p
-    → count_by p (sends s traces history machine_step) ≡ count_by p (core_sends s traces history machine_step c)
-unfolding sends
-sends-core s traces history machine_step p c l only = count-core s _ _ (sends-parts s traces history machine_step) p c l only
-
 pub sends-channel : (s : Config) (traces : List (List Entry)) (history : List MachineStep) (machine_step : MachineStep) (p : Message → Bool) (k : ℕ) → k < s.channels → OnlyFrom s (Channel k) p
     → count_by p (sends s traces history machine_step) ≡ count_by p (channel_sends s history machine_step k)
 unfolding sends
@@ -182,17 +164,6 @@ pub sends-bound_channel : (s : Config) (traces : List (List Entry)) (history : L
     → (k < s.channels → count_by p (channel_sends s history machine_step k) ≤ b) → count_by p (sends s traces history machine_step) ≤ b
 unfolding sends
 sends-bound_channel s traces history machine_step p k b only h = bound-channel s _ _ (sends-parts s traces history machine_step) p k b only h
-
--- of all messages that were sent, as many pass a test as of those of one core or channel, if only what it sends passes
-pub messages-core : (s : Config) (traces : List (List Entry)) (history : List MachineStep) (p : Message → Bool) (c : ℕ) → c < s.cores → OnlyFrom s (Core c) p
-    → count_by p (messages s traces history) ≡ count_by p (messages_of_core s traces history c)
-unfolding messages
-messages-core s traces history p c l only = count-core s _ _ (messages-parts s traces history) p c l only
-
-pub messages-channel : (s : Config) (traces : List (List Entry)) (history : List MachineStep) (p : Message → Bool) (k : ℕ) → k < s.channels → OnlyFrom s (Channel k) p
-    → count_by p (messages s traces history) ≡ count_by p (messages_of_channel s history k)
-unfolding messages
-messages-channel s traces history p k l only = count-channel s _ _ (messages-parts s traces history) p k l only
 
 -- what a core issues in the cycle after a history
 pub issues-each : (P : Message → Type 0) (s : Config) (traces : List (List Entry)) (history : List MachineStep) (c : ℕ) → c < s.cores

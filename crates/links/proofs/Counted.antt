@@ -1,7 +1,7 @@
 -- Rings with room for those of some messages that go to them.
 use Rattle.std.proofs.Common.{ℕ, zero, suc, ◌+◌, ◌<◌, ◌≤◌, ◌≡◌, Bool, true, false, cond, eqb, List, [], ◌∷◌, length, get_or, set, take, drop, add-zero, refl, sym, ap, ◌∙◌, subst, inl, inr, ◌⊎◌, arith}
 use Rattle.std.proofs.lemmas.Bool.{cases_lt, eqb-true, eq-eqb, false≢true}
-use Rattle.std.proofs.lemmas.List.{drop_more, get_or-set_same, get_or-set_other}
+use Rattle.std.proofs.lemmas.List.{drop_more}
 use Rattle.std.proofs.lemmas.List.Sums.{sum_by-cons, count_by-le-length, count_by_more_yes, count_by_more_no}
 use Rattle.circular_buffer.specs.Buffer.{Buffer, buffer}
 use Rattle.sim_base.specs.declared.message.Message.{Message}
@@ -84,22 +84,6 @@ room_there ch j i x d rings ms h l e at =
     ap (λ n. get_or rings n (buffer [] 0)) (sym e) ∙ any_default i d rings (subst (λ n. n < length rings) (sym e) has.exists) ∙ sym at in
     let room = subst (λ ring. length ring.items + count_to ch (ring_to ch m) (m ∷ drop (j + 1) ms) ≤ ring.capacity) here has.room in
     omega (arith, one, room)
-
-pub one_more : (number n v : ℕ) (xs : List ℕ) → number < length xs → v ≡ get_or xs number 0 + 1 → get_or (set xs number v) n 0 ≡ get_or xs n 0 + cond (eqb number n) 1 0
-one_more number n v xs l h = by (eqb number n) refl
-  where
-    by : (t : Bool) → eqb number n ≡ t → get_or (set xs number v) n 0 ≡ get_or xs n 0 + cond (eqb number n) 1 0
-    by true f =
-        let e = eqb-true number n f in
-        ap (λ k. get_or (set xs number v) k 0) (sym e)
-        ∙ get_or-set_same xs number v 0 l
-        ∙ h
-        ∙ ap (λ k. get_or xs k 0 + 1) e
-        ∙ sym (ap (λ b. get_or xs n 0 + cond b 1 0) f)
-    by false f =
-        get_or-set_other xs number n v 0 (λ e. absurd (false≢true (sym f ∙ eq-eqb _ _ (sym e))))
-        ∙ omega arith
-        ∙ sym (ap (λ b. get_or xs n 0 + cond b 1 0) f)
 
 -- one message more is counted, at the ring that it goes to
 pub counts_more : (ch number i : ℕ) (d : Message) (old new : List ℕ) (ms : List Message) → i < length ms → number ≡ ring_to ch (get_or ms i d)

@@ -13,7 +13,7 @@ use Rattle.std.proofs.lemmas.List.Concat.{flat_map-append}
 use Rattle.std.proofs.Math.Bool.{or-false, and-true, and-false}
 use Rattle.sim_base.specs.declared.config.Config.{Config}
 use Rattle.sim_base.specs.MachineStep.{MachineStep, step_of_core, step_of_channel}
-use Rattle.sim_base.specs.History.{below, steps_of_core, steps_of_channel, issued_at, issued_commands, commands_in, commands, core_messages, channel_messages, messages, messages_of_core, messages_of_channel, is_to, is_before, by_age, insert_by_age, inbox}
+use Rattle.sim_base.specs.History.{below, steps_of_core, steps_of_channel, issued_at, issued_commands, commands_in, commands, core_messages, messages, messages_of_core, is_to, is_before, by_age, insert_by_age, inbox}
 use Rattle.sim_base.specs.Sends.{core_sends, sends}
 use Rattle.sim_base.specs.Access.{is_access}
 use Rattle.sim_base.specs.Scheduling.{request_in, serves, is_served, is_queued, queued_requests, queue_in, writes_in, drains_with, drains_before, drains, candidates, lowest_due, choice_between, choice}
@@ -32,7 +32,7 @@ use Rattle.one_clock.specs.Pasts.{no_core_past, no_channel_past}
 use Rattle.one_clock.specs.Steps.{core_step_of}
 use Rattle.sim_base.proofs.Below.{flat_map_below_more as flat_map_below_suc}
 use Rattle.sim_base.proofs.Arrived.{put, puts, by_age-puts, fold-puts}
-use Rattle.sim_base.proofs.Ordered.{Sorted, Sorted-puts, filter-puts, filter-by_age}
+use Rattle.sim_base.proofs.Ordered.{filter-puts, filter-by_age}
 use Rattle.sim_base.proofs.Grows.{core-grows, inbox-grows, by_age-filter-grows, has_channels}
 use Rattle.sim_base.proofs.Same.{drains-same}
 use Rattle.sim_base.proofs.Spans.{length-run, inbox-sorted, step_of_core-next, step_of_channel-next, inbox-run, inbox-stamped}
@@ -334,9 +334,6 @@ step_is s traces n k view step e f g =
 abbrev pub issued_below : Config → List (List Entry) → ℕ → ℕ → List IssuedCommand
 issued_below s traces n k = filter_map (λ i. issued_at i n (channel_step_of s traces (run s traces n) i).command) (below k)
 
-pub issued_none : (s : Config) (traces : List (List Entry)) (n : ℕ) → commands (run s traces n) ++ issued_below s traces n 0 ≡ commands (run s traces n)
-issued_none s traces n = append-nil (commands (run s traces n))
-
 pub issued_more : (s : Config) (traces : List (List Entry)) (n k : ℕ)
     → commands (run s traces n) ++ issued_below s traces n (k + 1)
     ≡ (commands (run s traces n) ++ issued_below s traces n k) ++ option_to_list (issued_at k n (channel_step_of s traces (run s traces n) k).command)
@@ -368,10 +365,6 @@ flat_map_nothing f (suc n) h = flat_map_below_suc f n ∙ ap₂ (λ a b. a ++ b)
 no_core_messages : (s : Config) (traces : List (List Entry)) (c : ℕ) → messages_of_core s traces [] c ≡ []
 unfolding messages_of_core steps_of_core core_messages
 no_core_messages s traces c = refl
-
-no_channel_messages : (s : Config) (k : ℕ) → messages_of_channel s [] k ≡ []
-unfolding messages_of_channel steps_of_channel channel_messages
-no_channel_messages s k = refl
 
 pub no_mail : (s : Config) (traces : List (List Entry)) (unit : MachineUnit) → inbox s traces [] unit ≡ []
 unfolding inbox by_age

@@ -55,12 +55,6 @@ unfolding after
 after-append sim [] more = refl
 after-append sim (phase ∷ phases) more = after-append (sim_of (ended phase)) phases more
 
--- a run that stands where it began has come there by no phases, and so has one that stands later
-pub come-later : (may_give : ℕ → List JobView → List JobView → Type 0) (shards : ℕ) (sim : SimView) (limit : ℕ) (later : SimView) → later.machine ≡ sim.machine → later.phase ≡ sim.phase
-    → sim.now ≤ later.now → HasCome may_give shards sim limit later
-unfolding after AreFitted
-come-later may_give shards sim limit later m p l = record { phases = []; fitted = tt; far = record { machine_is = m; phase_is = p; since = l } }
-
 pub come-none : (may_give : ℕ → List JobView → List JobView → Type 0) (shards : ℕ) (sim : SimView) (limit : ℕ) → HasCome may_give shards sim limit sim
 unfolding after AreFitted
 come-none may_give shards sim limit = record { phases = []; fitted = tt; far = far-same sim }

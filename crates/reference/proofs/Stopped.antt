@@ -1,7 +1,7 @@
 -- Why a run stops before its limit.
 use Rattle.std.proofs.Common.{◌≡◌, ◌≢◌, ℕ, List, Some, None, ◌⊎◌, inl, inr, refl, sym, ◌∙◌}
 use Rattle.sim_base.specs.declared.fault.Fault.{Fault}
-use Rattle.sim_base.specs.declared.fault.Fault.TheVariants.{Memory, Merge}
+use Rattle.sim_base.specs.declared.fault.Fault.TheVariants.{Memory}
 use Rattle.sim_base.specs.declared.fault.MergeFault.{MergeFault}
 use Rattle.sim_base.specs.declared.fault.MergeFault.TheVariants as merging
 use Rattle.units.specs.Views.{SimView}
@@ -34,13 +34,6 @@ misfits may_give phase arranged (merging.Double index) given e =
     inr (record { cause = merging.Double index; misfit = record { arranged = arranged; given = given; fault_is = second (double_index index) e }; fault_is = refl })
 misfits may_give phase arranged (merging.Stranger index) given e =
     inr (record { cause = merging.Stranger index; misfit = record { arranged = arranged; given = given; fault_is = second (stranger_index index) e }; fault_is = refl })
-
--- out of memory is told as such
-pub told-as_memory : (cause : MergeFault) → run_fault cause ≢ Merge merging.Memory
-told-as_memory merging.Memory e = cc
-told-as_memory (merging.Missing shard) e = cc
-told-as_memory (merging.Double index) e = cc
-told-as_memory (merging.Stranger index) e = cc
 
 -- an order that only permutes leaves out of memory alone
 pub only-memory : (may_give : ℕ → List JobView → List JobView → Type 0) (shards : ℕ) (sim : SimView) (limit : ℕ) (fault : Fault) → IsWhyStopped may_give shards sim limit fault → OnlyPermutes may_give → fault ≡ Memory

@@ -1,23 +1,16 @@
 -- How far a stream took a text.
-use Rattle.std.proofs.Common.{◌≡◌, ℕ, Bool, List, [], ◌++◌, ◌-◌, take, drop, length, Option, Some, None, Result, Ok, Err, OnOk, OnErr, IsTrue, sym, ap, subst, ◌∙◌, refl, append-nil, append_assoc}
+use Rattle.std.proofs.Common.{◌≡◌, ℕ, Bool, List, [], ◌++◌, ◌-◌, take, drop, length, Option, Some, None, Result, Ok, Err, OnOk, OnErr, IsTrue, sym, ap, subst, ◌∙◌, append-nil, append_assoc}
 use Rattle.std.proofs.Math.Seq.{take-length}
 use Rattle.std.proofs.lemmas.Bool.{false≢true}
 use Rattle.std.proofs.lemmas.List.{take-append-drop, length-drop}
 use Rattle.std.specs.Io.KnownBytes.{Appends}
 use Rattle.refusal.specs.Lines.{TakesUntil, AppendsBeginning, IsExplained, IsExplainedWhole}
 
-appends_none : (o : Option (List ℕ)) → Appends o o []
-appends_none None = tt
-appends_none (Some xs) = sym (append-nil xs)
-
 appends_more : (a b c : Option (List ℕ)) (x y : List ℕ) → Appends a b x → Appends b c y → Appends a c (x ++ y)
 appends_more None b c x y first second = tt
 appends_more (Some xs) None c x y first second = absurd first
 appends_more (Some xs) (Some ys) None x y first second = absurd second
 appends_more (Some xs) (Some ys) (Some zs) x y first second = second ∙ ap (λ (s : List ℕ). s ++ y) first ∙ append_assoc xs x y
-
-pub none_taken : (o : Option (List ℕ)) (text : List ℕ) → TakesUntil o o text text
-none_taken o text = record { taken = []; text_is = refl; took = appends_none o }
 
 -- what a range up to the end is
 to_end : (n : ℕ) (rest : List ℕ) → take (length rest - n) (drop n rest) ≡ drop n rest
@@ -33,11 +26,6 @@ more_taken old mid new text rest n so_far more = record {
       ∙ ap (λ (s : List ℕ). (so_far.taken ++ take n rest) ++ s) (sym (to_end n rest));
   took = appends_more old mid new so_far.taken (take n rest) so_far.took more;
 }
-
-pub all_taken : (old new : Option (List ℕ)) (text rest : List ℕ) → TakesUntil old new text rest → rest ≡ [] → Appends old new text
-all_taken old new text rest so_far none =
-    let whole : text ≡ so_far.taken = so_far.text_is ∙ ap (λ (s : List ℕ). so_far.taken ++ s) none ∙ append-nil so_far.taken in
-    rw whole so_far.took
 
 pub begun : (old new : Option (List ℕ)) (text rest : List ℕ) → TakesUntil old new text rest → AppendsBeginning old new text
 begun old new text rest taken = record { rest = rest; taken = taken }

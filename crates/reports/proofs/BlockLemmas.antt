@@ -1,5 +1,5 @@
 -- Rows with the line feed at their end, and how a row is copied.
-use Rattle.std.proofs.Common.{◌≡◌, ℕ, ◌+◌, ◌<◌, ◌≤◌, List, [], ◌∷◌, ◌++◌, length, take, drop, codes, refl, sym, ap, ◌∙◌, arith, append_assoc, length-append, length-take-le}
+use Rattle.std.proofs.Common.{◌≡◌, ℕ, ◌+◌, ◌<◌, ◌≤◌, List, [], ◌∷◌, ◌++◌, length, take, drop, refl, sym, ap, ◌∙◌, arith, append_assoc, length-append, length-take-le}
 use Rattle.std.proofs.Math.Seq.{take-add, take-append-add}
 use Rattle.std.proofs.lemmas.List.{append-nil, length-drop, take_at, take-take}
 use Rattle.std.proofs.lemmas.Simd.{put_chunk_is}
@@ -8,11 +8,6 @@ use borrow.Rule.Slice.PartMut.{put_mid, mid_of, post_of}
 use Rattle.csv.specs.Writing as csv
 use Rattle.reports.specs.Rows.{plain_writer, ended}
 use Rattle.reports.proofs.RowLemmas.{row_text-plain}
-
--- rows, if there are any, get a line feed
-pub ended-some : (text : List ℕ) → 0 < length text → ended text ≡ text ++ codes "\n"
-ended-some [] some = absurd (omega (arith, some))
-ended-some (byte ∷ rest) some = refl
 
 -- what `csv` makes of rows
 pub row_text-ended : (text : List ℕ) → (ended text ≡ [] → ⊥) → csv.row_text plain_writer (text ∷ []) ≡ ended text

@@ -1,7 +1,6 @@
 -- The texts of pieces, one after the other.
-use Rattle.std.proofs.Common.{◌≡◌, ℕ, ◌+◌, ◌-◌, ◌<◌, ◌≤◌, List, [], ◌∷◌, ◌++◌, length, get_or, take, map, Result, Ok, Err, Vec, Global, refl, sym, ap, ◌∙◌, arith, suc, zero}
+use Rattle.std.proofs.Common.{◌≡◌, ℕ, ◌+◌, ◌-◌, ◌<◌, ◌≤◌, List, [], ◌∷◌, ◌++◌, take, map, Result, Ok, Err, Vec, Global, refl, sym, ap, ◌∙◌, arith, suc, zero}
 use Rattle.std.proofs.lemmas.Grind.{flat_map-append}
-use Rattle.std.proofs.lemmas.List.{append-nil, take_more}
 use Rattle.std.specs.List.{AllZip, Contains, flat_map, slice_range}
 use Rattle.std.specs.Prelude.{MatchResult, IfOk, IfErr}
 use Rattle.rayon.specs.Shown.{take-add}
@@ -61,13 +60,3 @@ pub lines-joined : {A : Type 0} (fields : A → List (List ℕ)) (pieces : List 
 lines-joined fields [] = sym (mapped_none fields)
 lines-joined fields (piece ∷ pieces) =
     (λ i. rows_text (map fields piece) ++ lines-joined fields pieces i) ∙ sym (lines-append fields piece (flat_map (λ rows. rows) pieces))
-
--- one text more
-pub texts-more : (texts : List (Vec ℕ Global)) (i : ℕ) (d : Vec ℕ Global) → i < length texts
-    → flat_map (λ text. text.items) (take i texts) ++ (get_or texts i d).items ≡ flat_map (λ text. text.items) (take (i + 1) texts)
-texts-more texts i d here =
-    let few = take i texts in
-    let next = get_or texts i d in
-    sym (ap (flat_map (λ text. text.items)) (take_more texts i d here)
-    ∙ flat_map-append (λ text. text.items) few (next ∷ [])
-    ∙ ap (λ t. flat_map (λ text. text.items) few ++ t) (append-nil next.items))

@@ -1,6 +1,5 @@
 -- What a writer holds, with more rows.
 use Rattle.std.proofs.Common.{◌≡◌, ℕ, ◌+◌, ◌<◌, ◌≤◌, List, [], ◌∷◌, ◌++◌, length, get_or, take, map, codes, Option, Some, None, refl, sym, ap, subst, ◌∙◌, arith, zero-add, append_assoc, length-take-le}
-use Rattle.std.proofs.KnownBytes.{Appends-nil}
 use Rattle.std.proofs.lemmas.Grind.{flat_map-append}
 use Rattle.std.proofs.lemmas.List.{append-nil, map-append, map_more, take_more}
 use Rattle.std.specs.Io.KnownBytes.{Appends}
@@ -87,10 +86,6 @@ mapped_twice_more f g xs i d here =
     ∙ ap rows_text (map-append g few (next ∷ []))
     ∙ rows_text-append (map g few) (g next ∷ [])
     ∙ ap (λ t. rows_text (map g few) ++ t) (rows_text-one (g next))
-
--- nothing is written
-pub nothing_written : (old : Option (List ℕ)) (text : List ℕ) → text ≡ [] → Appends old old text
-nothing_written old text none = subst (Appends old old) (sym none) (Appends-nil old)
 
 -- two rows
 pub rows_text-two : (first second : List (List ℕ)) → rows_text (first ∷ second ∷ []) ≡ row_text first ++ row_text second

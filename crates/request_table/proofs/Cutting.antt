@@ -27,9 +27,6 @@ served-filter p from until (row ∷ rows) h =
     cond_both (p row) (row ∷ filter p rows) (filter p rows) (AreServed from until) (λ e. (h.0, h.1, served-filter p row.served until rows h.2))
     (λ e. served-earlier row.served from until h.0 (filter p rows) (served-filter p row.served until rows h.2))
 
-pub all-in_order : (until : ℕ) (lists : List (List ServedRequest)) → All (AreServed 0 until) lists → All IsInOrder lists
-all-in_order until lists h k d l = record { until = until; served = h k d l }
-
 -- each is served from the cycle on
 from-get : (from until : ℕ) (rows : List ServedRequest) (j : ℕ) (d : ServedRequest) → AreServed from until rows → j < length rows → from ≤ (get_or rows j d).served
 from-get from until [] j d h l = absurd (omega (arith, l))

@@ -1,5 +1,5 @@
 -- A table of several lists goes on with the request of the list that begins soonest.
-use Rattle.std.proofs.Common.{◌≡◌, ℕ, zero, suc, ◌<◌, ◌≤◌, List, [], ◌∷◌, ◌++◌, length, get_or, map, set, drop, slice_get, Some, None, IfSome, refl, sym, ap, ap₂, subst, ◌∙◌, arith}
+use Rattle.std.proofs.Common.{◌≡◌, ℕ, zero, suc, ◌<◌, ◌≤◌, List, [], ◌∷◌, ◌++◌, length, get_or, map, set, drop, slice_get, Some, IfSome, refl, sym, ap, ap₂, subst, ◌∙◌, arith}
 use Rattle.std.specs.Prelude.{All}
 use Rattle.std.specs.List.{AllByRecursion as Each}
 use Rattle.std.proofs.lemmas.Bool.{cond-true, cond-false, eq-eqb, ne_eqb}
@@ -129,14 +129,6 @@ times-next s cycles lists place (first ∷ rest) row h n o t =
     let same : first ≡ row = cc in
     let is : get_or lists place [] ≡ row ∷ rest = get_or_default lists place [] (first ∷ rest) n.next.within ∙ sym o ∙ ap (λ z. z ∷ rest) same in
     ap (map (times_of s cycles)) (first-row cycles lists place row rest h (begins lists place row rest n is))
-
--- the list that goes on soonest has a request
-pub some-row : (lists : List (List ServedRequest)) (place : ℕ) (old : List ServedRequest) → IsNext lists place → old ≡ get_or lists place old → None ≡ slice_get old 0 → ⊥
-some-row lists place [] n o t =
-    let e : get_or lists place [] ≡ [] = sym o in
-    let i : None ≡ Some n.cycle = sym (ap first_cycle e) ∙ n.next.starts in
-    cc
-some-row lists place (first ∷ rest) n o t = absurd (cc)
 
 -- with nothing left in any list the table has no row
 all-empty : (t : ℕ) (lists : List (List ServedRequest)) → Each (λ (rows : List ServedRequest). rows ≡ []) lists → served_at lists t ≡ []

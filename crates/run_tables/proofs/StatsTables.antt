@@ -15,7 +15,7 @@ use Rattle.statistics.specs.declared.channels.ChannelStats.{ChannelStats}
 use Rattle.statistics.specs.declared.cores.CoreStats.{CoreStats}
 use Rattle.run_tables.specs.Lines.{has_text, is_header_row}
 use Rattle.run_tables.specs.Stats.{CoreInRange, IsStatsTable}
-use Rattle.run_tables.specs.Units.{AreRead, core_at, core_size, channel_at, channel_size, count_at, has_core, SomeCores, CoresAre, SomeChannels, IsRead}
+use Rattle.run_tables.specs.Units.{AreRead, core_at, core_size, channel_at, channel_size, count_at, SomeCores, SomeChannels, IsRead}
 use Rattle.run_tables.proofs.Exact.{header_is, header_back}
 use Rattle.run_tables.proofs.UnitRows.{NoDraining, count_row, count_small, count_from, row_of, core_ok, core_from, core_long, channel_ok, channel_from, channel_long}
 use Rattle.run_tables.proofs.Units.{from, rows_of_units, units_of_rows, one_more}
@@ -149,9 +149,6 @@ read_table table stats r =
 
 -- WHAT THE LOOPS KEEP
 
-pub cores_none : (table : List (List (List ℕ))) (cores : List CoreStats) → cores ≡ [] → 2 ≤ length table → SomeCores table cores 2
-cores_none table cores none two = subst (λ xs. SomeCores table xs 2) (sym none) (record { read = refl; end = refl; within = two })
-
 pub core_more : (table : List (List (List ℕ))) (cores pushed : List CoreStats) (core : CoreStats) (row id next : ℕ) → SomeCores table cores row → id ≡ length cores → core_at table row id ≡ Ok core → next ≡ row + 12
     → pushed ≡ cores ++ core ∷ [] → SomeCores table pushed next
 core_more table cores pushed core row id next s number reads step push =
@@ -162,12 +159,6 @@ core_more table cores pushed core row id next s number reads step push =
       end = omega (arith, size, end);
       within = core_long table row id core reads;
     }))
-
-pub cores_all : (table : List (List (List ℕ))) (cores : List CoreStats) (row : ℕ) → SomeCores table cores row → has_core (length cores) table row ≡ false → CoresAre table cores (2 + 12 * length cores)
-cores_all table cores row s ends = subst (λ k. CoresAre table cores k) s.end (record { some = s; ends = ends })
-
-pub channels_none : (table : List (List (List ℕ))) (start : ℕ) (channels : List ChannelStats) → channels ≡ [] → start ≤ length table → SomeChannels table start channels start
-channels_none table start channels none within = subst (λ xs. SomeChannels table start xs start) (sym none) (record { read = refl; within = within })
 
 pub channel_more : (table : List (List (List ℕ))) (start : ℕ) (channels pushed : List ChannelStats) (channel : ChannelStats) (row id next : ℕ) → SomeChannels table start channels row → id ≡ length channels
     → channel_at table row id ≡ Ok channel → next ≡ row + channel_size channel → pushed ≡ channels ++ channel ∷ [] → SomeChannels table start pushed next

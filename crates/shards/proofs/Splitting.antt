@@ -48,38 +48,6 @@ pub record Climbs (xs : List ℕ) (last : ℕ) : Type 0 where
   pub rises : (i : ℕ) → suc i < length xs → get_or xs i 0 ≤ get_or xs (suc i) 0
   pub ends : (i : ℕ) → suc i ≡ length xs → get_or xs i 0 ≡ last
 
-pub climbs-one : Climbs (0 ∷ []) 0
-climbs-one = record {
-  some = omega arith;
-  begins = refl;
-  rises = λ i l. absurd (omega (arith, l));
-  ends = λ i e. let z : i ≡ 0 = omega (arith, e) in ap (λ n. get_or (0 ∷ []) n 0) z;
-}
-
-pub climbs-push : (xs : List ℕ) (x y : ℕ) → Climbs xs x → x ≤ y → Climbs (xs ++ y ∷ []) y
-climbs-push xs x y h l = record {
-  some = let e = length-push_suc xs y in omega (arith, e);
-  begins = get_or_append_left xs (y ∷ []) 0 0 h.some ∙ h.begins;
-  rises = λ i m. rise i (omega (arith, m, length-push_suc xs y)) (cases_lt (suc i) (length xs));
-  ends = λ i e. let at : i ≡ length xs = omega (arith, e, length-push_suc xs y) in ap (λ n. get_or (xs ++ y ∷ []) n 0) at ∙ get_or-append_seam xs y [] 0;
-}
-  where
-    rise : (i : ℕ) → i < length xs → (suc i < length xs) ⊎ (length xs ≤ suc i) → get_or (xs ++ y ∷ []) i 0 ≤ get_or (xs ++ y ∷ []) (suc i) 0
-    rise i m (inl k) =
-        let a = get_or_append_left xs (y ∷ []) 0 i m in
-        let b = get_or_append_left xs (y ∷ []) 0 (suc i) k in
-        let c = h.rises i k in
-        omega (arith, a, b, c)
-    rise i m (inr k) =
-        let last : suc i ≡ length xs = omega (arith, m, k) in
-        let a = get_or_append_left xs (y ∷ []) 0 i m in
-        let b = h.ends i last in
-        let c = ap (λ n. get_or (xs ++ y ∷ []) n 0) last ∙ get_or-append_seam xs y [] 0 in
-        omega (arith, a, b, c, l)
-
-pub climbs-split : (s : Config) (xs : List ℕ) → Climbs xs (unit_count s) → 1 < length xs → IsSplit s xs
-climbs-split s xs h l = record { some = l; begins = h.begins; rises = h.rises; ends = h.ends }
-
 -- no bound is more than the number of units
 split-within_by : (s : Config) (bounds : List ℕ) → IsSplit s bounds → (n index : ℕ) → index + suc n ≡ length bounds → get_or bounds index 0 ≤ unit_count s
 split-within_by s bounds h zero index e = let f = h.ends index (omega (arith, e)) in omega (arith, f)

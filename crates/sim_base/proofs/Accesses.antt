@@ -1,6 +1,5 @@
 -- Reads and writes, and the commands that move their data.
 use Rattle.std.proofs.Common.{◌≡◌, ℕ, true, refl}
-use Rattle.std.proofs.lemmas.Bool.{false≢true}
 use Rattle.sim_base.specs.Access.{is_access}
 use Rattle.sim_base.specs.Scheduling.{column_command_to}
 use Rattle.sim_base.specs.declared.command.Command.{Command}
@@ -13,12 +12,6 @@ use Rattle.sim_base.specs.declared.place.BankId.{BankId}
 pub is_access-own : (access : Access) → is_access access access ≡ true
 is_access-own Read = refl
 is_access-own Write = refl
-
-pub is_access-true : (access other : Access) → is_access access other ≡ true → access ≡ other
-is_access-true Read Read h = refl
-is_access-true Write Write h = refl
-is_access-true Read Write h = absurd (false≢true h)
-is_access-true Write Read h = absurd (false≢true h)
 
 -- what holds of the RD and of the WR of an access holds of its command
 pub column_both : (P : Command → Type 0) (access : Access) (bank : BankId) (row column : ℕ) (source : Source)

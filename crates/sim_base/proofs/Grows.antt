@@ -217,15 +217,6 @@ messages-grow s traces history machine_step =
         (λ k l. Each-weaker _ (λ (y : Message). eqb x.link y.link ≡ false) (λ y f. links_differ s (Core i) (Channel k) (core_channel_differ i k) x.link y.link e f)
         (messages_of_channel s history k) (of_channel-by s history k l))) xs h
 
--- what was sent, by age, with one machine_step more
-pub by_age-grows : (s : Config) (traces : List (List Entry)) (history : List MachineStep) (machine_step : MachineStep)
-    → by_age (messages s traces (history ++ machine_step ∷ [])) ≡ fold insert_by_age (by_age (messages s traces history)) (sends s traces history machine_step)
-by_age-grows s traces history machine_step =
-    by_age-puts (messages s traces (history ++ machine_step ∷ []))
-    ∙ messages-grow s traces history machine_step
-    ∙ ap (λ z. puts z (sends s traces history machine_step)) (sym (by_age-puts (messages s traces history)))
-    ∙ sym (fold-puts (by_age (messages s traces history)) (sends s traces history machine_step))
-
 -- those messages that were sent and pass a test, by age, with one machine_step more
 pub by_age-filter-grows : (s : Config) (traces : List (List Entry)) (history : List MachineStep) (machine_step : MachineStep) (p : Message → Bool)
     → by_age (filter p (messages s traces (history ++ machine_step ∷ []))) ≡ fold insert_by_age (by_age (filter p (messages s traces history))) (filter p (sends s traces history machine_step))

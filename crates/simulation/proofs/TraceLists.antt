@@ -77,8 +77,3 @@ pub traces_end : (texts : List (Bor (List ℕ))) (ts : List (List Entry)) (i : �
 unfolding traces_of
 traces_end texts ts i l =
     ap (λ x. prepend ts (traces_of i (map (λ (t : Bor (List ℕ)). t.now) x))) (drop_of_length-le texts l) ∙ ap Ok (append-nil ts)
-
--- no trace is read yet
-pub traces_start : (r : Result (List (List Entry)) Fault) → r ≡ prepend [] r
-traces_start (Ok ys) = refl
-traces_start (Err e) = refl

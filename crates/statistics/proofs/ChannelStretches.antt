@@ -1,5 +1,5 @@
 -- The statistics of a channel over stretches of cycles, one after the other, are joined.
-use Rattle.std.proofs.Common.{◌≡◌, ℕ, suc, ◌+◌, false, List, [], ◌∷◌, ◌++◌, length, Option, Some, None, refl, sym, ap, ap₂, subst, ◌∙◌, add-zero, zero-add, add_assoc, append_assoc, arith}
+use Rattle.std.proofs.Common.{◌≡◌, ℕ, suc, ◌+◌, false, List, [], ◌∷◌, ◌++◌, length, Option, Some, None, refl, sym, ap, ap₂, subst, ◌∙◌, add-zero, add_assoc, append_assoc, arith}
 use Rattle.std.specs.Prelude.{max}
 use Rattle.std.proofs.Math.ListN.{get_or-append}
 use Rattle.std.proofs.Math.Seq.{get_or-append_seam, take-append_seam}
@@ -30,9 +30,6 @@ greater_of_three a b c = omega arith
 greater_of_none : (a : ℕ) → max a 0 ≡ a
 greater_of_none a = omega arith
 
-greater_from_none : (a : ℕ) → max 0 a ≡ a
-greater_from_none a = omega arith
-
 pub channel_joined-assoc : (a b c : ChannelStats) → channel_joined (channel_joined a b) c ≡ channel_joined a (channel_joined b c)
 channel_joined-assoc a b c =
     let f = sum_of_counts-assoc a.draining b.draining c.draining in
@@ -41,9 +38,6 @@ channel_joined-assoc a b c =
 
 pub channel_joined-none : (a : ChannelStats) → channel_joined a channel_none ≡ a
 channel_joined-none a = simp (add-zero, sum_of_counts-none, greater_of_none)
-
-pub channel_joined-from_none : (a : ChannelStats) → channel_joined channel_none a ≡ a
-channel_joined-from_none a = simp (zero-add, greater_from_none)
 
 -- fewer steps
 pub ActsComeFirst-before : (channel : ℕ) (steps more : List (Option Command)) → ActsComeFirst channel (steps ++ more) → ActsComeFirst channel steps

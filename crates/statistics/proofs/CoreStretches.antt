@@ -1,10 +1,8 @@
 -- The statistics of a core over stretches of cycles, one after the other, are joined.
-use Rattle.std.proofs.Common.{◌≡◌, ℕ, ◌+◌, ◌<◌, ◌≤◌, List, [], ◌∷◌, ◌++◌, length, take, Option, Some, None, refl, sym, ap, subst, ◌∙◌, add-zero, zero-add, add_assoc, append_assoc, arith}
+use Rattle.std.proofs.Common.{◌≡◌, ℕ, ◌+◌, ◌<◌, ◌≤◌, List, [], ◌∷◌, ◌++◌, length, take, Option, Some, None, refl, sym, ap, subst, ◌∙◌, add-zero, add_assoc, append_assoc, arith}
 use Rattle.std.specs.Option.{IfSome, option_or}
 use Rattle.std.proofs.lemmas.List.{append-nil, length-append, take-append-le}
-use Rattle.sim_base.proofs.Each.{Each-append}
 use Rattle.sim_base.proofs.Ordered.{Each-weaker}
-use Rattle.sim_base.proofs.Arrived.{NotBefore}
 use Rattle.sim_base.specs.declared.config.Config.{Config}
 use Rattle.sim_base.specs.Counts.{replied_entry}
 use Rattle.sim_base.specs.History.{issued_before}
@@ -14,7 +12,6 @@ use Rattle.sim_base.specs.declared.trace.Entry.{Entry}
 use Rattle.statistics.specs.declared.cores.CoreStats.{CoreStats}
 use Rattle.statistics.specs.Cores.{core_stats, core_cycle, core_none, core_joined, core_stretch, FollowsItsRead, RepliesFollowReads}
 use Rattle.statistics.proofs.CoreSteps.{core_stats-push}
-use Rattle.statistics.proofs.Lists.{option_or-none}
 
 later_of_three : (a b c : Option ℕ) → option_or c (option_or b a) ≡ option_or (option_or c b) a
 later_of_three a b None = refl
@@ -27,9 +24,6 @@ core_joined-assoc a b c =
 
 pub core_joined-none : (a : CoreStats) → core_joined a core_none ≡ a
 core_joined-none a = simp add-zero
-
-pub core_joined-from_none : (a : CoreStats) → core_joined core_none a ≡ a
-core_joined-from_none a = simp (zero-add, option_or-none)
 
 -- fewer steps
 FollowsItsRead-before : (steps more : List CoreStep) (m : Message) → FollowsItsRead (steps ++ more) m → FollowsItsRead steps m
@@ -46,18 +40,6 @@ FollowsItsRead-before steps more m h = by (replied_entry m.load) h
 
 pub RepliesFollowReads-before : (steps more : List CoreStep) (inbox : List Message) → RepliesFollowReads (steps ++ more) inbox → RepliesFollowReads steps inbox
 RepliesFollowReads-before steps more inbox h = Each-weaker (FollowsItsRead (steps ++ more)) (FollowsItsRead steps) (FollowsItsRead-before steps more) inbox h
-
--- messages that arrive later
-FollowsItsRead-later : (steps : List CoreStep) (m : Message) → length steps ≤ m.arrival → FollowsItsRead steps m
-FollowsItsRead-later steps m h = by (replied_entry m.load)
-  where
-    by : (o : Option ℕ) → IfSome o (λ entry. m.arrival < length steps → entry < issued_before (take m.arrival steps))
-    by None = tt
-    by (Some entry) = λ l. absurd (omega arith)
-
-pub RepliesFollowReads-later : (steps : List CoreStep) (mail later : List Message) → RepliesFollowReads steps mail → NotBefore (length steps) later → RepliesFollowReads steps (mail ++ later)
-RepliesFollowReads-later steps mail later h k =
-    Each-append (FollowsItsRead steps) mail later h (Each-weaker (λ (m : Message). length steps ≤ m.arrival) (FollowsItsRead steps) (FollowsItsRead-later steps) later k)
 
 -- the statistics of steps and of more steps after them
 pub core_stats-append : (s : Config) (core : ℕ) (trace : List Entry) (steps : List CoreStep) (inbox : List Message) (more : List CoreStep)

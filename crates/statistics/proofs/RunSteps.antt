@@ -13,7 +13,6 @@ use Rattle.sim_base.specs.Machine.{next_step, run, channel_run}
 use Rattle.sim_base.specs.Scheduling.{choice}
 use Rattle.sim_base.specs.Windows.{step}
 use Rattle.sim_base.specs.declared.command.Command.{Command}
-use Rattle.sim_base.specs.declared.history.CoreStep.{CoreStep}
 use Rattle.sim_base.specs.declared.message.Message.{Message}
 use Rattle.sim_base.specs.declared.message.Unit.{Unit as MachineUnit}
 use Rattle.sim_base.specs.declared.message.Unit.TheVariants.{Core, Channel}
@@ -37,13 +36,6 @@ pub channel_stats-choice : (s : Config) (channel : ℕ) (steps : List (Option Co
     → channel_stats s channel (steps ++ choice s channel steps inbox ∷ []) inbox
     ≡ channel_joined (channel_stats s channel steps inbox) (channel_cycle s channel steps inbox (choice s channel steps inbox))
 channel_stats-choice s channel steps inbox = channel_stats-push s channel steps (choice s channel steps inbox) inbox (choice-not_late s channel steps inbox)
-
--- one cycle more of one core, run alone
-pub core_stats-step : (s : Config) (core : ℕ) (trace : List Entry) (steps : List CoreStep) (inbox : List Message)
-    → RepliesFollowReads (steps ++ (step s core trace steps inbox).0 ∷ []) inbox
-    → core_stats s core trace (steps ++ (step s core trace steps inbox).0 ∷ []) inbox
-    ≡ core_joined (core_stats s core trace steps inbox) (core_cycle s core trace steps inbox (step s core trace steps inbox).0)
-core_stats-step s core trace steps inbox h = core_stats-push s core trace steps (step s core trace steps inbox).0 inbox h
 
 pub travels : (s : Config) → TravelsFor s 1
 travels s = λ link l. latency_positive s link

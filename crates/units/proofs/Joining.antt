@@ -3,7 +3,6 @@ use Rattle.std.proofs.Common.{◌≡◌, ℕ, zero, suc, ◌+◌, ◌-◌, ◌<�
 use Rattle.std.specs.Prelude.{filter, flat_map, fold}
 use Rattle.std.specs.List.{AllByRecursion as Each}
 use Rattle.std.proofs.lemmas.Bool.Decides.{nat_tests}
-use Rattle.std.proofs.lemmas.List.Sums.{fold-append}
 use Rattle.sim_base.specs.declared.config.Config.{Config}
 use Rattle.sim_base.specs.Counts.{in_flight}
 use Rattle.sim_base.specs.History.{below, insert_by_age, by_age, messages, messages_of_core, messages_of_channel}
@@ -152,12 +151,3 @@ join-flight machine from until k t =
     ∙ sym (filter-puts p old new (subst Sorted (sym (by_age-puts (messages machine.config machine.traces.items (run_of machine from)))) (Sorted-puts [] (messages machine.config machine.traces.items (run_of machine from)) tt)))
     ∙ ap (late until) (sym (all-grow machine from until k t))
     ∙ sym (flight-late machine.config machine.traces.items until)
-
--- the links when one more unit's messages are put in
-pub fresh-more : (machine : Machine) (from until place : ℕ) (acc ms : List Message)
-    → sent_at machine until (unit_at machine.config place) ≡ sent_at machine from (unit_at machine.config place) ++ ms
-    → fold insert_by_age (fold insert_by_age acc (flat_map (fresh machine from until) (below place))) ms ≡ fold insert_by_age acc (flat_map (fresh machine from until) (below (suc place)))
-fresh-more machine from until place acc ms e =
-    let old = flat_map (fresh machine from until) (below place) in
-    sym (fold-append insert_by_age acc old ms)
-    ∙ ap (fold insert_by_age acc) (ap (λ z. old ++ z) (sym (fresh-is machine from until place ms e)) ∙ sym (flat_map_below_more (fresh machine from until) place))

@@ -1,9 +1,8 @@
 -- Units in their order, each of which stands for its part of a run.
-use Rattle.std.proofs.Common.{◌≡◌, ℕ, suc, ◌+◌, ◌-◌, ◌<◌, ltb, true, false, List, [], ◌∷◌, ◌++◌, length, get_or, Option, Some, None, IfSome, ◌⊎◌, inl, inr, refl, sym, ap, subst, ◌∙◌, zero-add, add-one, arith}
+use Rattle.std.proofs.Common.{◌≡◌, ℕ, suc, ◌+◌, ◌-◌, ◌<◌, ltb, true, false, List, [], ◌∷◌, ◌++◌, length, Option, Some, None, IfSome, ◌⊎◌, inl, inr, refl, sym, ap, subst, ◌∙◌, zero-add, add-one, arith}
 use Rattle.std.specs.Prelude.{slice_get, map}
 use Rattle.std.proofs.lemmas.List.{length-append, append-nil}
-use Rattle.std.proofs.lemmas.List.FromFn.{get_or-map-range_with_len, map-range_with_len_more}
-use Rattle.std.proofs.Math.Seq.{get_or-append_seam}
+use Rattle.std.proofs.lemmas.List.FromFn.{map-range_with_len_more}
 use Rattle.std.proofs.lemmas.Bool.{cond-true, cond-false}
 use Rattle.std.proofs.lemmas.Bool.Decides.{nat_tests}
 use Rattle.sim_base.specs.declared.config.Config.{Config}
@@ -12,7 +11,7 @@ use Rattle.sim_base.specs.declared.message.Unit.TheVariants as unit
 use Rattle.sim_base.specs.declared.trace.Entry.{Entry}
 use Rattle.sim_base.specs.History.{below, trace_of, issued_commands, steps_of_channel}
 use Rattle.sim_base.specs.Machine.{run}
-use Rattle.sim_base.proofs.Lists.{get-push, length-map_below}
+use Rattle.sim_base.proofs.Lists.{get-push}
 use Rattle.laws.specs.Commands.{history_of}
 use Rattle.channel_step.specs.Channels.{StandsFor as ChannelStandsFor}
 use Rattle.channel_step.specs.declared.channel.Channel.{Channel}
@@ -94,9 +93,3 @@ nothing_left (x ∷ xs) h = absurd (omega arith)
 -- a list that is gone through is what was gone through
 pub all-yielded : {X : Type 0} (ys rest xs : List X) → ys ++ rest ≡ xs → length rest ≡ 0 → ys ≡ xs
 all-yielded ys rest xs e h = sym (append-nil ys) ∙ ap (λ z. ys ++ z) (sym (nothing_left rest h)) ∙ e
-
--- the element after some of a list that has one for each place
-pub seam-is : {X : Type 0} (f : ℕ → X) (n : ℕ) (ys rest : List X) (x : X) → ys ++ x ∷ rest ≡ map f (below n) → x ≡ f (length ys)
-seam-is f n ys rest x e =
-    let l = seam-within (map f (below n)) ys rest x n e (length-map_below f n) in
-    sym (get_or-append_seam ys x rest x) ∙ ap (λ z. get_or z (length ys) x) e ∙ get_or-map-range_with_len f 0 n (length ys) (length ys) x l (zero-add (length ys))

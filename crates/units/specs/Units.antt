@@ -1,10 +1,8 @@
 -- The units of a machine in one order, the cores first and then the channels, each by number.
 --     unit_count s      how many units a machine has
 --     unit_at s place      the unit at a place of this order
---     units s      all of them
-use Rattle.std.specs.Prelude.{ℕ, ◌+◌, ◌-◌, nat_lt, List, map, if◌then◌else◌}
+use Rattle.std.specs.Prelude.{ℕ, ◌+◌, ◌-◌, nat_lt, if◌then◌else◌}
 use Rattle.sim_base.specs.declared.config.Config.{Config}
-use Rattle.sim_base.specs.History.{below}
 use Rattle.sim_base.specs.declared.message.Unit.{Unit as MachineUnit}
 use Rattle.sim_base.specs.declared.message.Unit.TheVariants.{Core, Channel}
 
@@ -15,7 +13,3 @@ unit_count s = s.cores + s.channels
 -- the unit at a place
 abbrev pub unit_at : Config → ℕ → MachineUnit
 unit_at s place = if nat_lt place s.cores then Core place else Channel (place - s.cores)
-
--- all units
-abbrev pub units : Config → List MachineUnit
-units s = map (unit_at s) (below (unit_count s))

@@ -157,10 +157,6 @@ opened-more planned i p first before after l e more h =
 
 -- ---- tables that get their places
 
--- a table that is renamed leaves the others as they are
-renamed-others : (p q : PlannedText) (path : List ℕ) (a b : Held) → IsRenamed p.from p.to a b → path ≢ p.from → path ≢ p.to → b path ≡ a path
-renamed-others p q path a b r f t = r.others path f t
-
 flip : {X : Type 0} {x y : X} → x ≢ y → y ≢ x
 flip n e = n (sym e)
 
