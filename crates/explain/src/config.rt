@@ -1,11 +1,13 @@
 //! Why a configuration is refused.
 
 ghost use Rattle.std.specs.Prelude.{◌≡◌, true, false, IfOk};
-ghost use Rattle.explain.specs.Heads.{StartsBy, IsSilent, file_head};
+ghost use Rattle.refusal.specs.Heads.{file_head};
+ghost use Rattle.explain.specs.Heads.{StartsBy, IsSilent};
 ghost use Rattle.explain.specs.Silence.{is_of_config};
 
 use crate::explain_text::config::config_text;
 use crate::heads::behind;
+use refusal::heads::file_head;
 use sim_base::fault::Fault;
 use std::alloc::{AllocError, Global};
 
@@ -24,7 +26,7 @@ pub fn of_config(
         | Fault::ConfigKey(_)
         | Fault::ConfigRange(_)
         | Fault::ConfigRelation(_) => {
-            let head = format!(in alloc; "{path}:")?;
+            let head = file_head(alloc, path)?;
             behind(head, config_text(alloc, fault, path, document))
         }
         _ => Ok(String::new(alloc)),

@@ -2,11 +2,13 @@
 
 ghost use Rattle.std.specs.Prelude.{◌≡◌, ℕ, false, IfOk};
 ghost use Rattle.sim_base.specs.declared.fault.Fault.TheVariants.{CheckRow};
-ghost use Rattle.explain.specs.Heads.{StartsBy, IsSilent, row_head};
+ghost use Rattle.refusal.specs.Heads.{row_head};
+ghost use Rattle.explain.specs.Heads.{StartsBy, IsSilent};
 ghost use Rattle.explain.specs.Silence.{is_of_table};
 
 use crate::explain_text::table::{TableKind, row_text};
 use crate::heads::behind;
+use refusal::heads::row_head;
 use sim_base::fault::Fault;
 use std::alloc::{AllocError, Global};
 
@@ -20,7 +22,7 @@ fn of_row(
 ) -> Result<String, AllocError>
     ensures { IfOk result (StartsBy (row_head path.now row)) }
 {
-    let head = format!(in alloc; "{path}: row {row}")?;
+    let head = row_head(alloc, path, row)?;
     behind(head, row_text(alloc, kind, row, table))
 }
 

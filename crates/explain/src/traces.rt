@@ -3,11 +3,13 @@
 ghost use Rattle.std.specs.Prelude.{◌≡◌, ℕ, false, IfOk};
 ghost use Rattle.sim_base.specs.declared.fault.Fault.TheVariants.{TraceLine, TraceTooLong};
 ghost use Rattle.sim_base.specs.declared.fault.LineCause.{LineCause};
-ghost use Rattle.explain.specs.Heads.{StartsBy, IsText, IsSilent, trace_path, line_head, length_text};
+ghost use Rattle.refusal.specs.Heads.{IsText, line_head};
+ghost use Rattle.explain.specs.Heads.{StartsBy, IsSilent, trace_path, length_text};
 ghost use Rattle.explain.specs.Silence.{is_of_traces};
 
 use crate::explain_text::traces::line_text;
 use crate::heads::behind;
+use refusal::heads::line_head;
 use sim_base::fault::Fault;
 use sim_base::message::CoreId;
 use std::alloc::{AllocError, Global};
@@ -39,7 +41,7 @@ fn of_line(
     ensures { IfOk result (StartsBy (line_head (trace_path paths.now core) line)) }
 {
     let path = path_of(paths, core);
-    let head = format!(in alloc; "{path}:{line}: ")?;
+    let head = line_head(alloc, path, line)?;
     behind(head, line_text(alloc, path, line, text_of(texts, core)))
 }
 

@@ -3,3 +3,4 @@ pub mod Lines
 pub mod Streams
 pub mod Warnings
 pub mod Telling
+pub mod Heads
