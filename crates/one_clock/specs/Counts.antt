@@ -1,18 +1,13 @@
 -- What one cycle counts.
---     finishing_cycle entries now retired_so_far retired      the cycle, if the last of a core's entries retires in it
 --     channel_counts s history now queued step      the statistics of a cycle of a channel
 --     no_channel_counts s      the statistics of a channel in no cycle
-use Rattle.std.specs.Prelude.{ℕ, ◌+◌, nat_lt, nat_le, ◌&&◌, is_some, List, Option, Some, None, if◌then◌else◌}
+use Rattle.std.specs.Prelude.{ℕ, is_some, List}
 use Rattle.sim_base.specs.Scheduling.{lowest_due}
 use Rattle.sim_base.specs.declared.command.IssuedCommand.{IssuedCommand}
 use Rattle.sim_base.specs.declared.config.Config.{Config}
 use Rattle.statistics.specs.Channels.{channel_none, draining_of, channel_cycle_with}
 use Rattle.statistics.specs.declared.channels.ChannelStats.{ChannelStats}
 use Rattle.plain_steps.specs.declared.scheduling.ChannelStep.{ChannelStep}
-
--- the cycle, if the last of this many entries retires in it: `retired_so_far` did before it, and `retired` do in it
-abbrev pub finishing_cycle : ℕ → ℕ → ℕ → ℕ → Option ℕ
-finishing_cycle entries now retired_so_far retired = if nat_lt retired_so_far entries && nat_le entries (retired_so_far + retired) then Some now else None
 
 -- the statistics of the cycle `now` of a channel that issued these commands before, has this many requests queued,
 -- and does this

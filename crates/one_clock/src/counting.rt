@@ -7,10 +7,10 @@ ghost use Rattle.statistics.specs.Counts.{one_if};
 ghost use Rattle.statistics.specs.Cores.{is_reply_in, replies_in, waited, core_cycle_with};
 ghost use Rattle.statistics.specs.Channels.{draining_of, issues, moves_hit};
 ghost use Rattle.one_clock.specs.Steps.{is_read_in, is_write_in};
-ghost use Rattle.one_clock.specs.Counts.{finishing_cycle, channel_counts, no_channel_counts};
+ghost use Rattle.one_clock.specs.Counts.{channel_counts, no_channel_counts};
 
 use cpu_trace::trace::Trace;
-use plain_steps::cores::entry_of;
+use plain_steps::cores::{entry_of, finish_now};
 use plain_steps::hits::is_command_hit;
 use plain_steps::scheduling::{self, ChannelStep};
 use sim_base::command::{Command, IssuedCommand, Kind};
@@ -134,17 +134,6 @@ fn total_wait(past_steps: &[CoreStep], arrived: &[Message]) -> u128
         total += u128::from(wait(past_steps, *m));
     }
     total
-}
-
-/// The cycle, if the last of `entries` entries retires in it.
-fn finish_now(entries: u64, now: u64, retired_so_far: u64, retired: u16) -> Option<u64>
-    ensures { result ≡ finishing_cycle entries now retired_so_far retired }
-{
-    if retired_so_far < entries && entries - retired_so_far <= u64::from(retired) {
-        Some(now)
-    } else {
-        None
-    }
 }
 
 fn is_same_stop(a: Stop, b: Stop) -> bool

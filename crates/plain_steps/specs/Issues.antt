@@ -1,4 +1,4 @@
--- What a core issues in a cycle, and why it stops.
+-- What a core issues in a cycle, why it stops, and when it has finished.
 --     request_of_entry s core cycle trace number      the request of the entry of a number, if there is one and it makes one
 --     requests_issued s core trace issued      the requests among entries that are issued in a cycle
 --     credits_held s mail channel access until      the credits that a core holds, by its messages
@@ -8,7 +8,8 @@
 --     first_cause_to_stop stage, issue_count_of stage      after how many entries something first does; how many issue
 --     HasSent s trace past_steps mail      the messages that a core sent are those of its steps
 --     next_step_of s trace past_steps mail      what it does next, and why it stops
-use Rattle.std.specs.Prelude.{◌≡◌, ℕ, ◌+◌, Bool, List, find, slice_get, option_and_then, Option}
+--     finishing_cycle entries now retired_so_far retired      the cycle, if the last of a core's entries retires in it
+use Rattle.std.specs.Prelude.{◌≡◌, ℕ, ◌+◌, Bool, nat_lt, nat_le, ◌&&◌, List, find, slice_get, option_and_then, Option, Some, None, if◌then◌else◌}
 use Rattle.std.specs.List.{list_any}
 use Rattle.sim_base.specs.History.{below, request_of, requests_between, core_messages}
 use Rattle.sim_base.specs.Windows.{held, lacks_credit, is_memory_in, stop_after, has_cause, first_stop, step}
@@ -65,3 +66,9 @@ HasSent s trace past_steps mail = mail.sent.now ≡ core_messages s mail.core tr
 -- what a core does in the cycle after these steps, and why it stops
 abbrev pub next_step_of : Config → List Entry → List CoreStep → CoreMail → CoreStep × Stop
 next_step_of s trace past_steps mail = step s mail.core trace past_steps mail.inbox.now
+
+-- the cycle, if the last of this many entries retires in it: `retired_so_far` did before it, and `retired` do in it
+abbrev pub finishing_cycle : ℕ → ℕ → ℕ → ℕ → Option ℕ
+finishing_cycle entries now retired_so_far retired =
+    if nat_lt retired_so_far entries && nat_le entries (retired_so_far + retired) then Some now
+    else None

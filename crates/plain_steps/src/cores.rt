@@ -7,7 +7,7 @@ ghost use Rattle.sim_base.specs.Windows.{is_reply_to, is_replied, is_done, done_
 ghost use Rattle.sim_base.specs.Windows.{credit_cap, is_credit_on, is_memory, is_memory_in, has_memory, meets_memory, step_with};
 ghost use Rattle.plain_steps.specs.Issues.{request_of_entry, requests_issued, credits_held, is_memory_among};
 ghost use Rattle.plain_steps.specs.Issues.{lacks_credit_for, cause_to_stop, stops_after, first_cause_to_stop, issue_count_of};
-ghost use Rattle.plain_steps.specs.Issues.{HasSent, next_step_of};
+ghost use Rattle.plain_steps.specs.Issues.{HasSent, next_step_of, finishing_cycle};
 
 use crate::core_cycle::{CoreMail, IssueStage, IssuedEntries};
 use address_map::place_of;
@@ -421,4 +421,15 @@ pub fn core_step(
     };
     let m = stage.issue_count();
     step_from(retired, m, stage.stop_cause(m))
+}
+
+/// The cycle, if the last of a core's entries retires in it: `retired_so_far` did before it, and `retired` do in it.
+pub fn finish_now(entries: u64, now: u64, retired_so_far: u64, retired: u16) -> Option<u64>
+    ensures finish { result ≡ finishing_cycle entries now retired_so_far retired }
+{
+    if retired_so_far < entries && entries - retired_so_far <= u64::from(retired) {
+        Some(now)
+    } else {
+        None
+    }
 }
