@@ -1,7 +1,7 @@
 -- What `check`, `map`, `show` and `compare` answer, from what the files hold that they name.
 --     IsVerdict config commands held found      what a table of commands is found to be
---     verdict_line found, verdict_status found      the line and the status that tell it
---     IsChecked config commands status held is_printed      it was told
+--     verdict_line found      the line that tells it
+--     IsChecked config commands found held is_printed      it was told
 --     IsPlace config address held ranks place      the place of an address, and how many ranks there are
 --     place_line ranks place      the line that tells it
 --     IsMapped config address held is_printed      it was told
@@ -45,16 +45,9 @@ abbrev pub verdict_line : Verdict → List ℕ
 verdict_line Legal = codes "legal\n"
 verdict_line (Broken row rule) = codes "broken row " ++ decimal row ++ codes " rule " ++ decimal rule ++ codes "\n"
 
--- the status: 1 where a rule is broken
-abbrev pub verdict_status : Verdict → ℕ
-verdict_status Legal = 0
-verdict_status (Broken row rule) = 1
-
--- the verdict was printed, and the status is that of the verdict
-pub record IsChecked (config commands : List ℕ) (status : ℕ) (held : Held) (is_printed : List ℕ → Type 0) : Type 0 where
-  pub found : Verdict
+-- the verdict was printed
+pub record IsChecked (config commands : List ℕ) (found : Verdict) (held : Held) (is_printed : List ℕ → Type 0) : Type 0 where
   pub judged : IsVerdict config commands held found
-  pub status_is : status ≡ verdict_status found
   pub printed : is_printed (verdict_line found)
 
 -- the place of an address under the configuration that a file holds, and how many ranks there are

@@ -132,9 +132,9 @@ AreNoTables document stats commands fault =
 abbrev pub IsVerdictAt : {S O : Type 0} → Files S O → S → List ℕ → List ℕ → Verdict → Type 0
 IsVerdictAt set files config commands found = set.tells → IsVerdict config commands (set.held files) found
 
--- the verdict was printed, and this is its status
-abbrev pub Checks : {S O : Type 0} → Files S O → S → List ℕ → List ℕ → (List ℕ → Type 0) → ℕ → Type 0
-Checks set files config commands printed status = set.tells → IsChecked config commands status (set.held files) printed
+-- the verdict was printed
+abbrev pub Checks : {S O : Type 0} → Files S O → S → List ℕ → List ℕ → (List ℕ → Type 0) → Verdict → Type 0
+Checks set files config commands printed found = set.tells → IsChecked config commands found (set.held files) printed
 
 -- a configuration and a table of commands can be read, and the table has a verdict
 abbrev pub CanCheck : {S O : Type 0} → Files S O → S → List ℕ → List ℕ → Type 0

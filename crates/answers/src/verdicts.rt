@@ -1,14 +1,13 @@
 //! Whether a table of commands keeps the rules.
 
-ghost use Rattle.std.specs.Prelude.{◌≡◌, ◌≤◌, IfOk, IfErr, OnOk, string_bytes};
+ghost use Rattle.std.specs.Prelude.{◌≡◌, IfOk, IfErr, OnOk, string_bytes};
 ghost use Rattle.whole_files.specs.Files.{SameFiles};
-ghost use Rattle.answers.specs.Answers.{verdict_line, verdict_status};
+ghost use Rattle.answers.specs.Answers.{verdict_line};
 ghost use Rattle.answers.specs.Inputs.{Prints, IsVerdictAt, CanCheck, BarsCheck, Checks, RefusesCheck};
 
 use crate::explained::{configuration_of, verdict_of};
 use crate::print::print_text;
 use refusal::reason::Reason;
-use refusal::status::{BROKEN, DONE};
 use rule_check::Verdict;
 use sim_base::fault::Fault;
 use std::alloc::Global;
@@ -46,18 +45,7 @@ fn verdict_line_of(alloc: Global, found: Verdict) -> Result<String, Fault>
     }
 }
 
-fn status_of(found: Verdict) -> u8
-    ensures status { result ≡ verdict_status found }
-    ensures least { result ≤ 1 }
-{
-    match found {
-        Verdict::Legal => DONE,
-        Verdict::Broken { .. } => BROKEN,
-    }
-}
-
-/// `check CONFIG COMMANDS`: prints the verdict on a table of commands, and gives the status, 0 for a legal table and 1
-/// for one that breaks a rule. It opens and changes no file.
+/// `check CONFIG COMMANDS`: prints the verdict on a table of commands, and gives it. It opens and changes no file.
 ///
 /// # Errors
 ///
@@ -69,10 +57,9 @@ pub fn perform_check<F: FileSet, P: Write>(
     output: &mut P,
     config: &str,
     commands: &str,
-) -> Result<u8, Reason>
+) -> Result<Verdict, Reason>
     ensures checked { let printed = Prints P.Write output.old output.new in
         IfOk result (Checks F.FileSet files.old config.now commands.now printed) }
-    ensures status { IfOk result (λ status. status ≤ 1) }
     ensures fault { IfErr result (RefusesCheck F.FileSet files.old config.now commands.now) }
     ensures same { F.tells → SameFiles (F.held files.old) (F.held files.new) }
     ensures unopened { F.tells → F.opened files.new ≡ F.opened files.old }
@@ -80,5 +67,5 @@ pub fn perform_check<F: FileSet, P: Write>(
     let found = judge(alloc, files, config, commands)?;
     let line = verdict_line_of(alloc, found)?;
     print_text(alloc, output, line.as_str())?;
-    Ok(status_of(found))
+    Ok(found)
 }

@@ -4,6 +4,7 @@
 --     IsOutcome config cycles workers tables traces held run      the outcome of a run over what the named files hold
 --     IsRunDone config cycles workers tables out traces old new before after      its tables are in the folder
 --     IsUnfinished refusal config cycles workers tables out traces has_folder old new before after      what is left of a run that is refused
+--     verdict_status found      the status of a verdict
 --     IsAnswer ask done old new      what is asked has been done
 --     IsQuiet ask warning      nothing is warned of but pages
 --     IsLeft refusal ask old new      what is left where it has not been done
@@ -25,6 +26,8 @@ use Rattle.refusal.specs.Warnings.{IsWarned}
 use Rattle.refusal.specs.declared.warning.LargePage.{LargePage}
 use Rattle.program.specs.declared.done.Done.{Done}
 use Rattle.whole_files.specs.Tables.{parts, IsWritten, LeavesAll, IsUnplaced}
+use Rattle.rule_check.specs.declared.verdict.Verdict.{Verdict}
+use Rattle.rule_check.specs.declared.verdict.Verdict.TheVariants.{Legal, Broken}
 use Rattle.answers.specs.Answers.{IsChecked, IsMapped, IsShown, IsCompared}
 use Rattle.compare.specs.declared.layout.Layout.{Layout}
 use Rattle.compare.specs.declared.layout.Layout.TheVariants.{Screen, Csv}
@@ -93,9 +96,16 @@ pub record IsRunAnswer (config : List ℕ) (cycles workers : ℕ) (tables : Tabl
   pub done : IsRunDone config cycles workers tables out traces old.held new.held old.opened new.opened
   pub silent : new.printed ≡ old.printed
 
--- a table has been checked
+-- the status of a verdict: 1 where a rule is broken
+abbrev pub verdict_status : Verdict → ℕ
+verdict_status Legal = 0
+verdict_status (Broken row rule) = 1
+
+-- a table has been checked, and the status is that of the verdict
 pub record IsCheckAnswer (config commands : List ℕ) (status : ℕ) (old new : Seen) : Type 0 where
-  pub checked : IsChecked config commands status old.held (Appends old.printed new.printed)
+  pub found : Verdict
+  pub checked : IsChecked config commands found old.held (Appends old.printed new.printed)
+  pub status_is : status ≡ verdict_status found
   pub untouched : IsUntouched old.held new.held old.opened new.opened
 
 -- an address has been mapped

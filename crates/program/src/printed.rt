@@ -2,7 +2,7 @@
 
 ghost use Rattle.std.specs.Prelude.{◌≡◌, ◌≤◌, None, IfOk, IfErr};
 ghost use Rattle.answers.specs.Inputs.{RefusesCheck, RefusesCompare, RefusesMap};
-ghost use Rattle.program.specs.Answered.{IsAnswer, IsCheckAnswer, IsCompareAnswer, IsMapAnswer};
+ghost use Rattle.program.specs.Answered.{IsAnswer, IsCheckAnswer, IsCompareAnswer, IsMapAnswer, verdict_status};
 ghost use Rattle.program.specs.Runs.{sight, words_of, LeavesFiles, RefusesAsk};
 ghost use Rattle.refusal.specs.Refusals.{fault_of};
 
@@ -16,9 +16,22 @@ use answers::screens::perform_show;
 use answers::verdicts::perform_check;
 use command_line::words::{Ask, ShowArguments};
 use refusal::refusal::Refusal;
+use refusal::status::{BROKEN, DONE};
+use rule_check::Verdict;
 use std::alloc::Global;
 use std::io::Write;
 use whole_files::files::FileSet;
+
+// The status of a verdict.
+fn status_of(found: Verdict) -> u8
+    ensures status { result ≡ verdict_status found }
+    ensures least { result ≤ 1 }
+{
+    match found {
+        Verdict::Legal => DONE,
+        Verdict::Broken { .. } => BROKEN,
+    }
+}
 
 /// The verdict on a table of commands; its status is 1 where a rule is broken.
 pub(crate) fn answer_check<F: FileSet, P: Write>(
@@ -38,8 +51,8 @@ pub(crate) fn answer_check<F: FileSet, P: Write>(
     ensures fault { IfErr result (λ e.
         RefusesCheck F.FileSet files.old config.now commands.now (fault_of e)) }
 {
-    let status = perform_check(alloc, files, output, config, commands)?;
-    Ok(Done::with_status(status))
+    let found = perform_check(alloc, files, output, config, commands)?;
+    Ok(Done::with_status(status_of(found)))
 }
 
 /// The place of an address.
