@@ -1,4 +1,5 @@
 pub mod Number
 pub mod Screen
+pub mod Texts
 pub mod Banks
 pub mod Requests

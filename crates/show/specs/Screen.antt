@@ -1,19 +1,13 @@
 -- What the screen has.
 --     Extends old new      a text followed by more
---     BeginsBy head text      a `String` has this beginning
 --     channels_head cycles count, cores_head count      the lines above the two tables
 --     IsScreen stats text      the screen of a run
-use Rattle.std.specs.Prelude.{◌≡◌, ℕ, List, ◌++◌, length, codes, decimal, string_bytes, String}
-use Rattle.std.specs.declared.alloc.Global.{Global}
+use Rattle.std.specs.Prelude.{◌≡◌, ℕ, List, ◌++◌, length, codes, decimal}
 use Rattle.statistics.specs.Values.{RunStats}
 
 -- a text followed by more
 abbrev pub Extends : List ℕ → List ℕ → Type 0
 Extends old new = (more : List ℕ) × (new ≡ old ++ more)
-
--- a `String` has this beginning
-abbrev pub BeginsBy : List ℕ → String Global → Type 0
-BeginsBy head text = Extends head (string_bytes text)
 
 -- the lines above the table of channels
 abbrev pub channels_head : ℕ → ℕ → List ℕ

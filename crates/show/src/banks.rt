@@ -1,14 +1,15 @@
 //! The banks of a run, a line for each that a command names.
 
-ghost use Rattle.std.specs.Prelude.{IfOk, OnOk, length, string_bytes};
+ghost use Rattle.std.specs.Prelude.{IfOk, length, string_bytes};
 ghost use Rattle.show.specs.Screen.{Extends};
-ghost use Rattle.show.specs.Banks.{AreBanksOf, AreBanks, IsBanksScreen};
+ghost use Rattle.show.specs.Banks.{banks_head, AreBanksOf, AreBanks, IsBanksScreen};
+ghost use Rattle.show.specs.Texts.{Puts, Grows};
 
 use crate::number::Number;
 use crate::options::Options;
-use crate::rows::{COLUMNS, Row};
-use crate::screen::show_text;
+use crate::screen::put_screen;
 use crate::table::Table;
+use crate::text::Text;
 use command_table::list::CommandList;
 use measures::bank_counts::channel_counts;
 use measures::bank_counts::counts::BankCounts;
@@ -29,70 +30,59 @@ fn table_of_banks() -> Table<'static> {
     }
 }
 
-fn bank_row(counts: &BankCounts) -> Row {
+fn bank_row(counts: &BankCounts) -> [Number; 6] {
     let moves = u128::from(counts.reads) + u128::from(counts.writes);
-    let mut row = [Number::absent(); COLUMNS];
-    row[0] = Number::count(counts.acts);
-    row[1] = Number::count(counts.reads);
-    row[2] = Number::count(counts.writes);
-    row[3] = Number::count(counts.precharges);
-    row[4] = Number::percent(u128::from(counts.hits), moves);
-    row[5] = Number::count(counts.conflicts);
-    row
+    [
+        Number::count(counts.acts),
+        Number::count(counts.reads),
+        Number::count(counts.writes),
+        Number::count(counts.precharges),
+        Number::percent(u128::from(counts.hits), moves),
+        Number::count(counts.conflicts),
+    ]
 }
 
 // Appends the line of a bank.
-fn put_bank(alloc: Global, counts: &BankCounts, out: &mut String) -> Result<(), AllocError>
-    ensures { OnOk result (Extends (string_bytes out.old) (string_bytes out.new)) }
+fn put_bank(alloc: Global, counts: &BankCounts, out: &mut Text)
+    ensures { Grows out.old out.new }
 {
     let BankId { rank, group, bank } = counts.bank;
-    let label = format!(in alloc; "r{rank} g{group} b{bank}")?;
-    table_of_banks().put_row(alloc, label.as_str(), &bank_row(counts), out)
+    let label = format!(in alloc; "r{rank} g{group} b{bank}");
+    table_of_banks().put_row(alloc, label, &bank_row(counts), out);
 }
 
-// Appends the lines of banks, below their headings.
-fn put_banks(alloc: Global, banks: &[BankCounts], out: &mut String) -> Result<(), AllocError>
-    ensures { OnOk result (Extends (string_bytes out.old) (string_bytes out.new)) }
+// Appends the banks of a channel.
+fn put_banks(alloc: Global, channel: usize, banks: &[BankCounts], out: &mut Text)
+    ensures { Puts (Extends (banks_head channel (length banks.now))) out.old out.new }
 {
-    table_of_banks().put_headings(out)?;
-    for counts in banks {
-        put_bank(alloc, counts, out)?;
-    }
-    Ok(())
-}
-
-// The banks of a channel.
-fn banks_of_channel(
-    alloc: Global,
-    channel: usize,
-    commands: &CommandList,
-) -> Result<String, AllocError>
-    ensures { IfOk result (λ text. AreBanksOf commands.now channel (string_bytes text)) }
-{
-    let banks = channel_counts(alloc, channel, commands)?;
     let count = banks.len();
-    let mut text = format!(in alloc;
+    write!(
+        out,
         "\nBanks of channel {channel} ({count}): row hits in % of rd and wr\n"
-    )?;
-    put_banks(alloc, &banks, &mut text)?;
-    Ok(text)
+    );
+    table_of_banks().put_headings(out);
+    for counts in banks {
+        put_bank(alloc, counts, out);
+    }
 }
 
-// The banks of so many channels.
-#[tactic(auto, using(crate::proofs::Texts::one_more_channel))]
-fn banks_of_channels(
-    alloc: Global,
-    channels: usize,
-    commands: &CommandList,
-) -> Result<String, AllocError>
-    ensures { IfOk result (λ text. AreBanks commands.now channels (string_bytes text)) }
+// Appends the banks of a channel, by its commands.
+fn put_channel(alloc: Global, channel: usize, commands: &CommandList, out: &mut Text)
+    ensures { Puts (AreBanksOf commands.now channel) out.old out.new }
 {
-    let mut text = String::new(alloc);
-    for channel in 0..channels {
-        let banks = banks_of_channel(alloc, channel, commands)?;
-        text.push_str(banks.as_str())?;
+    match channel_counts(alloc, channel, commands) {
+        Ok(banks) => put_banks(alloc, channel, &banks, out),
+        Err(AllocError) => out.refuse(),
     }
-    Ok(text)
+}
+
+// Appends the banks of so many channels.
+fn put_channels(alloc: Global, channels: usize, commands: &CommandList, out: &mut Text)
+    ensures { Puts (AreBanks commands.now channels) out.old out.new }
+{
+    for channel in 0..channels {
+        put_channel(alloc, channel, commands, out);
+    }
 }
 
 /// What a run did, as `show_text` shows it, and below that for each channel a line for each bank that one of its
@@ -109,8 +99,8 @@ pub fn show_banks(
 ) -> Result<String, AllocError>
     ensures { IfOk result (λ text. IsBanksScreen stats.now commands.now (string_bytes text)) }
 {
-    let mut text = show_text(alloc, stats, options, config)?;
-    let banks = banks_of_channels(alloc, stats.channels.len(), commands)?;
-    text.push_str(banks.as_str())?;
-    Ok(text)
+    let mut text = Text::new(alloc);
+    put_screen(alloc, stats, options, config, &mut text);
+    put_channels(alloc, stats.channels.len(), commands, &mut text);
+    text.finish()
 }

@@ -8,6 +8,7 @@ mod requests;
 mod rows;
 mod screen;
 mod table;
+mod text;
 
 pub use banks::show_banks;
 pub use requests::show_requests;

@@ -3,7 +3,7 @@
 ghost use Rattle.std.specs.Prelude.{◌≡◌, ◌*◌, ◌/◌, ◌^◌, ◌<◌, Some, None, min};
 ghost use Rattle.show.specs.Number.{halves_of};
 
-use std::fmt;
+use std::alloc::{AllocError, Global};
 
 /// How a number is shown.
 #[derive(Clone, Copy)]
@@ -90,20 +90,16 @@ impl Scale {
         }
     }
 
-    fn write_decimals<W: fmt::Write>(self, part: u128, f: &mut fmt::Formatter<W>) -> fmt::Result {
+    /// A number that is given in halves of a thousandth.
+    fn text(self, alloc: Global, halves: u128) -> Result<String, AllocError> {
+        let (digits, unit) = (self.digits(halves), self.unit);
+        let (whole, part) = (digits / self.whole(), digits % self.whole());
         match self.decimals {
-            0 => Ok(()),
-            1 => write!(f, ".{part}"),
-            2 => write!(f, ".{part:02}"),
-            _ => write!(f, ".{part:03}"),
+            0 => format!(in alloc; "{whole}{unit}"),
+            1 => format!(in alloc; "{whole}.{part}{unit}"),
+            2 => format!(in alloc; "{whole}.{part:02}{unit}"),
+            _ => format!(in alloc; "{whole}.{part:03}{unit}"),
         }
-    }
-
-    fn write<W: fmt::Write>(self, halves: u128, f: &mut fmt::Formatter<W>) -> fmt::Result {
-        let digits = self.digits(halves);
-        write!(f, "{}", digits / self.whole())?;
-        self.write_decimals(digits % self.whole(), f)?;
-        f.write_str(self.unit)
     }
 }
 
@@ -192,13 +188,12 @@ impl Number {
             form: Form::Count,
         }
     }
-}
 
-impl fmt::Display for Number {
-    fn fmt<W: fmt::Write>(&self, f: &mut fmt::Formatter<W>) -> fmt::Result {
-        let Some(halves) = self.halves else {
-            return f.write_str("-");
-        };
-        scale_of(self.form, halves).write(halves, f)
+    /// The number as the screen shows it.
+    pub(crate) fn text(self, alloc: Global) -> Result<String, AllocError> {
+        match self.halves {
+            Some(halves) => scale_of(self.form, halves).text(alloc, halves),
+            None => String::from_str(alloc, "-"),
+        }
     }
 }

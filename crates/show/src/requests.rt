@@ -1,14 +1,16 @@
 //! How long reads took and how long requests waited, below the screen of a run.
 
-ghost use Rattle.std.specs.Prelude.{◌≡◌, ◌≤◌, length, IfOk, OnOk, string_bytes};
-ghost use Rattle.measures.specs.Latency.{read_latencies, AreLatenciesOf};
+ghost use Rattle.std.specs.Prelude.{◌≡◌, ◌≤◌, length, IfOk, string_bytes};
+ghost use Rattle.measures.specs.Latency.{read_latencies};
 ghost use Rattle.show.specs.Requests.{latencies_head, waits_head, replies_of, AreRequests};
-ghost use Rattle.show.specs.Screen.{BeginsBy, Extends};
+ghost use Rattle.show.specs.Screen.{Extends};
+ghost use Rattle.show.specs.Texts.{Puts};
 
 use crate::number::Number;
 use crate::options::Options;
 use crate::rows::{COLUMNS, Row, nanoseconds};
 use crate::table::Table;
+use crate::text::Text;
 use measures::request_measures::latency::{
     Latencies, core_latency_percentiles, latency_percentiles,
 };
@@ -147,62 +149,70 @@ fn wait_rows(
 // The read latencies of each core, and last those of all.
 fn put_latencies(
     alloc: Global,
-    rows: &[Row],
+    rows: Result<Vec<Row>, AllocError>,
     all: Option<Latencies>,
     options: Options,
-    out: &mut String,
-) -> Result<(), AllocError>
-    ensures { OnOk result (Extends (string_bytes out.old) (string_bytes out.new)) }
+    out: &mut Text,
+)
+    ensures { Puts (Extends (latencies_head (replies_of all))) out.old out.new }
 {
+    let replies = replies_of(all);
+    write!(
+        out,
+        "\nRead latency ({replies} replies): cycles from issue to reply, by the nearest rank\n"
+    );
     let table = Table {
         label: "core",
         headings: shown(&LATENCY_HEADINGS, options.khz, 5),
         all: options.all,
     };
-    table.put(alloc, rows, out)?;
-    table.put_row(alloc, "all", &latency_row(all, options.khz), out)
+    table.put(alloc, rows, out);
+    let label = String::from_str(alloc, "all");
+    table.put_row(alloc, label, &latency_row(all, options.khz), out);
 }
 
 // How long reads took.
-fn text_of_latencies(
+fn put_reads(
     alloc: Global,
     cores: CoreId,
     requests: &[RequestTimes],
     options: Options,
-) -> Result<String, AllocError>
-    ensures { IfOk result (BeginsBy (latencies_head (length (read_latencies requests.now)))) }
+    out: &mut Text,
+)
+    ensures { Puts (Extends (latencies_head (length (read_latencies requests.now)))) out.old out.new }
 {
-    let rows = latency_rows(alloc, cores, requests, options.khz)?;
-    let all = latency_percentiles(alloc, requests)?;
-    let replies = replies_of(all);
-    let mut text = format!(in alloc;
-        "\nRead latency ({replies} replies): cycles from issue to reply, by the nearest rank\n"
-    )?;
-    put_latencies(alloc, &rows, all, options, &mut text)?;
-    Ok(text)
+    let rows = latency_rows(alloc, cores, requests, options.khz);
+    match latency_percentiles(alloc, requests) {
+        Ok(all) => put_latencies(alloc, rows, all, options, out),
+        Err(AllocError) => out.refuse(),
+    }
 }
 
 // How long requests waited.
-fn text_of_waits(
+fn put_waits(
     alloc: Global,
     channels: ChannelId,
     requests: &[RequestTimes],
     options: Options,
-) -> Result<String, AllocError>
-    ensures { IfOk result (BeginsBy (waits_head (length requests.now))) }
+    out: &mut Text,
+)
+    ensures { Puts (Extends (waits_head (length requests.now))) out.old out.new }
 {
-    let rows = wait_rows(alloc, channels, requests, options.khz)?;
     let count = requests.len();
-    let mut text = format!(in alloc;
+    write!(
+        out,
         "\nQueues ({count} requests): mean cycles from arrival to RD or WR\n"
-    )?;
+    );
     let table = Table {
         label: "channel",
         headings: shown(&WAIT_HEADINGS, options.khz, 6),
         all: options.all,
     };
-    table.put(alloc, &rows, &mut text)?;
-    Ok(text)
+    table.put(
+        alloc,
+        wait_rows(alloc, channels, requests, options.khz),
+        out,
+    );
 }
 
 /// What stands below the screen of a run of so many cores and channels whose requests are known.
@@ -224,8 +234,8 @@ pub fn show_requests(
 ) -> Result<String, AllocError>
     ensures { IfOk result (λ text. AreRequests requests.now (string_bytes text)) }
 {
-    let mut text = text_of_latencies(alloc, cores, requests, options)?;
-    let waits = text_of_waits(alloc, channels, requests, options)?;
-    text.push_str(waits.as_str())?;
-    Ok(text)
+    let mut text = Text::new(alloc);
+    put_reads(alloc, cores, requests, options, &mut text);
+    put_waits(alloc, channels, requests, options, &mut text);
+    text.finish()
 }

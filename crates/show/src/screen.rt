@@ -1,13 +1,15 @@
 //! The screen: the cycles, a table of channels and a table of cores.
 
-ghost use Rattle.std.specs.Prelude.{IfOk, OnOk, length, string_bytes};
-ghost use Rattle.show.specs.Screen.{BeginsBy, Extends, IsScreen, channels_head, cores_head};
+ghost use Rattle.std.specs.Prelude.{IfOk, length, string_bytes};
+ghost use Rattle.show.specs.Screen.{Extends, IsScreen, channels_head, cores_head};
+ghost use Rattle.show.specs.Texts.{Puts, Grows};
 
 use crate::options::Options;
 use crate::rows::{
     CHANNEL_HEADINGS, CLOCKED_CHANNEL_HEADINGS, CORE_HEADINGS, channel_rows, core_rows, nanoseconds,
 };
 use crate::table::Table;
+use crate::text::Text;
 use sim_base::config::Config;
 use statistics::stats::Stats;
 use std::alloc::{AllocError, Global};
@@ -30,62 +32,71 @@ fn core_headings(khz: Option<u64>) -> &'static [&'static str] {
 }
 
 // The channels of a run, below the cycles.
-fn text_of_channels(
+fn put_channels(
     alloc: Global,
     stats: &Stats,
     options: Options,
     config: Option<&Config>,
-) -> Result<String, AllocError>
-    ensures { IfOk result (BeginsBy (channels_head stats.now.cycles (length stats.now.channels))) }
+    out: &mut Text,
+)
+    ensures { Puts (Extends (channels_head stats.now.cycles (length stats.now.channels))) out.old out.new }
 {
     let (cycles, channels) = (stats.cycles, stats.channels.len());
-    let rows = channel_rows(alloc, cycles, &stats.channels, config, options.khz)?;
-    let mut text = format!(in alloc;
+    write!(
+        out,
         "cycles {cycles}\n\nChannels ({channels}): row hits in % of rd and wr, all else in % of the cycles\n"
-    )?;
+    );
     let table = Table {
         label: "channel",
         headings: channel_headings(config, options.khz),
         all: options.all,
     };
-    table.put(alloc, &rows, &mut text)?;
-    Ok(text)
+    let rows = channel_rows(alloc, cycles, &stats.channels, config, options.khz);
+    table.put(alloc, rows, out);
 }
 
 // The cores of a run.
-fn text_of_cores(alloc: Global, stats: &Stats, options: Options) -> Result<String, AllocError>
-    ensures { IfOk result (BeginsBy (cores_head (length stats.now.cores))) }
+fn put_cores(alloc: Global, stats: &Stats, options: Options, out: &mut Text)
+    ensures { Puts (Extends (cores_head (length stats.now.cores))) out.old out.new }
 {
     let cores = stats.cores.len();
-    let rows = core_rows(alloc, stats.cycles, &stats.cores, options.khz)?;
-    let mut text = format!(in alloc;
+    write!(
+        out,
         "\nCores ({cores}): finish and latency in cycles, why no more was issued in % of the cycles\n"
-    )?;
+    );
     let table = Table {
         label: "core",
         headings: core_headings(options.khz),
         all: options.all,
     };
-    table.put(alloc, &rows, &mut text)?;
-    Ok(text)
+    let rows = core_rows(alloc, stats.cycles, &stats.cores, options.khz);
+    table.put(alloc, rows, out);
 }
 
 // The cycles in ns, where the clock is given.
-fn put_time(
-    alloc: Global,
-    cycles: u64,
-    khz: Option<u64>,
-    out: &mut String,
-) -> Result<(), AllocError>
-    ensures { OnOk result (Extends (string_bytes out.old) (string_bytes out.new)) }
+fn put_time(alloc: Global, cycles: u64, khz: Option<u64>, out: &mut Text)
+    ensures { Grows out.old out.new }
 {
-    let Some(khz) = khz else {
-        return Ok(());
-    };
-    let time = nanoseconds(u128::from(cycles), 1, khz).to_string(alloc)?;
-    out.push_str("\nThe cycles take ")?;
-    out.push_str(time.as_str())?;
-    out.push_str(" ns\n")
+    if let Some(khz) = khz {
+        out.push_str("\nThe cycles take ");
+        out.push(nanoseconds(u128::from(cycles), 1, khz).text(alloc));
+        out.push_str(" ns\n");
+    }
+}
+
+/// Appends the screen of a run.
+pub(crate) fn put_screen(
+    alloc: Global,
+    stats: &Stats,
+    options: Options,
+    config: Option<&Config>,
+    out: &mut Text,
+)
+    ensures { Puts (IsScreen stats.now) out.old out.new }
+{
+    put_channels(alloc, stats, options, config, out);
+    put_cores(alloc, stats, options, out);
+    put_time(alloc, stats.cycles, options.khz, out);
 }
 
 /// What a run did, on one screen of lines of at most 100 characters, or 122 with a clock: its cycles, a table of its
@@ -114,9 +125,7 @@ pub fn show_text(
 ) -> Result<String, AllocError>
     ensures { IfOk result (λ text. IsScreen stats.now (string_bytes text)) }
 {
-    let mut text = text_of_channels(alloc, stats, options, config)?;
-    let mut cores = text_of_cores(alloc, stats, options)?;
-    put_time(alloc, stats.cycles, options.khz, &mut cores)?;
-    text.push_str(cores.as_str())?;
-    Ok(text)
+    let mut text = Text::new(alloc);
+    put_screen(alloc, stats, options, config, &mut text);
+    text.finish()
 }

@@ -1,10 +1,10 @@
 //! Tables of text: a line of headings, and below it a line for each row, with each column flush right.
 
-ghost use Rattle.std.specs.Prelude.{OnOk, string_bytes};
-ghost use Rattle.show.specs.Screen.{Extends};
+ghost use Rattle.show.specs.Texts.{Grows};
 
 use crate::number::Number;
 use crate::rows::{Row, summary_rows};
+use crate::text::Text;
 use std::alloc::{AllocError, Global};
 
 /// A table with more lines than this is shown in three, unless all are asked for.
@@ -35,25 +35,23 @@ fn label_of(alloc: Global, row: usize, summarized: bool) -> Result<String, Alloc
 }
 
 // Appends a cell, padded on the left.
-fn put_cell(text: &str, width: usize, out: &mut String) -> Result<(), AllocError>
-    ensures { OnOk result (Extends (string_bytes out.old) (string_bytes out.new)) }
+fn put_cell(text: &str, width: usize, out: &mut Text)
+    ensures { Grows out.old out.new }
 {
     for _ in text.len()..width {
-        out.push_str(" ")?;
+        out.push_str(" ");
     }
-    out.push_str(text)
+    out.push_str(text);
 }
 
-fn put_number(
-    alloc: Global,
-    number: Number,
-    width: usize,
-    out: &mut String,
-) -> Result<(), AllocError>
-    ensures { OnOk result (Extends (string_bytes out.old) (string_bytes out.new)) }
+// Appends a cell, unless memory was refused for its text.
+fn put_made(text: Result<String, AllocError>, width: usize, out: &mut Text)
+    ensures { Grows out.old out.new }
 {
-    let text = number.to_string(alloc)?;
-    put_cell(text.as_str(), width, out)
+    match text {
+        Ok(text) => put_cell(text.as_str(), width, out),
+        Err(AllocError) => out.refuse(),
+    }
 }
 
 /// The headings of a table, `label` that of its first column, which says what each line is about; and whether each row
@@ -67,66 +65,65 @@ pub(crate) struct Table<'a> {
 
 impl Table<'_> {
     /// Appends the line of headings.
-    pub(crate) fn put_headings(&self, out: &mut String) -> Result<(), AllocError>
-        ensures { OnOk result (Extends (string_bytes out.old) (string_bytes out.new)) }
+    pub(crate) fn put_headings(&self, out: &mut Text)
+        ensures { Grows out.old out.new }
     {
-        put_cell(self.label, LABEL_WIDTH, out)?;
+        put_cell(self.label, LABEL_WIDTH, out);
         for heading in self.headings {
-            out.push_str("  ")?;
-            put_cell(heading, width_of(heading), out)?;
+            out.push_str("  ");
+            put_cell(heading, width_of(heading), out);
         }
-        out.push_str("\n")
+        out.push_str("\n");
     }
 
     /// Appends the line of a row, behind a label.
     pub(crate) fn put_row(
         &self,
         alloc: Global,
-        label: &str,
-        row: &Row,
-        out: &mut String,
-    ) -> Result<(), AllocError>
-        ensures { OnOk result (Extends (string_bytes out.old) (string_bytes out.new)) }
+        label: Result<String, AllocError>,
+        row: &[Number],
+        out: &mut Text,
+    )
+        ensures { Grows out.old out.new }
     {
-        put_cell(label, LABEL_WIDTH, out)?;
-        for (column, heading) in self.headings.iter().enumerate() {
-            let number = row.get(column).copied().unwrap_or(Number::absent());
-            out.push_str("  ")?;
-            put_number(alloc, number, width_of(heading), out)?;
+        put_made(label, LABEL_WIDTH, out);
+        for (heading, number) in self.headings.iter().zip(row) {
+            out.push_str("  ");
+            put_made(number.text(alloc), width_of(heading), out);
         }
-        out.push_str("\n")
+        out.push_str("\n");
     }
 
-    fn put_lines(
-        &self,
-        alloc: Global,
-        rows: &[Row],
-        summarized: bool,
-        out: &mut String,
-    ) -> Result<(), AllocError>
-        ensures { OnOk result (Extends (string_bytes out.old) (string_bytes out.new)) }
+    fn put_lines(&self, alloc: Global, rows: &[Row], summarized: bool, out: &mut Text)
+        ensures { Grows out.old out.new }
     {
-        self.put_headings(out)?;
+        self.put_headings(out);
         for (place, row) in rows.iter().enumerate() {
-            let label = label_of(alloc, place, summarized)?;
-            self.put_row(alloc, label.as_str(), row, out)?;
+            self.put_row(alloc, label_of(alloc, place, summarized), &row[..], out);
         }
-        Ok(())
     }
 
-    /// Appends the table of rows, or of their summary: the headings, and a line for each row.
-    pub(crate) fn put(
-        &self,
-        alloc: Global,
-        rows: &[Row],
-        out: &mut String,
-    ) -> Result<(), AllocError>
-        ensures { OnOk result (Extends (string_bytes out.old) (string_bytes out.new)) }
+    // Appends the table of rows, or of their summary.
+    fn put_rows(&self, alloc: Global, rows: &[Row], out: &mut Text)
+        ensures { Grows out.old out.new }
     {
-        if rows.len() > MOST_LINES && !self.all {
-            let summary = summary_rows(alloc, rows)?;
-            return self.put_lines(alloc, &summary, true, out);
+        if rows.len() <= MOST_LINES || self.all {
+            return self.put_lines(alloc, rows, false, out);
         }
-        self.put_lines(alloc, rows, false, out)
+        match summary_rows(alloc, rows) {
+            Ok(summary) => self.put_lines(alloc, &summary, true, out),
+            Err(AllocError) => out.refuse(),
+        }
+    }
+
+    /// Appends the table of rows, or of their summary, unless memory was refused for them: the headings, and a line for
+    /// each row.
+    pub(crate) fn put(&self, alloc: Global, rows: Result<Vec<Row>, AllocError>, out: &mut Text)
+        ensures { Grows out.old out.new }
+    {
+        match rows {
+            Ok(rows) => self.put_rows(alloc, &rows, out),
+            Err(AllocError) => out.refuse(),
+        }
     }
 }

@@ -1,10 +1,11 @@
-use Rattle.std.proofs.Common.{string_bytes}
-use Rattle.std.proofs.lemmas.Result.{on_ok_weaker}
-use Rattle.show.proofs.Texts.{extends_more}
+-- The head, and the table and its last line below it.
+use Rattle.std.proofs.Common.{ap, ◌∙◌, append_assoc, refl}
+use Rattle.show.specs.Requests.{latencies_head, replies_of}
+use Rattle.show.proofs.Texts.{wrote, headed, headed_on, puts_as}
 use Rattle.show.proofs.requests.put_latencies.Goals as goal
 
 pub returns : goal.returns
 returns c =
-    on_ok_weaker c.put_row.result
-    (extends_more (string_bytes c.args.out.now) (string_bytes c.put.new.out) (string_bytes c.put_row.new.out) (c.in_ok-put.ensures {u = tt}))
-    c.put_row.ensures
+    let head = latencies_head (replies_of c.args.all) in
+    let first = wrote (latencies_head c.replies_of-replies.result) c.write.ensures (simp append_assoc refl) in
+    headed_on head (headed head (puts_as (λ put is. is ∙ ap latencies_head c.replies_of-replies.ensures) first) c.put.ensures) c.put_row.ensures

@@ -1,7 +1,6 @@
 -- The text that was there has more behind it.
-use Rattle.std.proofs.Common.{string_bytes}
-use Rattle.show.specs.Screen.{Extends}
+use Rattle.show.specs.Texts.{Grows}
 use Rattle.show.proofs.table.Table.put_lines.Given as goal
 
 abbrev pub invariant-loop-place : goal.invariant-loop-place
-invariant-loop-place l = Extends (string_bytes l.fn.out) (string_bytes l.out)
+invariant-loop-place l = Grows l.fn.out l.out

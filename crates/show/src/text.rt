@@ -1,0 +1,69 @@
+//! A text in the making.
+
+ghost use Rattle.std.specs.Prelude.{◌≡◌, true, false, [], IfOk, IsOkAnd, string_bytes};
+ghost use Rattle.show.specs.Texts.{Puts, Grows, PutsOutput};
+
+use std::alloc::{AllocError, Global};
+use std::fmt::Display;
+
+/// A text in the making. It keeps whether memory was refused for a part of it: then it comes to no end.
+#[derive(Drop)]
+pub(crate) struct Text {
+    text: String,
+    was_refused: bool,
+}
+
+impl Text {
+    /// No text yet.
+    pub(crate) fn new(alloc: Global) -> Text
+        ensures refused { result.was_refused ≡ false }
+        ensures empty { string_bytes result.text ≡ [] }
+    {
+        Text {
+            text: String::new(alloc),
+            was_refused: false,
+        }
+    }
+
+    /// Keeps that memory was refused for a part.
+    pub(crate) fn refuse(&mut self)
+        ensures { self.new.was_refused ≡ true }
+    {
+        self.was_refused = true;
+    }
+
+    /// Appends words.
+    pub(crate) fn push_str(&mut self, words: &str)
+        ensures { Puts (λ put. put ≡ words.now) self.old self.new }
+    {
+        self.was_refused |= self.text.push_str(words).is_err();
+    }
+
+    /// Appends what `write!` is given.
+    pub(crate) fn write_fmt<D: Display + Drop>(&mut self, value: D)
+        ensures { PutsOutput (D.output value) self.old self.new }
+    {
+        self.was_refused |= self.text.write(value).is_err();
+    }
+
+    /// Appends a text, unless memory was refused for it.
+    pub(crate) fn push(&mut self, made: Result<String, AllocError>)
+        ensures { Grows self.old self.new }
+    {
+        match made {
+            Ok(words) => self.push_str(words.as_str()),
+            Err(AllocError) => self.refuse(),
+        }
+    }
+
+    /// The whole text, unless memory was refused for a part of it.
+    pub(crate) fn finish(self) -> Result<String, AllocError>
+        ensures whole { IfOk result (λ text. self.was_refused ≡ false) }
+        ensures text { IfOk result (λ text. text ≡ self.text) }
+    {
+        if self.was_refused {
+            return Err(AllocError);
+        }
+        Ok(self.text)
+    }
+}
