@@ -5,3 +5,4 @@ pub mod Tally
 pub mod Agreement
 pub mod Banks
 pub mod Hits
+pub mod Number

@@ -1,8 +1,9 @@
 //! What is measured of a run from its tables: what each bank did, how long requests took and waited, percentiles, and
-//! whether requests are those of the run.
+//! whether requests are those of the run; and numbers with as many digits as say something.
 #![tactic(auto)]
 
 pub mod bank_counts;
+pub mod number;
 pub mod percentiles;
 pub mod request_check;
 pub mod request_measures;

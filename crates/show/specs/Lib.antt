@@ -1,4 +1,3 @@
-pub mod Number
 pub mod Screen
 pub mod Texts
 pub mod Banks

@@ -5,7 +5,6 @@ ghost use Rattle.show.specs.Screen.{Extends};
 ghost use Rattle.show.specs.Banks.{banks_head, AreBanksOf, AreBanks, IsBanksScreen};
 ghost use Rattle.show.specs.Texts.{Puts, Grows};
 
-use crate::number::Number;
 use crate::options::Options;
 use crate::screen::put_screen;
 use crate::table::Table;
@@ -13,6 +12,7 @@ use crate::text::Text;
 use command_table::list::CommandList;
 use measures::bank_counts::channel_counts;
 use measures::bank_counts::counts::BankCounts;
+use measures::number::Number;
 use sim_base::config::Config;
 use sim_base::place::BankId;
 use statistics::stats::Stats;

@@ -2,7 +2,6 @@
 #![tactic(auto)]
 
 mod banks;
-mod number;
 pub mod options;
 mod requests;
 mod rows;

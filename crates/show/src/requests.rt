@@ -6,11 +6,11 @@ ghost use Rattle.show.specs.Requests.{latencies_head, waits_head, replies_of, Ar
 ghost use Rattle.show.specs.Screen.{Extends};
 ghost use Rattle.show.specs.Texts.{Puts};
 
-use crate::number::Number;
 use crate::options::Options;
 use crate::rows::{COLUMNS, Row, nanoseconds};
 use crate::table::Table;
 use crate::text::Text;
+use measures::number::Number;
 use measures::request_measures::latency::{
     Latencies, core_latency_percentiles, latency_percentiles,
 };

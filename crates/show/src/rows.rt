@@ -2,7 +2,7 @@
 
 ghost use Rattle.std.specs.Prelude.{◌≡◌, ◌+◌, ◌^◌, ◌<◌, length, IfOk};
 
-use crate::number::{Form, Number};
+use measures::number::{Form, Number};
 use sim_base::config::Config;
 use statistics::channels::ChannelStats;
 use statistics::cores::CoreStats;

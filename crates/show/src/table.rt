@@ -2,9 +2,9 @@
 
 ghost use Rattle.show.specs.Texts.{Grows};
 
-use crate::number::Number;
 use crate::rows::{Row, summary_rows};
 use crate::text::Text;
+use measures::number::Number;
 use std::alloc::{AllocError, Global};
 
 /// A table with more lines than this is shown in three, unless all are asked for.

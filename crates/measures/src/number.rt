@@ -1,13 +1,13 @@
-//! Numbers as the screen shows them: at most four digits that say something.
+//! Numbers as a screen shows them: at most four digits that say something.
 
 ghost use Rattle.std.specs.Prelude.{◌≡◌, ◌*◌, ◌/◌, ◌^◌, ◌<◌, Some, None, min};
-ghost use Rattle.show.specs.Number.{halves_of};
+ghost use Rattle.measures.specs.Number.{halves_of};
 
 use std::alloc::{AllocError, Global};
 
 /// How a number is shown.
 #[derive(Clone, Copy)]
-pub(crate) enum Form {
+pub enum Form {
     /// With up to three decimals: `0.456`, `4.56`, `45.6`, `456`, `4567`, `45.7k`.
     Mean,
     /// With one decimal: `0.5`, `45.6`, `100.0`.
@@ -34,13 +34,13 @@ impl Form {
     }
 }
 
-/// A number of the screen.
+/// A number of a screen.
 #[derive(Clone, Copy)]
-pub(crate) struct Number {
+pub struct Number {
     /// The number in halves of a thousandth, rounded down; none where there is nothing to divide by. Rounding it to
     /// thousandths or coarser therefore gives the same as rounding the exact number.
-    pub(crate) halves: Option<u128>,
-    pub(crate) form: Form,
+    pub halves: Option<u128>,
+    pub form: Form,
 }
 
 /// A greater sum counts as this one.
@@ -144,7 +144,7 @@ fn coarse_scale(halves: u128) -> Scale {
 
 impl Number {
     /// A count.
-    pub(crate) fn count(count: u64) -> Number
+    pub fn count(count: u64) -> Number
         ensures { result ≡ record { halves = Some (2000 * count); form = Form.Count } }
     {
         Number {
@@ -154,7 +154,7 @@ impl Number {
     }
 
     /// A quotient; none where the divisor is 0. A dividend above 2^70 counts as 2^70.
-    pub(crate) fn quotient(dividend: u128, divisor: u128, form: Form) -> Number
+    pub fn quotient(dividend: u128, divisor: u128, form: Form) -> Number
         ensures { result ≡ record { halves = halves_of dividend divisor; form = form } }
     {
         let halves = 2_000 * dividend.min(GREATEST_SUM);
@@ -165,14 +165,14 @@ impl Number {
     }
 
     /// The mean of a sum over a count; none for a count of 0. A sum above 2^70 counts as 2^70.
-    pub(crate) fn mean(sum: u128, count: u64) -> Number
+    pub fn mean(sum: u128, count: u64) -> Number
         ensures { result ≡ record { halves = halves_of sum count; form = Form.Mean } }
     {
         Number::quotient(sum, u128::from(count), Form::Mean)
     }
 
     /// What percentage of the whole a part is; none for a whole of 0.
-    pub(crate) fn percent(part: u128, whole: u128) -> Number
+    pub fn percent(part: u128, whole: u128) -> Number
         requires { part < 2 ^ 80 }
         ensures { result ≡ record { halves = halves_of (100 * part) whole; form = Form.Percent } }
     {
@@ -180,7 +180,7 @@ impl Number {
     }
 
     /// A number that is not there.
-    pub(crate) fn absent() -> Number
+    pub fn absent() -> Number
         ensures { result.halves ≡ None }
     {
         Number {
@@ -189,8 +189,8 @@ impl Number {
         }
     }
 
-    /// The number as the screen shows it.
-    pub(crate) fn text(self, alloc: Global) -> Result<String, AllocError> {
+    /// The number as a screen shows it. The only error is out of memory.
+    pub fn text(self, alloc: Global) -> Result<String, AllocError> {
         match self.halves {
             Some(halves) => scale_of(self.form, halves).text(alloc, halves),
             None => String::from_str(alloc, "-"),

@@ -1,4 +1,4 @@
--- Numbers of the screen.
+-- Numbers as a screen shows them.
 --     halves_of dividend divisor      a quotient in halves of a thousandth, rounded down, if there is anything to divide by
 use Rattle.std.specs.Prelude.{ℕ, ◌*◌, ◌/◌, ◌^◌, ◌==◌, min, Option, Some, None, if◌then◌else◌}
 
