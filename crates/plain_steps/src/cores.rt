@@ -164,9 +164,7 @@ fn is_reply(entry: u64, load: Load) -> bool
 fn has_reply(inbox: &[Message], now: usize, entry: u64) -> bool
     ensures { result ≡ is_replied inbox.now now entry }
 {
-    inbox
-        .iter()
-        .any(|m| is_reply(entry, m.load) && m.arrival <= now as u64)
+    inbox.iter().any(move |m| is_reply(entry, m.load) && m.arrival <= now as u64)
 }
 
 #[tactic(auto, unfolding(sim_base::specs::Windows::is_done))]
@@ -187,7 +185,7 @@ fn done_count(trace: &Trace, inbox: &[Message], now: usize, n: u16, first: u64) 
     ensures small { result ≤ n }
 {
     (first..first + u64::from(n))
-        .take_while(|entry| is_entry_done(trace, inbox, now, *entry))
+        .take_while(move |entry| is_entry_done(trace, inbox, now, *entry))
         .count() as u16
 }
 
@@ -242,7 +240,7 @@ fn credits_received(inbox: &[Message], link: u64, access: Access, until: usize) 
 {
     inbox
         .iter()
-        .filter(|m| is_link_credit(link, access, until, **m))
+        .filter(move |m| is_link_credit(link, access, until, **m))
         .count()
 }
 
@@ -250,7 +248,7 @@ fn request_count(sent: &[Message], channel: u32, access: Access) -> usize
     ensures { result ≡ count_by (λ m. is_request_for channel access m.load) sent.now }
 {
     sent.iter()
-        .filter(|m| is_request(channel, access, m.load))
+        .filter(move |m| is_request(channel, access, m.load))
         .count()
 }
 
@@ -298,7 +296,7 @@ fn has_memory_number(trace: &Trace, first: u64, m: u16) -> bool
     requires { first + m < 2 ^ 64 }
     ensures { result ≡ is_memory_among trace.now first m }
 {
-    (0..m).any(|k| is_memory_number(trace, first + u64::from(k)))
+    (0..m).any(move |k| is_memory_number(trace, first + u64::from(k)))
 }
 
 #[tactic(auto, using(crate::proofs::Entries::has_memory_numbers))]

@@ -20,7 +20,7 @@ fn opens_for(source: Source, command: Command) -> bool
 fn was_opened_for(source: Source, history: &[IssuedCommand]) -> bool
     ensures { result ≡ list_any (λ i. is_act_for source i.command) history.now }
 {
-    history.iter().any(|i| opens_for(source, i.command))
+    history.iter().any(move |i| opens_for(source, i.command))
 }
 
 fn needs_no_act(history: &[IssuedCommand], source: Option<Source>) -> bool

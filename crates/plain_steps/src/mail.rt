@@ -29,7 +29,7 @@ fn place_in_order(m: Message, sorted: &[Message]) -> usize
     ensures value { result ≡ place_by_age m sorted.now }
     ensures small { result ≤ length sorted.now }
 {
-    sorted.iter().take_while(|n| !m.is_before(n)).count()
+    sorted.iter().take_while(move |n| !m.is_before(n)).count()
 }
 
 /// Puts a message into its place by age.
@@ -63,6 +63,6 @@ pub fn messages_to(
     messages
         .iter()
         .copied()
-        .filter(|m| is_for(s, unit, *m))
+        .filter(move |m| is_for(s, unit, *m))
         .collect(alloc)
 }

@@ -19,7 +19,7 @@ pub fn row_of_bank(bank: BankId, history: &[IssuedCommand]) -> Option<u32>
 {
     history
         .iter()
-        .fold(None, |row, i| i.command.row_after(bank, row))
+        .fold(None, move |row, i| i.command.row_after(bank, row))
 }
 
 fn has_passed(cycle: u64, distance: u64, now: u64) -> bool
@@ -48,7 +48,7 @@ pub fn recent_act_count(t: Timing, of_rank: u32, now: u64, history: &[IssuedComm
 {
     history
         .iter()
-        .filter(|i| is_recent_act(t, of_rank, now, **i))
+        .filter(move |i| is_recent_act(t, of_rank, now, **i))
         .count()
 }
 
@@ -75,7 +75,7 @@ fn keeps_all_distances(
 {
     history
         .iter()
-        .all(|i| has_passed_gap(gaps, now, command, *i))
+        .all(move |i| has_passed_gap(gaps, now, command, *i))
 }
 
 /// Whether the distances and the four-activate window allow the command now.
@@ -101,17 +101,26 @@ pub fn is_bank_open(history: &[IssuedCommand], bank: BankId) -> bool
     row_of_bank(bank, history).is_some()
 }
 
+fn is_open_at(history: &[IssuedCommand], rank: u32, group: u32, bank: u32) -> bool
+    ensures { result ≡ is_open history.now (record { rank = rank; group = group; bank = bank }) }
+{
+    is_bank_open(history, BankId { rank, group, bank })
+}
+
 fn has_open_bank_of_group(history: &[IssuedCommand], rank: u32, group: u32) -> bool
     ensures { result ≡ has_open_bank_in_group history.now rank group }
 {
-    (0..4).any(|bank| is_bank_open(history, BankId { rank, group, bank }))
+    is_open_at(history, rank, group, 0)
+        || is_open_at(history, rank, group, 1)
+        || is_open_at(history, rank, group, 2)
+        || is_open_at(history, rank, group, 3)
 }
 
 #[tactic(auto, unfolding(sim_base::specs::Rules::has_open_bank))]
 pub fn has_open_bank_of_rank(s: &Config, history: &[IssuedCommand], rank: u32) -> bool
     ensures { result ≡ has_open_bank s.now history.now rank }
 {
-    (0..s.groups).any(|group| has_open_bank_of_group(history, rank, group))
+    (0..s.groups).any(move |group| has_open_bank_of_group(history, rank, group))
 }
 
 pub fn finds_banks(s: &Config, history: &[IssuedCommand], command: Command) -> bool

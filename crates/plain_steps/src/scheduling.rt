@@ -46,7 +46,7 @@ pub fn does_serve(r: Request, command: Command) -> bool
 fn is_request_served(history: &[IssuedCommand], r: Request) -> bool
     ensures { result ≡ is_served history.now r }
 {
-    history.iter().any(|i| does_serve(r, i.command))
+    history.iter().any(move |i| does_serve(r, i.command))
 }
 
 fn is_request_unserved(history: &[IssuedCommand], request: Option<Request>) -> bool
@@ -87,7 +87,7 @@ pub fn queue(alloc: Global, pending: &[Message], until: u64) -> Result<Vec<Reque
     pending
         .iter()
         .filter_map(|m| request_of_load(m.load))
-        .filter(|r| r.arrival < until)
+        .filter(move |r| r.arrival < until)
         .collect(alloc)
 }
 
@@ -112,7 +112,10 @@ fn drains_at(s: &Config, draining: bool, writes: usize) -> bool
 fn is_line_asked(place: Place, requests: &[Request], count: usize) -> bool
     ensures { result ≡ asks_for_line place (take count requests.now) }
 {
-    requests.iter().take(count).any(|q| q.place.is_line(place))
+    requests
+        .iter()
+        .take(count)
+        .any(move |q| q.place.is_line(place))
 }
 
 /// The requests with no older one for the same line.
@@ -149,7 +152,7 @@ fn favoured_requests(
     eligible
         .iter()
         .copied()
-        .filter(|r| is_favoured_request(draining, *r))
+        .filter(move |r| is_favoured_request(draining, *r))
         .collect(alloc)
 }
 
@@ -190,7 +193,7 @@ fn is_hit_in(history: &[IssuedCommand], requests: &[Request], bank: BankId) -> b
     ensures { result ≡ has_hit history.now requests.now bank }
 {
     let open_row = rules::row_of_bank(bank, history);
-    requests.iter().any(|r| hits_row(*r, bank, open_row))
+    requests.iter().any(move |r| hits_row(*r, bank, open_row))
 }
 
 /// Whether a row hit among the requests keeps the command's bank from being closed.
@@ -215,7 +218,7 @@ fn refresh_count(rank: u32, history: &[IssuedCommand]) -> usize
 {
     history
         .iter()
-        .filter(|i| is_refresh_of(rank, i.command))
+        .filter(move |i| is_refresh_of(rank, i.command))
         .count()
 }
 
@@ -236,7 +239,7 @@ pub fn due_count(s: &Config, rank: u32, history: &[IssuedCommand], now: u64) -> 
 pub fn lowest_rank_due(s: &Config, history: &[IssuedCommand], now: u64) -> Option<u32>
     ensures { result ≡ lowest_due s.now history.now now }
 {
-    (0..s.ranks).find(|rank| 0 < due_count(s, *rank, history, now))
+    (0..s.ranks).find(move |rank| 0 < due_count(s, *rank, history, now))
 }
 
 #[tactic(auto, unfolding(sim_base::specs::Scheduling::refresh_command))]
