@@ -1,100 +1,80 @@
 //! Runs beside the first of them.
 
 ghost use Rattle.std.specs.Prelude.{◌^◌, ◌<◌, IfOk};
-ghost use Rattle.compare.specs.Comparison.{name_text, names_text, screen_head, head_text, heading_text, headings_text, comparison_text, runs_text};
+ghost use Rattle.compare.specs.Comparison.{names_text, head_text, heading_text, headings_text, comparison_text};
+ghost use Rattle.compare.specs.Sheets.{Puts};
 ghost use Rattle.compare.specs.Strings.{IsText, texts};
 
 use crate::layout::Layout;
-use crate::lines::{CHANGE_WIDTH, VALUE_WIDTH, lines_text};
-use crate::texts::{cell_text, label_text};
+use crate::lines::{CHANGE_WIDTH, VALUE_WIDTH, put_lines};
+use crate::sheet::Sheet;
+use crate::texts::{put_cell, put_label, put_words};
 use sim_base::message::Cycle;
 use statistics::stats::Stats;
 use std::alloc::{AllocError, Global};
 
-// The number and the name of a run.
-fn name_text(alloc: Global, number: usize, name: &str) -> Result<String, AllocError>
-    ensures { IfOk result (IsText (name_text number name.now)) }
+// The names of the runs, a line for each.
+fn put_names(names: &[&str], out: &mut Sheet)
+    ensures { Puts (names_text (texts names.now)) out.old out.new }
 {
-    format!(in alloc; "run {number}: {name}\n")
-}
-
-// A line for each.
-#[tactic(auto, unfolding(crate::specs::Comparison::names_text))]
-fn names_text(alloc: Global, names: &[&str]) -> Result<String, AllocError>
-    ensures { IfOk result (IsText (names_text (texts names.now))) }
-{
-    let mut text = String::new(alloc);
     for (place, name) in names.iter().enumerate() {
-        let line = name_text(alloc, place + 1, name)?;
-        text.push_str(line.as_str())?;
+        write!(out, "run {}: ", place + 1);
+        out.push_str(name);
+        out.push_str("\n");
     }
-    Ok(text)
 }
 
-// What stands before the headings of a screen: the names of the runs, and room for the labels.
-fn screen_head(alloc: Global, names: &[&str]) -> Result<String, AllocError>
-    ensures { IfOk result (IsText (screen_head (texts names.now))) }
-{
-    let mut text = names_text(alloc, names)?;
-    let label = label_text(alloc, Layout::Screen, "")?;
-    text.push_str("\n")?;
-    text.push_str(label.as_str())?;
-    Ok(text)
-}
-
-// What stands before the headings.
-fn head_text(alloc: Global, layout: Layout, names: &[&str]) -> Result<String, AllocError>
-    ensures { IfOk result (IsText (head_text layout (texts names.now))) }
+// What stands before the headings: on a screen the names of the runs, and room for the labels.
+fn put_head(layout: Layout, names: &[&str], out: &mut Sheet)
+    ensures { Puts (head_text layout (texts names.now)) out.old out.new }
 {
     match layout {
-        Layout::Screen => screen_head(alloc, names),
-        Layout::Csv => String::from_str(alloc, "measure"),
+        Layout::Screen => {
+            put_names(names, out);
+            out.push_str("\n");
+            put_label(Layout::Screen, "", out);
+        }
+        Layout::Csv => out.push_str("measure"),
     }
 }
 
 // The headings of a run behind the first.
-#[tactic(auto, unfolding(crate::specs::Comparison::heading_text))]
-fn heading_text(alloc: Global, layout: Layout, number: usize) -> Result<String, AllocError>
-    ensures { IfOk result (IsText (heading_text layout number)) }
+fn put_heading(layout: Layout, number: usize, out: &mut Sheet)
+    ensures { Puts (heading_text layout number) out.old out.new }
 {
-    let run = format!(in alloc; "run {number}")?;
-    let change = format!(in alloc; "change {number} %")?;
-    let left = cell_text(alloc, layout, VALUE_WIDTH, run.as_str())?;
-    let right = cell_text(alloc, layout, CHANGE_WIDTH, change.as_str())?;
-    format!(in alloc; "{left}{right}")
+    let run = format!(in out.alloc; "run {number}");
+    put_cell(layout, VALUE_WIDTH, run, out);
+    let change = format!(in out.alloc; "change {number} %");
+    put_cell(layout, CHANGE_WIDTH, change, out);
 }
 
-// The headings of so many runs behind the first.
-fn headings_text(alloc: Global, layout: Layout, others: usize) -> Result<String, AllocError>
+// The headings of the first run, and of so many others.
+fn put_headings(layout: Layout, others: usize, out: &mut Sheet)
     requires { others < 2 ^ 63 }
-    ensures { IfOk result (IsText (headings_text layout others)) }
+    ensures { Puts (headings_text layout others) out.old out.new }
 {
-    let mut headings = cell_text(alloc, layout, VALUE_WIDTH, "run 1")?;
+    put_words(layout, VALUE_WIDTH, "run 1", out);
     for place in 0..others {
-        let heading = heading_text(alloc, layout, place + 2)?;
-        headings.push_str(heading.as_str())?;
+        put_heading(layout, place + 2, out);
     }
-    headings.push_str("\n")?;
-    Ok(headings)
+    out.push_str("\n");
 }
 
-// The headings of runs, and lines below them.
-#[tactic(auto, unfolding(crate::specs::Comparison::runs_text))]
-fn runs_text(
-    alloc: Global,
+// Runs beside the first of them.
+fn put_comparison(
     layout: Layout,
     names: &[&str],
-    others: usize,
-    lines: &str,
-) -> Result<String, AllocError>
-    requires { others < 2 ^ 63 }
-    ensures { IfOk result (IsText (runs_text layout (texts names.now) others lines.now)) }
+    runs: &[Stats],
+    tails: &[Option<Cycle>],
+    out: &mut Sheet,
+)
+    ensures { Puts (comparison_text layout (texts names.now) runs.now tails.now) out.old out.new }
 {
-    let mut text = head_text(alloc, layout, names)?;
-    let headings = headings_text(alloc, layout, others)?;
-    text.push_str(headings.as_str())?;
-    text.push_str(lines)?;
-    Ok(text)
+    if let Some((base, others)) = runs.split_first() {
+        put_head(layout, names, out);
+        put_headings(layout, others.len(), out);
+        put_lines(layout, base, others, tails, out);
+    }
 }
 
 /// Runs beside the first of them, a column for each, and for each of the others how much it is above or below the
@@ -122,11 +102,7 @@ pub fn compare_text(
 ) -> Result<String, AllocError>
     ensures { IfOk result (IsText (comparison_text layout (texts names.now) runs.now tails.now)) }
 {
-    match runs.split_first() {
-        Some((base, others)) => {
-            let lines = lines_text(alloc, layout, base, others, tails)?;
-            runs_text(alloc, layout, names, others.len(), lines.as_str())
-        }
-        None => Ok(String::new(alloc)),
-    }
+    let mut sheet = Sheet::new(alloc);
+    put_comparison(layout, names, runs, tails, &mut sheet);
+    sheet.finish()
 }

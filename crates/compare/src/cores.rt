@@ -46,12 +46,8 @@ fn rate(core: &CoreStats, cycles: u64) -> Option<u128>
 fn core_change(base: &Stats, run: &Stats, core: usize) -> Option<Change>
     ensures { result ≡ core_change base.now run.now core }
 {
-    match (base.cores.get(core), run.cores.get(core)) {
-        (Some(before), Some(after)) => {
-            change_of(rate(before, base.cycles), rate(after, run.cycles))
-        }
-        _ => None,
-    }
+    let (before, after) = (base.cores.get(core)?, run.cores.get(core)?);
+    change_of(rate(before, base.cycles), rate(after, run.cycles))
 }
 
 // The core that changed more, the earlier one where both did alike.

@@ -9,6 +9,7 @@ pub mod layout;
 mod lines;
 mod measures;
 mod quotients;
+mod sheet;
 mod sums;
 mod tails;
 mod texts;

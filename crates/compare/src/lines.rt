@@ -1,17 +1,17 @@
 //! The lines of a comparison.
 
-ghost use Rattle.std.specs.Prelude.{flat_map, IfOk};
+ghost use Rattle.std.specs.Prelude.{flat_map};
 ghost use Rattle.compare.specs.Lines.{cells_text, beginning_text, line_text, lines_text};
-ghost use Rattle.compare.specs.Strings.{IsText};
+ghost use Rattle.compare.specs.Sheets.{Puts};
 
 use crate::cells::cell_of;
 use crate::layout::Layout;
 use crate::measures::{FIRST_MEASURES, LAST_MEASURES, Measure, decimals_of, label_of, value_of};
-use crate::tails::tails_text;
-use crate::texts::{cell_text, change_text, label_text, value_text};
+use crate::sheet::Sheet;
+use crate::tails::put_tails;
+use crate::texts::{change_text, put_cell, put_label, value_text};
 use sim_base::message::Cycle;
 use statistics::stats::Stats;
-use std::alloc::{AllocError, Global};
 
 /// The width of a value, in characters.
 pub(crate) const VALUE_WIDTH: usize = 12;
@@ -20,90 +20,67 @@ pub(crate) const VALUE_WIDTH: usize = 12;
 pub(crate) const CHANGE_WIDTH: usize = 10;
 
 // The value of a run, and its change from the first one.
-#[tactic(auto, unfolding(crate::specs::Lines::cells_text))]
-fn cells_text(
-    alloc: Global,
-    layout: Layout,
-    base: &Stats,
-    measure: Measure,
-    run: &Stats,
-) -> Result<String, AllocError>
-    ensures { IfOk result (IsText (cells_text layout base.now measure run.now)) }
+fn put_cells(layout: Layout, base: &Stats, measure: Measure, run: &Stats, out: &mut Sheet)
+    ensures { Puts (cells_text layout base.now measure run.now) out.old out.new }
 {
     let cell = cell_of(measure, base, run);
-    let value = value_text(alloc, layout, decimals_of(measure), cell.value)?;
-    let change = change_text(alloc, layout, cell.change)?;
-    let left = cell_text(alloc, layout, VALUE_WIDTH, value.as_str())?;
-    let right = cell_text(alloc, layout, CHANGE_WIDTH, change.as_str())?;
-    format!(in alloc; "{left}{right}")
+    let value = value_text(out.alloc, layout, decimals_of(measure), cell.value);
+    put_cell(layout, VALUE_WIDTH, value, out);
+    let change = change_text(out.alloc, layout, cell.change);
+    put_cell(layout, CHANGE_WIDTH, change, out);
 }
 
 // The label of a measure, and the value of the first run.
-#[tactic(auto, unfolding(crate::specs::Lines::beginning_text))]
-fn beginning_text(
-    alloc: Global,
-    layout: Layout,
-    base: &Stats,
-    measure: Measure,
-) -> Result<String, AllocError>
-    ensures { IfOk result (IsText (beginning_text layout base.now measure)) }
+fn put_beginning(layout: Layout, base: &Stats, measure: Measure, out: &mut Sheet)
+    ensures { Puts (beginning_text layout base.now measure) out.old out.new }
 {
-    let label = label_text(alloc, layout, label_of(measure))?;
-    let value = value_text(alloc, layout, decimals_of(measure), value_of(measure, base))?;
-    let cell = cell_text(alloc, layout, VALUE_WIDTH, value.as_str())?;
-    format!(in alloc; "{label}{cell}")
+    put_label(layout, label_of(measure), out);
+    let value = value_text(
+        out.alloc,
+        layout,
+        decimals_of(measure),
+        value_of(measure, base),
+    );
+    put_cell(layout, VALUE_WIDTH, value, out);
 }
 
 // The line of a measure.
-fn line_text(
-    alloc: Global,
-    layout: Layout,
-    base: &Stats,
-    others: &[Stats],
-    measure: Measure,
-) -> Result<String, AllocError>
-    ensures { IfOk result (IsText (line_text layout base.now others.now measure)) }
+fn put_line(layout: Layout, base: &Stats, others: &[Stats], measure: Measure, out: &mut Sheet)
+    ensures { Puts (line_text layout base.now others.now measure) out.old out.new }
 {
-    let mut line = beginning_text(alloc, layout, base, measure)?;
+    put_beginning(layout, base, measure, out);
     for run in others {
-        let cells = cells_text(alloc, layout, base, measure, run)?;
-        line.push_str(cells.as_str())?;
+        put_cells(layout, base, measure, run, out);
     }
-    line.push_str("\n")?;
-    Ok(line)
+    out.push_str("\n");
 }
 
 // A line for each of these measures.
-fn lines_of(
-    alloc: Global,
+fn put_lines_of(
     layout: Layout,
     base: &Stats,
     others: &[Stats],
     measures: &[Measure],
-) -> Result<String, AllocError>
-    ensures { IfOk result (IsText (flat_map (line_text layout base.now others.now) measures.now)) }
+    out: &mut Sheet,
+)
+    ensures { Puts (flat_map (line_text layout base.now others.now) measures.now) out.old out.new }
 {
-    let mut lines = String::new(alloc);
     for measure in measures {
-        let line = line_text(alloc, layout, base, others, *measure)?;
-        lines.push_str(line.as_str())?;
+        put_line(layout, base, others, *measure, out);
     }
-    Ok(lines)
 }
 
 /// A line for each measure, and one for p99 where it is known of each run.
-#[tactic(auto, unfolding(crate::specs::Lines::lines_text))]
-pub(crate) fn lines_text(
-    alloc: Global,
+pub(crate) fn put_lines(
     layout: Layout,
     base: &Stats,
     others: &[Stats],
     tails: &[Option<Cycle>],
-) -> Result<String, AllocError>
-    ensures { IfOk result (IsText (lines_text layout base.now others.now tails.now)) }
+    out: &mut Sheet,
+)
+    ensures { Puts (lines_text layout base.now others.now tails.now) out.old out.new }
 {
-    let first = lines_of(alloc, layout, base, others, &FIRST_MEASURES)?;
-    let tail = tails_text(alloc, layout, tails)?;
-    let last = lines_of(alloc, layout, base, others, &LAST_MEASURES)?;
-    format!(in alloc; "{first}{tail}{last}")
+    put_lines_of(layout, base, others, &FIRST_MEASURES, out);
+    put_tails(layout, tails, out);
+    put_lines_of(layout, base, others, &LAST_MEASURES, out);
 }

@@ -1,11 +1,14 @@
 //! Values and changes as texts.
 
-ghost use Rattle.std.specs.Prelude.{◌≡◌, ◌^◌, ◌<◌, ◌≤◌, IfOk, IfSome, string_bytes};
+ghost use Rattle.std.specs.Prelude.{◌≡◌, ◌^◌, ◌<◌, ◌≤◌, List, ℕ, IfOk, IfSome, string_bytes};
+ghost use Rattle.compare.specs.Sheets.{Puts};
+ghost use Rattle.compare.specs.Strings.{IsText};
 ghost use Rattle.compare.specs.Texts.{rounded, tenths_text, thousandths_text, fixed_text, missing_text, value_text, signed_text, change_text, cell_text, label_text};
 
 use crate::changes::Change;
 use crate::layout::Layout;
 use crate::measures::Decimals;
+use crate::sheet::Sheet;
 use std::alloc::{AllocError, Global};
 
 /// The width of the labels, in characters: that of the longest one.
@@ -82,11 +85,11 @@ pub(crate) fn value_text(
 fn signed_text(alloc: Global, sign: &str, tenths: u128) -> Result<String, AllocError>
     ensures { IfOk result (λ text. string_bytes text ≡ signed_text sign.now tenths) }
 {
-    let text = tenths_text(alloc, tenths)?;
     if tenths == 0 {
-        return Ok(text);
+        return tenths_text(alloc, tenths);
     }
-    format!(in alloc; "{sign}{text}")
+    let (whole, tenth) = (tenths / 10, tenths % 10);
+    format!(in alloc; "{sign}{whole}.{tenth}")
 }
 
 /// A change in percent.
@@ -104,33 +107,46 @@ pub(crate) fn change_text(
     }
 }
 
-/// A cell behind others: flush right in a column of a screen, or behind a comma.
-pub(crate) fn cell_text(
-    alloc: Global,
-    layout: Layout,
-    width: usize,
-    text: &str,
-) -> Result<String, AllocError>
-    ensures { IfOk result (λ cell. string_bytes cell ≡ cell_text layout width text.now) }
+/// Appends a cell, whose text is known.
+pub(crate) fn put_words(layout: Layout, width: usize, text: &str, out: &mut Sheet)
+    ensures { Puts (cell_text layout width text.now) out.old out.new }
 {
     match layout {
         Layout::Screen => {
-            let pad = " ".repeat(alloc, width.saturating_sub(text.len()))?;
-            format!(in alloc; "  {pad}{text}")
+            out.push_str("  ");
+            out.push(" ".repeat(out.alloc, width.saturating_sub(text.len())));
+            out.push_str(text);
         }
-        Layout::Csv => format!(in alloc; ",{text}"),
+        Layout::Csv => {
+            out.push_str(",");
+            out.push_str(text);
+        }
     }
 }
 
-/// The first cell of a line.
-pub(crate) fn label_text(alloc: Global, layout: Layout, label: &str) -> Result<String, AllocError>
-    ensures { IfOk result (λ cell. string_bytes cell ≡ label_text layout label.now) }
+/// Appends a cell behind others, unless memory was refused for its text: flush right in a column of a screen, or behind
+/// a comma.
+pub(crate) fn put_cell(
+    layout: Layout,
+    width: usize,
+    text: Result<String, AllocError>,
+    out: &mut Sheet,
+)
+    ensures { (words : List ℕ) → IfOk text (IsText words) → Puts (cell_text layout width words) out.old out.new }
 {
+    match text {
+        Ok(text) => put_words(layout, width, text.as_str(), out),
+        Err(AllocError) => out.refuse(),
+    }
+}
+
+/// Appends the first cell of a line.
+pub(crate) fn put_label(layout: Layout, label: &str, out: &mut Sheet)
+    ensures { Puts (label_text layout label.now) out.old out.new }
+{
+    out.push_str(label);
     match layout {
-        Layout::Screen => {
-            let pad = " ".repeat(alloc, LABEL_WIDTH.saturating_sub(label.len()))?;
-            format!(in alloc; "{label}{pad}")
-        }
-        Layout::Csv => String::from_str(alloc, label),
+        Layout::Screen => out.push(" ".repeat(out.alloc, LABEL_WIDTH.saturating_sub(label.len()))),
+        Layout::Csv => {}
     }
 }

@@ -1,6 +1,6 @@
 //! A text in the making.
 
-ghost use Rattle.std.specs.Prelude.{◌≡◌, true, false, [], IfOk, IsOkAnd, string_bytes};
+ghost use Rattle.std.specs.Prelude.{◌≡◌, true, false, [], IfOk, string_bytes};
 ghost use Rattle.show.specs.Texts.{Puts, Grows, PutsOutput};
 
 use std::alloc::{AllocError, Global};

@@ -1,8 +1,0 @@
--- The beginning, and the cells of the runs so far.
-use Rattle.std.proofs.Common.{◌≡◌, ◌++◌, take, string_bytes}
-use Rattle.std.specs.List.{flat_map}
-use Rattle.compare.specs.Lines.{beginning_text, cells_text}
-use Rattle.compare.proofs.lines.line_text.Given as goal
-
-abbrev pub invariant-loop-run : goal.invariant-loop-run
-invariant-loop-run l = string_bytes l.line ≡ beginning_text l.layout l.base l.measure ++ flat_map (cells_text l.layout l.base l.measure) (take l.run-index l.others)

@@ -1,8 +1,0 @@
--- The lines of the measures so far.
-use Rattle.std.proofs.Common.{◌≡◌, take, string_bytes}
-use Rattle.std.specs.List.{flat_map}
-use Rattle.compare.specs.Lines.{line_text}
-use Rattle.compare.proofs.lines.lines_of.Given as goal
-
-abbrev pub invariant-loop-measure : goal.invariant-loop-measure
-invariant-loop-measure l = string_bytes l.lines ≡ flat_map (line_text l.layout l.base l.others) (take l.measure-index l.measures)
