@@ -9,6 +9,7 @@ use Rattle.std.proofs.lemmas.List.FromFn.{length-range_with_len, get_or-range_wi
 use Rattle.sim_base.specs.Counts.{is_read, is_write, is_unissued_after, issue_cycle, wait_of, replied_entry}
 use Rattle.sim_base.specs.History.{below, issued_before}
 use Rattle.sim_base.specs.declared.history.CoreStep.{CoreStep}
+use Rattle.sim_base.specs.declared.message.Access.TheVariants as access
 use Rattle.sim_base.specs.declared.message.Message.{Message}
 use Rattle.sim_base.specs.declared.trace.Entry.{Entry}
 use Rattle.sim_base.proofs.Lists.{take_more, slice_get-drop}
@@ -16,7 +17,7 @@ use Rattle.statistics.specs.Counts.{one_if}
 use Rattle.statistics.specs.Cores.{waited}
 use Rattle.statistics.proofs.Lists.{count_below_more}
 use Rattle.statistics.proofs.Replies.{issued_before-take-later}
-use Rattle.one_clock.specs.Steps.{is_read_in, is_write_in}
+use Rattle.one_clock.specs.Steps.{accesses}
 
 pub issued_none : issued_before [] ≡ 0
 unfolding issued_before
@@ -69,8 +70,8 @@ counted p q none some trace first (suc m) =
     one None = ap one_if none
     one (Some e) = ap one_if (some e) ∙ sym (zero-add (one_if (q e)))
 
-pub reads_are : (trace : List Entry) (first m : ℕ) → count_by (λ k. is_read_in (slice_get trace (first + k))) (below m) ≡ count_by is_read (take m (drop first trace))
-reads_are trace first m = counted is_read_in is_read refl (λ e. refl) trace first m
+pub reads_are : (trace : List Entry) (first m : ℕ) → count_by (λ k. accesses access.Read (slice_get trace (first + k))) (below m) ≡ count_by is_read (take m (drop first trace))
+reads_are trace first m = counted (accesses access.Read) is_read refl (λ e. refl) trace first m
 
-pub writes_are : (trace : List Entry) (first m : ℕ) → count_by (λ k. is_write_in (slice_get trace (first + k))) (below m) ≡ count_by is_write (take m (drop first trace))
-writes_are trace first m = counted is_write_in is_write refl (λ e. refl) trace first m
+pub writes_are : (trace : List Entry) (first m : ℕ) → count_by (λ k. accesses access.Write (slice_get trace (first + k))) (below m) ≡ count_by is_write (take m (drop first trace))
+writes_are trace first m = counted (accesses access.Write) is_write refl (λ e. refl) trace first m

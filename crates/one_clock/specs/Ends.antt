@@ -5,6 +5,7 @@
 --     has_channel_served_before, have_channels_served_before      whether requests are served before it
 --     is_all_delivered_before, is_over_before      whether messages have arrived before it; and whether all of this holds
 --     ends_before c      whether the run ends before the cycle
+--     cycles_within c limit      how many cycles the run of this cycle has, which ends where it is over, or at a limit
 --     outcome_before tables c      what the run leaves, if it does
 --     outcome_within tables s traces limit      what the run leaves, which ends where it is over, or at a limit
 use Rattle.std.specs.Prelude.{ℕ, Bool, ◌&&◌, List, length, map}
@@ -68,6 +69,10 @@ is_over_before c = is_over c.config.now c.traces.now (steps_before c)
 -- whether the run ends before the cycle: it is over, and the configuration ends it drained
 abbrev pub ends_before : RunCycle → Bool
 ends_before c = c.config.now.ends_drained && is_over_before c
+
+-- how many cycles the run has, which ends where it is over, or at a limit
+abbrev pub cycles_within : RunCycle → ℕ → ℕ
+cycles_within c limit = cycles_run c.config.now c.traces.now limit
 
 -- what the run leaves if it ends before the cycle
 abbrev pub outcome_before : Tables → RunCycle → RunOutcome

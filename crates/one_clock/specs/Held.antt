@@ -1,5 +1,6 @@
 -- What the plain machine keeps is what the definition's run did.
 --     HoldsRun s traces n m      the machine keeps the first n cycles of the run
+--     HoldsUpTo c n m      the same, of the run of this cycle
 --     HoldsBefore c m, HoldsAfter c m      it keeps the cycles before this one; and this one too
 --     IsCycleOf c all      all units do and send this in the cycle
 use Rattle.std.specs.Prelude.{◌≡◌, ℕ, ◌+◌, List, map}
@@ -25,13 +26,17 @@ pub record HoldsRun (s : Config) (traces : List (List Entry)) (n : ℕ) (m : Mac
   pub commands_are : m.commands.items ≡ commands (run s traces n)
   pub flight : m.flight.items ≡ in_flight s traces (run s traces n)
 
+-- the machine keeps the first n cycles of the run of this one
+abbrev pub HoldsUpTo : RunCycle → ℕ → Machine → Type 0
+HoldsUpTo c n m = HoldsRun c.config.now c.traces.now n m
+
 -- the machine keeps the cycles before this one
 abbrev pub HoldsBefore : RunCycle → Machine → Type 0
-HoldsBefore c m = HoldsRun c.config.now c.traces.now c.number m
+HoldsBefore c m = HoldsUpTo c c.number m
 
 -- the machine keeps this cycle too
 abbrev pub HoldsAfter : RunCycle → Machine → Type 0
-HoldsAfter c m = HoldsRun c.config.now c.traces.now (c.number + 1) m
+HoldsAfter c m = HoldsUpTo c (c.number + 1) m
 
 -- this is what each core and each channel do in the cycle, and what they send in it
 pub record IsCycleOf (c : RunCycle) (all : MachineCycle) : Type 0 where

@@ -6,7 +6,7 @@ ghost use Rattle.sim_base.specs.History.{below, retired_before, issued_before};
 ghost use Rattle.statistics.specs.Counts.{one_if};
 ghost use Rattle.statistics.specs.Cores.{is_reply_in, replies_in, waited, core_cycle_with};
 ghost use Rattle.statistics.specs.Channels.{draining_of, issues, moves_hit};
-ghost use Rattle.one_clock.specs.Steps.{is_read_in, is_write_in};
+ghost use Rattle.one_clock.specs.Steps.{accesses};
 ghost use Rattle.one_clock.specs.Counts.{channel_counts, no_channel_counts};
 
 use cpu_trace::trace::Trace;
@@ -16,7 +16,7 @@ use plain_steps::scheduling::{self, ChannelStep};
 use sim_base::command::{Command, IssuedCommand, Kind};
 use sim_base::config::Config;
 use sim_base::history::CoreStep;
-use sim_base::message::{Load, Message, Request};
+use sim_base::message::{Access, Load, Message, Request};
 use sim_base::trace::{Entry, Stop};
 use statistics::channels::ChannelStats;
 use statistics::cores::CoreStats;
@@ -28,41 +28,24 @@ fn one_where(holds: bool) -> u64
     if holds { 1 } else { 0 }
 }
 
-fn is_read_number(trace: &Trace, number: u64) -> bool
-    ensures { result ≡ is_read_in (slice_get trace.now number) }
+/// Whether the entry of a number reads memory, or whether it writes it.
+fn does_access(trace: &Trace, number: u64, access: Access) -> bool
+    ensures { result ≡ accesses access (slice_get trace.now number) }
 {
-    match entry_of(trace, number) {
-        Some(Entry::Read(_)) => true,
-        Some(Entry::Write(_) | Entry::Plain) | None => false,
+    match (access, entry_of(trace, number)) {
+        (Access::Read, Some(Entry::Read(_))) | (Access::Write, Some(Entry::Write(_))) => true,
+        _ => false,
     }
 }
 
-fn is_write_number(trace: &Trace, number: u64) -> bool
-    ensures { result ≡ is_write_in (slice_get trace.now number) }
-{
-    match entry_of(trace, number) {
-        Some(Entry::Write(_)) => true,
-        Some(Entry::Read(_) | Entry::Plain) | None => false,
-    }
-}
-
-/// The Reads among `count` entries from `first` on.
-fn read_count(trace: &Trace, first: u64, count: u16) -> usize
+/// The Reads, or the Writes, among `count` entries from `first` on.
+fn access_count(trace: &Trace, first: u64, count: u16, access: Access) -> usize
     requires { first + count < 2 ^ 64 }
-    ensures { result ≡ count_by (λ k. is_read_in (slice_get trace.now (first + k))) (below count) }
+    ensures { result ≡ count_by (λ k. accesses access (slice_get trace.now (first + k)))
+        (below count) }
 {
     (0..count)
-        .filter(|k| is_read_number(trace, first + u64::from(*k)))
-        .count()
-}
-
-/// The Writes among `count` entries from `first` on.
-fn write_count(trace: &Trace, first: u64, count: u16) -> usize
-    requires { first + count < 2 ^ 64 }
-    ensures { result ≡ count_by (λ k. is_write_in (slice_get trace.now (first + k))) (below count) }
-{
-    (0..count)
-        .filter(|k| is_write_number(trace, first + u64::from(*k)))
+        .filter(move |k| does_access(trace, first + u64::from(*k), access))
         .count()
 }
 
@@ -90,7 +73,7 @@ pub fn replies_now(alloc: Global, now: u64, inbox: &[Message]) -> Result<Vec<Mes
     inbox
         .iter()
         .copied()
-        .filter(|m| is_reply_now(now, *m))
+        .filter(move |m| is_reply_now(now, *m))
         .collect(alloc)
 }
 
@@ -172,8 +155,8 @@ pub fn core_cycle_stats(
     CoreStats {
         issued: u64::from(done.issued),
         retired: u64::from(done.retired),
-        reads: read_count(trace, counts.issued, done.issued) as u64,
-        writes: write_count(trace, counts.issued, done.issued) as u64,
+        reads: access_count(trace, counts.issued, done.issued, Access::Read) as u64,
+        writes: access_count(trace, counts.issued, done.issued, Access::Write) as u64,
         replies: arrived.len() as u64,
         read_latency: total_wait(past_steps, arrived),
         stop_end: one_where(is_same_stop(Stop::End, why)),

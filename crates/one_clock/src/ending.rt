@@ -38,7 +38,7 @@ fn all_credits_held(
     ensures { IfOk result (λ v. v.items ≡ all_credits_kept s.now core past.now) }
 {
     (0..u32::from(s.channels))
-        .map(|channel| credits_held(s, core, past, channel))
+        .map(move |channel| credits_held(s, core, past, channel))
         .collect(alloc)
 }
 
@@ -73,12 +73,21 @@ fn all_due(
         .collect(alloc)
 }
 
-fn group_of_banks(alloc: Global, rank: u32, group: u32) -> Result<Vec<BankId>, AllocError>
-    ensures { IfOk result (λ v. v.items ≡ banks_of_group rank group) }
+fn bank_at(rank: u32, group: u32, bank: u32) -> BankId
+    ensures { result ≡ record { rank = rank; group = group; bank = bank } }
 {
-    (0..4)
-        .map(|bank| BankId { rank, group, bank })
-        .collect(alloc)
+    BankId { rank, group, bank }
+}
+
+fn group_of_banks(rank: u32, group: u32) -> [BankId; 4]
+    ensures { result ≡ banks_of_group rank group }
+{
+    [
+        bank_at(rank, group, 0),
+        bank_at(rank, group, 1),
+        bank_at(rank, group, 2),
+        bank_at(rank, group, 3),
+    ]
 }
 
 fn rank_of_banks(alloc: Global, s: &Config, rank: u32) -> Result<Vec<BankId>, AllocError>
@@ -86,7 +95,7 @@ fn rank_of_banks(alloc: Global, s: &Config, rank: u32) -> Result<Vec<BankId>, Al
 {
     let mut banks = Vec::new(alloc);
     for group in 0..s.groups {
-        banks.extend_from_slice(&group_of_banks(alloc, rank, group)?)?;
+        banks.extend_from_slice(&group_of_banks(rank, group))?;
     }
     Ok(banks)
 }

@@ -8,11 +8,12 @@ ghost use Rattle.one_clock.specs.Cycles.{core_before, core_after, cores_before, 
 ghost use Rattle.one_clock.specs.Cycles.{channel_before, channel_after, channels_before, channels_after};
 ghost use Rattle.one_clock.specs.Cycles.{core_step_in, core_stop_in, core_stops_in, channel_step_in, channel_steps_in};
 ghost use Rattle.one_clock.specs.Cycles.{sent_in, flight_before, flight_after, commands_before, commands_after};
-ghost use Rattle.one_clock.specs.Cycles.{cores_left_before, channels_left_before};
+ghost use Rattle.one_clock.specs.Cycles.{cores_left_before, channels_left_before, requests_before};
 ghost use Rattle.one_clock.specs.Ends.{is_core_retired_before, are_cores_retired_before};
 ghost use Rattle.one_clock.specs.Ends.{has_channel_served_before, have_channels_served_before};
-ghost use Rattle.one_clock.specs.Ends.{is_all_delivered_before, is_over_before, ends_before, outcome_before, outcome_within};
-ghost use Rattle.one_clock.specs.Held.{HoldsBefore, HoldsAfter, IsCycleOf};
+ghost use Rattle.one_clock.specs.Ends.{is_all_delivered_before, is_over_before, ends_before, cycles_within};
+ghost use Rattle.one_clock.specs.Ends.{outcome_before, outcome_within};
+ghost use Rattle.one_clock.specs.Held.{HoldsUpTo, HoldsBefore, HoldsAfter, IsCycleOf};
 
 use crate::run_cycle::RunCycle;
 use crate::sending::{self, trace_of_core};
@@ -23,6 +24,7 @@ use cpu_trace::trace::Trace;
 use plain_steps::channel_cycle::ChannelCycle;
 use plain_steps::scheduling::ChannelStep;
 use plain_steps::{cores, mail, scheduling};
+use request_table::table::RequestTable;
 use sim_base::command::IssuedCommand;
 use sim_base::config::Config;
 use sim_base::history::CoreStep;
@@ -198,7 +200,7 @@ fn late_messages(alloc: Global, messages: &[Message], now: u64) -> Result<Vec<Me
     messages
         .iter()
         .copied()
-        .filter(|m| !(m.arrival < now))
+        .filter(move |m| !(m.arrival < now))
         .collect(alloc)
 }
 
@@ -415,7 +417,7 @@ impl Machine {
         requires machine { HoldsBefore cycle.now self }
         ensures { IfOk result (λ outcome. outcome ≡ outcome_before tables cycle.now) }
     {
-        let requests = self.requests_if_asked(cycle, tables.requests)?;
+        let (commands, requests) = tables_asked(cycle, &self, tables)?;
         let (cores, channels) = units_left(cycle, &self)?;
         let last = FinalState {
             cores,
@@ -429,7 +431,7 @@ impl Machine {
         };
         Ok(Outcome {
             tables,
-            commands: table_if_asked(cycle.alloc, &self.commands, tables.commands)?,
+            commands,
             requests,
             stats,
             last,
@@ -454,6 +456,46 @@ fn table_if_asked(
     }
 }
 
+/// The tables that are asked for, of the commands and of the requests, if the run ends before this cycle.
+fn tables_asked(
+    cycle: &RunCycle<'_>,
+    machine: &Machine,
+    tables: Tables,
+) -> Result<(Option<CommandTable>, Option<RequestTable>), AllocError>
+    requires machine { HoldsBefore cycle.now machine.now }
+    ensures issued { IfOk result (λ t. t.0 ≡ if_asked tables.commands (commands_before cycle.now)) }
+    ensures served { IfOk result (λ t. t.1 ≡ if_asked tables.requests (requests_before cycle.now)) }
+{
+    let requests = machine.requests_if_asked(cycle, tables.requests)?;
+    let commands = table_if_asked(cycle.alloc, &machine.commands, tables.commands)?;
+    Ok((commands, requests))
+}
+
+/// Runs the machine up to the cycle before which the run ends, the limit at the latest, and gives its number.
+fn run_cycles(first: &RunCycle<'_>, cycles: u64, machine: &mut Machine) -> Result<u64, AllocError>
+    requires first { first.now.number ≡ 0 }
+    requires limit { cycles ≤ 10 ^ 12 }
+    requires machine { HoldsBefore first.now machine.old }
+    ensures number { IfOk result (λ n. n ≡ cycles_within first.now cycles) }
+    ensures small { IfOk result (λ n. n ≤ cycles) }
+    ensures machine { IfOk result (λ n. HoldsUpTo first.now n machine.new) }
+{
+    let gaps = GapTable::of(first.config);
+    for number in 0..cycles {
+        let cycle = RunCycle {
+            alloc: first.alloc,
+            config: first.config,
+            traces: first.traces,
+            number,
+        };
+        if ends_here(&cycle, machine)? {
+            return Ok(number);
+        }
+        machine.advance(&cycle, &gaps)?;
+    }
+    Ok(cycles)
+}
+
 /// Runs the one-clock machine, cycle by cycle, and gives the commands that all channels issue, by cycle and then by
 /// channel, if their table is asked for, the statistics of the run and the state in which it ends. The run has as
 /// many cycles as the limit, or, where the configuration ends it drained, as many as it takes until all is retired,
@@ -470,7 +512,6 @@ pub fn run_plain(
     requires limit { cycles ≤ 10 ^ 12 }
     ensures outcome { IfOk result (λ o. o ≡ outcome_within tables s.now traces.now cycles) }
 {
-    let gaps = GapTable::of(s);
     let first = RunCycle {
         alloc,
         config: s,
@@ -478,23 +519,12 @@ pub fn run_plain(
         number: 0,
     };
     let mut machine = Machine::start(&first)?;
-    for number in 0..cycles {
-        let cycle = RunCycle {
-            alloc,
-            config: s,
-            traces,
-            number,
-        };
-        if ends_here(&cycle, &machine)? {
-            return machine.outcome(&cycle, tables);
-        }
-        machine.advance(&cycle, &gaps)?;
-    }
+    let number = run_cycles(&first, cycles, &mut machine)?;
     let end = RunCycle {
         alloc,
         config: s,
         traces,
-        number: cycles,
+        number,
     };
     machine.outcome(&end, tables)
 }

@@ -1,6 +1,7 @@
 //! The requests that a run served.
 
-ghost use Rattle.std.specs.Prelude.{◌≡◌, IfOk, IfSome};
+ghost use Rattle.std.specs.Prelude.{◌≡◌, ◌++◌, IfOk, OnOk, IfSome};
+ghost use Rattle.std.specs.Option.{option_to_list};
 ghost use Rattle.statistics.specs.Outcomes.{if_asked};
 ghost use Rattle.one_clock.specs.Cycles.{cores_before, channels_before};
 ghost use Rattle.one_clock.specs.Cycles.{arrival_in, is_hit_in, request_for, request_of_row, requests_of_rows, requests_before};
@@ -75,15 +76,17 @@ impl Machine {
         })
     }
 
-    /// The request that a command of the run serves, if it serves one. One of a core or channel that the machine does
-    /// not have, as no run has it, is refused.
-    fn served(
+    /// Adds the request that a command of the run serves, if it serves one. One of a core or channel that the machine
+    /// does not have, as no run has it, is refused.
+    fn add_served(
         &self,
         cycle: &RunCycle<'_>,
         row: &IssuedCommand,
-    ) -> Result<Option<ServedRequest>, AllocError>
+        rows: &mut Vec<ServedRequest>,
+    ) -> Result<(), AllocError>
         requires machine { HoldsBefore cycle.now self.now }
-        ensures { IfOk result (λ request. request ≡ request_of_row cycle.now row.now) }
+        ensures { OnOk result (rows.new.items ≡ rows.old.items
+            ++ option_to_list (request_of_row cycle.now row.now)) }
     {
         let request = match row.command {
             Command::Rd { source, .. } => self.request(cycle, row, source, Access::Read),
@@ -92,13 +95,14 @@ impl Machine {
             | Command::Pre { .. }
             | Command::Prea { .. }
             | Command::Ref { .. } => {
-                return Ok(None);
+                return Ok(());
             }
         };
-        match request {
-            Some(request) => Ok(Some(request)),
-            None => Err(AllocError),
-        }
+        let Some(request) = request else {
+            return Err(AllocError);
+        };
+        rows.push(request)?;
+        Ok(())
     }
 
     /// The requests that the commands of the run serve, in their order.
@@ -108,10 +112,7 @@ impl Machine {
     {
         let mut rows = Vec::new(cycle.alloc);
         for row in &self.commands {
-            match self.served(cycle, row)? {
-                Some(request) => rows.push(request)?,
-                None => {}
-            }
+            self.add_served(cycle, row, &mut rows)?;
         }
         Ok(rows)
     }

@@ -66,7 +66,7 @@ pub(crate) fn of_bank(
 {
     commands
         .iter()
-        .filter(|row| names_bank(bank, **row))
+        .filter(move |row| names_bank(bank, **row))
         .copied()
         .collect(alloc)
 }
@@ -82,7 +82,7 @@ pub(crate) fn of_rank(
 {
     commands
         .iter()
-        .filter(|row| is_of_rank(rank, **row))
+        .filter(move |row| is_of_rank(rank, **row))
         .copied()
         .collect(alloc)
 }
@@ -101,7 +101,7 @@ pub(crate) fn count_of_kind(kind: Kind, commands: &[IssuedCommand]) -> u64
 {
     commands
         .iter()
-        .filter(|row| is_of_kind(kind, **row))
+        .filter(move |row| is_of_kind(kind, **row))
         .count() as u64
 }
 
@@ -119,14 +119,14 @@ fn bank_at(place: u32) -> BankId
 fn every_bank(alloc: Global) -> Result<Vec<BankId>, AllocError>
     ensures { IfOk result (λ banks. banks.items ≡ every_bank) }
 {
-    (0..MOST_BANKS).map(|place| bank_at(place)).collect(alloc)
+    (0..MOST_BANKS).map(bank_at).collect(alloc)
 }
 
 #[tactic(auto, unfolding(crate::specs::Banks::is_used))]
 fn is_used(commands: &[IssuedCommand], bank: BankId) -> bool
     ensures { result ≡ is_used commands.now bank }
 {
-    commands.iter().any(|row| names_bank(bank, *row))
+    commands.iter().any(move |row| names_bank(bank, *row))
 }
 
 /// The banks that commands of a channel name.

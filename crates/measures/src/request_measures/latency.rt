@@ -33,10 +33,7 @@ fn latency(request: &RequestTimes) -> Option<u64>
 pub fn read_latencies(alloc: Global, requests: &[RequestTimes]) -> Result<Vec<u64>, AllocError>
     ensures { IfOk result (λ values. values.items ≡ read_latencies requests.now) }
 {
-    requests
-        .iter()
-        .filter_map(|request| latency(request))
-        .collect(alloc)
+    requests.iter().filter_map(latency).collect(alloc)
 }
 
 fn is_of_core(core: CoreId, request: &RequestTimes) -> bool
@@ -56,7 +53,7 @@ pub fn of_core(
 {
     requests
         .iter()
-        .filter(|request| is_of_core(core, request))
+        .filter(move |request| is_of_core(core, request))
         .copied()
         .collect(alloc)
 }
@@ -66,12 +63,24 @@ fn summary(replies: u64, values: &SortedValues) -> Option<Latencies>
     requires count { replies ≡ length values.now }
     ensures { MatchOption result (values.now ≡ []) (AreLatencies values.now) }
 {
+    let Some(median) = values.percentile(50) else {
+        return None;
+    };
+    let Some(p95) = values.percentile(95) else {
+        return None;
+    };
+    let Some(p99) = values.percentile(99) else {
+        return None;
+    };
+    let Some(greatest) = values.percentile(100) else {
+        return None;
+    };
     Some(Latencies {
         replies,
-        median: values.percentile(50)?,
-        p95: values.percentile(95)?,
-        p99: values.percentile(99)?,
-        greatest: values.percentile(100)?,
+        median,
+        p95,
+        p99,
+        greatest,
     })
 }
 

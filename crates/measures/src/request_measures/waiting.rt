@@ -55,7 +55,7 @@ fn count(class: Class, channel: ChannelId, requests: &[RequestTimes]) -> u64
 {
     requests
         .iter()
-        .filter(|request| is_of(class, channel, request))
+        .filter(move |request| is_of(class, channel, request))
         .count() as u64
 }
 

@@ -7,5 +7,5 @@ use Rattle.one_clock.proofs.ending.rank_of_banks.Goals as goal
 pub loop-group-preserved : goal.loop-group-preserved
 loop-group-preserved c =
     (c.in_ok-extend_from_slice.ensures {u = tt}).items
-    ∙ ap₂ (λ xs ys. xs ++ ys) c.loop-group.invariant (c.deref.ensures.value ∙ c.in_ok-group_of_banks.ensures {u = tt})
+    ∙ ap₂ (λ xs ys. xs ++ ys) c.loop-group.invariant c.group_of_banks.ensures
     ∙ sym (flat_map_below-more (banks_of_group c.args.rank) c.loop-group.group)
