@@ -63,24 +63,12 @@ fn summary(replies: u64, values: &SortedValues) -> Option<Latencies>
     requires count { replies ≡ length values.now }
     ensures { MatchOption result (values.now ≡ []) (AreLatencies values.now) }
 {
-    let Some(median) = values.percentile(50) else {
-        return None;
-    };
-    let Some(p95) = values.percentile(95) else {
-        return None;
-    };
-    let Some(p99) = values.percentile(99) else {
-        return None;
-    };
-    let Some(greatest) = values.percentile(100) else {
-        return None;
-    };
     Some(Latencies {
         replies,
-        median,
-        p95,
-        p99,
-        greatest,
+        median: values.percentile(50)?,
+        p95: values.percentile(95)?,
+        p99: values.percentile(99)?,
+        greatest: values.percentile(100)?,
     })
 }
 
