@@ -1,6 +1,6 @@
 -- Files of any number, from those that were read one after the other.
-use Rattle.std.proofs.Common.{◌≡◌, ◌⊎◌, inl, inr, ℕ, zero, suc, ◌<◌, List, [], ◌∷◌, length, map, get_or, Some, None, refl, sym, ap, ap₂, ◌∙◌, arith}
-use Rattle.std.proofs.lemmas.List.{length-map}
+use Rattle.std.proofs.Common.{◌≡◌, ◌⊎◌, inl, inr, ℕ, zero, suc, ◌<◌, ◌≤◌, List, [], ◌∷◌, ◌++◌, ◌+◌, length, map, take, get_or, Some, None, refl, sym, ap, ap₂, ◌∙◌, arith}
+use Rattle.std.proofs.lemmas.List.{length-map, map-append, map_more, take_all}
 use Rattle.sim_base.specs.declared.fault.Fault.{Fault}
 use Rattle.sim_base.specs.declared.fault.Fault.TheVariants.{Memory}
 use Rattle.rule_check.specs.Verdict.{records_of}
@@ -17,6 +17,16 @@ map_same f h same (x ∷ xs) = ap₂ (λ y ys. y ∷ ys) (same x) (map_same f h 
 pub map_twice : {A B C : Type 0} (f : B → C) (h : A → B) (xs : List A) → map f (map h xs) ≡ map (λ x. f (h x)) xs
 map_twice f h [] = refl
 map_twice f h (x ∷ xs) = ap (λ ys. f (h x) ∷ ys) (map_twice f h xs)
+
+-- one more item of each of two lists of which the same is made
+pub map_pushed : {A B C : Type 0} (f : A → C) (h : B → C) (xs : List A) (ys more : List B) (k : ℕ) (d : A) (y : B) → k < length xs → map f (take k xs) ≡ map h ys → f (get_or xs k d) ≡ h y
+    → more ≡ ys ++ y ∷ [] → map f (take (k + 1) xs) ≡ map h more
+map_pushed f h xs ys more k d y below so_far one pushed =
+    map_more f xs k d below ∙ ap₂ (λ zs z. zs ++ z ∷ []) so_far one ∙ sym (map-append h ys (y ∷ [])) ∙ ap (map h) (sym pushed)
+
+-- the last of them
+pub map_all : {A C : Type 0} (f : A → C) (xs : List A) (k : ℕ) → length xs ≤ k → map f xs ≡ map f (take k xs)
+map_all f xs k past = ap (map f) (sym (take_all k xs past))
 
 -- ---- files that are not read
 

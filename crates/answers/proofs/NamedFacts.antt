@@ -12,10 +12,10 @@ use Rattle.reports.specs.Stats.{stats_header, stats_rows}
 use Rattle.rule_check.specs.Verdict.{records_of}
 use Rattle.statistics.specs.Values.{RunStats}
 use Rattle.run_tables.specs.Records as Tables
-use Rattle.whole_files.specs.Files.{Held, SameFiles}
+use Rattle.whole_files.specs.Files.{Held, SameFiles, IsReadFault}
 use Rattle.answers.specs.Named.{with_config, IsNamedText, IsConfiguredBy, IsConfigured}
 use Rattle.answers.specs.Pages.{AreTablesIn}
-use Rattle.answers.specs.Refused.{AreTexts, IsInputFault, IsReady, IsRowRefusal, IsSizeFault, IsShowFault, IsRightShow, IsPageFault, IsRightPage}
+use Rattle.answers.specs.Refused.{LacksOne, AreTexts, IsFilesFault, IsInputFault, IsReady, IsRowRefusal, IsSizeFault, IsShowFault, IsRightShow, IsPageFault, IsRightPage}
 use Rattle.answers.proofs.RefusedFacts.{one_text, two_texts, memory_or_row, unless_memory, found_or_memory}
 
 -- ---- files that are read
@@ -35,6 +35,32 @@ named_texts tells held None (Some text) paths texts named read = absurd named
 named_texts tells held (Some path) None paths texts named read = absurd named
 
 -- ---- files that are not read
+
+lacks_config : (tells : Type 0) (held : Held) (config : Option (List ℕ)) (paths : List (List ℕ)) → LacksOne tells held (with_config config []) → LacksOne tells held (with_config config paths)
+lacks_config tells held None paths lacks = absurd lacks
+lacks_config tells held (Some path) paths (inl none) = inl none
+lacks_config tells held (Some path) paths (inr lacks) = absurd lacks
+
+lacks_behind : (tells : Type 0) (held : Held) (config : Option (List ℕ)) (paths : List (List ℕ)) → LacksOne tells held paths → LacksOne tells held (with_config config paths)
+lacks_behind tells held None paths lacks = lacks
+lacks_behind tells held (Some path) paths lacks = inr lacks
+
+pub config_unread : (tells : Type 0) (held : Held) (config : Option (List ℕ)) (paths : List (List ℕ)) (is_fault : List (List ℕ) → Fault → Type 0) (fault : Fault)
+    → IsFilesFault tells held (with_config config []) fault → IsInputFault tells held (with_config config paths) is_fault fault
+config_unread tells held config paths is_fault fault (inl memory) = inl (inl memory)
+config_unread tells held config paths is_fault fault (inr none) = inl (inr (none.0, lacks_config tells held config paths none.1))
+
+pub one_unread : (tells : Type 0) (old mid : Held) (config : Option (List ℕ)) (one : List ℕ) (paths : List (List ℕ)) (is_fault : List (List ℕ) → Fault → Type 0) (fault : Fault)
+    → (tells → SameFiles old mid) → IsReadFault tells (mid one) fault → IsInputFault tells old (with_config config (one ∷ paths)) is_fault fault
+one_unread tells old mid config one paths is_fault fault same (inl memory) = inl (inl memory)
+one_unread tells old mid config one paths is_fault fault same (inr none) =
+    inl (inr (none.0, lacks_behind tells old config (one ∷ paths) (inl (λ t. sym (same t one) ∙ none.1 t))))
+
+pub two_unread : (tells : Type 0) (old mid : Held) (config : Option (List ℕ)) (one two : List ℕ) (paths : List (List ℕ)) (is_fault : List (List ℕ) → Fault → Type 0) (fault : Fault)
+    → (tells → SameFiles old mid) → IsReadFault tells (mid two) fault → IsInputFault tells old (with_config config (one ∷ two ∷ paths)) is_fault fault
+two_unread tells old mid config one two paths is_fault fault same (inl memory) = inl (inl memory)
+two_unread tells old mid config one two paths is_fault fault same (inr none) =
+    inl (inr (none.0, lacks_behind tells old config (one ∷ two ∷ paths) (inr (inl (λ t. sym (same t two) ∙ none.1 t)))))
 
 -- ---- what they hold
 

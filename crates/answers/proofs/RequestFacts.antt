@@ -6,8 +6,8 @@ use Rattle.sim_base.specs.declared.fault.Fault.TheVariants.{Memory, CheckRow}
 use Rattle.sim_base.proofs.Lists.{get-push}
 use Rattle.statistics.specs.Values.{RunStats}
 use Rattle.whole_files.specs.Files.{Held, SameFiles}
-use Rattle.answers.specs.Refused.{IsReady, IsAnswerFault, IsRowRefusal, IsShowFault, IsRightShow, IsPageFault, IsRightPage}
-use Rattle.answers.specs.Requests.{requests_path, AreRequestsAt, IsTailAt, IsTailIn, AreTails}
+use Rattle.answers.specs.Refused.{IsReady, IsAnswerFault, IsRowRefusal, IsShowFault, IsRightShow, IsPageFault, IsRightPage, IsCompareFault, IsRightCompare}
+use Rattle.answers.specs.Requests.{requests_path, AreRequestsAt, IsRequestsFault, IsTailAt, IsTailIn, AreTails}
 use Rattle.answers.proofs.NamedFacts.{row_of_right}
 
 -- a row is refused whose tables are right
@@ -32,6 +32,16 @@ show_beside tells held paths fault ready refused = beside tells held paths IsSho
 pub page_beside : (tells : Type 0) (held : Held) (paths : List (List ℕ)) (fault : Fault) → IsReady tells held paths IsRightPage → (fault ≡ Memory) ⊎ IsRowRefusal fault
     → IsAnswerFault tells held paths IsPageFault IsRightPage fault
 page_beside tells held paths fault ready refused = beside tells held paths IsPageFault IsRightPage fault row_of_right ready refused
+
+-- the tables of a comparison are right, and requests beside them are refused
+pub compare_beside : (tells : Type 0) (held : Held) (paths : List (List ℕ)) (fault : Fault) → IsReady tells held paths IsRightCompare → (fault ≡ Memory) ⊎ IsRowRefusal fault
+    → IsAnswerFault tells held paths IsCompareFault IsRightCompare fault
+compare_beside tells held paths fault ready refused = beside tells held paths IsCompareFault IsRightCompare fault (λ texts row right. tt) ready refused
+
+-- memory was refused before a table of requests was read
+pub memory_requests : (found : Option (List ℕ)) (stats : RunStats) (fault : Fault) → fault ≡ Memory → IsRequestsFault found stats fault
+memory_requests None stats fault memory = memory
+memory_requests (Some table) stats fault memory = subst (λ f. IsRequestsFault (Some table) stats f) (sym memory) tt
 
 -- ---- files that were read before
 

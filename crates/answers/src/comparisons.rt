@@ -57,13 +57,12 @@ fn tables_in<F: FileSet>(
     let mut tables = Vec::new(alloc);
     for dir in dirs {
         let table = table_in(alloc, files, dir)?;
-        tables.push(table).map_err(|_| Fault::Memory)?;
+        tables.push(table).or(Err(Fault::Memory))?;
     }
     Ok(tables)
 }
 
 // What they hold.
-#[tactic(auto, using(std::proofs::lemmas::List::map_more))]
 fn runs_of(alloc: Global, tables: &[StatsTable]) -> Result<Vec<Stats>, Reason>
     ensures read { IfOk result (HoldRuns tables.now) }
     ensures fault { IfErr result (λ e. (e ≡ Fault.Memory) ⊎ IsRowRefusal e) }
@@ -71,7 +70,7 @@ fn runs_of(alloc: Global, tables: &[StatsTable]) -> Result<Vec<Stats>, Reason>
     let mut runs = Vec::new(alloc);
     for table in tables {
         let stats = statistics_of(alloc, table.path.as_str(), &table.bytes)?;
-        runs.push(stats).map_err(|_| Fault::Memory)?;
+        runs.push(stats).or(Err(Fault::Memory))?;
     }
     Ok(runs)
 }
@@ -133,7 +132,7 @@ fn tails_in<F: FileSet>(
     let mut tails = Vec::new(alloc);
     for (place, dir) in dirs.iter().enumerate() {
         match tail_in(alloc, files, dir, &runs[place])? {
-            Some(tail) => tails.push(tail).map_err(|_| Fault::Memory)?,
+            Some(tail) => tails.push(tail).or(Err(Fault::Memory))?,
             None => return Ok(Vec::new(alloc)),
         }
     }

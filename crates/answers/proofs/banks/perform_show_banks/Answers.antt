@@ -1,6 +1,7 @@
 -- The screen was made of the tables in the folder, or is refused by them or by the requests beside them.
-use Rattle.std.proofs.Common.{inl, inr}
-use Rattle.std.proofs.lemmas.Result.{on_ok_weaker, IfErr-weaker}
+use Rattle.answers.proofs.RefusedFacts.{same_fault}
+use Rattle.std.proofs.Common.{inl, inr, ◌∙◌}
+use Rattle.std.proofs.lemmas.Result.{on_ok_weaker, IfErr-weaker, IfOk-from_err}
 use Rattle.answers.proofs.NamedFacts.{ok_with, ok_so, err_with}
 use Rattle.answers.proofs.PageFacts.{screen_refused}
 use Rattle.answers.proofs.RequestFacts.{requests_before}
@@ -29,3 +30,22 @@ returns-clause-fault g c = IfErr-weaker c.print_screen.result _ _ (λ fault refu
   | inr other ↦ screen_refused _ _ _ c.in_ok-found.found.run.stats c.in_ok-found.found.commands _ c.in_ok-found.ensures.ready
       (err_with c.screen_in-screen.result _ _ c.screen_in-screen.ensures.fault other)
 ]) c.print_screen.ensures.fault
+
+pub returns-in_err-found-clause-shown : goal.returns-in_err-found-clause-shown
+returns-in_err-found-clause-shown g c = IfOk-from_err c.from_residual.result _ c.from_residual.ensures.0
+
+pub returns-in_err-found-clause-fault : goal.returns-in_err-found-clause-fault
+returns-in_err-found-clause-fault g c =
+    rw (same_fault c.from_residual.result _ c.from_residual.ensures) (inl c.in_err-found.ensures.fault)
+
+pub returns-in_err-found-clause-same : goal.returns-in_err-found-clause-same
+returns-in_err-found-clause-same g c = c.in_err-found.ensures.same
+
+pub returns-in_err-found-clause-unopened : goal.returns-in_err-found-clause-unopened
+returns-in_err-found-clause-unopened g c = c.in_err-found.ensures.unopened
+
+pub returns-clause-same : goal.returns-clause-same
+returns-clause-same g c = λ t path. c.screen_in-screen.ensures.same t path ∙ c.in_ok-found.ensures.same t path
+
+pub returns-clause-unopened : goal.returns-clause-unopened
+returns-clause-unopened g c = λ t. c.screen_in-screen.ensures.unopened t ∙ c.in_ok-found.ensures.unopened t

@@ -1,5 +1,6 @@
-use Rattle.std.proofs.Common.{inr, option_map}
-use Rattle.std.proofs.lemmas.Result.{IfOk-weaker, IfErr-weaker}
+use Rattle.answers.proofs.RefusedFacts.{same_fault}
+use Rattle.std.proofs.Common.{inr, option_map, inl}
+use Rattle.std.proofs.lemmas.Result.{IfOk-weaker, IfErr-weaker, IfOk-from_err}
 use Rattle.answers.proofs.banks.screen_in.Goals as goal
 
 pub returns-clause-screen : goal.returns-clause-screen
@@ -11,3 +12,28 @@ returns-clause-screen g c = IfOk-weaker c.screen_of.result _ _ (λ text shown te
 
 pub returns-clause-fault : goal.returns-clause-fault
 returns-clause-fault g c = IfErr-weaker c.screen_of.result _ _ (λ fault none. inr none) c.screen_of.ensures.fault
+
+pub returns-in_err-requests-clause-of_run : goal.returns-in_err-requests-clause-of_run
+returns-in_err-requests-clause-of_run g c = IfOk-from_err c.from_residual.result _ c.from_residual.ensures.0
+
+pub returns-in_err-requests-clause-screen : goal.returns-in_err-requests-clause-screen
+returns-in_err-requests-clause-screen g c = IfOk-from_err c.from_residual.result _ c.from_residual.ensures.0
+
+pub returns-in_err-requests-clause-fault : goal.returns-in_err-requests-clause-fault
+returns-in_err-requests-clause-fault g c =
+    rw (same_fault c.from_residual.result _ c.from_residual.ensures) (inl c.in_err-requests.ensures.kind)
+
+pub returns-in_err-requests-clause-same : goal.returns-in_err-requests-clause-same
+returns-in_err-requests-clause-same g c = c.in_err-requests.ensures.same
+
+pub returns-in_err-requests-clause-unopened : goal.returns-in_err-requests-clause-unopened
+returns-in_err-requests-clause-unopened g c = c.in_err-requests.ensures.unopened
+
+pub returns-clause-of_run : goal.returns-clause-of_run
+returns-clause-of_run g c = c.screen_of.ensures.of_run
+
+pub returns-clause-same : goal.returns-clause-same
+returns-clause-same g c = c.in_ok-requests.ensures.same
+
+pub returns-clause-unopened : goal.returns-clause-unopened
+returns-clause-unopened g c = c.in_ok-requests.ensures.unopened

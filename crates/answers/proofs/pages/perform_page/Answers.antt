@@ -1,6 +1,8 @@
 -- The page was made of the tables in the folder, or is refused by them or by the requests beside them.
-use Rattle.std.proofs.Common.{inl, inr, ◌∙◌, sym, subst}
-use Rattle.std.proofs.lemmas.Result.{IfOk-weaker, IfErr-weaker, on_err_weaker}
+use Rattle.whole_files.specs.WholeFile.{part_of}
+use Rattle.answers.proofs.RefusedFacts.{same_fault}
+use Rattle.std.proofs.Common.{inl, inr, ◌∙◌, sym, subst, ap, ◌++◌, ◌∷◌, []}
+use Rattle.std.proofs.lemmas.Result.{IfOk-weaker, IfErr-weaker, on_err_weaker, IfOk-from_err, on_ok_weaker}
 use Rattle.refusal.specs.Warnings.{IsWarningOf}
 use Rattle.answers.proofs.NamedFacts.{ok_with, ok_so, err_with}
 use Rattle.answers.proofs.PageFacts.{whole_from, unwritten_from, screen_refused, write_refused}
@@ -36,3 +38,21 @@ returns-clause-fault g c = IfErr-weaker c.put_page.result _ _ (λ fault refused.
   | inr other ↦ screen_refused _ _ _ c.in_ok-found.found.run.stats c.in_ok-found.found.commands _ c.in_ok-found.ensures.ready
       (err_with c.page_in-page.result _ _ c.page_in-page.ensures.fault other)
 ]) c.put_page.ensures.fault
+
+pub returns-in_err-found-clause-done : goal.returns-in_err-found-clause-done
+returns-in_err-found-clause-done g c = IfOk-from_err c.from_residual.result _ c.from_residual.ensures.0
+
+pub returns-in_err-found-clause-noted : goal.returns-in_err-found-clause-noted
+returns-in_err-found-clause-noted g c = IfOk-from_err c.from_residual.result _ c.from_residual.ensures.0
+
+pub returns-in_err-found-clause-fault : goal.returns-in_err-found-clause-fault
+returns-in_err-found-clause-fault g c =
+    rw (same_fault c.from_residual.result _ c.from_residual.ensures) (inl c.in_err-found.ensures.fault)
+
+pub returns-in_err-found-clause-refused : goal.returns-in_err-found-clause-refused
+returns-in_err-found-clause-refused g c =
+    rw (same_fault c.from_residual.result _ c.from_residual.ensures) (λ t. inl (record { same = c.in_err-found.ensures.same t; unopened = c.in_err-found.ensures.unopened t }))
+
+pub returns-clause-noted : goal.returns-clause-noted
+returns-clause-noted g c =
+    on_ok_weaker c.put_page.result (λ one t. one t ∙ ap (λ paths. paths ++ part_of c.args.file.now ∷ []) (c.page_in-page.ensures.unopened t ∙ c.in_ok-found.ensures.unopened t)) c.put_page.ensures.noted

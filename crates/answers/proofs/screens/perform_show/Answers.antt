@@ -1,6 +1,7 @@
 -- The screen was made of the tables in the folder, or is refused by the requests beside them.
-use Rattle.std.proofs.Common.{inl, inr}
-use Rattle.std.proofs.lemmas.Result.{on_ok_weaker, IfErr-weaker}
+use Rattle.answers.proofs.RefusedFacts.{same_fault}
+use Rattle.std.proofs.Common.{inl, inr, ◌∙◌}
+use Rattle.std.proofs.lemmas.Result.{on_ok_weaker, IfErr-weaker, IfOk-from_err}
 use Rattle.answers.proofs.NamedFacts.{ok_with, err_with}
 use Rattle.answers.proofs.RequestFacts.{requests_before, show_beside}
 use Rattle.answers.proofs.screens.perform_show.Goals as goal
@@ -25,3 +26,22 @@ returns-clause-fault g c = IfErr-weaker c.print_screen.result _ _ (λ fault refu
   | inl write ↦ inr (write, c.in_ok-run.ensures.ready)
   | inr beside ↦ show_beside _ _ _ _ c.in_ok-run.ensures.ready (err_with c.screen_in-screen.result _ _ c.screen_in-screen.ensures.kind beside)
 ]) c.print_screen.ensures.fault
+
+pub returns-in_err-run-clause-shown : goal.returns-in_err-run-clause-shown
+returns-in_err-run-clause-shown g c = IfOk-from_err c.from_residual.result _ c.from_residual.ensures.0
+
+pub returns-in_err-run-clause-fault : goal.returns-in_err-run-clause-fault
+returns-in_err-run-clause-fault g c =
+    rw (same_fault c.from_residual.result _ c.from_residual.ensures) (inl c.in_err-run.ensures.fault)
+
+pub returns-in_err-run-clause-same : goal.returns-in_err-run-clause-same
+returns-in_err-run-clause-same g c = c.in_err-run.ensures.same
+
+pub returns-in_err-run-clause-unopened : goal.returns-in_err-run-clause-unopened
+returns-in_err-run-clause-unopened g c = c.in_err-run.ensures.unopened
+
+pub returns-clause-same : goal.returns-clause-same
+returns-clause-same g c = λ t path. c.screen_in-screen.ensures.same t path ∙ c.in_ok-run.ensures.same t path
+
+pub returns-clause-unopened : goal.returns-clause-unopened
+returns-clause-unopened g c = λ t. c.screen_in-screen.ensures.unopened t ∙ c.in_ok-run.ensures.unopened t

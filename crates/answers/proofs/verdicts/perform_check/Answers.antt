@@ -1,0 +1,68 @@
+use Rattle.answers.proofs.RefusedFacts.{same_fault}
+use Rattle.std.proofs.lemmas.Result.{IfOk-from_err}
+use Rattle.std.proofs.Common.{inl, inr}
+use Rattle.answers.proofs.verdicts.perform_check.Goals as goal
+
+pub returns-in_err-found-clause-checked : goal.returns-in_err-found-clause-checked
+returns-in_err-found-clause-checked g c = IfOk-from_err c.from_residual.result _ c.from_residual.ensures.0
+
+pub returns-in_err-found-clause-status : goal.returns-in_err-found-clause-status
+returns-in_err-found-clause-status g c = IfOk-from_err c.from_residual.result _ c.from_residual.ensures.0
+
+pub returns-in_err-found-clause-fault : goal.returns-in_err-found-clause-fault
+returns-in_err-found-clause-fault g c =
+    rw (same_fault c.from_residual.result _ c.from_residual.ensures) (inl c.in_err-found.ensures.fault)
+
+pub returns-in_err-found-clause-same : goal.returns-in_err-found-clause-same
+returns-in_err-found-clause-same g c = c.in_err-found.ensures.same
+
+pub returns-in_err-found-clause-unopened : goal.returns-in_err-found-clause-unopened
+returns-in_err-found-clause-unopened g c = c.in_err-found.ensures.unopened
+
+pub returns-in_err-line-clause-checked : goal.returns-in_err-line-clause-checked
+returns-in_err-line-clause-checked g c =
+    IfOk-from_err c.from_residual-in_err-line.result _ c.from_residual-in_err-line.ensures.0
+
+pub returns-in_err-line-clause-status : goal.returns-in_err-line-clause-status
+returns-in_err-line-clause-status g c =
+    IfOk-from_err c.from_residual-in_err-line.result _ c.from_residual-in_err-line.ensures.0
+
+pub returns-in_err-line-clause-fault : goal.returns-in_err-line-clause-fault
+returns-in_err-line-clause-fault g c =
+    rw (same_fault c.from_residual-in_err-line.result _ c.from_residual-in_err-line.ensures) (inl (inl (inl c.in_err-line.ensures.fault)))
+
+pub returns-in_err-line-clause-same : goal.returns-in_err-line-clause-same
+returns-in_err-line-clause-same g c = c.in_ok-found.ensures.same
+
+pub returns-in_err-line-clause-unopened : goal.returns-in_err-line-clause-unopened
+returns-in_err-line-clause-unopened g c = c.in_ok-found.ensures.unopened
+
+pub returns-in_err-print_text-clause-checked : goal.returns-in_err-print_text-clause-checked
+returns-in_err-print_text-clause-checked g c =
+    IfOk-from_err c.from_residual-in_err-print_text.result _ c.from_residual-in_err-print_text.ensures.0
+
+pub returns-in_err-print_text-clause-status : goal.returns-in_err-print_text-clause-status
+returns-in_err-print_text-clause-status g c =
+    IfOk-from_err c.from_residual-in_err-print_text.result _ c.from_residual-in_err-print_text.ensures.0
+
+pub returns-in_err-print_text-clause-fault : goal.returns-in_err-print_text-clause-fault
+returns-in_err-print_text-clause-fault g c =
+    rw (same_fault c.from_residual-in_err-print_text.result _ c.from_residual-in_err-print_text.ensures) (inr (c.in_err-print_text.ensures.fault, c.in_ok-found.ensures.ready))
+
+pub returns-in_err-print_text-clause-same : goal.returns-in_err-print_text-clause-same
+returns-in_err-print_text-clause-same g c = c.in_ok-found.ensures.same
+
+pub returns-in_err-print_text-clause-unopened : goal.returns-in_err-print_text-clause-unopened
+returns-in_err-print_text-clause-unopened g c = c.in_ok-found.ensures.unopened
+
+pub returns-clause-status : goal.returns-clause-status
+returns-clause-status g c = c.status_of.ensures.least
+
+pub returns-clause-fault : goal.returns-clause-fault
+returns-clause-fault g c = tt
+
+pub returns-clause-same : goal.returns-clause-same
+returns-clause-same g c = c.in_ok-found.ensures.same
+
+pub returns-clause-unopened : goal.returns-clause-unopened
+returns-clause-unopened g c = c.in_ok-found.ensures.unopened
