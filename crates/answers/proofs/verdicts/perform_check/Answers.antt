@@ -6,9 +6,6 @@ use Rattle.answers.proofs.verdicts.perform_check.Goals as goal
 pub returns-in_err-found-clause-checked : goal.returns-in_err-found-clause-checked
 returns-in_err-found-clause-checked g c = IfOk-from_err c.from_residual.result _ c.from_residual.ensures.0
 
-pub returns-in_err-found-clause-status : goal.returns-in_err-found-clause-status
-returns-in_err-found-clause-status g c = IfOk-from_err c.from_residual.result _ c.from_residual.ensures.0
-
 pub returns-in_err-found-clause-fault : goal.returns-in_err-found-clause-fault
 returns-in_err-found-clause-fault g c =
     rw (same_fault c.from_residual.result _ c.from_residual.ensures) (inl c.in_err-found.ensures.fault)
@@ -21,10 +18,6 @@ returns-in_err-found-clause-unopened g c = c.in_err-found.ensures.unopened
 
 pub returns-in_err-line-clause-checked : goal.returns-in_err-line-clause-checked
 returns-in_err-line-clause-checked g c =
-    IfOk-from_err c.from_residual-in_err-line.result _ c.from_residual-in_err-line.ensures.0
-
-pub returns-in_err-line-clause-status : goal.returns-in_err-line-clause-status
-returns-in_err-line-clause-status g c =
     IfOk-from_err c.from_residual-in_err-line.result _ c.from_residual-in_err-line.ensures.0
 
 pub returns-in_err-line-clause-fault : goal.returns-in_err-line-clause-fault
@@ -41,10 +34,6 @@ pub returns-in_err-print_text-clause-checked : goal.returns-in_err-print_text-cl
 returns-in_err-print_text-clause-checked g c =
     IfOk-from_err c.from_residual-in_err-print_text.result _ c.from_residual-in_err-print_text.ensures.0
 
-pub returns-in_err-print_text-clause-status : goal.returns-in_err-print_text-clause-status
-returns-in_err-print_text-clause-status g c =
-    IfOk-from_err c.from_residual-in_err-print_text.result _ c.from_residual-in_err-print_text.ensures.0
-
 pub returns-in_err-print_text-clause-fault : goal.returns-in_err-print_text-clause-fault
 returns-in_err-print_text-clause-fault g c =
     rw (same_fault c.from_residual-in_err-print_text.result _ c.from_residual-in_err-print_text.ensures) (inr (c.in_err-print_text.ensures.fault, c.in_ok-found.ensures.ready))
@@ -54,9 +43,6 @@ returns-in_err-print_text-clause-same g c = c.in_ok-found.ensures.same
 
 pub returns-in_err-print_text-clause-unopened : goal.returns-in_err-print_text-clause-unopened
 returns-in_err-print_text-clause-unopened g c = c.in_ok-found.ensures.unopened
-
-pub returns-clause-status : goal.returns-clause-status
-returns-clause-status g c = c.status_of.ensures.least
 
 pub returns-clause-fault : goal.returns-clause-fault
 returns-clause-fault g c = tt
