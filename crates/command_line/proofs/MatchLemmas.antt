@@ -3,7 +3,7 @@ use Rattle.std.proofs.Common.{◌≡◌, ℕ, Option, Some, None, Ok, refl}
 use Rattle.std.specs.Str.Parse.{ParsesUnsigned, ExplainsUnsignedError, HasUnsignedDigitsIfOk}
 use Rattle.std.specs.declared.num.ParseIntError.{ParseIntError}
 use Rattle.std.proofs.lemmas.Result.{OkIff-at_ok}
-use Rattle.std.specs.Prelude.{List, slice_get, find, option_and_then}
+use Rattle.std.specs.Prelude.{IfSome, List, slice_get, find, option_and_then}
 use Rattle.std.specs.Str.{bytes_eq}
 use Rattle.clap.specs.Walk.{row_text}
 use Rattle.clap.specs.Words.{ReadsOne, Row, Text, first_of, one_of}
@@ -14,9 +14,10 @@ abbrev pub Reads : Text → Option ℕ → Type 0
 Reads t r = ReadsOne {T = ℕ} {E = ParseIntError} (λ bs x. ParsesUnsigned 64 10 bs x × ExplainsUnsignedError 10 bs x × HasUnsignedDigitsIfOk bs x) t r
 
 -- a number that was read is that of its text
-pub count_read : (o : Option Text) (r : Option ℕ) (n : ℕ) → (o ≡ None → r ≡ None) → ((t : Text) → o ≡ Some t → Reads t r) → r ≡ Some n → IsCount o n
-count_read None r n none value is = let e = none refl in cc
-count_read (Some t) r n none value is = let read = rw is at (value t refl) in (OkIff-at_ok {T = ℕ} {E = ParseIntError} (Ok n) _ _ n read.0 refl).1
+pub count_read : (o : Option Text) (r : Option ℕ) → (o ≡ None → r ≡ None) → ((t : Text) → o ≡ Some t → Reads t r) → IfSome r (IsCount o)
+count_read o None none value = tt
+count_read None (Some n) none value = let e = none refl in cc
+count_read (Some t) (Some n) none value = (OkIff-at_ok {T = ℕ} {E = ParseIntError} (Ok n) _ _ n (value t refl).0 refl).1
 
 -- where none was read, there is no text, or it is no number
 pub count_missing : (o : Option Text) (r : Option ℕ) → ((t : Text) → o ≡ Some t → Reads t r) → r ≡ None → IsCountText o → ⊥
@@ -40,6 +41,7 @@ pub count_wanted : (id : Text) (rows : List Row) (t : Text) → first_of id rows
 count_wanted id rows t some bad h = row_with (find (λ r. bytes_eq r.id id) rows) t some bad h
 
 -- a number that is there is that of its text
-pub count_there : (o : Option Text) (absent n : ℕ) → IsCount o n → IsCountOr absent o n
-count_there None absent n h = absurd h
-count_there (Some t) absent n h = h
+pub count_there : (o : Option Text) (absent : ℕ) (r : Option ℕ) → IfSome r (IsCount o) → IfSome r (IsCountOr absent o)
+count_there o absent None h = tt
+count_there None absent (Some n) h = absurd h
+count_there (Some t) absent (Some n) h = h

@@ -1,14 +1,14 @@
 -- The command line, as `clap` sees it.
 --     text_rule id, texts_rule id, option_rule id, number_rule id, word_rule id, count_rule id, flag_rule id      one argument
 --     rule_in argument, with_argument app argument      an argument, by its form, and a command with it
+--     app_in entry, with_entry app entry      a command of the program, and one with it below
 --     run_app, check_app, map_app, show_app, page_app, compare_app      one command
---     IsApp app command      a command whose settings are these
 --     program_app      the whole
-use Rattle.std.specs.Prelude.{◌≡◌, true, codes, Some, List, [], ◌∷◌, fold}
-use Rattle.clap.specs.Words.{App, Rule, Text, app_of, new_app, new_rule, with_rule, with_subcommand}
-use Rattle.clap.specs.declared.builder.command.Command.{Command}
+use Rattle.std.specs.Prelude.{true, codes, Some, List, [], ◌∷◌, fold}
+use Rattle.clap.specs.Words.{App, Rule, Text, new_app, new_rule, with_rule, with_subcommand}
 use Rattle.clap.specs.declared.builder.action.ArgAction.TheVariants.{Append, SetTrue}
 use Rattle.command_line.specs.declared.command_line.Argument.{Argument}
+use Rattle.command_line.specs.declared.command_line.Entry.{Entry}
 use Rattle.command_line.specs.declared.command_line.Form.{Form}
 use Rattle.command_line.specs.declared.command_line.Form.TheVariants as form
 use Rattle.clap.specs.declared.builder.value_parser.ValueParser.TheVariants.{Unsigned}
@@ -59,6 +59,14 @@ rule_in argument = rule_as argument.form argument.id.now
 abbrev pub with_argument : App → Argument → App
 with_argument app argument = with_rule app (rule_in argument)
 
+-- a command of the program with its arguments
+abbrev pub app_in : Entry → App
+app_in entry = fold with_argument (new_app entry.name.now) entry.arguments.now
+
+-- a command with one more below it
+abbrev pub with_entry : App → Entry → App
+with_entry app entry = with_subcommand app (app_in entry).top
+
 -- CONFIG
 abbrev pub config_rule : Rule
 config_rule = text_rule (codes "config")
@@ -66,10 +74,6 @@ config_rule = text_rule (codes "config")
 -- a command of these arguments
 abbrev pub command_app : Text → List Rule → App
 command_app name rules = fold with_rule (new_app name) rules
-
--- a command whose settings are these
-abbrev pub IsApp : App → Command → Type 0
-IsApp app command = app_of command ≡ app
 
 -- `run CONFIG --cycles N --workers N [--share WHEN] [--tables LIST] --out DIR TRACE...`
 abbrev pub run_app : App

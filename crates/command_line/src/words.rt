@@ -1,6 +1,6 @@
 //! What a command line asks for.
 
-ghost use Rattle.std.specs.Prelude.{◌≡◌, true, Some, None, Ok, IfOk, IfErr, IsOk, IsErr, option_map, codes};
+ghost use Rattle.std.specs.Prelude.{◌≡◌, true, Some, None, Ok, IfOk, IfErr, IsOk, IsErr, IfSome, option_map, codes};
 ghost use Rattle.clap.specs.Words.{kind_of, subcommand_rows_of};
 ghost use Rattle.sim_base.specs.TraceText.{number_of};
 ghost use Rattle.command_line.specs.Ask.{is_taken, IsCallForHelp, IsCallForVersion, IsCount, IsCountText, IsCountOr, IsNoneOrCount, IsFlag, IsShare, IsNoShare, IsTables, IsNoTables, IsClock, IsNoClock, IsCommand, IsCommandOf, IsCommandFault, IsShown, IsHelpUnlessMemory, IsVersionUnlessMemory, IsNoHelp, IsAskedBy, IsAnswerTo, IsWordsFault, GivesRun, GivesCheck, GivesMap, GivesShow, GivesPage, GivesCompare, GivesAll, IsAlone};
@@ -89,43 +89,29 @@ pub enum Ask<'a> {
     Version(String),
 }
 
-// The text of an argument.
-fn text_of<'a>(found: &ArgMatches<'a>, id: &str) -> Result<&'a str, Fault>
-    ensures given { IfOk result (λ s. word_at found.now id.now ≡ Some s.now) }
-    ensures missing { IfErr result (IsRefusal (word_at found.now id.now ≡ None)) }
-{
-    match found.get_str(id) {
-        Some(text) => Ok(text),
-        None => Err(Fault::CommandLine),
-    }
-}
-
-// The text of an argument that may be left out.
-fn text_if_given<'a>(found: &ArgMatches<'a>, id: &str) -> Option<&'a str>
+// The text of an argument, if it is there.
+fn text_of<'a>(found: &ArgMatches<'a>, id: &str) -> Option<&'a str>
     ensures { option_map (λ s. s.now) result ≡ word_at found.now id.now }
 {
     found.get_str(id)
 }
 
 // The number of an argument.
-fn count_of(found: &ArgMatches<'_>, id: &str) -> Result<u64, Fault>
-    ensures given { IfOk result (IsCount (one_at found.now id.now)) }
-    ensures missing { IfErr result (IsRefusal (¬ (IsCountText (one_at found.now id.now)))) }
+fn count_of(found: &ArgMatches<'_>, id: &str) -> Option<u64>
+    ensures given { IfSome result (IsCount (one_at found.now id.now)) }
+    ensures missing { result ≡ None → ¬ (IsCountText (one_at found.now id.now)) }
 {
-    match found.get_one::<u64>(id) {
-        Some(count) => Ok(count),
-        None => Err(Fault::CommandLine),
-    }
+    found.get_one::<u64>(id)
 }
 
 // The number of an argument that may be left out.
-fn count_or(found: &ArgMatches<'_>, id: &str, absent: u64) -> Result<u64, Fault>
-    ensures given { IfOk result (IsCountOr absent (one_at found.now id.now)) }
-    ensures missing { IfErr result (IsRefusal (¬ (IsNoneOrCount (one_at found.now id.now)))) }
+fn count_or(found: &ArgMatches<'_>, id: &str, absent: u64) -> Option<u64>
+    ensures given { IfSome result (IsCountOr absent (one_at found.now id.now)) }
+    ensures missing { result ≡ None → ¬ (IsNoneOrCount (one_at found.now id.now)) }
 {
     match found.get_str(id) {
         Some(_) => count_of(found, id),
-        None => Ok(absent),
+        None => Some(absent),
     }
 }
 
@@ -197,15 +183,26 @@ fn run_ask<'a>(alloc: Global, found: &ArgMatches<'a>) -> Result<Ask<'a>, Fault>
     ensures refused { GivesRun (rows_in found.now) → IfErr result (BarsRun found.now) }
     ensures fault { IfErr result (λ e. IsWordsFault e) }
 {
-    Ok(Ask::Run(RunArguments {
-        config: text_of(found, "config")?,
-        cycles: count_of(found, "cycles")?,
-        workers: count_of(found, "workers")?,
-        share: share_of(found)?,
-        tables: tables_of(alloc, found)?,
-        out: text_of(found, "out")?,
-        traces: texts_of(alloc, found, "trace")?,
-    }))
+    match (
+        text_of(found, "config"),
+        count_of(found, "cycles"),
+        count_of(found, "workers"),
+        share_of(found),
+        text_of(found, "out"),
+    ) {
+        (Some(config), Some(cycles), Some(workers), Ok(share), Some(out)) => {
+            Ok(Ask::Run(RunArguments {
+                config,
+                cycles,
+                workers,
+                share,
+                tables: tables_of(alloc, found)?,
+                out,
+                traces: texts_of(alloc, found, "trace")?,
+            }))
+        }
+        _ => Err(Fault::CommandLine),
+    }
 }
 
 fn check_ask<'a>(found: &ArgMatches<'a>) -> Result<Ask<'a>, Fault>
@@ -213,10 +210,10 @@ fn check_ask<'a>(found: &ArgMatches<'a>) -> Result<Ask<'a>, Fault>
     ensures refused { GivesCheck (rows_in found.now) → IsOk result }
     ensures fault { IfErr result (λ e. e ≡ Fault.CommandLine) }
 {
-    Ok(Ask::Check {
-        config: text_of(found, "config")?,
-        commands: text_of(found, "commands")?,
-    })
+    match (text_of(found, "config"), text_of(found, "commands")) {
+        (Some(config), Some(commands)) => Ok(Ask::Check { config, commands }),
+        _ => Err(Fault::CommandLine),
+    }
 }
 
 // The number that a text is, read as in a trace.
@@ -235,10 +232,13 @@ fn map_ask<'a>(found: &ArgMatches<'a>) -> Result<Ask<'a>, Fault>
     ensures refused { GivesMap (rows_in found.now) → IfErr result (λ e. HasNoAddress found.now) }
     ensures fault { IfErr result (λ e. e ≡ Fault.CommandLine) }
 {
-    Ok(Ask::Map {
-        config: text_of(found, "config")?,
-        address: address_of(text_of(found, "address")?)?,
-    })
+    match (text_of(found, "config"), text_of(found, "address")) {
+        (Some(config), Some(text)) => Ok(Ask::Map {
+            config,
+            address: address_of(text)?,
+        }),
+        _ => Err(Fault::CommandLine),
+    }
 }
 
 // The frequency of a clock, by its word.
@@ -268,11 +268,14 @@ fn show_ask<'a>(found: &ArgMatches<'a>) -> Result<Ask<'a>, Fault>
     ensures refused { GivesShow (rows_in found.now) → IfErr result (λ e. HasNoClock found.now) }
     ensures fault { IfErr result (λ e. e ≡ Fault.CommandLine) }
 {
+    let (Some(dir), Ok(khz)) = (text_of(found, "dir"), clock_of(found)) else {
+        return Err(Fault::CommandLine);
+    };
     let arguments = ShowArguments {
-        dir: text_of(found, "dir")?,
+        dir,
         all: is_set(found, "all"),
-        config: text_if_given(found, "config"),
-        khz: clock_of(found)?,
+        config: text_of(found, "config"),
+        khz,
     };
     match is_set(found, "banks") {
         false => Ok(Ask::Show(arguments)),
@@ -285,14 +288,25 @@ fn page_ask<'a>(found: &ArgMatches<'a>) -> Result<Ask<'a>, Fault>
     ensures refused { GivesPage (rows_in found.now) → IfErr result (λ e. HasNoClock found.now) }
     ensures fault { IfErr result (λ e. e ≡ Fault.CommandLine) }
 {
-    Ok(Ask::Page(PageArguments {
-        dir: text_of(found, "dir")?,
-        file: text_of(found, "file")?,
-        config: text_if_given(found, "config"),
-        khz: clock_of(found)?,
-        from: count_or(found, "from", 0)?,
-        cycles: count_or(found, "cycles", 2_000)?,
-    }))
+    match (
+        text_of(found, "dir"),
+        text_of(found, "file"),
+        clock_of(found),
+        count_or(found, "from", 0),
+        count_or(found, "cycles", 2_000),
+    ) {
+        (Some(dir), Some(file), Ok(khz), Some(from), Some(cycles)) => {
+            Ok(Ask::Page(PageArguments {
+                dir,
+                file,
+                config: text_of(found, "config"),
+                khz,
+                from,
+                cycles,
+            }))
+        }
+        _ => Err(Fault::CommandLine),
+    }
 }
 
 // The folders of two runs or more.
@@ -361,19 +375,13 @@ const SHARE: &str = "WHEN of --share: auto or always";
 const TABLES: &str =
     "LIST of --tables: some of commands, stats, final and requests, joined by commas, each at most once";
 
-// A word that means nothing where it stands, and what may stand there: an address, the frequency of a clock, when
-// workers share, or which tables are asked for.
-fn wrong_word<'a>(found: &ArgMatches<'a>) -> Option<(&'a str, &'static str)> {
-    if let Some(text) = found.get_str("address") {
-        return Some((text, ADDRESS));
-    }
-    if let Some(text) = found.get_str("mhz") {
-        return Some((text, MHZ));
-    }
-    match (found.get_str("share"), found.get_str("tables")) {
-        (Some(text), _) if text != "auto" && text != "always" => Some((text, SHARE)),
-        (_, Some(text)) => Some((text, TABLES)),
-        _ => None,
+// The argument whose word means nothing, of a command that has all that it needs, and what may stand there.
+fn wrong_place(name: &str, found: &ArgMatches<'_>) -> (&'static str, &'static str) {
+    match name {
+        "map" => ("address", ADDRESS),
+        "run" if share_of(found).is_err() => ("share", SHARE),
+        "run" => ("tables", TABLES),
+        _ => ("mhz", MHZ),
     }
 }
 
@@ -385,8 +393,9 @@ fn explain_word(alloc: Global, matches: &ArgMatches<'_>) -> Result<String, Alloc
     if name == "compare" {
         return String::from_str(alloc, "compare takes the folders of two runs or more\n");
     }
-    match wrong_word(found) {
-        Some((word, wanted)) => format!(in alloc; "'{word}' is no {wanted}\n"),
+    let (id, wanted) = wrong_place(name, found);
+    match found.get_str(id) {
+        Some(word) => format!(in alloc; "'{word}' is no {wanted}\n"),
         None => Ok(String::new(alloc)),
     }
 }

@@ -1,8 +1,0 @@
--- The command with the arguments so far.
-use Rattle.std.proofs.Common.{◌≡◌, fold, take}
-use Rattle.clap.specs.Words.{app_of}
-use Rattle.command_line.specs.CommandLine.{with_argument}
-use Rattle.command_line.proofs.command_line.with_arguments.Given as goal
-
-abbrev pub invariant-loop-argument : goal.invariant-loop-argument
-invariant-loop-argument l = app_of l.command ≡ fold with_argument (app_of l.fn.bare) (take l.argument-index l.arguments)
