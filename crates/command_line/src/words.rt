@@ -375,7 +375,7 @@ const SHARE: &str = "WHEN of --share: auto or always";
 const TABLES: &str =
     "LIST of --tables: some of commands, stats, final and requests, joined by commas, each at most once";
 
-// Which argument of a command that each argument was given means nothing, and what may stand there.
+// The argument whose word means nothing, of a command that has all that it needs, and what may stand there.
 fn wrong_place(name: &str, found: &ArgMatches<'_>) -> (&'static str, &'static str) {
     match name {
         "map" => ("address", ADDRESS),

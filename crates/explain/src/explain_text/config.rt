@@ -1,10 +1,10 @@
 //! What is said of a configuration that is refused.
 
 use crate::explain_text::lines::{Position, line_at};
-use crate::explain_text::links::link_text;
+use crate::explain_text::links::put_links;
+use crate::explain_text::pieces::Explanation;
 use crate::explain_text::pieces::Piece::{Foreign, Number, Words};
-use crate::explain_text::pieces::filled;
-use crate::explain_text::relations::broken_text;
+use crate::explain_text::relations::put_relation;
 use crate::explain_text::section::Section;
 use sim_base::fault::Fault;
 use sim_base::key::{DOCUMENT_KEYS, Key};
@@ -12,37 +12,32 @@ use std::alloc::{AllocError, Global};
 use toml::Table;
 
 // What is wrong at a place of a document, and the line of that place.
-fn place_text<'a>(
-    alloc: Global,
-    document: &'a [u8],
-    offset: usize,
-    flaw: &'a str,
-) -> Result<String, AllocError> {
+fn put_place<'a>(text: &mut Explanation, document: &'a [u8], offset: usize, flaw: &'a str) {
     let Position { line, column } = Position::behind(document.get(..offset).unwrap_or(document));
-    let text = line_at(document, line).unwrap_or(b"").trim_ascii();
-    let form = if text.is_empty() {
-        " line {}, column {}: {}\n"
-    } else {
-        " line {}, column {}: {}\n{}\n"
-    };
-    let pieces = [Number(line), Number(column), Words(flaw), Foreign(text)];
-    filled(alloc, form, &pieces)
+    let pieces = [Number(line), Number(column), Words(flaw)];
+    text.fill(" line {}, column {}: {}\n", &pieces);
+    let words = line_at(document, line).unwrap_or(b"").trim_ascii();
+    if !words.is_empty() {
+        text.fill("{}\n", &[Foreign(words)]);
+    }
+}
+
+// Why a document in UTF-8 is not TOML.
+fn put_error(text: &mut Explanation, document: &str) {
+    match toml::table_from_str(text.alloc(), document) {
+        Ok(_) => text.push(" a configuration is a TOML document in UTF-8\n"),
+        Err(error) => match error.span() {
+            Some(span) => put_place(text, document.as_bytes(), span.start, error.message()),
+            None => text.refuse(),
+        },
+    }
 }
 
 // Why a document is not TOML in UTF-8.
-fn syntax_text(alloc: Global, document: &[u8]) -> Result<String, AllocError> {
-    let text = match str::from_utf8(document) {
-        Ok(text) => text,
-        Err(error) => {
-            return place_text(alloc, document, error.valid_up_to(), "this is no UTF-8");
-        }
-    };
-    let Err(error) = toml::table_from_str(alloc, text) else {
-        return String::from_str(alloc, " a configuration is a TOML document in UTF-8\n");
-    };
-    match error.span() {
-        Some(span) => place_text(alloc, document, span.start, error.message()),
-        None => Err(AllocError),
+fn put_syntax(text: &mut Explanation, document: &[u8]) {
+    match str::from_utf8(document) {
+        Ok(document) => put_error(text, document),
+        Err(error) => put_place(text, document, error.valid_up_to(), "this is no UTF-8"),
     }
 }
 
@@ -57,14 +52,14 @@ fn table_of(alloc: Global, document: &[u8]) -> Result<Table, AllocError> {
 }
 
 // What is wrong with a key, or with its range, or with a relation.
-fn flaw_of(alloc: Global, document: &Section<'_>, fault: Fault) -> Result<String, AllocError> {
+fn put_flaw(text: &mut Explanation, document: &Section<'_>, fault: Fault) {
     match fault {
-        Fault::ConfigKey(Key::Unknown) => document.unknown_text(alloc),
-        Fault::ConfigKey(Key::Link) | Fault::ConfigRange(Key::Link) => link_text(alloc, document),
-        Fault::ConfigKey(key) => document.key_text(alloc, key),
-        Fault::ConfigRange(key) => document.range_text(alloc, key),
-        Fault::ConfigRelation(number) => broken_text(alloc, number, document.table),
-        _ => Ok(String::new(alloc)),
+        Fault::ConfigKey(Key::Unknown) => document.put_unknown(text),
+        Fault::ConfigKey(Key::Link) | Fault::ConfigRange(Key::Link) => put_links(text, document),
+        Fault::ConfigKey(key) => document.put_key(text, key),
+        Fault::ConfigRange(key) => document.put_range(text, key),
+        Fault::ConfigRelation(number) => put_relation(text, number, document.table),
+        _ => {}
     }
 }
 
@@ -75,15 +70,22 @@ pub fn config_text(
     path: &str,
     document: &[u8],
 ) -> Result<String, AllocError> {
+    let mut text = Explanation::new(alloc);
     if fault == Fault::ConfigSyntax {
-        return syntax_text(alloc, document);
+        put_syntax(&mut text, document);
+        return text.end();
     }
-    let table = table_of(alloc, document)?;
-    let section = Section {
-        path,
-        place: "",
-        table: &table,
-        keys: &DOCUMENT_KEYS,
-    };
-    flaw_of(alloc, &section, fault)
+    match table_of(alloc, document) {
+        Ok(table) => {
+            let section = Section {
+                path,
+                item: None,
+                table: &table,
+                keys: &DOCUMENT_KEYS,
+            };
+            put_flaw(&mut text, &section, fault);
+        }
+        Err(_) => text.refuse(),
+    }
+    text.end()
 }

@@ -1,11 +1,10 @@
 //! What is said of the items of `link`.
 
 use crate::explain_text::keys::ITEM_KEYS;
-use crate::explain_text::pieces::Piece::{Number, Words};
-use crate::explain_text::pieces::filled;
+use crate::explain_text::pieces::Explanation;
+use crate::explain_text::pieces::Piece::Number;
 use crate::explain_text::section::Section;
 use sim_base::key::Key;
-use std::alloc::{AllocError, Global};
 use toml::value::Array;
 use toml::{Table, Value};
 
@@ -33,69 +32,56 @@ pub(crate) fn id_of(value: &Value) -> Option<u64> {
     }
 }
 
-// What is wrong with an item that is a table; an empty text where it is right.
-fn table_text(alloc: Global, item: &Section<'_>) -> Result<String, AllocError> {
-    let Some(id) = integer_at(item.table, "id") else {
-        return item.key_text(alloc, Key::Id);
-    };
-    let Some(latency) = integer_at(item.table, "latency") else {
-        return item.key_text(alloc, Key::Latency);
-    };
-    if item.unknown().is_some() {
-        item.unknown_text(alloc)
-    } else if !matches!(id, 0..=12_287) {
-        item.range_text(alloc, Key::Id)
-    } else if !matches!(latency, 1..=1_000_000) {
-        item.range_text(alloc, Key::Latency)
-    } else {
-        Ok(String::new(alloc))
+// Says what is wrong with an item that is a table, if something is.
+fn put_table(text: &mut Explanation, item: &Section<'_>) {
+    let id = integer_at(item.table, "id");
+    let latency = integer_at(item.table, "latency");
+    match (id, latency, item.unknown()) {
+        (None, _, _) => item.put_key(text, Key::Id),
+        (_, None, _) => item.put_key(text, Key::Latency),
+        (_, _, Some(_)) => item.put_unknown(text),
+        (Some(0..=12_287), Some(1..=1_000_000), None) => {}
+        (Some(0..=12_287), _, _) => item.put_range(text, Key::Latency),
+        _ => item.put_range(text, Key::Id),
     }
 }
 
-// The number of an item, and what comes after it.
-fn item_head(alloc: Global, item: u64, rest: &str) -> Result<String, AllocError> {
-    filled(alloc, " item {} of link{}", &[Number(item), Words(rest)])
+fn put_item(text: &mut Explanation, path: &str, item: u64, value: &Value) {
+    match value {
+        Value::Table(table) => {
+            let section = Section {
+                path,
+                item: Some(item),
+                table,
+                keys: &ITEM_KEYS,
+            };
+            put_table(text, &section);
+        }
+        _ => text.fill(
+            " item {} of link is no table of id and latency\n",
+            &[Number(item)],
+        ),
+    }
 }
 
-fn item_text<'a>(
-    alloc: Global,
-    path: &'a str,
-    item: u64,
-    value: &'a Value,
-) -> Result<String, AllocError> {
-    let Value::Table(table) = value else {
-        return item_head(alloc, item, " is no table of id and latency\n");
-    };
-    let place = item_head(alloc, item, ":")?;
-    let section = Section {
-        path,
-        place: place.as_str(),
-        table,
-        keys: &ITEM_KEYS,
-    };
-    table_text(alloc, &section)
-}
-
-// What is wrong with the first item that is not right.
-fn items_text(alloc: Global, path: &str, items: &Array) -> Result<String, AllocError> {
+// Says what is wrong with the first item that is not right, in a text that is not begun.
+fn put_items(text: &mut Explanation, path: &str, items: &Array) {
     let mut item = 0u64;
     for value in items {
         item = item.saturating_add(1);
-        let text = item_text(alloc, path, item, value)?;
-        if !text.is_empty() {
-            return Ok(text);
+        put_item(text, path, item, value);
+        if text.is_begun() {
+            return;
         }
     }
-    String::from_str(
-        alloc,
-        " each item of link is a table of id, 0 to 12287, and latency, 1 to 1000000\n",
-    )
+    text.push(" each item of link is a table of id, 0 to 12287, and latency, 1 to 1000000\n");
 }
 
-/// Says what is wrong with `link`, or with the first of its items that is not right, after the path.
-pub(crate) fn link_text(alloc: Global, document: &Section<'_>) -> Result<String, AllocError> {
+/// Says what is wrong with `link`, or with the first of its items that is not right, after the path, in a text that is
+/// not begun.
+pub(crate) fn put_links(text: &mut Explanation, document: &Section<'_>) {
     match items_of(document.table) {
-        Some(items) => items_text(alloc, document.path, items),
-        None => document.key_text(alloc, Key::Link),
+        Some(items) => put_items(text, document.path, items),
+        None => document.put_key(text, Key::Link),
     }
 }

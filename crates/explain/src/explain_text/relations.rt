@@ -1,9 +1,8 @@
 //! What is said of a relation between the numbers of a configuration.
 
 use crate::explain_text::links::{id_of, integer_at, items_of};
-use crate::explain_text::pieces::Piece::{Foreign, Number, Words};
-use crate::explain_text::pieces::{filled, push};
-use crate::explain_text::section::entry_text;
+use crate::explain_text::pieces::Explanation;
+use crate::explain_text::pieces::Piece::{Entry, Number, Words};
 use sim_base::key::Key;
 use std::alloc::{AllocError, Global};
 use toml::Table;
@@ -152,47 +151,36 @@ fn is_broken(number: u8, left: u64, right: u64) -> bool {
     }
 }
 
-// How the sides of a relation compare, with numbers in place of the keys.
-fn compared_text(alloc: Global, broken: &str, table: &Table) -> Result<String, AllocError> {
-    let mut text = String::new(alloc);
+// Says how the sides of a relation compare, with numbers in place of the keys.
+fn put_compared(text: &mut Explanation, broken: &str, table: &Table) {
     for word in broken.split('%') {
-        let piece = match number_at(table, word) {
-            Some(number) => Number(number),
-            None => Words(word),
-        };
-        push(alloc, &mut text, piece)?;
+        match number_at(table, word) {
+            Some(number) => text.put(Number(number)),
+            None => text.push(word),
+        }
     }
-    Ok(text)
 }
 
-// A relation between two sides.
-fn sides_text(alloc: Global, number: u8, table: &Table) -> Result<String, AllocError> {
+// Says of a relation between two sides that it must hold, or how its sides compare where it does not, and what the
+// right one comes to where that does not show it.
+fn put_sides(text: &mut Explanation, number: u8, table: &Table) {
     let Some(relation) = relation_of(number) else {
-        let number = Number(u64::from(number));
-        return filled(alloc, " relation {} does not hold\n", &[number]);
+        let pieces = [Number(u64::from(number))];
+        text.fill(" relation {} does not hold\n", &pieces);
+        return;
     };
+    text.push(relation.rule);
     let right = right_at(table, number);
     if !is_broken(number, left_at(table, number), right) {
-        return filled(alloc, "{} must hold\n", &[Words(relation.rule)]);
+        text.push(" must hold\n");
+        return;
     }
-    let compared = compared_text(alloc, relation.broken, table)?;
-    broken_sides(alloc, number, relation.rule, compared.as_str(), right)
-}
-
-// A relation that does not hold: how its sides compare, and what the right one comes to where that does not show it.
-fn broken_sides<'a>(
-    alloc: Global,
-    number: u8,
-    rule: &'a str,
-    compared: &'a str,
-    right: u64,
-) -> Result<String, AllocError> {
-    let form = match number {
-        6 => "{} does not hold: {}, which is {}\n",
-        _ => "{} does not hold: {}\n",
-    };
-    let pieces = [Words(rule), Words(compared), Number(right)];
-    filled(alloc, form, &pieces)
+    text.push(" does not hold: ");
+    put_compared(text, relation.broken, table);
+    match number {
+        6 => text.fill(", which is {}\n", &[Number(right)]),
+        _ => text.push("\n"),
+    }
 }
 
 // The first id of a link that is not there.
@@ -208,23 +196,22 @@ fn absent_link(items: Option<&Array>, links: u64) -> Option<u64> {
 }
 
 // Relation 8: each link that has a latency of its own exists.
-fn absent_link_text(alloc: Global, table: &Table) -> Result<String, AllocError> {
+fn put_absent_link(text: &mut Explanation, table: &Table) {
     let links = times_cores(table, value_at(table, "channels")).saturating_mul(3);
     match absent_link(items_of(table), links) {
-        Some(id) => filled(
-            alloc,
+        Some(id) => text.fill(
             " link has the id {}, and there are the links 0 to {}: 3 for each pair of a core and a channel\n",
             &[Number(id), Number(links.saturating_sub(1))],
         ),
-        None => String::from_str(
-            alloc,
-            " each id of link must be less than 3 * cores * channels\n",
-        ),
+        None => text.push(" each id of link must be less than 3 * cores * channels\n"),
     }
 }
 
 // The first id that also occurs earlier.
-fn repeated_id(alloc: Global, items: &Array) -> Result<Option<u64>, AllocError> {
+fn repeated_id(alloc: Global, items: Option<&Array>) -> Result<Option<u64>, AllocError> {
+    let Some(items) = items else {
+        return Ok(None);
+    };
     let mut seen: Vec<u64> = Vec::new(alloc);
     for item in items {
         if let Some(id) = id_of(item) {
@@ -238,36 +225,32 @@ fn repeated_id(alloc: Global, items: &Array) -> Result<Option<u64>, AllocError> 
 }
 
 // Relation 9: no two latencies are for the same link.
-fn repeated_link_text(alloc: Global, table: &Table) -> Result<String, AllocError> {
-    let repeated = match items_of(table) {
-        Some(items) => repeated_id(alloc, items)?,
-        None => None,
-    };
-    match repeated {
-        Some(id) => filled(alloc, " two items of link have the id {}\n", &[Number(id)]),
-        None => String::from_str(alloc, " no two items of link may have the same id\n"),
+fn put_repeated_link(text: &mut Explanation, table: &Table) {
+    match repeated_id(text.alloc(), items_of(table)) {
+        Ok(Some(id)) => text.fill(" two items of link have the id {}\n", &[Number(id)]),
+        Ok(None) => text.push(" no two items of link may have the same id\n"),
+        Err(_) => text.refuse(),
     }
 }
 
 // Relation 10: if there are several ranks, an address has a field for the rank.
-fn rank_text(alloc: Global, table: &Table) -> Result<String, AllocError> {
-    let Some(fields) = table.get("fields") else {
-        return String::from_str(alloc, " where ranks is above 1 fields must have \"rank\"\n");
-    };
-    let entry = entry_text(alloc, Key::Fields, fields)?;
-    filled(
-        alloc,
-        " where ranks is above 1 fields must have \"rank\": ranks = {}, {}\n",
-        &[Number(value_at(table, "ranks")), Foreign(entry.as_bytes())],
-    )
+fn put_rank(text: &mut Explanation, table: &Table) {
+    text.push(" where ranks is above 1 fields must have \"rank\"");
+    if let Some(fields) = table.get("fields") {
+        text.fill(
+            ": ranks = {}, {}",
+            &[Number(value_at(table, "ranks")), Entry(Key::Fields, fields)],
+        );
+    }
+    text.push("\n");
 }
 
 /// Says which relation does not hold, and with which numbers, after the path.
-pub(crate) fn broken_text(alloc: Global, number: u8, table: &Table) -> Result<String, AllocError> {
+pub(crate) fn put_relation(text: &mut Explanation, number: u8, table: &Table) {
     match number {
-        8 => absent_link_text(alloc, table),
-        9 => repeated_link_text(alloc, table),
-        10 => rank_text(alloc, table),
-        _ => sides_text(alloc, number, table),
+        8 => put_absent_link(text, table),
+        9 => put_repeated_link(text, table),
+        10 => put_rank(text, table),
+        _ => put_sides(text, number, table),
     }
 }

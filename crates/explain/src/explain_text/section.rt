@@ -2,8 +2,8 @@
 
 use crate::explain_text::keys::{is_known, range_of, type_of};
 use crate::explain_text::nearest::nearest;
-use crate::explain_text::pieces::Piece::{Foreign, Words};
-use crate::explain_text::pieces::filled;
+use crate::explain_text::pieces::Explanation;
+use crate::explain_text::pieces::Piece::{Entry, Foreign, Place, Words};
 use sim_base::key::Key;
 use std::alloc::{AllocError, Global};
 use toml::{Table, Value};
@@ -12,80 +12,79 @@ use toml::{Table, Value};
 #[derive(Clone, Copy)]
 pub(crate) struct Section<'a> {
     pub(crate) path: &'a str,
-    /// Where in the document the table stands, after the document's path.
-    pub(crate) place: &'a str,
+    /// Which item of `link` the table is, if it is one.
+    pub(crate) item: Option<u64>,
     pub(crate) table: &'a Table,
     pub(crate) keys: &'static [Key],
 }
 
 impl<'a> Section<'a> {
     /// Says what is wrong with the type of a key's value, or that the key is missing, after the path.
-    pub(crate) fn key_text(&self, alloc: Global, key: Key) -> Result<String, AllocError> {
+    pub(crate) fn put_key(&self, text: &mut Explanation, key: Key) {
         match self.table.get(key.name()) {
-            Some(value) => self.value_text(alloc, key, value, type_of(key)),
-            None => self.missing_text(alloc, key),
+            Some(value) => self.put_value(text, key, value, type_of(key)),
+            None => self.put_missing(text, key),
         }
     }
 
     /// Says that the value of a key is out of its range, after the path.
-    pub(crate) fn range_text(&self, alloc: Global, key: Key) -> Result<String, AllocError> {
+    pub(crate) fn put_range(&self, text: &mut Explanation, key: Key) {
         match self.table.get(key.name()) {
-            Some(value) => self.value_text(alloc, key, value, ""),
-            None => self.absent_text(alloc, key),
+            Some(value) => self.put_value(text, key, value, ""),
+            None => self.put_absent(text, key),
         }
     }
 
     // What stands at a key, and what may stand there: what is of this type and in the range of the key.
-    fn value_text(
-        &self,
-        alloc: Global,
-        key: Key,
-        value: &Value,
-        of_type: &str,
-    ) -> Result<String, AllocError> {
-        let entry = entry_text(alloc, key, value)?;
-        value_line(alloc, self.place, entry.as_str(), of_type, range_of(key))
+    fn put_value(&self, text: &mut Explanation, key: Key, value: &'a Value, of_type: &'static str) {
+        let pieces = [
+            Place(self.item),
+            Entry(key, value),
+            Words(of_type),
+            Words(range_of(key)),
+        ];
+        text.fill("{} {}, where {}{} may stand\n", &pieces);
     }
 
     // What may stand at a key that is not there.
-    fn absent_text(&self, alloc: Global, key: Key) -> Result<String, AllocError> {
-        let pieces = [Words(self.place), Words(key.name()), Words(range_of(key))];
-        filled(alloc, "{} at {} {} may stand\n", &pieces)
+    fn put_absent(&self, text: &mut Explanation, key: Key) {
+        let pieces = [Place(self.item), Words(key.name()), Words(range_of(key))];
+        text.fill("{} at {} {} may stand\n", &pieces);
     }
 
-    fn missing_text(&self, alloc: Global, key: Key) -> Result<String, AllocError> {
-        let instead = self.instead_text(alloc, key)?;
-        let form = if instead.is_empty() {
-            "{} the key {} is missing; {}{} may stand there\n"
-        } else {
-            "{} the key {} is missing; {}{} may stand there\n{}:{}{}"
-        };
+    fn put_missing(&self, text: &mut Explanation, key: Key) {
         let pieces = [
-            Words(self.place),
+            Place(self.item),
             Words(key.name()),
             Words(type_of(key)),
             Words(range_of(key)),
-            Words(self.path),
-            Words(self.place),
-            Words(instead.as_str()),
         ];
-        filled(alloc, form, &pieces)
+        text.fill("{} the key {} is missing; {}{} may stand there\n", &pieces);
+        self.put_instead(text, key);
     }
 
-    // What stands in the document and may have been meant as the missing key, as the rest of a line after the place.
-    fn instead_text(&self, alloc: Global, key: Key) -> Result<String, AllocError> {
+    // What stands in the document and may have been meant as the missing key, as a line after the path.
+    fn put_instead(&self, text: &mut Explanation, key: Key) {
         if let Some(holder) = self.holder_of(key) {
-            return held_line(alloc, holder);
+            text.fill(
+                "{}: it stands in the table {}, and must stand in none, so before the first line in brackets\n",
+                &[Words(self.path), Foreign(holder.as_bytes())],
+            );
+            return;
         }
-        match self.misspelt(alloc, key)? {
-            Some(name) => unknown_line(alloc, "", name, key.name()),
-            None => Ok(String::new(alloc)),
+        match self.misspelt(text.alloc(), key) {
+            Ok(Some(name)) => {
+                text.fill("{}:", &[Words(self.path)]);
+                self.put_meant(text, name, key.name());
+            }
+            Ok(None) => {}
+            Err(_) => text.refuse(),
         }
     }
 
     // The name of a table of the document, or of an array of tables, that holds a key.
     fn holder_of(&self, key: Key) -> Option<&'a str> {
-        if !self.place.is_empty() {
+        if self.item.is_some() {
             return None;
         }
         for (name, value) in self.table.iter() {
@@ -119,58 +118,26 @@ impl<'a> Section<'a> {
     }
 
     /// Says which name is not known, and which may be meant, after the path.
-    pub(crate) fn unknown_text(&self, alloc: Global) -> Result<String, AllocError> {
+    pub(crate) fn put_unknown(&self, text: &mut Explanation) {
         let Some(name) = self.unknown() else {
-            return filled(alloc, "{} a key is not known\n", &[Words(self.place)]);
+            text.fill("{} a key is not known\n", &[Place(self.item)]);
+            return;
         };
-        let meant = match nearest(alloc, self.keys, self.table, name)? {
-            Some(key) => key.name(),
-            None => "",
-        };
-        unknown_line(alloc, self.place, name, meant)
+        match nearest(text.alloc(), self.keys, self.table, name) {
+            Ok(Some(key)) => self.put_meant(text, name, key.name()),
+            Ok(None) => text.fill(
+                "{} the key {} is not known\n",
+                &[Place(self.item), Foreign(name.as_bytes())],
+            ),
+            Err(_) => text.refuse(),
+        }
     }
-}
 
-// Says that a name is not known, and which one may be meant, if one is given, after the place.
-fn unknown_line<'a>(
-    alloc: Global,
-    place: &'a str,
-    name: &'a str,
-    meant: &'a str,
-) -> Result<String, AllocError> {
-    let form = if meant.is_empty() {
-        "{} the key {} is not known\n"
-    } else {
-        "{} the key {} is not known: did you mean {}?\n"
-    };
-    let pieces = [Words(place), Foreign(name.as_bytes()), Words(meant)];
-    filled(alloc, form, &pieces)
-}
-
-// What stands at a key, and what may stand there: what is of this type and in this range.
-fn value_line<'a>(
-    alloc: Global,
-    place: &'a str,
-    entry: &'a str,
-    of_type: &'a str,
-    range: &'a str,
-) -> Result<String, AllocError> {
-    let pieces = [
-        Words(place),
-        Foreign(entry.as_bytes()),
-        Words(of_type),
-        Words(range),
-    ];
-    filled(alloc, "{} {}, where {}{} may stand\n", &pieces)
-}
-
-// Says in which table a key stands that must stand in none, after the place.
-fn held_line(alloc: Global, holder: &str) -> Result<String, AllocError> {
-    filled(
-        alloc,
-        " it stands in the table {}, and must stand in none, so before the first line in brackets\n",
-        &[Foreign(holder.as_bytes())],
-    )
+    // Says that a name is not known, and which one may be meant, after the path.
+    fn put_meant(&self, text: &mut Explanation, name: &'a str, meant: &'static str) {
+        let pieces = [Place(self.item), Foreign(name.as_bytes()), Words(meant)];
+        text.fill("{} the key {} is not known: did you mean {}?\n", &pieces);
+    }
 }
 
 // Whether a value is a table with a key, or an array with such a table.
@@ -191,12 +158,4 @@ fn has_table_with(items: &[Value], key: Key) -> bool {
         }
     }
     false
-}
-
-/// A key and its value as a document writes them.
-pub(crate) fn entry_text(alloc: Global, key: Key, value: &Value) -> Result<String, AllocError> {
-    match value {
-        Value::Table(_) => filled(alloc, "{} is a table", &[Words(key.name())]),
-        value => format!(in alloc; "{key} = {value}"),
-    }
 }

@@ -1,7 +1,7 @@
 //! What is said of a table that is refused.
 
-use crate::explain_text::pieces::Piece::{Foreign, Number, Words};
-use crate::explain_text::pieces::filled;
+use crate::explain_text::pieces::Explanation;
+use crate::explain_text::pieces::Piece::{Foreign, Number};
 use csv::{ByteRecord, Reader, ReaderBuilder};
 use std::alloc::{AllocError, Global};
 
@@ -14,31 +14,11 @@ pub enum TableKind {
     Statistics,
 }
 
-/// A row of a table, and how many fields the header has.
-#[derive(Drop)]
-struct Row {
-    record: ByteRecord,
-    columns: usize,
-}
-
 /// The field of a row of commands that says which command it is.
 const COMMAND: usize = 2;
 
-// The row with this number, of which 0 is the header.
-fn row_at(alloc: Global, table: &[u8], row: u64) -> Result<Option<Row>, AllocError> {
-    let mut reader = ReaderBuilder::new()
-        .has_headers(false)
-        .flexible(true)
-        .from_reader(alloc, table);
-    let mut record = ByteRecord::new(alloc);
-    let columns = read_to(&mut reader, &mut record, row)?;
-    Ok(match columns {
-        Some(columns) => Some(Row { record, columns }),
-        None => None,
-    })
-}
-
-// Reads up to a row, and returns how many fields the header has; nothing where there is no such row.
+// Reads up to the row with this number, of which 0 is the header, and returns how many fields the header has; nothing
+// where there is no such row.
 fn read_to(
     reader: &mut Reader<&[u8]>,
     record: &mut ByteRecord,
@@ -109,7 +89,7 @@ fn header_words(kind: TableKind) -> &'static str {
 }
 
 // What is wrong with a row of commands that has as many fields as the header.
-fn command_text(alloc: Global, record: &ByteRecord) -> Result<String, AllocError> {
+fn put_command_flaw(text: &mut Explanation, record: &ByteRecord) {
     let command = record.get(COMMAND).unwrap_or(b"");
     let (word, form) = if !is_command(command) {
         (
@@ -124,37 +104,31 @@ fn command_text(alloc: Global, record: &ByteRecord) -> Result<String, AllocError
             "a field is missing that the command has, or stands there that it has not, or is out of its range in the configuration\n",
         )
     };
-    filled(alloc, form, &[Foreign(word)])
+    text.fill(form, &[Foreign(word)]);
 }
 
-// What is wrong with a row below the header.
-fn flaw_text(alloc: Global, kind: TableKind, found: &Row) -> Result<String, AllocError> {
-    let fields = found.record.len();
-    if fields != found.columns {
-        return filled(
-            alloc,
+// What is wrong with a row below the header, which has so many columns.
+fn put_flaw(text: &mut Explanation, kind: TableKind, record: &ByteRecord, columns: usize) {
+    let fields = record.len();
+    if fields != columns {
+        text.fill(
             "it has {} fields, and the header has {}\n",
-            &[Number(fields as u64), Number(found.columns as u64)],
+            &[Number(fields as u64), Number(columns as u64)],
         );
+        return;
     }
     match kind {
-        TableKind::Commands => command_text(alloc, &found.record),
-        TableKind::Statistics => String::from_str(alloc, "a run writes another record there\n"),
+        TableKind::Commands => put_command_flaw(text, record),
+        TableKind::Statistics => text.push("a run writes another record there\n"),
     }
 }
 
-// What stands in a row, and what is wrong with it.
-fn found_text(alloc: Global, kind: TableKind, row: u64, found: &Row) -> Result<String, AllocError> {
-    let fields = fields_of(alloc, &found.record)?;
-    let flaw = match row {
-        0 => String::from_str(alloc, header_words(kind))?,
-        _ => flaw_text(alloc, kind, found)?,
-    };
-    let pieces = [
-        Foreign(fields.get(1..).unwrap_or(b"")),
-        Words(flaw.as_str()),
-    ];
-    filled(alloc, ": {}\n{}", &pieces)
+// What stands in a row.
+fn put_fields(text: &mut Explanation, record: &ByteRecord) {
+    match fields_of(text.alloc(), record) {
+        Ok(fields) => text.fill(": {}\n", &[Foreign(fields.get(1..).unwrap_or(b""))]),
+        Err(_) => text.refuse(),
+    }
 }
 
 /// Says what stands in a row of a table, and what is wrong with it, after the path and the row's number; row 0 is the
@@ -165,11 +139,22 @@ pub fn row_text(
     row: u64,
     table: &[u8],
 ) -> Result<String, AllocError> {
-    match row_at(alloc, table, row)? {
-        Some(found) => found_text(alloc, kind, row, &found),
-        None => {
-            let wanted = if row == 0 { header_words(kind) } else { "" };
-            filled(alloc, " is missing\n{}", &[Words(wanted)])
-        }
+    let mut reader = ReaderBuilder::new()
+        .has_headers(false)
+        .flexible(true)
+        .from_reader(alloc, table);
+    let mut record = ByteRecord::new(alloc);
+    let mut text = Explanation::new(alloc);
+    let found = read_to(&mut reader, &mut record, row);
+    match found {
+        Ok(Some(_)) => put_fields(&mut text, &record),
+        Ok(None) => text.push(" is missing\n"),
+        Err(_) => text.refuse(),
     }
+    match (row, found) {
+        (0, _) => text.push(header_words(kind)),
+        (_, Ok(Some(columns))) => put_flaw(&mut text, kind, &record, columns),
+        _ => {}
+    }
+    text.end()
 }

@@ -1,8 +1,8 @@
 //! What is said of a trace that is refused.
 
 use crate::explain_text::lines::line_at;
+use crate::explain_text::pieces::Explanation;
 use crate::explain_text::pieces::Piece::{Foreign, Number, Words};
-use crate::explain_text::pieces::filled;
 use cpu_trace::number::read_number;
 use sim_base::fault::LineCause;
 use std::alloc::{AllocError, Global};
@@ -37,44 +37,50 @@ fn words_of(line: &[u8]) -> LineWords<'_> {
 }
 
 // What is wrong with this word of a line with two or three.
-fn word_text(alloc: Global, word: &[u8]) -> Result<String, AllocError> {
+fn put_word(text: &mut Explanation, word: &[u8]) {
     let form = match read_number(word) {
         Err(LineCause::TooLarge) => {
             "{} is above 2^64 - 1 = 18446744073709551615, the greatest number that may stand there\n"
         }
         _ => "'{}' is no number: decimal digits may stand there, or 0x and hexadecimal ones\n",
     };
-    filled(alloc, form, &[Foreign(word)])
+    text.fill(form, &[Foreign(word)]);
 }
 
 // What is wrong with a line.
-fn flaw_text(alloc: Global, line: &[u8]) -> Result<String, AllocError> {
+fn put_flaw(text: &mut Explanation, line: &[u8]) {
     let LineWords { count, first_bad } = words_of(line);
     let form = match (count, first_bad) {
-        (2 | 3, Some(word)) => return word_text(alloc, word),
+        (2 | 3, Some(word)) => return put_word(text, word),
         (0 | 2 | 3, _) => "'COUNT READ' or 'COUNT READ WRITE' may stand there\n",
         (1, None) => "it has one number, where 'COUNT READ' or 'COUNT READ WRITE' may stand\n",
         (1, Some(_)) => "it has one word, where 'COUNT READ' or 'COUNT READ WRITE' may stand\n",
         (_, None) => "it has {} numbers, where 'COUNT READ' or 'COUNT READ WRITE' may stand\n",
         (_, Some(_)) => "it has {} words, where 'COUNT READ' or 'COUNT READ WRITE' may stand\n",
     };
-    filled(alloc, form, &[Number(count)])
+    text.fill(form, &[Number(count)]);
+}
+
+// What stands on a line, if the line is there, and what is wrong with it.
+fn put_line(text: &mut Explanation, line: Option<&[u8]>) {
+    let Some(line) = line else {
+        return put_flaw(text, b"");
+    };
+    text.fill("{}\n", &[Foreign(line.trim_ascii())]);
+    put_flaw(text, line);
 }
 
 /// Says what stands on a line of a trace, counted from 1, and what is wrong with it, after the path and the line's
 /// number. Of a compressed trace it says how to name it.
 pub fn line_text(alloc: Global, path: &str, line: u64, trace: &[u8]) -> Result<String, AllocError> {
+    let mut text = Explanation::new(alloc);
     if trace.starts_with(&GZIP) {
-        return filled(
-            alloc,
+        text.fill(
             "the trace is compressed by gzip: name <(zcat {}) in its place\n",
             &[Words(path)],
         );
+    } else {
+        put_line(&mut text, line_at(trace, line));
     }
-    let Some(line) = line_at(trace, line) else {
-        return flaw_text(alloc, b"");
-    };
-    let flaw = flaw_text(alloc, line)?;
-    let pieces = [Foreign(line.trim_ascii()), Words(flaw.as_str())];
-    filled(alloc, "{}\n{}", &pieces)
+    text.end()
 }
