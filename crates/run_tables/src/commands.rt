@@ -104,21 +104,30 @@ fn take_row(
     Ok(row)
 }
 
+// The commands of a table, all of whose records are left.
+fn take_rows(alloc: Global, records: &mut Records<'_>) -> Result<CommandList, Fault>
+    requires { records.old.row ≡ 0 }
+    ensures read { IfOk result (λ rows. IsCommandTable records.old.records rows) }
+    ensures refused { IfErr result (IsRefusedFor HoldsCommands records.old.records) }
+{
+    let limits = take_header(records)?;
+    let mut rows = CommandList::new(alloc);
+    let mut earliest = 0;
+    while !records.is_empty() {
+        let row = take_row(records, limits, earliest)?;
+        rows.push(row)?;
+        earliest = row.cycle;
+    }
+    Ok(rows)
+}
+
 // The commands of a table, record by record.
 fn read_rows(alloc: Global, table: &[u8]) -> Result<CommandList, Fault>
     ensures read { IfOk result (λ rows. IsCommandTable (records_of table.now) rows) }
     ensures refused { IfErr result (IsRefusedFor HoldsCommands (records_of table.now)) }
 {
     let mut records = Records::of(alloc, table)?;
-    let limits = take_header(&mut records)?;
-    let mut rows = CommandList::new(alloc);
-    let mut earliest = 0;
-    while !records.is_empty() {
-        let row = take_row(&mut records, limits, earliest)?;
-        rows.push(row)?;
-        earliest = row.cycle;
-    }
-    Ok(rows)
+    take_rows(alloc, &mut records)
 }
 
 /// Reads the table of commands of a run, `commands.csv`, with or without a column for the rank, under no configuration:

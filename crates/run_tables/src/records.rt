@@ -125,15 +125,23 @@ fn add_left(left: &mut Records<'_>, records: &mut Vec<ByteRecord>) -> Result<(),
 }
 
 impl Table {
+    // Takes the records that are left. The only error is out of memory.
+    fn of_left(alloc: Global, left: &mut Records<'_>) -> Result<Table, Fault>
+        ensures all { IfOk result (λ t. t ≡ left.old.records) }
+        ensures fault { IfErr result (λ e. e ≡ Fault.Memory) }
+    {
+        let mut records = Vec::new(alloc);
+        add_left(left, &mut records)?;
+        Ok(Table { records })
+    }
+
     /// Reads a table. The only error is out of memory.
     pub(crate) fn read(alloc: Global, table: &[u8]) -> Result<Table, Fault>
         ensures all { IfOk result (λ t. t ≡ records_of table.now) }
         ensures fault { IfErr result (λ e. e ≡ Fault.Memory) }
     {
         let mut left = Records::of(alloc, table)?;
-        let mut records = Vec::new(alloc);
-        add_left(&mut left, &mut records)?;
-        Ok(Table { records })
+        Table::of_left(alloc, &mut left)
     }
 
     /// How many records it has.

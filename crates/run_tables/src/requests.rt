@@ -222,21 +222,30 @@ fn take_row(records: &mut Records<'_>, least: u128) -> Result<RequestTimes, Faul
     Ok(row)
 }
 
+// The requests of a table, all of whose records are left.
+fn take_rows(alloc: Global, records: &mut Records<'_>) -> Result<Vec<RequestTimes>, Fault>
+    requires { records.old.row ≡ 0 }
+    ensures read { IfOk result (λ rows. IsRequestTable records.old.records rows.items) }
+    ensures refused { IfErr result (IsRefusedFor HoldsRequests records.old.records) }
+{
+    take_header(records)?;
+    let mut rows = Vec::new(alloc);
+    let mut least = 0u128;
+    while !records.is_empty() {
+        let row = take_row(records, least)?;
+        rows.push(row).map_err(|_| Fault::Memory)?;
+        least = turn(row) + 1;
+    }
+    Ok(rows)
+}
+
 // The requests of a table, record by record.
 fn read_rows(alloc: Global, table: &[u8]) -> Result<Vec<RequestTimes>, Fault>
     ensures read { IfOk result (λ rows. IsRequestTable (records_of table.now) rows.items) }
     ensures refused { IfErr result (IsRefusedFor HoldsRequests (records_of table.now)) }
 {
     let mut records = Records::of(alloc, table)?;
-    take_header(&mut records)?;
-    let mut rows = Vec::new(alloc);
-    let mut least = 0u128;
-    while !records.is_empty() {
-        let row = take_row(&mut records, least)?;
-        rows.push(row).map_err(|_| Fault::Memory)?;
-        least = turn(row) + 1;
-    }
-    Ok(rows)
+    take_rows(alloc, &mut records)
 }
 
 /// Reads the table of the requests of a run, `requests.csv`, under no configuration: the very rows whose table it is.
