@@ -1,4 +1,3 @@
 pub mod AnswerFacts
-pub mod HeldTexts
 pub mod ReadInputs
 pub mod RefusedFacts

@@ -78,7 +78,6 @@ fn read_texts<F: FileSet>(
 }
 
 // The texts as slices of bytes.
-#[tactic(auto, using(std::proofs::lemmas::List::map_more))]
 fn slices_of<'a>(alloc: Global, texts: &'a [SharedText]) -> Result<Vec<&'a [u8]>, AllocError>
     ensures { IfOk result (λ slices. map (λ s. s.now) slices.items ≡ map (λ t. t) texts.now) }
 {

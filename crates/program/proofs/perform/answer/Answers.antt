@@ -1,3 +1,4 @@
+use Rattle.std.proofs.lemmas.Result.{IfOk-from_err}
 use Rattle.std.proofs.Common.{rules, ◌≡◌, Err}
 use Rattle.program.proofs.perform.answer.Goals as goal
 
@@ -6,3 +7,99 @@ returns-in_err-perform_run-in-Run-clause-fault g c =
     let kept : c.from_residual.result ≡ Err c.in_err-perform_run-in-Run.field-0.0 = search rules in
     rw (kept, c.in-Run.is)
     (rw (c.run_ask.ensures.config, c.run_ask.ensures.cycles, c.run_ask.ensures.workers, c.run_ask.ensures.traces) at c.in_err-perform_run-in-Run.ensures.fault)
+
+pub returns-in_err-perform_run-in-Run-clause-answered : goal.returns-in_err-perform_run-in-Run-clause-answered
+returns-in_err-perform_run-in-Run-clause-answered g c = IfOk-from_err c.from_residual.result _ c.from_residual.ensures.0
+
+pub returns-in_err-perform_run-in-Run-clause-status : goal.returns-in_err-perform_run-in-Run-clause-status
+returns-in_err-perform_run-in-Run-clause-status g c = IfOk-from_err c.from_residual.result _ c.from_residual.ensures.0
+
+pub returns-in_err-perform_run-in-Run-clause-quiet : goal.returns-in_err-perform_run-in-Run-clause-quiet
+returns-in_err-perform_run-in-Run-clause-quiet g c = IfOk-from_err c.from_residual.result _ c.from_residual.ensures.0
+
+pub returns-in_err-warning-in-Page-clause-answered : goal.returns-in_err-warning-in-Page-clause-answered
+returns-in_err-warning-in-Page-clause-answered g c =
+    IfOk-from_err c.from_residual-in_err-warning-in-Page.result _ c.from_residual-in_err-warning-in-Page.ensures.0
+
+pub returns-in_err-warning-in-Page-clause-status : goal.returns-in_err-warning-in-Page-clause-status
+returns-in_err-warning-in-Page-clause-status g c =
+    IfOk-from_err c.from_residual-in_err-warning-in-Page.result _ c.from_residual-in_err-warning-in-Page.ensures.0
+
+pub returns-in_err-warning-in-Page-clause-quiet : goal.returns-in_err-warning-in-Page-clause-quiet
+returns-in_err-warning-in-Page-clause-quiet g c =
+    IfOk-from_err c.from_residual-in_err-warning-in-Page.result _ c.from_residual-in_err-warning-in-Page.ensures.0
+
+pub returns-in-Check-clause-status : goal.returns-in-Check-clause-status
+returns-in-Check-clause-status g c = c.answer_check.ensures.status
+
+pub returns-in-Check-clause-quiet : goal.returns-in-Check-clause-quiet
+returns-in-Check-clause-quiet g c = rw c.in-Check.is c.answer_check.ensures.quiet
+
+pub returns-in-Check-clause-fault : goal.returns-in-Check-clause-fault
+returns-in-Check-clause-fault g c = rw c.in-Check.is c.answer_check.ensures.fault
+
+pub returns-in-Check-clause-answered : goal.returns-in-Check-clause-answered
+returns-in-Check-clause-answered g c = rw c.in-Check.is c.answer_check.ensures.answered
+
+pub returns-in-Map-clause-status : goal.returns-in-Map-clause-status
+returns-in-Map-clause-status g c = c.answer_map.ensures.status
+
+pub returns-in-Map-clause-quiet : goal.returns-in-Map-clause-quiet
+returns-in-Map-clause-quiet g c = rw c.in-Map.is c.answer_map.ensures.quiet
+
+pub returns-in-Map-clause-fault : goal.returns-in-Map-clause-fault
+returns-in-Map-clause-fault g c = rw c.in-Map.is c.answer_map.ensures.fault
+
+pub returns-in-Map-clause-answered : goal.returns-in-Map-clause-answered
+returns-in-Map-clause-answered g c = rw c.in-Map.is c.answer_map.ensures.answered
+
+pub returns-in-Show-clause-status : goal.returns-in-Show-clause-status
+returns-in-Show-clause-status g c = c.answer_show.ensures.status
+
+pub returns-in-Show-clause-quiet : goal.returns-in-Show-clause-quiet
+returns-in-Show-clause-quiet g c = rw c.in-Show.is c.answer_show.ensures.quiet
+
+pub returns-in-Show-clause-fault : goal.returns-in-Show-clause-fault
+returns-in-Show-clause-fault g c = rw c.in-Show.is c.answer_show.ensures.fault
+
+pub returns-in-Show-clause-answered : goal.returns-in-Show-clause-answered
+returns-in-Show-clause-answered g c = rw c.in-Show.is c.answer_show.ensures.answered
+
+pub returns-in-ShowBanks-clause-status : goal.returns-in-ShowBanks-clause-status
+returns-in-ShowBanks-clause-status g c = c.answer_show_banks.ensures.status
+
+pub returns-in-ShowBanks-clause-quiet : goal.returns-in-ShowBanks-clause-quiet
+returns-in-ShowBanks-clause-quiet g c = rw c.in-ShowBanks.is c.answer_show_banks.ensures.quiet
+
+pub returns-in-ShowBanks-clause-fault : goal.returns-in-ShowBanks-clause-fault
+returns-in-ShowBanks-clause-fault g c = rw c.in-ShowBanks.is c.answer_show_banks.ensures.fault
+
+pub returns-in-ShowBanks-clause-answered : goal.returns-in-ShowBanks-clause-answered
+returns-in-ShowBanks-clause-answered g c = rw c.in-ShowBanks.is c.answer_show_banks.ensures.answered
+
+pub returns-in-Compare-clause-status : goal.returns-in-Compare-clause-status
+returns-in-Compare-clause-status g c = c.answer_compare.ensures.status
+
+pub returns-in-Compare-clause-quiet : goal.returns-in-Compare-clause-quiet
+returns-in-Compare-clause-quiet g c = rw c.in-Compare.is c.answer_compare.ensures.quiet
+
+pub returns-in-Compare-clause-fault : goal.returns-in-Compare-clause-fault
+returns-in-Compare-clause-fault g c = rw c.in-Compare.is (rw c.deref.ensures.value at c.answer_compare.ensures.fault)
+
+pub returns-in-Compare-clause-answered : goal.returns-in-Compare-clause-answered
+returns-in-Compare-clause-answered g c = rw c.in-Compare.is (rw c.deref.ensures.value at c.answer_compare.ensures.answered)
+
+pub returns-in-Check-clause-refused : goal.returns-in-Check-clause-refused
+returns-in-Check-clause-refused g c = rw c.in-Check.is c.answer_check.ensures.refused
+
+pub returns-in-Map-clause-refused : goal.returns-in-Map-clause-refused
+returns-in-Map-clause-refused g c = rw c.in-Map.is c.answer_map.ensures.refused
+
+pub returns-in-Show-clause-refused : goal.returns-in-Show-clause-refused
+returns-in-Show-clause-refused g c = rw c.in-Show.is c.answer_show.ensures.refused
+
+pub returns-in-ShowBanks-clause-refused : goal.returns-in-ShowBanks-clause-refused
+returns-in-ShowBanks-clause-refused g c = rw c.in-ShowBanks.is c.answer_show_banks.ensures.refused
+
+pub returns-in-Compare-clause-refused : goal.returns-in-Compare-clause-refused
+returns-in-Compare-clause-refused g c = rw c.in-Compare.is c.answer_compare.ensures.refused

@@ -1,4 +1,6 @@
-use Rattle.std.proofs.Common.{◌≡◌, Err, rules}
+use Rattle.program.proofs.RefusedFacts.{map_all}
+use Rattle.std.proofs.lemmas.Result.{IfOk-from_err}
+use Rattle.std.proofs.Common.{◌≡◌, Err, rules, ◌∙◌}
 use Rattle.answers.proofs.ManyFiles.{not_read_at}
 use Rattle.program.proofs.runs.read_texts.Goals as goal
 
@@ -6,3 +8,28 @@ pub returns-in_err-text-clause-fault : goal.returns-in_err-text-clause-fault
 returns-in_err-text-clause-fault g c =
     let kept : c.from_residual.result ≡ Err c.in_err-text.field-0.0 = search rules in
     rw kept (not_read_at _ _ _ (λ p. p.now) c.args.paths.now _ _ _ c.loop-path-test.true c.loop-path.invariant.same c.in_err-text.ensures.fault)
+
+pub returns-in_err-text-clause-texts : goal.returns-in_err-text-clause-texts
+returns-in_err-text-clause-texts g c = IfOk-from_err c.from_residual.result _ c.from_residual.ensures.0
+
+pub returns-in_err-text-clause-count : goal.returns-in_err-text-clause-count
+returns-in_err-text-clause-count g c = IfOk-from_err c.from_residual.result _ c.from_residual.ensures.0
+
+pub returns-in_err-text-clause-same : goal.returns-in_err-text-clause-same
+returns-in_err-text-clause-same g c = λ t path. c.in_err-text.ensures.same t path ∙ c.loop-path.invariant.same t path
+
+pub returns-in_err-text-clause-unopened : goal.returns-in_err-text-clause-unopened
+returns-in_err-text-clause-unopened g c = λ t. c.in_err-text.ensures.unopened t ∙ c.loop-path.invariant.unopened t
+
+pub returns-clause-texts : goal.returns-clause-texts
+returns-clause-texts g c =
+    λ t. map_all _ c.args.paths.now c.loop-path.path-index c.loop-path-test.false ∙ c.loop-path.invariant.texts t
+
+pub returns-clause-fault : goal.returns-clause-fault
+returns-clause-fault g c = tt
+
+pub returns-clause-same : goal.returns-clause-same
+returns-clause-same g c = c.loop-path.invariant.same
+
+pub returns-clause-unopened : goal.returns-clause-unopened
+returns-clause-unopened g c = c.loop-path.invariant.unopened
