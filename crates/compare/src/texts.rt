@@ -132,7 +132,8 @@ pub(crate) fn put_cell(
     text: Result<String, AllocError>,
     out: &mut Sheet,
 )
-    ensures { (words : List ℕ) → IfOk text (IsText words) → Puts (cell_text layout width words) out.old out.new }
+    ensures { (words : List ℕ) → IfOk text (IsText words)
+        → Puts (cell_text layout width words) out.old out.new }
 {
     match text {
         Ok(text) => put_words(layout, width, text.as_str(), out),

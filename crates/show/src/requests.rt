@@ -179,7 +179,8 @@ fn put_reads(
     options: Options,
     out: &mut Text,
 )
-    ensures { Puts (Extends (latencies_head (length (read_latencies requests.now)))) out.old out.new }
+    ensures { Puts (Extends (latencies_head (length (read_latencies requests.now))))
+        out.old out.new }
 {
     let rows = latency_rows(alloc, cores, requests, options.khz);
     match latency_percentiles(alloc, requests) {

@@ -39,7 +39,8 @@ fn put_channels(
     config: Option<&Config>,
     out: &mut Text,
 )
-    ensures { Puts (Extends (channels_head stats.now.cycles (length stats.now.channels))) out.old out.new }
+    ensures { Puts (Extends (channels_head stats.now.cycles (length stats.now.channels)))
+        out.old out.new }
 {
     let (cycles, channels) = (stats.cycles, stats.channels.len());
     write!(
