@@ -1,8 +1,7 @@
 -- Why an answer is refused, from the refusals of its steps.
 use Rattle.std.proofs.Common.{◌≡◌, ◌≢◌, ◌⊎◌, inl, inr, ℕ, List, [], ◌∷◌, ◌++◌, Some, Result, Ok, Err, refl, sym, ap, ap₂, ◌∙◌}
-use Rattle.std.proofs.lemmas.Bool.{false≢true}
 use Rattle.std.specs.Prelude.{if◌then◌else◌}
-use Rattle.std.specs.Result.{IsErr, IsErrAnd, is_ok, result_or}
+use Rattle.std.specs.Result.{is_ok, result_or}
 use Rattle.sim_base.specs.declared.config.Config.{Config}
 use Rattle.sim_base.specs.declared.fault.Fault.{Fault}
 use Rattle.sim_base.specs.declared.fault.Fault.TheVariants.{Memory, CheckRow}
@@ -12,11 +11,6 @@ use Rattle.rule_check.specs.Verdict.{records_of, verdict}
 use Rattle.run_tables.specs.Records as Stats
 use Rattle.whole_files.specs.Files.{Held, SameFiles}
 use Rattle.answers.specs.Refused.{AreTexts, IsInputFault, IsMapFault, IsTableFault, IsRowRefusal}
-
--- what `?` returns is the same fault
-pub same_fault : {A : Type 0} (r : Result A Fault) (e : Fault) → IsErr r × IsErrAnd r (λ f. f ≡ e) → r ≡ Err e
-same_fault (Ok x) e h = absurd (false≢true h.0)
-same_fault (Err f) e h = ap Err h.1
 
 -- memory was refused for an item, or it is behind the others
 pub or_memory : {T E : Type 0} (r : Result T E) (e : Fault) → Err e ≡ result_or r (Err Memory) → e ≡ Memory

@@ -1,22 +1,12 @@
 -- Why a run is refused, from the refusals of its steps.
-use Rattle.std.proofs.Common.{◌≡◌, inl, inr, ℕ, List, [], ◌∷◌, ◌++◌, ◌+◌, ◌<◌, ◌≤◌, length, map, take, get_or, Some, Result, Ok, Err, sym, ap, ap₂, ◌∙◌, arith}
+use Rattle.std.proofs.Common.{◌≡◌, inl, inr, ℕ, List, [], ◌∷◌, length, map, Some, Result, Ok, Err, sym, ap₂, ◌∙◌, arith}
 use Rattle.std.specs.Prelude.{IsOk, OnOk}
-use Rattle.std.proofs.lemmas.List.{length-map, map-append, map_more, take_all}
+use Rattle.std.proofs.lemmas.List.{length-map}
 use Rattle.sim_base.specs.declared.fault.Fault.{Fault}
 use Rattle.whole_files.specs.Files.{Held, SameFiles}
 use Rattle.answers.specs.Refused.{LacksOne, AreTexts, IsFilesFault, IsAnswerFault}
 use Rattle.program.specs.Refused.{IsRunRefusal, IsRunFault, IsRightRun}
 use Rattle.answers.proofs.ManyFiles.{texts_held}
-
--- ---- lists of which the same is made
-
-pub map_all : {A C : Type 0} (f : A → C) (xs : List A) (k : ℕ) → length xs ≤ k → map f xs ≡ map f (take k xs)
-map_all f xs k past = ap (map f) (sym (take_all k xs past))
-
-pub map_pushed : {A B C : Type 0} (f : A → C) (h : B → C) (xs : List A) (ys more : List B) (k : ℕ) (d : A) (y : B) → k < length xs → map f (take k xs) ≡ map h ys → f (get_or xs k d) ≡ h y
-    → more ≡ ys ++ y ∷ [] → map f (take (k + 1) xs) ≡ map h more
-map_pushed f h xs ys more k d y below so_far one pushed =
-    map_more f xs k d below ∙ ap₂ (λ zs z. zs ++ z ∷ []) so_far one ∙ sym (map-append h ys (y ∷ [])) ∙ ap (map h) (sym pushed)
 
 -- ---- files that are not read
 

@@ -1,4 +1,4 @@
-use Rattle.answers.proofs.RefusedFacts.{same_fault}
+use Rattle.config_reader.proofs.Refusing.{same_fault}
 use Rattle.std.proofs.Common.{inr, option_map, inl}
 use Rattle.std.proofs.lemmas.Result.{IfOk-weaker, IfErr-weaker, IfOk-from_err}
 use Rattle.answers.proofs.banks.screen_in.Goals as goal

@@ -3,7 +3,8 @@ use Rattle.answers.specs.Answers.{stats_table}
 use Rattle.rule_check.specs.Verdict.{records_of}
 use Rattle.answers.proofs.ManyFiles.{map_pushed, map_all}
 use Rattle.std.proofs.lemmas.Result.{IfOk-from_err}
-use Rattle.answers.proofs.RefusedFacts.{memory_or_row, same_fault, or_memory, is_pushed}
+use Rattle.config_reader.proofs.Refusing.{same_fault}
+use Rattle.answers.proofs.RefusedFacts.{memory_or_row, or_memory, is_pushed}
 use Rattle.answers.proofs.comparisons.runs_of.Goals as goal
 
 pub returns-in_err-stats-clause-read : goal.returns-in_err-stats-clause-read

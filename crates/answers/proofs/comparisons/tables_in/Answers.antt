@@ -1,4 +1,5 @@
-use Rattle.answers.proofs.RefusedFacts.{same_fault, is_pushed, or_memory}
+use Rattle.config_reader.proofs.Refusing.{same_fault}
+use Rattle.answers.proofs.RefusedFacts.{is_pushed, or_memory}
 use Rattle.std.proofs.lemmas.Result.{IfOk-from_err}
 use Rattle.std.proofs.Common.{length, Some, ◌≡◌, Err, rules, ◌∙◌, ◌++◌, [], ◌∷◌, sym, length-append, arith, inl}
 use Rattle.answers.specs.Answers.{stats_path}

@@ -2,7 +2,8 @@
 use Rattle.std.proofs.lemmas.List.{length-map}
 use Rattle.std.proofs.Common.{◌≡◌, ◌∙◌, ◌++◌, [], ◌∷◌, length-append, arith, inl, length, sym}
 use Rattle.std.proofs.lemmas.Result.{IfOk-from_err}
-use Rattle.answers.proofs.RefusedFacts.{same_fault, is_pushed, or_memory}
+use Rattle.config_reader.proofs.Refusing.{same_fault}
+use Rattle.answers.proofs.RefusedFacts.{is_pushed, or_memory}
 use Rattle.answers.proofs.RequestFacts.{folder_lacks, folder_more}
 use Rattle.answers.proofs.comparisons.tails_in.Goals as goal
 

@@ -1,6 +1,6 @@
 -- The page was made of the tables in the folder, or is refused by them or by the requests beside them.
 use Rattle.whole_files.specs.WholeFile.{part_of}
-use Rattle.answers.proofs.RefusedFacts.{same_fault}
+use Rattle.config_reader.proofs.Refusing.{same_fault}
 use Rattle.std.proofs.Common.{inl, inr, ◌∙◌, sym, subst, ap, ◌++◌, ◌∷◌, []}
 use Rattle.std.proofs.lemmas.Result.{IfOk-weaker, IfErr-weaker, on_err_weaker, IfOk-from_err, on_ok_weaker}
 use Rattle.refusal.specs.Warnings.{IsWarningOf}

@@ -3,7 +3,8 @@ use Rattle.answers.proofs.NamedFacts.{one_unread}
 use Rattle.std.proofs.Common.{[], ◌∷◌, sym, ap, ◌∙◌, refl, None}
 use Rattle.std.specs.Result.{is_ok}
 use Rattle.config_reader.specs.Document.{document_of}
-use Rattle.answers.proofs.RefusedFacts.{one_text, map_fault, same_fault}
+use Rattle.config_reader.proofs.Refusing.{same_fault}
+use Rattle.answers.proofs.RefusedFacts.{one_text, map_fault}
 use Rattle.answers.proofs.places.find_place.Goals as goal
 
 pub returns-clause-place : goal.returns-clause-place

@@ -1,5 +1,5 @@
 use Rattle.answers.proofs.RequestFacts.{memory_requests}
-use Rattle.answers.proofs.RefusedFacts.{same_fault}
+use Rattle.config_reader.proofs.Refusing.{same_fault}
 use Rattle.std.proofs.lemmas.Result.{IfOk-from_err}
 use Rattle.std.proofs.Common.{inl}
 use Rattle.answers.proofs.requests.requests_at.Goals as goal

@@ -1,4 +1,4 @@
-use Rattle.answers.proofs.RefusedFacts.{same_fault}
+use Rattle.config_reader.proofs.Refusing.{same_fault}
 use Rattle.std.proofs.lemmas.Result.{IfOk-from_err}
 use Rattle.answers.specs.Requests.{requests_path}
 use Rattle.std.proofs.Common.{inl, refl, ◌≡◌, ◌∙◌}

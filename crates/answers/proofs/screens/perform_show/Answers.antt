@@ -1,5 +1,5 @@
 -- The screen was made of the tables in the folder, or is refused by the requests beside them.
-use Rattle.answers.proofs.RefusedFacts.{same_fault}
+use Rattle.config_reader.proofs.Refusing.{same_fault}
 use Rattle.std.proofs.Common.{inl, inr, ◌∙◌}
 use Rattle.std.proofs.lemmas.Result.{on_ok_weaker, IfErr-weaker, IfOk-from_err}
 use Rattle.answers.proofs.NamedFacts.{ok_with, err_with}

@@ -1,4 +1,4 @@
-use Rattle.answers.proofs.RefusedFacts.{same_fault}
+use Rattle.config_reader.proofs.Refusing.{same_fault}
 use Rattle.std.proofs.lemmas.Result.{IfOk-from_err}
 use Rattle.std.proofs.Common.{option_map, inl, refl}
 use Rattle.answers.proofs.screens.screen_in.Goals as goal

@@ -1,5 +1,5 @@
 use Rattle.std.proofs.Common.{◌∙◌}
-use Rattle.answers.proofs.RefusedFacts.{same_fault}
+use Rattle.config_reader.proofs.Refusing.{same_fault}
 use Rattle.std.proofs.lemmas.Result.{IfOk-weaker, IfErr-weaker, IfOk-from_err}
 use Rattle.answers.proofs.NamedFacts.{configured_from, both_ok, ready_page, fault_page, config_unread, one_unread, two_unread}
 use Rattle.answers.proofs.tables.tables_at.Goals as goal

@@ -1,4 +1,4 @@
-use Rattle.answers.proofs.RefusedFacts.{same_fault}
+use Rattle.config_reader.proofs.Refusing.{same_fault}
 use Rattle.std.proofs.lemmas.Result.{IfOk-from_err}
 use Rattle.std.proofs.Common.{◌≡◌, ◌∙◌, inl, refl}
 use Rattle.whole_files.specs.Tables.{path_in, stats_name, commands_name}

@@ -3,7 +3,8 @@ use Rattle.std.proofs.Common.{[], ◌∷◌, sym, ap, ◌∙◌, None, refl}
 use Rattle.std.proofs.lemmas.Result.{IfOk-weaker, IfErr-weaker, IfOk-from_err}
 use Rattle.config_reader.specs.Document.{document_of}
 use Rattle.rule_check.specs.Verdict.{records_of, verdict}
-use Rattle.answers.proofs.RefusedFacts.{two_texts, config_fault, row_fault, same_fault}
+use Rattle.config_reader.proofs.Refusing.{same_fault}
+use Rattle.answers.proofs.RefusedFacts.{two_texts, config_fault, row_fault}
 use Rattle.answers.proofs.verdicts.judge.Goals as goal
 
 pub returns-clause-found : goal.returns-clause-found

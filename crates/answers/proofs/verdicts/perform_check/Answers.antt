@@ -1,4 +1,4 @@
-use Rattle.answers.proofs.RefusedFacts.{same_fault}
+use Rattle.config_reader.proofs.Refusing.{same_fault}
 use Rattle.std.proofs.lemmas.Result.{IfOk-from_err}
 use Rattle.std.proofs.Common.{inl, inr}
 use Rattle.answers.proofs.verdicts.perform_check.Goals as goal

@@ -1,4 +1,4 @@
-use Rattle.program.proofs.RefusedFacts.{map_all}
+use Rattle.answers.proofs.ManyFiles.{map_all}
 use Rattle.std.proofs.lemmas.Result.{IfOk-from_err}
 use Rattle.std.proofs.Common.{◌≡◌, Err, rules, ◌∙◌}
 use Rattle.answers.proofs.ManyFiles.{not_read_at}

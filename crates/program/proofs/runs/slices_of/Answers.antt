@@ -1,5 +1,5 @@
 use Rattle.std.proofs.Common.{◌≡◌, ◌∙◌, ◌++◌, [], ◌∷◌, sym, rules}
-use Rattle.program.proofs.RefusedFacts.{map_all, map_pushed}
+use Rattle.answers.proofs.ManyFiles.{map_all, map_pushed}
 use Rattle.program.proofs.runs.slices_of.Goals as goal
 
 pub loop-text-preserved : goal.loop-text-preserved
