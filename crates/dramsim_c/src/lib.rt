@@ -181,7 +181,7 @@ pub extern "C" fn dramsim_place(
     ensures well { IsWell channel.new }
     ensures row { ForSession channel.old (λ session past.
         row.new ≡ place_row (place_of past.config address)) }
-    ensures found { ForSession channel.old (λ session past. result ≡ true) }
+    ensures found { ForOpen channel.old (λ session. result ≡ true) }
     ensures kept { channel.new.handle.value ≡ channel.old.handle.value }
     ensures none { result ≡ false → row.new ≡ row.old }
     ensures closed { IsClosed channel.old → result ≡ false }

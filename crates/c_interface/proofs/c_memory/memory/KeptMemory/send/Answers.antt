@@ -1,6 +1,5 @@
 use Rattle.std.proofs.Common.{◌≡◌, ◌∙◌, Ok, Err, sym, subst}
 use Rattle.sessions.specs.Sessions.{IsAnswer}
-use Rattle.sim_base.specs.declared.config.Config.{Config}
 use Rattle.sessions.specs.Memories.{IsMemory, IsOpenMemory, memory_refusal, with_request_of}
 use Rattle.sessions.specs.declared.memory_session.memory.MemorySession.{MemorySession}
 use Rattle.c_interface.proofs.Keeping.{well-open, well-put, passed, refused}
