@@ -135,8 +135,9 @@ impl KeptChannel {
         }
     }
 
-    /// Runs the channel over the cycles before `until`. It is refused as the session refuses it, or as `Closed`. A refusal
-    /// as `Closed`, `EndPassed` or `EndTooLate` leaves the channel with the past that it had; as `Memory` it closes it.
+    /// Runs the channel over the cycles before `until`. It is refused as `Session::run` refuses it, or as `Closed`. A
+    /// refusal as `Closed`, `EndPassed` or `EndTooLate` leaves the channel with the past that it had; as `Memory` it
+    /// closes it.
     pub fn run(&mut self, alloc: Global, until: Cycle) -> Result<(), CallFault>
         requires well { IsWell self.old }
         ensures well { IsWell self.new }
