@@ -1,8 +1,10 @@
 -- A channel that a program in C keeps.
 --     IsWell c      it is closed and owns nothing, or open with a session that has some past
---     ForPasts c fact      a fact of its session, where it is open, and of each past that this may have
---     HasPast c p      it is open, and its session has this past
+--     ForOpen c fact, ForSession c fact      a fact of its session, where it is open, and of each past that this may have
+--     HasPast c past      it is open, and its session has this past
+--     ForPasts c fact      a fact of each past that its session may have, where it is open
 --     StandsAt c now      it is open, and its session stands at this cycle
+--     StandsAsBefore old new      where it was open, it is, and stands where it stood
 --     IsClosed c      it is closed
 --     IsNewSession text number session      a session before its first cycle, for the configuration of a text
 --     IsOpened text number c      it is open with such a session
@@ -27,17 +29,29 @@ use Rattle.c_interface.specs.declared.fault.CallFault.TheVariants as call
 abbrev pub IsWell : KeptChannel → Type 0
 IsWell c = IsWellAt IsOpen c.is_open c.handle.value
 
+-- this is so of its session, where it is open
+abbrev pub ForOpen : KeptChannel → (Session → Type 0) → Type 0
+ForOpen c fact = (session : Session) → c.handle.value ≡ Some session → fact session
+
 -- this is so of its session, where it is open, and of each past that the session may have
-abbrev pub ForPasts : KeptChannel → (Session → Past → Type 0) → Type 0
-ForPasts c fact = (s : Session) (p : Past) → c.handle.value ≡ Some s → IsSession s p → fact s p
+abbrev pub ForSession : KeptChannel → (Session → Past → Type 0) → Type 0
+ForSession c fact = (session : Session) (past : Past) → c.handle.value ≡ Some session → IsSession session past → fact session past
 
 -- its session has this past
 abbrev pub HasPast : KeptChannel → Past → Type 0
-HasPast c p = IsThere (λ session. IsSession session p) c.handle.value
+HasPast c past = IsThere (λ session. IsSession session past) c.handle.value
+
+-- this is so of each past that its session may have, where it is open
+abbrev pub ForPasts : KeptChannel → (Past → Type 0) → Type 0
+ForPasts c fact = (past : Past) → HasPast c past → fact past
 
 -- its session stands at this cycle
 abbrev pub StandsAt : KeptChannel → ℕ → Type 0
 StandsAt c now = IsThere (λ (session : Session). session.cycle ≡ now) c.handle.value
+
+-- where it stood at a cycle, it does so still
+abbrev pub StandsAsBefore : KeptChannel → KeptChannel → Type 0
+StandsAsBefore old new = (cycle : ℕ) → StandsAt old cycle → StandsAt new cycle
 
 -- it is closed
 abbrev pub IsClosed : KeptChannel → Type 0

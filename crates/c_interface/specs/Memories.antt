@@ -4,6 +4,7 @@
 --     ForPasts m fact      a fact of the pasts of its channels, where it is open
 --     HasPasts m pasts      it is open, and its channels have these pasts
 --     StandsAt m now      it is open, and its memory stands at this cycle
+--     StandsAsBefore old new      where it was open, it is, and stands where it stood
 --     IsOf m s      it is open, and its memory is that of a machine with this configuration
 --     IsClosed m      it is closed
 --     IsNewMemory text memory      a memory before its first cycle, for the configuration of a text
@@ -56,6 +57,10 @@ ForMemory m fact = (memory : MemorySession) (pasts : Pasts) → m.handle.value �
 -- it stands at this cycle
 abbrev pub StandsAt : KeptMemory → ℕ → Type 0
 StandsAt m now = IsThere (λ (memory : MemorySession). memory.cycle ≡ now) m.handle.value
+
+-- where it stood at a cycle, it does so still
+abbrev pub StandsAsBefore : KeptMemory → KeptMemory → Type 0
+StandsAsBefore old new = (cycle : ℕ) → StandsAt old cycle → StandsAt new cycle
 
 -- it is the memory of a machine with this configuration
 abbrev pub IsOf : KeptMemory → Config → Type 0

@@ -5,7 +5,7 @@ ghost use Rattle.sessions.specs.Ahead.{IsNextAct};
 ghost use Rattle.sessions.specs.Sessions.{Past, IsSession, IsOpen, next_command_of, next_reply_of, statistics_of, waiting_of, with_request, with_command, with_reply, refusal, end_refusal};
 ghost use Rattle.sessions.specs.declared.channel_session.session.Session.{Session};
 ghost use Rattle.sessions.specs.declared.channel_session.fault.SessionFault.TheVariants.{Memory};
-ghost use Rattle.c_interface.specs.Channels.{IsWell, ForPasts, HasPast, StandsAt, IsClosed, IsNewSession, IsOpened, open_refusal, IsOpenedAs, IsAddressAnswer};
+ghost use Rattle.c_interface.specs.Channels.{IsWell, ForSession, HasPast, ForPasts, StandsAt, StandsAsBefore, IsClosed, IsNewSession, IsOpened, open_refusal, IsOpenedAs, IsAddressAnswer};
 ghost use Rattle.c_interface.specs.Kept.{IsOpenAnswer, IsCallAnswer};
 ghost use Rattle.config_reader.specs.Document.{document_of};
 ghost use Rattle.sim_base.specs.Places.{place_of};
@@ -52,10 +52,10 @@ fn opened(alloc: Global, text: &[u8], number: ChannelId) -> Result<Box<Session>,
 
 /// The row of the next reply or credit of a session, if there is one. It is taken then.
 fn reply_of(session: &mut Session) -> Option<ReplyRow>
-    ensures next { (p : Past) → IsSession session.old p
-        → result ≡ option_map (reply_row p.s) (next_reply_of p session.old.cycle) }
-    ensures taken { (p : Past) → IsSession session.old p
-        → IsSession session.new (with_reply p (next_reply_of p session.old.cycle)) }
+    ensures next { (past : Past) → IsSession session.old past
+        → result ≡ option_map (reply_row past.config) (next_reply_of past session.old.cycle) }
+    ensures taken { (past : Past) → IsSession session.old past
+        → IsSession session.new (with_reply past (next_reply_of past session.old.cycle)) }
     ensures now { session.new.cycle ≡ session.old.cycle }
     ensures open { IsOpen session.old → IsOpen session.new }
 {
@@ -115,12 +115,12 @@ impl KeptChannel {
     pub fn send(&mut self, alloc: Global, request: &SentRequest) -> Result<(), CallFault>
         requires well { IsWell self.old }
         ensures well { IsWell self.new }
-        ensures answer { ForPasts self.old (λ s p.
-            IsCallAnswer (refusal s (waiting_of p s.cycle) request.now) result) }
-        ensures sent { (p : Past) → HasPast self.old p
-            → OnOk result (HasPast self.new (with_request p request.now)) }
-        ensures left { (p : Past) → HasPast self.old p → OnErr result (HasPast self.new p) }
-        ensures now { (cycle : ℕ) → StandsAt self.old cycle → StandsAt self.new cycle }
+        ensures answer { ForSession self.old (λ session past.
+            IsCallAnswer (refusal session (waiting_of past session.cycle) request.now) result) }
+        ensures sent { ForPasts self.old (λ past.
+            OnOk result (HasPast self.new (with_request past request.now))) }
+        ensures left { ForPasts self.old (λ past. OnErr result (HasPast self.new past)) }
+        ensures now { StandsAsBefore self.old self.new }
         ensures closed { IsClosed self.old → result ≡ Err call.Closed }
     {
         let Some(session) = self.take(alloc) else {
@@ -135,17 +135,18 @@ impl KeptChannel {
         }
     }
 
-    /// Runs the channel over the cycles before `until`. It is refused as the session refuses it, or as `Closed`; that
-    /// leaves the channel with the past that it had. Where memory is refused, it is closed.
+    /// Runs the channel over the cycles before `until`. It is refused as `Session::run` refuses it, or as `Closed`. A
+    /// refusal as `Closed`, `EndPassed` or `EndTooLate` leaves the channel with the past that it had; as `Memory` it
+    /// closes it.
     pub fn run(&mut self, alloc: Global, until: Cycle) -> Result<(), CallFault>
         requires well { IsWell self.old }
         ensures well { IsWell self.new }
-        ensures answer { ForPasts self.old (λ s p.
-            IsCallAnswer (end_refusal s.cycle until) result) }
-        ensures done { (p : Past) → HasPast self.old p → OnOk result (HasPast self.new p) }
+        ensures answer { ForSession self.old (λ session past.
+            IsCallAnswer (end_refusal session.cycle until) result) }
+        ensures done { ForPasts self.old (λ past. OnOk result (HasPast self.new past)) }
         ensures now { OnOk result (StandsAt self.new until) }
-        ensures left { (p : Past) → HasPast self.old p
-            → IfErr result (λ e. e ≢ call.Session Memory → HasPast self.new p) }
+        ensures left { ForPasts self.old (λ past.
+            IfErr result (λ e. e ≢ call.Session Memory → HasPast self.new past)) }
         ensures stays { (cycle : ℕ) → StandsAt self.old cycle
             → IfErr result (λ e. e ≢ call.Session Memory → StandsAt self.new cycle) }
         ensures lost { IfErr result (λ e. e ≡ call.Session Memory → IsClosed self.new) }
@@ -173,10 +174,10 @@ impl KeptChannel {
     pub fn next_command(&mut self, alloc: Global) -> Option<IssuedCommand>
         requires well { IsWell self.old }
         ensures well { IsWell self.new }
-        ensures next { ForPasts self.old (λ s p. result ≡ next_command_of p s.cycle) }
-        ensures taken { (p : Past) → HasPast self.old p
-            → HasPast self.new (with_command p result) }
-        ensures now { (cycle : ℕ) → StandsAt self.old cycle → StandsAt self.new cycle }
+        ensures next { ForSession self.old (λ session past.
+            result ≡ next_command_of past session.cycle) }
+        ensures taken { ForPasts self.old (λ past. HasPast self.new (with_command past result)) }
+        ensures now { StandsAsBefore self.old self.new }
         ensures closed { IsClosed self.old → result ≡ None }
     {
         let Some(session) = self.take(alloc) else {
@@ -193,11 +194,11 @@ impl KeptChannel {
     pub fn next_reply(&mut self, alloc: Global) -> Option<ReplyRow>
         requires well { IsWell self.old }
         ensures well { IsWell self.new }
-        ensures next { ForPasts self.old (λ s p.
-            result ≡ option_map (reply_row p.s) (next_reply_of p s.cycle)) }
-        ensures taken { ForPasts self.old (λ s p.
-            HasPast self.new (with_reply p (next_reply_of p s.cycle))) }
-        ensures now { (cycle : ℕ) → StandsAt self.old cycle → StandsAt self.new cycle }
+        ensures next { ForSession self.old (λ session past.
+            result ≡ option_map (reply_row past.config) (next_reply_of past session.cycle)) }
+        ensures taken { ForSession self.old (λ session past.
+            HasPast self.new (with_reply past (next_reply_of past session.cycle))) }
+        ensures now { StandsAsBefore self.old self.new }
         ensures closed { IsClosed self.old → result ≡ None }
     {
         let Some(session) = self.take(alloc) else {
@@ -209,12 +210,13 @@ impl KeptChannel {
         reply
     }
 
-    /// The cycle where an open channel stands: this many are over.
+    /// The cycle where an open channel stands: this many are over. None where it is closed.
     pub fn now(&mut self, alloc: Global) -> Option<Cycle>
         requires well { IsWell self.old }
         ensures well { IsWell self.new }
-        ensures now { result ≡ option_map (λ s. s.cycle) self.old.handle.value }
+        ensures now { result ≡ option_map (λ session. session.cycle) self.old.handle.value }
         ensures kept { self.new.handle.value ≡ self.old.handle.value }
+        ensures closed { IsClosed self.old → result ≡ None }
     {
         let Some(session) = self.take(alloc) else {
             return None;
@@ -225,11 +227,13 @@ impl KeptChannel {
     }
 
     /// The next cycle from now on in which an open channel acts, if nothing more is sent to it and there is one: it
-    /// issues nothing before that cycle, and in it, it issues a command or a request that was sent arrives.
+    /// issues nothing before that cycle, and in it, it issues a command or a request that was sent arrives. A closed
+    /// channel has none.
     pub fn next_act(&mut self, alloc: Global) -> Option<Cycle>
         requires well { IsWell self.old }
         ensures well { IsWell self.new }
-        ensures next { ForPasts self.old (λ s p. IsNextAct p s.cycle result) }
+        ensures next { ForSession self.old (λ session past.
+            IsNextAct past session.cycle result) }
         ensures kept { self.new.handle.value ≡ self.old.handle.value }
         ensures closed { IsClosed self.old → result ≡ None }
     {
@@ -247,7 +251,8 @@ impl KeptChannel {
     pub fn address_of(&mut self, alloc: Global, place: &Place) -> Result<u64, CallFault>
         requires well { IsWell self.old }
         ensures well { IsWell self.new }
-        ensures address { ForPasts self.old (λ s p. IsAddressAnswer p.s place.now result) }
+        ensures address { ForSession self.old (λ session past.
+            IsAddressAnswer past.config place.now result) }
         ensures kept { self.new.handle.value ≡ self.old.handle.value }
         ensures closed { IsClosed self.old → result ≡ Err call.Closed }
     {
@@ -259,11 +264,12 @@ impl KeptChannel {
         address.ok_or(CallFault::NoSuchPlace)
     }
 
-    /// Where the line at an address lies in the memory of an open channel's machine.
+    /// Where the line at an address lies in the memory of an open channel's machine. None where it is closed.
     pub fn place_of(&mut self, alloc: Global, address: u64) -> Option<Place>
         requires well { IsWell self.old }
         ensures well { IsWell self.new }
-        ensures place { ForPasts self.old (λ s p. result ≡ Some (place_of p.s address)) }
+        ensures place { ForSession self.old (λ session past.
+            result ≡ Some (place_of past.config address)) }
         ensures kept { self.new.handle.value ≡ self.old.handle.value }
         ensures closed { IsClosed self.old → result ≡ None }
     {
@@ -275,12 +281,12 @@ impl KeptChannel {
         Some(place)
     }
 
-    /// The statistics of the cycles of an open channel that are over.
+    /// The statistics of the cycles of an open channel that are over. None where it is closed.
     pub fn stats(&mut self, alloc: Global) -> Option<ChannelStats>
         requires well { IsWell self.old }
         ensures well { IsWell self.new }
-        ensures stats { ForPasts self.old (λ s p.
-            result ≡ Some (statistics_of p s.cycle)) }
+        ensures stats { ForSession self.old (λ session past.
+            result ≡ Some (statistics_of past session.cycle)) }
         ensures kept { self.new.handle.value ≡ self.old.handle.value }
         ensures closed { IsClosed self.old → result ≡ None }
     {

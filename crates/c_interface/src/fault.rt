@@ -9,9 +9,9 @@ use sim_base::fault::Fault;
 /// Why a call is refused.
 #[derive(Clone, Copy)]
 pub enum CallFault {
-    /// The channel is closed.
+    /// The channel or memory is closed.
     Closed,
-    /// The channel is open already.
+    /// The channel or memory is open already.
     AlreadyOpen,
     /// The configuration is refused.
     Configuration(Fault),
@@ -19,7 +19,7 @@ pub enum CallFault {
     Session(SessionFault),
     /// The memory has no such place.
     NoSuchPlace,
-    /// The memory for a text is too short.
+    /// The room for a text is too short.
     TooShort,
     /// A table of commands breaks a rule of DDR4.
     BreaksRule,

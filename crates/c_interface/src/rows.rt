@@ -14,10 +14,15 @@ use statistics::channels::ChannelStats;
 #[repr(C)]
 #[derive(Clone, Copy)]
 pub struct RequestRow {
+    /// The address of a byte of the line.
     pub address: u64,
+    /// The cycle in which the channel may first serve it: none that is over.
     pub arrival: u64,
+    /// The entry's number in the trace of the core, below 2^64 - 1.
     pub entry: u64,
+    /// The number of the core, below `cores` of the configuration.
     pub core: u16,
+    /// It is a Write, and not a Read.
     pub is_write: bool,
 }
 
@@ -51,13 +56,20 @@ impl RequestRow {
 #[repr(C)]
 #[derive(Clone, Copy)]
 pub struct CommandRow {
+    /// The cycle in which it was issued.
     pub cycle: u64,
+    /// The entry that an ACT, RD, WR or PRE was issued for, of the trace of `core`.
     pub entry: u64,
+    /// The row of an ACT, RD or WR.
     pub row: u32,
+    /// The column of an RD or WR.
     pub column: u32,
+    /// The rank of each command.
     pub rank: u32,
+    /// The bank group, and the bank in it, of an ACT, RD, WR or PRE.
     pub group: u32,
     pub bank: u32,
+    /// The core whose entry it is.
     pub core: u16,
     /// 0 to 5: ACT, RD, WR, PRE, PREA, REF.
     pub kind: u8,
@@ -149,7 +161,9 @@ impl CommandRow {
 pub struct ReplyRow {
     /// The cycle in which it arrives at the core.
     pub arrival: u64,
+    /// The number of the entry that it is about, in the trace of the core.
     pub entry: u64,
+    /// The number of the core that it goes to.
     pub core: u64,
     /// 0 for the data of a Read, 1 for the credit of a Read, 2 for that of a Write.
     pub kind: u8,
@@ -196,15 +210,22 @@ impl ReplyRow {
     }
 }
 
-/// Where a line lies, as C gets it.
+/// Where a line lies, as C gets it, or states it to ask for its address. All numbers count from 0. The bounds are those
+/// of the configuration: a memory has no place with a number that is not below its bound.
 #[repr(C)]
 #[derive(Clone, Copy)]
 pub struct PlaceRow {
+    /// The channel, below `channels`.
     pub channel: u32,
+    /// The rank of the channel, below `ranks`.
     pub rank: u32,
+    /// The bank group of the rank, below `groups`.
     pub group: u32,
+    /// The bank of the bank group, below 4.
     pub bank: u32,
+    /// The row of the bank, below `rows`.
     pub row: u32,
+    /// The line of 64 bytes in the row, below `columns`.
     pub column: u32,
 }
 
@@ -256,7 +277,9 @@ pub struct StatsRow {
     pub queued_high: u64,
     /// The greatest length of the queue.
     pub queued_max: u64,
+    /// Cycles in which the queue was empty.
     pub idle: u64,
+    /// Cycles in which a refresh of some rank was due.
     pub refreshing: u64,
     /// Cycles of drains; 0 where the channel never drains.
     pub draining: u64,

@@ -1,5 +1,5 @@
 -- What a status says of the outcome of a call.
-use Rattle.std.proofs.Common.{◌≡◌, ◌≢◌, ◌<◌, ◌⊎◌, inl, inr, ℕ, Bool, true, false, Option, Some, None, Result, Ok, Err, IfErr, OnOk, OnErr, refl, sym, ap, subst, ◌∙◌, lit<, arith}
+use Rattle.std.proofs.Common.{◌≡◌, ◌≢◌, ◌<◌, inl, inr, ℕ, Bool, true, false, Option, Some, None, Result, Ok, Err, IfErr, OnOk, OnErr, refl, sym, ap, subst, ◌∙◌, lit<, arith}
 use Rattle.sessions.specs.declared.channel_session.fault.SessionFault.{SessionFault}
 use Rattle.sessions.specs.declared.channel_session.fault.SessionFault.TheVariants as refused
 use Rattle.sim_base.specs.declared.fault.Fault.{Fault}

@@ -1,20 +1,16 @@
 //! A channel of the simulator, and a memory of all channels, for programs in C: what `dramsim.h` declares.
 #![tactic(auto)]
 
-ghost use Rattle.std.specs.Prelude.{◌≡◌, ◌≢◌, ◌⊎◌, ℕ, ◌+◌, true, false, None, Some, ◌++◌, if◌then◌else◌, drop, length, option_map, is_some};
+ghost use Rattle.std.specs.Prelude.{◌≡◌, ◌≢◌, ◌⊎◌, ℕ, true, false, None, Some, if◌then◌else◌, length, option_map, is_some};
 ghost use Rattle.config_reader.specs.Document.{document_of};
-ghost use Rattle.sessions.specs.Sent.{message_of};
 ghost use Rattle.sessions.specs.Addresses.{is_place, IsAddressOf};
 ghost use Rattle.sessions.specs.Ahead.{IsNextAct};
-ghost use Rattle.sessions.specs.Keeps.{steps_of, waiting};
-ghost use Rattle.sessions.specs.Sessions.{Past, next_command_of, next_reply_of, with_sent, with_command, with_reply, refusal, end_refusal};
-ghost use Rattle.sessions.specs.declared.channel_session.session.Session.{Session};
+ghost use Rattle.sessions.specs.Sessions.{next_command_of, next_reply_of, statistics_of, waiting_of, with_request, with_command, with_reply, refusal, end_refusal};
 ghost use Rattle.sim_base.specs.Places.{place_of};
-ghost use Rattle.statistics.specs.Channels.{channel_stats};
-ghost use Rattle.c_interface.specs.Channels.{open_refusal, IsWell, ForPasts, HasPast, StandsAt, IsClosed, IsOpened};
+ghost use Rattle.c_interface.specs.Channels.{open_refusal, IsWell, ForOpen, ForSession, HasPast, ForPasts, StandsAt, StandsAsBefore, IsClosed, IsOpened};
 ghost use Rattle.c_interface.specs.Rows.{sent_request, command_row, reply_row, place_row, place_in, stats_row};
 ghost use Rattle.c_interface.specs.Statuses.{IsStatus, open_status, text_status, IsJudgedAs};
-ghost use Rattle.c_interface.specs.Texts.{fault_text};
+ghost use Rattle.c_interface.specs.Texts.{fault_text, written_over};
 
 pub mod memory;
 
@@ -27,6 +23,9 @@ use std::alloc::Global;
 
 /// Opens a closed channel: the one with a number, of the machine whose configuration a text states, before its first
 /// cycle. Any other status than 0 leaves it as it was.
+///
+/// Status: 3 where it is open already; else 4 where the configuration is refused; else 5 where the machine has no
+/// channel with this number; else 0. It may be 1 in place of 0, 4 or 5, where memory is refused.
 #[unsafe(no_mangle)]
 pub extern "C" fn dramsim_open(
     alloc: Global,
@@ -46,6 +45,16 @@ pub extern "C" fn dramsim_open(
 }
 
 /// Sends a request to an open channel. Any other status than 0 leaves its past as it was.
+///
+/// Status: 2 where the channel is closed; else the first of these that is so:
+/// - 6: the machine has no core with its number.
+/// - 7: its address lies in another channel.
+/// - 8: it arrives in a cycle that is over.
+/// - 9: one that is on its way arrives later, or in the same cycle from the same core or a higher one.
+/// - 10: its entry, or a later one of its core, was asked for already; or it is 2^64 - 1.
+/// - 11: as many requests wait or are on their way as there are credits of all cores.
+/// - 1: memory was refused.
+/// - 0: it was sent.
 #[unsafe(no_mangle)]
 pub extern "C" fn dramsim_send(
     alloc: Global,
@@ -54,27 +63,30 @@ pub extern "C" fn dramsim_send(
 ) -> u32
     requires well { IsWell channel.old }
     ensures well { IsWell channel.new }
-    ensures status { ForPasts channel.old (λ s p.
-        IsStatus (refusal s (waiting p.s p.channel p.sent s.cycle) (sent_request request.now)) result) }
-    ensures sent { (p : Past) → HasPast channel.old p → result ≡ 0
-        → HasPast channel.new (with_sent p (message_of p.s p.channel (sent_request request.now))) }
-    ensures left { (p : Past) → HasPast channel.old p → result ≢ 0 → HasPast channel.new p }
-    ensures now { (cycle : ℕ) → StandsAt channel.old cycle → StandsAt channel.new cycle }
+    ensures status { ForSession channel.old (λ session past. IsStatus
+        (refusal session (waiting_of past session.cycle) (sent_request request.now)) result) }
+    ensures sent { ForPasts channel.old (λ past.
+        result ≡ 0 → HasPast channel.new (with_request past (sent_request request.now))) }
+    ensures left { ForPasts channel.old (λ past. result ≢ 0 → HasPast channel.new past) }
+    ensures now { StandsAsBefore channel.old channel.new }
     ensures closed { IsClosed channel.old → result ≡ 2 }
 {
     status(channel.send(alloc, &request.to_request()))
 }
 
-/// Runs an open channel over the cycles before `until`. Status 1 (memory) closes it; any other than 0 leaves its past
-/// as it was.
+/// Runs an open channel over the cycles before `until`. Status 1 closes it; any other than 0 leaves its past as it was.
+///
+/// Status: 2 where the channel is closed; else 12 where `until` is before the cycle where it stands; else 13 where
+/// `until` is after 2^62; else 1 where memory is refused; else 0.
 #[unsafe(no_mangle)]
 pub extern "C" fn dramsim_run(alloc: Global, channel: &mut KeptChannel, until: u64) -> u32
     requires well { IsWell channel.old }
     ensures well { IsWell channel.new }
-    ensures status { ForPasts channel.old (λ s p. IsStatus (end_refusal s.cycle until) result) }
-    ensures done { (p : Past) → HasPast channel.old p → result ≡ 0 → HasPast channel.new p }
+    ensures status { ForSession channel.old (λ session past.
+        IsStatus (end_refusal session.cycle until) result) }
+    ensures done { ForPasts channel.old (λ past. result ≡ 0 → HasPast channel.new past) }
     ensures now { result ≡ 0 → StandsAt channel.new until }
-    ensures left { (p : Past) → HasPast channel.old p → result ≢ 1 → HasPast channel.new p }
+    ensures left { ForPasts channel.old (λ past. result ≢ 1 → HasPast channel.new past) }
     ensures stays { (cycle : ℕ) → StandsAt channel.old cycle → result ≢ 0 → result ≢ 1
         → StandsAt channel.new cycle }
     ensures lost { result ≡ 1 → IsClosed channel.new }
@@ -83,8 +95,8 @@ pub extern "C" fn dramsim_run(alloc: Global, channel: &mut KeptChannel, until: u
     status(channel.run(alloc, until))
 }
 
-/// The next command of the cycles that are over, if there is one: the first that was not taken. It is taken then. Where
-/// there is none, or the channel is closed, the row is left as it was.
+/// The next command of the cycles that are over, if there is one: the first that was not taken. It is taken then. False
+/// where there is none, or the channel is closed: the row is left as it was then.
 #[unsafe(no_mangle)]
 pub extern "C" fn dramsim_next_command(
     alloc: Global,
@@ -93,12 +105,13 @@ pub extern "C" fn dramsim_next_command(
 ) -> bool
     requires well { IsWell channel.old }
     ensures well { IsWell channel.new }
-    ensures found { ForPasts channel.old (λ s p. result ≡ is_some (next_command_of p s.cycle)) }
-    ensures row { ForPasts channel.old (λ s p.
-        result ≡ true → Some row.new ≡ option_map command_row (next_command_of p s.cycle)) }
-    ensures taken { ForPasts channel.old (λ s p.
-        HasPast channel.new (with_command p (next_command_of p s.cycle))) }
-    ensures now { (cycle : ℕ) → StandsAt channel.old cycle → StandsAt channel.new cycle }
+    ensures found { ForSession channel.old (λ session past.
+        result ≡ is_some (next_command_of past session.cycle)) }
+    ensures row { ForSession channel.old (λ session past. result ≡ true
+        → Some row.new ≡ option_map command_row (next_command_of past session.cycle)) }
+    ensures taken { ForSession channel.old (λ session past.
+        HasPast channel.new (with_command past (next_command_of past session.cycle))) }
+    ensures now { StandsAsBefore channel.old channel.new }
     ensures none { result ≡ false → row.new ≡ row.old }
     ensures closed { IsClosed channel.old → result ≡ false }
 {
@@ -112,7 +125,7 @@ pub extern "C" fn dramsim_next_command(
 }
 
 /// The next reply or credit that was sent in the cycles that are over, if there is one: the first that was not taken.
-/// It is taken then. Where there is none, or the channel is closed, the row is left as it was.
+/// It is taken then. False where there is none, or the channel is closed: the row is left as it was then.
 #[unsafe(no_mangle)]
 pub extern "C" fn dramsim_next_reply(
     alloc: Global,
@@ -121,12 +134,13 @@ pub extern "C" fn dramsim_next_reply(
 ) -> bool
     requires well { IsWell channel.old }
     ensures well { IsWell channel.new }
-    ensures found { ForPasts channel.old (λ s p. result ≡ is_some (next_reply_of p s.cycle)) }
-    ensures row { ForPasts channel.old (λ s p.
-        result ≡ true → Some row.new ≡ option_map (reply_row p.s) (next_reply_of p s.cycle)) }
-    ensures taken { ForPasts channel.old (λ s p.
-        HasPast channel.new (with_reply p (next_reply_of p s.cycle))) }
-    ensures now { (cycle : ℕ) → StandsAt channel.old cycle → StandsAt channel.new cycle }
+    ensures found { ForSession channel.old (λ session past.
+        result ≡ is_some (next_reply_of past session.cycle)) }
+    ensures row { ForSession channel.old (λ session past. result ≡ true
+        → Some row.new ≡ option_map (reply_row past.config) (next_reply_of past session.cycle)) }
+    ensures taken { ForSession channel.old (λ session past.
+        HasPast channel.new (with_reply past (next_reply_of past session.cycle))) }
+    ensures now { StandsAsBefore channel.old channel.new }
     ensures none { result ≡ false → row.new ≡ row.old }
     ensures closed { IsClosed channel.old → result ≡ false }
 {
@@ -144,7 +158,7 @@ pub extern "C" fn dramsim_next_reply(
 pub extern "C" fn dramsim_now(alloc: Global, channel: &mut KeptChannel) -> u64
     requires well { IsWell channel.old }
     ensures well { IsWell channel.new }
-    ensures now { (s : Session) → channel.old.handle.value ≡ Some s → result ≡ s.cycle }
+    ensures now { ForOpen channel.old (λ session. result ≡ session.cycle) }
     ensures kept { channel.new.handle.value ≡ channel.old.handle.value }
     ensures closed { IsClosed channel.old → result ≡ 0 }
 {
@@ -154,8 +168,8 @@ pub extern "C" fn dramsim_now(alloc: Global, channel: &mut KeptChannel) -> u64
     }
 }
 
-/// Where the line at an address lies in the memory of an open channel's machine. Where it is closed, the row is left as
-/// it was.
+/// Where the line at an address lies in the memory of an open channel's machine. False where it is closed: the row is
+/// left as it was then.
 #[unsafe(no_mangle)]
 pub extern "C" fn dramsim_place(
     alloc: Global,
@@ -165,8 +179,9 @@ pub extern "C" fn dramsim_place(
 ) -> bool
     requires well { IsWell channel.old }
     ensures well { IsWell channel.new }
-    ensures row { ForPasts channel.old (λ s p. row.new ≡ place_row (place_of p.s address)) }
-    ensures found { ForPasts channel.old (λ s p. result ≡ true) }
+    ensures row { ForSession channel.old (λ session past.
+        row.new ≡ place_row (place_of past.config address)) }
+    ensures found { ForOpen channel.old (λ session. result ≡ true) }
     ensures kept { channel.new.handle.value ≡ channel.old.handle.value }
     ensures none { result ≡ false → row.new ≡ row.old }
     ensures closed { IsClosed channel.old → result ≡ false }
@@ -181,8 +196,8 @@ pub extern "C" fn dramsim_place(
 }
 
 /// The next cycle from now on in which an open channel acts, if nothing more is sent to it and there is one: it issues
-/// nothing before that cycle, and in it, it issues a command or a request that was sent arrives. Where there is none,
-/// or the channel is closed, the cycle is left as it was.
+/// nothing before that cycle, and in it, it issues a command or a request that was sent arrives. False where there is
+/// none, or the channel is closed: the cycle is left as it was then.
 #[unsafe(no_mangle)]
 pub extern "C" fn dramsim_next_act(
     alloc: Global,
@@ -191,9 +206,10 @@ pub extern "C" fn dramsim_next_act(
 ) -> bool
     requires well { IsWell channel.old }
     ensures well { IsWell channel.new }
-    ensures some { ForPasts channel.old (λ s p.
-        result ≡ true → IsNextAct p s.cycle (Some cycle.new)) }
-    ensures never { ForPasts channel.old (λ s p. result ≡ false → IsNextAct p s.cycle None) }
+    ensures some { ForSession channel.old (λ session past.
+        result ≡ true → IsNextAct past session.cycle (Some cycle.new)) }
+    ensures never { ForSession channel.old (λ session past.
+        result ≡ false → IsNextAct past session.cycle None) }
     ensures kept { channel.new.handle.value ≡ channel.old.handle.value }
     ensures none { result ≡ false → cycle.new ≡ cycle.old }
     ensures closed { IsClosed channel.old → result ≡ false }
@@ -209,6 +225,8 @@ pub extern "C" fn dramsim_next_act(
 
 /// The least address of the line at a place in the memory of an open channel's machine. Any other status than 0 leaves
 /// the address as it was.
+///
+/// Status: 2 where the channel is closed; else 14 where the memory has no such place; else 0.
 #[unsafe(no_mangle)]
 pub extern "C" fn dramsim_address(
     alloc: Global,
@@ -218,10 +236,10 @@ pub extern "C" fn dramsim_address(
 ) -> u32
     requires well { IsWell channel.old }
     ensures well { IsWell channel.new }
-    ensures address { ForPasts channel.old (λ s p.
-        result ≡ 0 → IsAddressOf p.s (place_in place.now) address.new) }
-    ensures status { ForPasts channel.old (λ s p.
-        result ≡ (if is_place p.s (place_in place.now) then 0 else 14)) }
+    ensures address { ForSession channel.old (λ session past.
+        result ≡ 0 → IsAddressOf past.config (place_in place.now) address.new) }
+    ensures status { ForSession channel.old (λ session past.
+        result ≡ (if is_place past.config (place_in place.now) then 0 else 14)) }
     ensures kept { channel.new.handle.value ≡ channel.old.handle.value }
     ensures same { result ≢ 0 → address.new ≡ address.old }
     ensures closed { IsClosed channel.old → result ≡ 2 }
@@ -235,7 +253,8 @@ pub extern "C" fn dramsim_address(
     }
 }
 
-/// The statistics of the cycles of an open channel that are over. Where it is closed, the row is left as it was.
+/// The statistics of the cycles of an open channel that are over. False where it is closed: the row is left as it was
+/// then.
 #[unsafe(no_mangle)]
 pub extern "C" fn dramsim_stats(
     alloc: Global,
@@ -244,9 +263,9 @@ pub extern "C" fn dramsim_stats(
 ) -> bool
     requires well { IsWell channel.old }
     ensures well { IsWell channel.new }
-    ensures row { ForPasts channel.old (λ s p.
-        row.new ≡ stats_row (channel_stats p.s p.channel (steps_of p.s p.channel p.sent s.cycle) p.sent)) }
-    ensures found { (s : Session) → channel.old.handle.value ≡ Some s → result ≡ true }
+    ensures row { ForSession channel.old (λ session past.
+        row.new ≡ stats_row (statistics_of past session.cycle)) }
+    ensures found { ForOpen channel.old (λ session. result ≡ true) }
     ensures kept { channel.new.handle.value ≡ channel.old.handle.value }
     ensures none { result ≡ false → row.new ≡ row.old }
     ensures closed { IsClosed channel.old → result ≡ false }
@@ -272,6 +291,9 @@ pub extern "C" fn dramsim_close(alloc: Global, channel: &mut KeptChannel)
 
 /// Writes the line for which the program refuses a configuration, without its end, to the front of memory, and its
 /// length; 0 where the configuration is not refused. Any other status than 0 leaves the memory as it was.
+///
+/// Status: 15 where the line is longer than the memory, and its length is written then; else 0. It may be 1 in place of
+/// either, where memory is refused to the call.
 #[unsafe(no_mangle)]
 pub extern "C" fn dramsim_fault_text(
     alloc: Global,
@@ -281,8 +303,8 @@ pub extern "C" fn dramsim_fault_text(
 ) -> u32
     ensures status { (result ≡ 1)
         ⊎ (result ≡ text_status (fault_text (document_of text.now)) (length into.old)) }
-    ensures written { result ≡ 0 → into.new
-        ≡ fault_text (document_of text.now) ++ drop (length (fault_text (document_of text.now))) into.old }
+    ensures written { result ≡ 0
+        → into.new ≡ written_over (fault_text (document_of text.now)) into.old }
     ensures wanted { result ≢ 1 → wanted.new ≡ length (fault_text (document_of text.now)) }
     ensures same { result ≢ 0 → into.new ≡ into.old }
 {
@@ -291,6 +313,10 @@ pub extern "C" fn dramsim_fault_text(
 
 /// Judges a table of commands under the configuration that a text states, as `dramsim check` does, and writes what is
 /// at fault. The statuses 1 and 4 leave the row as it was.
+///
+/// Status: 4 where the configuration is refused; else 17 where the table has no header; else as the first row at fault
+/// decides, 17 where it is none and 16 where it breaks a rule; else 0. It may be 1 in place of any, where memory is
+/// refused.
 #[unsafe(no_mangle)]
 pub extern "C" fn dramsim_check(
     alloc: Global,

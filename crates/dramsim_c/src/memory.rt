@@ -7,10 +7,10 @@ ghost use Rattle.sessions.specs.Sessions.{end_refusal};
 ghost use Rattle.sessions.specs.declared.channel_session.session.Session.{Session};
 ghost use Rattle.sim_base.specs.Places.{place_of};
 ghost use Rattle.sim_base.specs.declared.config.Config.{Config};
-ghost use Rattle.sessions.specs.Memories.{Pasts, memory_refusal, with_request, IsNextCommand, IsNextReply, IsNextActOf, stats_of};
+ghost use Rattle.sessions.specs.Memories.{memory_refusal, with_request_of, IsNextCommand, IsNextReply, IsNextActOf, stats_of};
 ghost use Rattle.c_interface.specs.Rows.{sent_request, place_row, place_in, stats_row};
 ghost use Rattle.c_interface.specs.Statuses.{IsStatus, open_status};
-ghost use Rattle.c_interface.specs.Memories.{IsWell, ForPasts, ForOpen, ForMemory, HasPasts, StandsAt, IsOf, IsClosed, IsOpened, configuration_refusal, IsCommandRowAt, IsReplyRowAt, with_command_at, with_reply_at};
+ghost use Rattle.c_interface.specs.Memories.{IsWell, ForPasts, ForOpen, ForMemory, HasPasts, StandsAt, StandsAsBefore, IsOf, IsClosed, IsOpened, configuration_refusal, IsCommandRowAt, IsReplyRowAt, with_command_at, with_reply_at};
 
 use c_interface::c_memory::memory::KeptMemory;
 use c_interface::fault::{fault_number, status};
@@ -19,6 +19,9 @@ use std::alloc::Global;
 
 /// Opens a closed memory: all channels of the machine whose configuration a text states, before their first cycle. Any
 /// other status than 0 leaves it as it was.
+///
+/// Status: 3 where it is open already; else 4 where the configuration is refused; else 0. It may be 1 in place of 0 or
+/// 4, where memory is refused.
 #[unsafe(no_mangle)]
 pub extern "C" fn dramsim_memory_open(alloc: Global, text: &[u8], memory: &mut KeptMemory) -> u32
     requires well { IsWell memory.old }
@@ -34,6 +37,9 @@ pub extern "C" fn dramsim_memory_open(alloc: Global, text: &[u8], memory: &mut K
 
 /// Sends a request to the channel of its address in an open memory. Any other status than 0 leaves the pasts as they
 /// were.
+///
+/// Status: 2 where the memory is closed; else that of `dramsim_send` to that channel, in the same order: 6, 8, 9, 10,
+/// 11, 1 or 0, and never 7.
 #[unsafe(no_mangle)]
 pub extern "C" fn dramsim_memory_send(
     alloc: Global,
@@ -44,18 +50,21 @@ pub extern "C" fn dramsim_memory_send(
     ensures well { IsWell memory.new }
     ensures status { ForMemory memory.old (λ m pasts. (other : Session) →
         IsStatus (memory_refusal m pasts other (sent_request request.now)) result) }
-    ensures sent { (s : Config) (pasts : Pasts) → IsOf memory.old s → HasPasts memory.old pasts
-        → result ≡ 0 → HasPasts memory.new (with_request s pasts (sent_request request.now)) }
+    ensures sent { ForMemory memory.old (λ m pasts. result ≡ 0
+        → HasPasts memory.new (with_request_of m.config pasts (sent_request request.now))) }
     ensures left { ForPasts memory.old (λ pasts. result ≢ 0 → HasPasts memory.new pasts) }
-    ensures now { (cycle : ℕ) → StandsAt memory.old cycle → StandsAt memory.new cycle }
-    ensures config { (s : Config) → IsOf memory.old s → IsOf memory.new s }
+    ensures now { StandsAsBefore memory.old memory.new }
+    ensures config { (config : Config) → IsOf memory.old config → IsOf memory.new config }
     ensures closed { IsClosed memory.old → result ≡ 2 }
 {
     status(memory.send(alloc, &request.to_request()))
 }
 
-/// Runs all channels of an open memory over the cycles before `until`. Status 1 (memory) closes it; any other than 0
-/// leaves the pasts as they were.
+/// Runs all channels of an open memory over the cycles before `until`. Status 1 closes it; any other than 0 leaves the
+/// pasts as they were.
+///
+/// Status: 2 where the memory is closed; else 12 where `until` is before the cycle where it stands; else 13 where
+/// `until` is after 2^62; else 1 where memory is refused; else 0.
 #[unsafe(no_mangle)]
 pub extern "C" fn dramsim_memory_run(alloc: Global, memory: &mut KeptMemory, until: u64) -> u32
     requires well { IsWell memory.old }
@@ -66,7 +75,8 @@ pub extern "C" fn dramsim_memory_run(alloc: Global, memory: &mut KeptMemory, unt
     ensures left { ForPasts memory.old (λ pasts. result ≢ 1 → HasPasts memory.new pasts) }
     ensures stays { (cycle : ℕ) → StandsAt memory.old cycle → result ≢ 0 → result ≢ 1
         → StandsAt memory.new cycle }
-    ensures config { (s : Config) → IsOf memory.old s → result ≢ 1 → IsOf memory.new s }
+    ensures config { (config : Config) → IsOf memory.old config → result ≢ 1
+        → IsOf memory.new config }
     ensures lost { result ≡ 1 → IsClosed memory.new }
     ensures closed { IsClosed memory.old → result ≡ 2 }
 {
@@ -74,8 +84,8 @@ pub extern "C" fn dramsim_memory_run(alloc: Global, memory: &mut KeptMemory, unt
 }
 
 /// The next command of the cycles that are over, if there is one, and the number of its channel: the first that was not
-/// taken, by cycle and then by channel. It is taken then. Where there is none, or the memory is closed, the number and
-/// the row are left as they were.
+/// taken, by cycle and then by channel. It is taken then. False where there is none, or the memory is closed: the
+/// number and the row are left as they were then.
 #[unsafe(no_mangle)]
 pub extern "C" fn dramsim_memory_next_command(
     alloc: Global,
@@ -92,8 +102,8 @@ pub extern "C" fn dramsim_memory_next_command(
     ensures taken { ForMemory memory.old (λ m pasts.
         result ≡ true → HasPasts memory.new (with_command_at pasts m.cycle channel.new)) }
     ensures left { ForPasts memory.old (λ pasts. result ≡ false → HasPasts memory.new pasts) }
-    ensures now { (cycle : ℕ) → StandsAt memory.old cycle → StandsAt memory.new cycle }
-    ensures config { (s : Config) → IsOf memory.old s → IsOf memory.new s }
+    ensures now { StandsAsBefore memory.old memory.new }
+    ensures config { (config : Config) → IsOf memory.old config → IsOf memory.new config }
     ensures none { result ≡ false → row.new ≡ row.old }
     ensures unnamed { result ≡ false → channel.new ≡ channel.old }
     ensures closed { IsClosed memory.old → result ≡ false }
@@ -110,8 +120,8 @@ pub extern "C" fn dramsim_memory_next_command(
 
 /// The next reply or credit that was sent in the cycles that are over, if there is one, and the number of the channel
 /// that sent it: of the first of each channel that was not taken, the one that arrives first, and of these that of the
-/// lowest channel. It is taken then. Where there is none, or the memory is closed, the number and the row are left as
-/// they were.
+/// lowest channel. It is taken then. False where there is none, or the memory is closed: the number and the row are
+/// left as they were then.
 #[unsafe(no_mangle)]
 pub extern "C" fn dramsim_memory_next_reply(
     alloc: Global,
@@ -128,8 +138,8 @@ pub extern "C" fn dramsim_memory_next_reply(
     ensures taken { ForMemory memory.old (λ m pasts.
         result ≡ true → HasPasts memory.new (with_reply_at pasts m.cycle channel.new)) }
     ensures left { ForPasts memory.old (λ pasts. result ≡ false → HasPasts memory.new pasts) }
-    ensures now { (cycle : ℕ) → StandsAt memory.old cycle → StandsAt memory.new cycle }
-    ensures config { (s : Config) → IsOf memory.old s → IsOf memory.new s }
+    ensures now { StandsAsBefore memory.old memory.new }
+    ensures config { (config : Config) → IsOf memory.old config → IsOf memory.new config }
     ensures none { result ≡ false → row.new ≡ row.old }
     ensures unnamed { result ≡ false → channel.new ≡ channel.old }
     ensures closed { IsClosed memory.old → result ≡ false }
@@ -145,8 +155,8 @@ pub extern "C" fn dramsim_memory_next_reply(
 }
 
 /// The next cycle from now on in which a channel of an open memory acts, if nothing more is sent and there is one: none
-/// issues anything before that cycle, and in it, one issues a command or a request that was sent arrives. Where there
-/// is none, or the memory is closed, the cycle is left as it was.
+/// issues anything before that cycle, and in it, one issues a command or a request that was sent arrives. False where
+/// there is none, or the memory is closed: the cycle is left as it was then.
 #[unsafe(no_mangle)]
 pub extern "C" fn dramsim_memory_next_act(
     alloc: Global,
@@ -160,8 +170,8 @@ pub extern "C" fn dramsim_memory_next_act(
     ensures never { ForMemory memory.old (λ m pasts.
         result ≡ false → IsNextActOf m.config.channels pasts m.cycle None) }
     ensures left { ForPasts memory.old (λ pasts. HasPasts memory.new pasts) }
-    ensures now { (now : ℕ) → StandsAt memory.old now → StandsAt memory.new now }
-    ensures config { (s : Config) → IsOf memory.old s → IsOf memory.new s }
+    ensures now { StandsAsBefore memory.old memory.new }
+    ensures config { (config : Config) → IsOf memory.old config → IsOf memory.new config }
     ensures none { result ≡ false → cycle.new ≡ cycle.old }
     ensures closed { IsClosed memory.old → result ≡ false }
 {
@@ -189,7 +199,7 @@ pub extern "C" fn dramsim_memory_now(alloc: Global, memory: &mut KeptMemory) -> 
     }
 }
 
-/// Where the line at an address lies in an open memory. Where it is closed, the row is left as it was.
+/// Where the line at an address lies in an open memory. False where it is closed: the row is left as it was then.
 #[unsafe(no_mangle)]
 pub extern "C" fn dramsim_memory_place(
     alloc: Global,
@@ -215,6 +225,8 @@ pub extern "C" fn dramsim_memory_place(
 }
 
 /// The least address of the line at a place in an open memory. Any other status than 0 leaves the address as it was.
+///
+/// Status: 2 where the memory is closed; else 14 where it has no such place; else 0.
 #[unsafe(no_mangle)]
 pub extern "C" fn dramsim_memory_address(
     alloc: Global,
@@ -243,6 +255,8 @@ pub extern "C" fn dramsim_memory_address(
 
 /// The statistics of the cycles of a channel of an open memory that are over. Any other status than 0 leaves the row as
 /// it was.
+///
+/// Status: 2 where the memory is closed; else 5 where it has no channel with this number; else 0.
 #[unsafe(no_mangle)]
 pub extern "C" fn dramsim_memory_stats(
     alloc: Global,
@@ -253,7 +267,8 @@ pub extern "C" fn dramsim_memory_stats(
     requires well { IsWell memory.old }
     ensures well { IsWell memory.new }
     ensures row { ForMemory memory.old (λ m pasts.
-        result ≡ 0 → Some row.new ≡ option_map stats_row (stats_of m.config.channels pasts m.cycle channel)) }
+        result ≡ 0
+        → Some row.new ≡ option_map stats_row (stats_of m.config.channels pasts m.cycle channel)) }
     ensures status { ForMemory memory.old (λ m pasts.
         result ≡ (if nat_lt channel m.config.channels then 0 else 5)) }
     ensures kept { memory.new.handle.value ≡ memory.old.handle.value }

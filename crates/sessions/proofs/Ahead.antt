@@ -37,7 +37,7 @@ age-after m ms h =
 
 -- the command of a cycle, for what has arrived
 abbrev known : (session : Session) (p : Past) → IsSession session p → ℕ → Option Command
-known session p h t = choice p.s p.channel (steps_of p.s p.channel p.sent session.cycle ++ replicate (t - session.cycle) None) h.keeps.mail
+known session p h t = choice p.config p.channel (steps_of p.config p.channel p.sent session.cycle ++ replicate (t - session.cycle) None) h.keeps.mail
 
 -- what arrives after a cycle changes nothing in it
 same : (session : Session) (p : Past) → (h : IsSession session p) → (t : ℕ) → session.cycle ≤ t → NotBefore (t + 1) session.coming.items
@@ -45,17 +45,17 @@ same : (session : Session) (p : Past) → (h : IsSession session p) → (t : ℕ
 same session p h t l late =
     let k = h.keeps in
     let coming = session.coming.items in
-    let steps = steps_of p.s p.channel p.sent session.cycle in
+    let steps = steps_of p.config p.channel p.sent session.cycle in
     let idle : List (Option Command) = replicate (t - session.cycle) None in
     let rows = steps ++ idle in
     let until : t + 1 ≡ length rows + 1 =
     let parts : length rows ≡ length steps + length idle = length-append steps idle in
     let many : length idle ≡ t - session.cycle = length-replicate (t - session.cycle) None in
-    let at : length steps ≡ session.cycle = keeps-at p.s p.channel session.cycle p.sent in
+    let at : length steps ≡ session.cycle = keeps-at p.config p.channel session.cycle p.sent in
     omega arith in
-    ap (choice p.s p.channel rows) k.sent_is
-    ∙ choice-same p.s p.channel rows (k.mail ++ coming) k.mail
-    (AgreeUpTo-later (length rows + 1) k.mail coming (carries-stamped p.s p.channel k.mail k.stands.recalls.past.requests) (carries-stamped p.s p.channel coming k.requests)
+    ap (choice p.config p.channel rows) k.sent_is
+    ∙ choice-same p.config p.channel rows (k.mail ++ coming) k.mail
+    (AgreeUpTo-later (length rows + 1) k.mail coming (carries-stamped p.config p.channel k.mail k.stands.recalls.past.requests) (carries-stamped p.config p.channel coming k.requests)
     (subst (λ n. NotBefore n coming) until late))
 
 -- where nothing is on its way
@@ -99,7 +99,7 @@ command-next session p h m ms e cycle b f =
 
 -- the earlier of the next command and the next arrival
 pub next-act : (session : Session) (p : Past) → (h : IsSession session p) → (o : Option ℕ)
-    → IsFirstCycle (λ t. is_some (choice p.s p.channel (steps_of p.s p.channel p.sent session.cycle ++ replicate (t - session.cycle) None) h.keeps.mail)) session.cycle o
+    → IsFirstCycle (λ t. is_some (choice p.config p.channel (steps_of p.config p.channel p.sent session.cycle ++ replicate (t - session.cycle) None) h.keeps.mail)) session.cycle o
     → IsNextAct p session.cycle (earlier o (first_arrival session.coming.items))
 next-act session p h o f = by session.coming.items refl o f
   where

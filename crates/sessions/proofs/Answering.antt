@@ -35,24 +35,24 @@ use Rattle.sessions.proofs.Sending.{MaySend, steps-late, sent-stamped, keeps-fir
 
 -- the statistics are those for all that was sent
 pub stats-all : (session : Session) (p : Past) → (h : IsSession session p)
-    → channel_stats p.s p.channel (steps_of p.s p.channel p.sent session.cycle) h.keeps.mail ≡ channel_stats p.s p.channel (steps_of p.s p.channel p.sent session.cycle) p.sent
+    → channel_stats p.config p.channel (steps_of p.config p.channel p.sent session.cycle) h.keeps.mail ≡ channel_stats p.config p.channel (steps_of p.config p.channel p.sent session.cycle) p.sent
 stats-all session p h =
     let k = h.keeps in
-    let steps = steps_of p.s p.channel p.sent session.cycle in
-    sym (ap (channel_stats p.s p.channel steps) k.sent_is
-    ∙ channel_stats-later p.s p.channel steps k.mail session.coming.items (carries-stamped p.s p.channel k.mail k.stands.recalls.past.requests)
-    (carries-stamped p.s p.channel session.coming.items k.requests)
-    (subst (λ t. NotBefore t session.coming.items) (sym (keeps-at p.s p.channel session.cycle p.sent)) k.late))
+    let steps = steps_of p.config p.channel p.sent session.cycle in
+    sym (ap (channel_stats p.config p.channel steps) k.sent_is
+    ∙ channel_stats-later p.config p.channel steps k.mail session.coming.items (carries-stamped p.config p.channel k.mail k.stands.recalls.past.requests)
+    (carries-stamped p.config p.channel session.coming.items k.requests)
+    (subst (λ t. NotBefore t session.coming.items) (sym (keeps-at p.config p.channel session.cycle p.sent)) k.late))
 
 -- how many requests wait
 pub waits-are : (session : Session) (p : Past) → (h : IsSession session p) → (waits : ℕ)
-    → waits ≡ length (queued_requests (issued_commands p.channel (steps_of p.s p.channel p.sent session.cycle)) h.keeps.mail (length (steps_of p.s p.channel p.sent session.cycle)))
-    → waits ≡ waiting p.s p.channel p.sent session.cycle
+    → waits ≡ length (queued_requests (issued_commands p.channel (steps_of p.config p.channel p.sent session.cycle)) h.keeps.mail (length (steps_of p.config p.channel p.sent session.cycle)))
+    → waits ≡ waiting p.config p.channel p.sent session.cycle
 waits-are session p h waits e =
-    let steps = steps_of p.s p.channel p.sent session.cycle in
+    let steps = steps_of p.config p.channel p.sent session.cycle in
     e
-    ∙ ap (λ t. length (queued_requests (issued_commands p.channel steps) h.keeps.mail t)) (keeps-at p.s p.channel session.cycle p.sent)
-    ∙ sym (waits-arrived session.channel p.s p.channel session.cycle session.firsts.items p.sent session.coming.items h.keeps)
+    ∙ ap (λ t. length (queued_requests (issued_commands p.channel steps) h.keeps.mail t)) (keeps-at p.config p.channel session.cycle p.sent)
+    ∙ sym (waits-arrived session.channel p.config p.channel session.cycle session.firsts.items p.sent session.coming.items h.keeps)
 
 passed : (b : Bool) (fault : SessionFault) (o : Option SessionFault) → cond b (Some fault) o ≡ None → (b ≡ false) × (o ≡ None)
 passed true fault o e = absurd (cc)
@@ -79,59 +79,59 @@ may-send session waits r e =
     }
 
 -- a request that is refused
-pub answer-refused : (A : Type 0) (a : Session) (p : Past) (waits : ℕ) (r : SentRequest) (fault : SessionFault) → waits ≡ waiting p.s p.channel p.sent a.cycle → Some fault ≡ refusal a waits r
-    → IsAnswer {A = A} (refusal a (waiting p.s p.channel p.sent a.cycle) r) (Err fault)
+pub answer-refused : (A : Type 0) (a : Session) (p : Past) (waits : ℕ) (r : SentRequest) (fault : SessionFault) → waits ≡ waiting p.config p.channel p.sent a.cycle → Some fault ≡ refusal a waits r
+    → IsAnswer {A = A} (refusal a (waiting p.config p.channel p.sent a.cycle) r) (Err fault)
 answer-refused A a p waits r fault w e =
     subst (λ n. IsAnswer {A = A} (refusal a n r) (Err fault)) w (subst (λ (o : Option SessionFault). IsAnswer {A = A} o (Err fault)) e refl)
 
 -- one that is not
-pub answer-taken : (A : Type 0) (a : Session) (p : Past) (waits : ℕ) (r : SentRequest) (result : Result A SessionFault) → waits ≡ waiting p.s p.channel p.sent a.cycle → None ≡ refusal a waits r
-    → IfErr result (λ e. e ≡ Memory) → IsAnswer {A = A} (refusal a (waiting p.s p.channel p.sent a.cycle) r) result
+pub answer-taken : (A : Type 0) (a : Session) (p : Past) (waits : ℕ) (r : SentRequest) (result : Result A SessionFault) → waits ≡ waiting p.config p.channel p.sent a.cycle → None ≡ refusal a waits r
+    → IfErr result (λ e. e ≡ Memory) → IsAnswer {A = A} (refusal a (waiting p.config p.channel p.sent a.cycle) r) result
 answer-taken A a p waits r result w e h =
     subst (λ n. IsAnswer {A = A} (refusal a n r) result) w (subst (λ (o : Option SessionFault). IsAnswer {A = A} o result) e h)
 
 -- the steps so far are the same when one more is sent
-same-steps : (a : Session) (p : Past) (m : Message) (firsts : List ℕ) → Keeps a.channel p.s p.channel a.cycle a.firsts.items p.sent a.coming.items
-    → Keeps a.channel p.s p.channel a.cycle firsts (p.sent ++ m ∷ []) (a.coming.items ++ m ∷ []) → steps_of p.s p.channel (p.sent ++ m ∷ []) a.cycle ≡ steps_of p.s p.channel p.sent a.cycle
+same-steps : (a : Session) (p : Past) (m : Message) (firsts : List ℕ) → Keeps a.channel p.config p.channel a.cycle a.firsts.items p.sent a.coming.items
+    → Keeps a.channel p.config p.channel a.cycle firsts (p.sent ++ m ∷ []) (a.coming.items ++ m ∷ []) → steps_of p.config p.channel (p.sent ++ m ∷ []) a.cycle ≡ steps_of p.config p.channel p.sent a.cycle
 same-steps a p m firsts h k =
-    steps-late p.s p.channel p.sent (m ∷ []) a.cycle (sent-stamped a.channel p.s p.channel a.cycle a.firsts.items p.sent a.coming.items h)
-    (carries-stamped p.s p.channel (m ∷ []) (Each-last (CarriesRequest p.s p.channel) a.coming.items (m ∷ []) k.requests))
+    steps-late p.config p.channel p.sent (m ∷ []) a.cycle (sent-stamped a.channel p.config p.channel a.cycle a.firsts.items p.sent a.coming.items h)
+    (carries-stamped p.config p.channel (m ∷ []) (Each-last (CarriesRequest p.config p.channel) a.coming.items (m ∷ []) k.requests))
     (Each-last (λ (n : Message). a.cycle ≤ n.arrival) a.coming.items (m ∷ []) k.late)
 
 -- a request that was not refused was sent
-pub sent-session : (a b : Session) (p : Past) (waits : ℕ) (r : SentRequest) → IsSession a p → waits ≡ waiting p.s p.channel p.sent a.cycle → None ≡ refusal a waits r → HasTaken a b r
-    → IsSession b (with_sent p (message_of p.s p.channel r))
+pub sent-session : (a b : Session) (p : Past) (waits : ℕ) (r : SentRequest) → IsSession a p → waits ≡ waiting p.config p.channel p.sent a.cycle → None ≡ refusal a waits r → HasTaken a b r
+    → IsSession b (with_sent p (message_of p.config p.channel r))
 sent-session a b p waits r h w e t =
-    let m = message_of p.s p.channel r in
-    let may : MaySend p.s p.channel a.cycle a.firsts.items (waiting p.s p.channel p.sent a.cycle) a.coming.items r =
-    subst (λ n. MaySend p.s p.channel a.cycle a.firsts.items n a.coming.items r) w
-    (subst (λ n. MaySend p.s n a.cycle a.firsts.items waits a.coming.items r) h.number_is
+    let m = message_of p.config p.channel r in
+    let may : MaySend p.config p.channel a.cycle a.firsts.items (waiting p.config p.channel p.sent a.cycle) a.coming.items r =
+    subst (λ n. MaySend p.config p.channel a.cycle a.firsts.items n a.coming.items r) w
+    (subst (λ n. MaySend p.config n a.cycle a.firsts.items waits a.coming.items r) h.number_is
     (subst (λ s. MaySend s a.number a.cycle a.firsts.items waits a.coming.items r) h.config_is (may-send a waits r (sym e)))) in
-    let kept = keeps-sent a.channel p.s p.channel a.cycle a.firsts.items p.sent a.coming.items r h.keeps may in
+    let kept = keeps-sent a.channel p.config p.channel a.cycle a.firsts.items p.sent a.coming.items r h.keeps may in
     let steps = same-steps a p m (firsts_with a.firsts.items r.core r.entry) h.keeps kept in
     let coming : b.coming.items ≡ a.coming.items ++ m ∷ [] = t.coming_are ∙ ap₂ (λ s n. a.coming.items ++ message_of s n r ∷ []) h.config_is h.number_is in
-    let then : steps_of p.s p.channel (p.sent ++ m ∷ []) b.cycle ≡ steps_of p.s p.channel p.sent a.cycle = ap (steps_of p.s p.channel (p.sent ++ m ∷ [])) t.cycle_is ∙ steps in
+    let then : steps_of p.config p.channel (p.sent ++ m ∷ []) b.cycle ≡ steps_of p.config p.channel p.sent a.cycle = ap (steps_of p.config p.channel (p.sent ++ m ∷ [])) t.cycle_is ∙ steps in
     record {
       config_is = t.config_is ∙ h.config_is;
       number_is = t.number_is ∙ h.number_is;
       commands_are = ap (issued_commands p.channel) then ∙ h.commands_are ∙ ap (λ (x : HeldCommands). p.commands ++ commands_left x) (sym t.commands_are);
-      replies_are = ap (channel_messages p.s p.channel) then ∙ h.replies_are ∙ ap (λ (x : HeldReplies). p.replies ++ replies_left x) (sym t.replies_are);
+      replies_are = ap (channel_messages p.config p.channel) then ∙ h.replies_are ∙ ap (λ (x : HeldReplies). p.replies ++ replies_left x) (sym t.replies_are);
       has_commands = subst HasCommands (sym t.commands_are) h.has_commands;
       has_replies = subst HasReplies (sym t.replies_are) h.has_replies;
-      keeps = subst (λ c. Keeps c p.s p.channel b.cycle b.firsts.items (p.sent ++ m ∷ []) b.coming.items) (sym t.channel_is)
-          (subst (λ n. Keeps a.channel p.s p.channel n b.firsts.items (p.sent ++ m ∷ []) b.coming.items) (sym t.cycle_is)
-          (subst (λ f. Keeps a.channel p.s p.channel a.cycle f (p.sent ++ m ∷ []) b.coming.items) (sym t.firsts_are)
-          (subst (λ x. Keeps a.channel p.s p.channel a.cycle (firsts_with a.firsts.items r.core r.entry) (p.sent ++ m ∷ []) x) (sym coming) kept)));
+      keeps = subst (λ c. Keeps c p.config p.channel b.cycle b.firsts.items (p.sent ++ m ∷ []) b.coming.items) (sym t.channel_is)
+          (subst (λ n. Keeps a.channel p.config p.channel n b.firsts.items (p.sent ++ m ∷ []) b.coming.items) (sym t.cycle_is)
+          (subst (λ f. Keeps a.channel p.config p.channel a.cycle f (p.sent ++ m ∷ []) b.coming.items) (sym t.firsts_are)
+          (subst (λ x. Keeps a.channel p.config p.channel a.cycle (firsts_with a.firsts.items r.core r.entry) (p.sent ++ m ∷ []) x) (sym coming) kept)));
     }
 
-pub taken-session : (A : Type 0) (a b : Session) (p : Past) (waits : ℕ) (r : SentRequest) (result : Result A SessionFault) → IsSession a p → waits ≡ waiting p.s p.channel p.sent a.cycle
-    → None ≡ refusal a waits r → OnOk result (HasTaken a b r) → OnOk result (IsSession b (with_sent p (message_of p.s p.channel r)))
+pub taken-session : (A : Type 0) (a b : Session) (p : Past) (waits : ℕ) (r : SentRequest) (result : Result A SessionFault) → IsSession a p → waits ≡ waiting p.config p.channel p.sent a.cycle
+    → None ≡ refusal a waits r → OnOk result (HasTaken a b r) → OnOk result (IsSession b (with_sent p (message_of p.config p.channel r)))
 taken-session A a b p waits r (Ok x) h w e t = sent-session a b p waits r h w e t
 taken-session A a b p waits r (Err f) h w e t = tt
 
-pub taken-open : (A : Type 0) (a b : Session) (p : Past) (waits : ℕ) (r : SentRequest) (result : Result A SessionFault) → IsSession a p → waits ≡ waiting p.s p.channel p.sent a.cycle
+pub taken-open : (A : Type 0) (a b : Session) (p : Past) (waits : ℕ) (r : SentRequest) (result : Result A SessionFault) → IsSession a p → waits ≡ waiting p.config p.channel p.sent a.cycle
     → None ≡ refusal a waits r → OnOk result (HasTaken a b r) → OnErr result (IsSession b p) → IsOpen b
-taken-open A a b p waits r (Ok x) h w e t left = record { past = with_sent p (message_of p.s p.channel r); is_session = sent-session a b p waits r h w e t }
+taken-open A a b p waits r (Ok x) h w e t left = record { past = with_sent p (message_of p.config p.channel r); is_session = sent-session a b p waits r h w e t }
 taken-open A a b p waits r (Err f) h w e t left = record { past = p; is_session = left }
 
 -- what is on its way is cut at a cycle
@@ -155,20 +155,20 @@ pub record Ran (a b : Session) (until : ℕ) (rest : List Message) (commands : L
   pub has_replies : HasReplies b.replies
 
 pub ran-session : (a b : Session) (p : Past) (until : ℕ) (rest : List Message) (commands : List IssuedCommand) (replies : List Message) → IsSession a p → Ran a b until rest commands replies
-    → HasGone b.channel p.s p.channel a.cycle a.firsts.items p.sent rest until commands replies → IsSession b p
+    → HasGone b.channel p.config p.channel a.cycle a.firsts.items p.sent rest until commands replies → IsSession b p
 ran-session a b p until rest commands replies h r g =
     record {
       config_is = r.config_is ∙ h.config_is;
       number_is = r.number_is ∙ h.number_is;
-      commands_are = ap (λ n. issued_commands p.channel (steps_of p.s p.channel p.sent n)) r.cycle_is ∙ g.commands_are ∙ ap (λ x. x ++ commands) h.commands_are
+      commands_are = ap (λ n. issued_commands p.channel (steps_of p.config p.channel p.sent n)) r.cycle_is ∙ g.commands_are ∙ ap (λ x. x ++ commands) h.commands_are
           ∙ append_assoc p.commands (commands_left a.commands) commands ∙ ap (λ x. p.commands ++ x) (sym r.commands_are);
-      replies_are = ap (λ n. channel_messages p.s p.channel (steps_of p.s p.channel p.sent n)) r.cycle_is ∙ g.replies_are ∙ ap (λ x. x ++ replies) h.replies_are
+      replies_are = ap (λ n. channel_messages p.config p.channel (steps_of p.config p.channel p.sent n)) r.cycle_is ∙ g.replies_are ∙ ap (λ x. x ++ replies) h.replies_are
           ∙ append_assoc p.replies (replies_left a.replies) replies ∙ ap (λ x. p.replies ++ x) (sym r.replies_are);
       has_commands = r.has_commands;
       has_replies = r.has_replies;
-      keeps = subst (λ n. Keeps b.channel p.s p.channel n b.firsts.items p.sent b.coming.items) (sym r.cycle_is)
-          (subst (λ f. Keeps b.channel p.s p.channel until f p.sent b.coming.items) (sym r.firsts_are)
-          (subst (λ x. Keeps b.channel p.s p.channel until a.firsts.items p.sent x) (sym r.coming_are) g.keeps));
+      keeps = subst (λ n. Keeps b.channel p.config p.channel n b.firsts.items p.sent b.coming.items) (sym r.cycle_is)
+          (subst (λ f. Keeps b.channel p.config p.channel until f p.sent b.coming.items) (sym r.firsts_are)
+          (subst (λ x. Keeps b.channel p.config p.channel until a.firsts.items p.sent x) (sym r.coming_are) g.keeps));
     }
 
 -- what is put behind a list, of which some were taken, stands behind what is left

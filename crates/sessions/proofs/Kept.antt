@@ -1,5 +1,5 @@
 -- What the channels of a memory keep, when one of them is changed or all have run.
-use Rattle.std.proofs.Common.{◌≡◌, ℕ, ◌+◌, ◌<◌, ◌≤◌, Bool, true, false, eqb, List, [], ◌++◌, length, take, drop, get_or, Option, Some, None, Result, Ok, Err, refl, sym, ap, ap₂, subst, ◌∙◌, arith}
+use Rattle.std.proofs.Common.{◌≡◌, ℕ, ◌+◌, ◌<◌, ◌≤◌, Bool, true, false, eqb, List, [], ◌++◌, length, take, drop, get_or, Option, Some, None, Result, Ok, Err, refl, sym, ap, subst, ◌∙◌, arith}
 use Rattle.std.specs.Prelude.{slice_set, option_map, OnOk, OnErr, if◌then◌else◌}
 use Rattle.std.specs.Vec.{with_item}
 use Rattle.std.proofs.lemmas.Bool.{ltb-false, eqb-true}
@@ -8,13 +8,11 @@ use Rattle.std.proofs.lemmas.List.{append-nil, take_all, get_or_default, get_or-
 use Rattle.sim_base.specs.declared.config.Config.{Config}
 use Rattle.sim_base.specs.declared.command.IssuedCommand.{IssuedCommand}
 use Rattle.sim_base.specs.declared.message.Message.{Message}
-use Rattle.sessions.specs.Sent.{message_of}
-use Rattle.sessions.specs.Keeps.{waiting}
-use Rattle.sessions.specs.Sessions.{Past, IsSession, with_sent, with_command, with_reply, refusal, end_refusal, IsAnswer}
+use Rattle.sessions.specs.Sessions.{Past, IsSession, waiting_of, with_request, with_command, with_reply, refusal, end_refusal, IsAnswer}
 use Rattle.sessions.specs.declared.channel_session.fault.SessionFault.{SessionFault}
 use Rattle.sessions.specs.declared.channel_session.requests.SentRequest.{SentRequest}
 use Rattle.sessions.specs.declared.channel_session.session.Session.{Session}
-use Rattle.sessions.specs.Memories.{Pasts, IsChannelOf, IsMemory, IsOpenMemory, number_of, memory_refusal, with_past, with_request, with_command_of, with_reply_of, MayRun, HasRunTo}
+use Rattle.sessions.specs.Memories.{Pasts, IsChannelOf, IsMemory, IsOpenMemory, number_of, memory_refusal, with_past, with_request_of, with_command_of, with_reply_of, MayRun, HasRunTo}
 use Rattle.sessions.specs.declared.memory_session.memory.MemorySession.{MemorySession}
 use Rattle.sessions.proofs.Changed.{AreChannels, one-changed}
 use Rattle.sessions.proofs.Earliest.{below-more}
@@ -58,35 +56,34 @@ memory-left m pasts number new h l c =
 -- why a request is refused, by the session of its channel
 pub answer-of : (A : Type 0) (m : MemorySession) (pasts : Pasts) (number : ℕ) (other some a : Session) (r : SentRequest) (result : Result A SessionFault) → number ≡ number_of m.config r
     → number < length m.sessions.items → a ≡ get_or m.sessions.items number some → IsMemory m pasts
-    → ((p : Past) → IsSession a p → IsAnswer {A = A} (refusal a (waiting p.s p.channel p.sent a.cycle) r) result) → IsAnswer {A = A} (memory_refusal m pasts other r) result
+    → ((p : Past) → IsSession a p → IsAnswer {A = A} (refusal a (waiting_of p a.cycle) r) result) → IsAnswer {A = A} (memory_refusal m pasts other r) result
 answer-of A m pasts number other some a r result at l e h answer =
     let c = channel-at m pasts number some a h l e in
     let p = pasts.past number in
     let same : a ≡ get_or m.sessions.items number other = e ∙ get_or_default m.sessions.items number some other l in
-    let now : IsAnswer {A = A} (refusal a (waiting p.s p.channel p.sent m.cycle) r) result = subst (λ n. IsAnswer {A = A} (refusal a (waiting p.s p.channel p.sent n) r) result) c.cycle_is (answer p c.is_session) in
-    let of : IsAnswer {A = A} (refusal (get_or m.sessions.items number other) (waiting p.s p.channel p.sent m.cycle) r) result =
-    subst (λ (x : Session). IsAnswer {A = A} (refusal x (waiting p.s p.channel p.sent m.cycle) r) result) same now in
-    subst (λ k. IsAnswer {A = A} (refusal (get_or m.sessions.items k other) (waiting (pasts.past k).s (pasts.past k).channel (pasts.past k).sent m.cycle) r) result) at of
+    let now : IsAnswer {A = A} (refusal a (waiting_of p m.cycle) r) result = subst (λ n. IsAnswer {A = A} (refusal a (waiting_of p n) r) result) c.cycle_is (answer p c.is_session) in
+    let of : IsAnswer {A = A} (refusal (get_or m.sessions.items number other) (waiting_of p m.cycle) r) result =
+    subst (λ (x : Session). IsAnswer {A = A} (refusal x (waiting_of p m.cycle) r) result) same now in
+    subst (λ k. IsAnswer {A = A} (refusal (get_or m.sessions.items k other) (waiting_of (pasts.past k) m.cycle) r) result) at of
 
 -- a request was sent
 pub sent-to : (A : Type 0) (m : MemorySession) (pasts : Pasts) (number : ℕ) (some a new : Session) (r : SentRequest) (result : Result A SessionFault) → number ≡ number_of m.config r
     → number < length m.sessions.items → a ≡ get_or m.sessions.items number some → IsMemory m pasts → new.cycle ≡ a.cycle
-    → ((p : Past) → IsSession a p → OnOk result (IsSession new (with_sent p (message_of p.s p.channel r))))
-    → OnOk result (IsMemory (record m { sessions = with_item m.sessions number new }) (with_request m.config pasts r))
+    → ((p : Past) → IsSession a p → OnOk result (IsSession new (with_request p r)))
+    → OnOk result (IsMemory (record m { sessions = with_item m.sessions number new }) (with_request_of m.config pasts r))
 sent-to A m pasts number some a new r (Err e) at l is h stays sent = tt
 sent-to A m pasts number some a new r (Ok x) at l is h stays sent =
     let c = channel-at m pasts number some a h l is in
     let p = pasts.past number in
-    let message : message_of p.s p.channel r ≡ message_of m.config number r = ap₂ (λ s n. message_of s n r) c.config_is c.number_is in
-    let there : IsChannelOf m.config m.cycle (with_sent p (message_of m.config number r)) number new =
+    let there : IsChannelOf m.config m.cycle (with_request p r) number new =
     record {
-      is_session = subst (λ x. IsSession new (with_sent p x)) message (sent p c.is_session);
+      is_session = sent p c.is_session;
       cycle_is = stays ∙ c.cycle_is;
       config_is = c.config_is;
       number_is = c.number_is;
     } in
-    subst (λ k. IsMemory (record m { sessions = with_item m.sessions number new }) (with_past pasts k (with_sent (pasts.past k) (message_of m.config k r)))) at
-    (memory-with m pasts number new (with_sent p (message_of m.config number r)) h l there)
+    subst (λ k. IsMemory (record m { sessions = with_item m.sessions number new }) (with_past pasts k (with_request (pasts.past k) r))) at
+    (memory-with m pasts number new (with_request p r) h l there)
 
 -- it was refused
 pub left-at : (A : Type 0) (m : MemorySession) (pasts : Pasts) (number : ℕ) (some a new : Session) (result : Result A SessionFault)

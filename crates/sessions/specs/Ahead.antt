@@ -14,7 +14,7 @@ use Rattle.sessions.specs.Sessions.{Past}
 -- what the definition's channel issues in a cycle for all that was sent, where it issues nothing from now on and before
 -- that
 abbrev pub command_then : Past → ℕ → ℕ → Option Command
-command_then p now cycle = choice p.s p.channel (steps_of p.s p.channel p.sent now ++ replicate (cycle - now) None) p.sent
+command_then p now cycle = choice p.config p.channel (steps_of p.config p.channel p.sent now ++ replicate (cycle - now) None) p.sent
 
 -- whether a request that was sent arrives in a cycle
 abbrev pub arrives_then : Past → ℕ → Bool

@@ -8,7 +8,7 @@
 --     number_of s request      the channel that a request goes to: that of its address
 --     session_at memory number other      the session of a channel
 --     memory_refusal memory pasts other request      why a request is refused, if it is
---     with_request s pasts request, with_command_of pasts taken, with_reply_of pasts taken      pasts with one message more that was sent, or that was taken
+--     with_request_of s pasts request, with_command_of pasts taken, with_reply_of pasts taken      pasts with one message more that was sent, or that was taken
 --     command_cycles pasts now, reply_arrivals pasts now      the cycles of the first command and reply of each channel that was not taken
 --     IsFirstCommand memory pasts first, IsFirstReply memory pasts first      the channel with the earliest of these, and its cycle
 --     command_from pasts now number, reply_from pasts now number      the next command and reply of a channel
@@ -25,12 +25,9 @@ use Rattle.sim_base.specs.Places.{place_of}
 use Rattle.sim_base.specs.declared.config.Config.{Config}
 use Rattle.sim_base.specs.declared.command.IssuedCommand.{IssuedCommand}
 use Rattle.sim_base.specs.declared.message.Message.{Message}
-use Rattle.statistics.specs.Channels.{channel_stats}
 use Rattle.statistics.specs.declared.channels.ChannelStats.{ChannelStats}
 use Rattle.sessions.specs.Ahead.{command_then, arrives_then}
-use Rattle.sessions.specs.Keeps.{steps_of, waiting}
-use Rattle.sessions.specs.Sent.{message_of}
-use Rattle.sessions.specs.Sessions.{Past, IsSession, IsOpen, no_past, next_command_of, next_reply_of, with_sent, with_command, with_reply, refusal}
+use Rattle.sessions.specs.Sessions.{Past, IsSession, IsOpen, no_past, next_command_of, next_reply_of, statistics_of, waiting_of, with_request, with_command, with_reply, refusal}
 use Rattle.sessions.specs.declared.channel_session.fault.SessionFault.{SessionFault}
 use Rattle.sessions.specs.declared.channel_session.requests.SentRequest.{SentRequest}
 use Rattle.sessions.specs.declared.channel_session.session.Session.{Session}
@@ -41,7 +38,7 @@ use Rattle.sessions.specs.declared.memory_session.memory.MemorySession.{MemorySe
 pub record IsChannelOf (s : Config) (now : ℕ) (p : Past) (number : ℕ) (session : Session) : Type 0 where
   pub is_session : IsSession session p
   pub cycle_is : session.cycle ≡ now
-  pub config_is : p.s ≡ s
+  pub config_is : p.config ≡ s
   pub number_is : p.channel ≡ number
 
 -- the past of each channel of a memory, by number
@@ -84,17 +81,18 @@ session_at memory number other = slice_index_or memory.sessions.items number oth
 -- why a request is refused, if it is: the channel of its address refuses it
 abbrev pub memory_refusal : MemorySession → Pasts → Session → SentRequest → Option SessionFault
 memory_refusal memory pasts other request =
-    let p = pasts.past (number_of memory.config request) in
-    refusal (session_at memory (number_of memory.config request) other) (waiting p.s p.channel p.sent memory.cycle) request
+    let number = number_of memory.config request in
+    refusal (session_at memory number other) (waiting_of (pasts.past number) memory.cycle) request
 
 -- the past of one channel is another one
 abbrev pub with_past : Pasts → ℕ → Past → Pasts
 with_past pasts number p = record { past = λ k. if k == number then p else pasts.past k }
 
 -- a request was sent to the channel of its address, and nothing to the others
-abbrev pub with_request : Config → Pasts → SentRequest → Pasts
-with_request s pasts request =
-    with_past pasts (number_of s request) (with_sent (pasts.past (number_of s request)) (message_of s (number_of s request) request))
+abbrev pub with_request_of : Config → Pasts → SentRequest → Pasts
+with_request_of s pasts request =
+    let number = number_of s request in
+    with_past pasts number (with_request (pasts.past number) request)
 
 -- this command of a channel was taken, if it is one
 abbrev pub with_command_of : Pasts → Option (ℕ × IssuedCommand) → Pasts
@@ -180,8 +178,7 @@ IsNextActOf channels pasts now None = (k t : ℕ) → k < channels → now ≤ t
 -- the statistics of the cycles of a channel that are over, if there is that channel
 abbrev pub stats_of : ℕ → Pasts → ℕ → ℕ → Option ChannelStats
 stats_of channels pasts now number =
-    let p = pasts.past number in
-    if nat_lt number channels then Some (channel_stats p.s p.channel (steps_of p.s p.channel p.sent now) p.sent) else None
+    if nat_lt number channels then Some (statistics_of (pasts.past number) now) else None
 
 -- a session may run up to a cycle
 pub record MayRun (until : ℕ) (session : Session) : Type 0 where

@@ -2,6 +2,7 @@
 --     Past      a channel of a machine, what was sent to it, and which of its commands and replies were taken
 --     commands_of p now, replies_of p now      all that the definition's channel gives before a cycle
 --     IsSession session p      a session has this past
+--     ForPasts session fact      a fact of each past that it may have
 --     IsOpen session      it has some past
 --     core_of s reply      the core that a reply goes to
 --     next_command_of p now, next_reply_of p now      the first command, or reply, that was not taken
@@ -33,7 +34,7 @@ use Rattle.sessions.specs.declared.channel_session.session.Session.{Session}
 -- a channel of a machine with a configuration, the messages that were sent to it, in their order, and the commands and
 -- replies that were taken from it
 pub record Past : Type 0 where
-  pub s : Config
+  pub config : Config
   pub channel : ℕ
   pub sent : List Message
   pub commands : List IssuedCommand
@@ -41,11 +42,11 @@ pub record Past : Type 0 where
 
 -- the commands that the definition's channel issues before a cycle, for the messages that were sent
 abbrev pub commands_of : Past → ℕ → List IssuedCommand
-commands_of p now = issued_commands p.channel (steps_of p.s p.channel p.sent now)
+commands_of p now = issued_commands p.channel (steps_of p.config p.channel p.sent now)
 
 -- the replies and credits that it sends for them
 abbrev pub replies_of : Past → ℕ → List Message
-replies_of p now = channel_messages p.s p.channel (steps_of p.s p.channel p.sent now)
+replies_of p now = channel_messages p.config p.channel (steps_of p.config p.channel p.sent now)
 
 -- the first command before a cycle that was not taken, if there is one
 abbrev pub next_command_of : Past → ℕ → Option IssuedCommand
@@ -57,22 +58,26 @@ next_reply_of p now = slice_get (replies_of p now) (length p.replies)
 
 -- the statistics of the cycles before one
 abbrev pub statistics_of : Past → ℕ → ChannelStats
-statistics_of p now = channel_stats p.s p.channel (steps_of p.s p.channel p.sent now) p.sent
+statistics_of p now = channel_stats p.config p.channel (steps_of p.config p.channel p.sent now) p.sent
 
 -- how many requests wait in a cycle
 abbrev pub waiting_of : Past → ℕ → ℕ
-waiting_of p now = waiting p.s p.channel p.sent now
+waiting_of p now = waiting p.config p.channel p.sent now
 
 -- A session has a past: what was taken from it, and then what it still holds, are just the commands and replies of the
 -- definition's channel before the cycle where it stands.
 pub record IsSession (session : Session) (p : Past) : Type 0 where
-  pub config_is : session.config ≡ p.s
+  pub config_is : session.config ≡ p.config
   pub number_is : session.number ≡ p.channel
   pub commands_are : commands_of p session.cycle ≡ p.commands ++ commands_left session.commands
   pub replies_are : replies_of p session.cycle ≡ p.replies ++ replies_left session.replies
   pub has_commands : HasCommands session.commands
   pub has_replies : HasReplies session.replies
-  pub keeps : Keeps session.channel p.s p.channel session.cycle session.firsts.items p.sent session.coming.items
+  pub keeps : Keeps session.channel p.config p.channel session.cycle session.firsts.items p.sent session.coming.items
+
+-- this is so of each past that a session may have
+abbrev pub ForPasts : Session → (Past → Type 0) → Type 0
+ForPasts session fact = (past : Past) → IsSession session past → fact past
 
 -- it has some past
 pub record IsOpen (session : Session) : Type 0 where
@@ -85,7 +90,7 @@ core_of s reply = reply.link / 3 / s.channels
 
 -- nothing was sent to a channel, and nothing was taken from it
 abbrev pub no_past : Config → ℕ → Past
-no_past s channel = record { s = s; channel = channel; sent = []; commands = []; replies = [] }
+no_past s channel = record { config = s; channel = channel; sent = []; commands = []; replies = [] }
 
 -- one message more was sent
 abbrev pub with_sent : Past → Message → Past
@@ -93,7 +98,7 @@ with_sent p m = record p { sent = p.sent ++ m ∷ [] }
 
 -- one request more was sent
 abbrev pub with_request : Past → SentRequest → Past
-with_request p request = with_sent p (message_of p.s p.channel request)
+with_request p request = with_sent p (message_of p.config p.channel request)
 
 -- this command was taken, if it is one
 abbrev pub with_command : Past → Option IssuedCommand → Past

@@ -7,12 +7,12 @@ ghost use Rattle.sessions.specs.declared.channel_session.session.Session.{Sessio
 ghost use Rattle.sessions.specs.declared.channel_session.fault.SessionFault.TheVariants.{Memory};
 ghost use Rattle.sim_base.specs.Places.{place_of};
 ghost use Rattle.sim_base.specs.declared.config.Config.{Config};
-ghost use Rattle.sessions.specs.Memories.{Pasts, IsMemory, IsOpenMemory, memory_refusal, with_request, IsNextActOf, stats_of};
+ghost use Rattle.sessions.specs.Memories.{Pasts, IsMemory, IsOpenMemory, memory_refusal, with_request_of, IsNextActOf, stats_of};
 ghost use Rattle.sessions.specs.declared.memory_session.memory.MemorySession.{MemorySession};
 ghost use Rattle.c_interface.specs.Channels.{IsAddressAnswer};
 ghost use Rattle.c_interface.specs.Kept.{IsOpenAnswer, IsCallAnswer};
 ghost use Rattle.c_interface.specs.declared.fault.CallFault.TheVariants as call;
-ghost use Rattle.c_interface.specs.Memories.{IsWell, ForPasts, ForOpen, ForMemory, HasPasts, StandsAt, IsOf, IsClosed, IsNewMemory, IsOpened, configuration_refusal, stats_answer, IsCommandRow, IsReplyRow, with_command_given, with_reply_given};
+ghost use Rattle.c_interface.specs.Memories.{IsWell, ForPasts, ForOpen, ForMemory, HasPasts, StandsAt, StandsAsBefore, IsOf, IsClosed, IsNewMemory, IsOpened, configuration_refusal, stats_answer, IsCommandRow, IsReplyRow, with_command_given, with_reply_given};
 
 use crate::boxes::boxed;
 use crate::c_memory::handle::Handle;
@@ -139,11 +139,11 @@ impl KeptMemory {
         ensures well { IsWell self.new }
         ensures answer { ForMemory self.old (λ m pasts. (other : Session) →
             IsCallAnswer (memory_refusal m pasts other request.now) result) }
-        ensures sent { (s : Config) (pasts : Pasts) → IsOf self.old s → HasPasts self.old pasts
-            → OnOk result (HasPasts self.new (with_request s pasts request.now)) }
+        ensures sent { ForMemory self.old (λ m pasts.
+            OnOk result (HasPasts self.new (with_request_of m.config pasts request.now))) }
         ensures left { ForPasts self.old (λ pasts. OnErr result (HasPasts self.new pasts)) }
-        ensures now { (cycle : ℕ) → StandsAt self.old cycle → StandsAt self.new cycle }
-        ensures config { (s : Config) → IsOf self.old s → IsOf self.new s }
+        ensures now { StandsAsBefore self.old self.new }
+        ensures config { (config : Config) → IsOf self.old config → IsOf self.new config }
         ensures closed { IsClosed self.old → result ≡ Err call.Closed }
     {
         let Some(memory) = self.take(alloc) else {
@@ -158,16 +158,17 @@ impl KeptMemory {
         }
     }
 
-    /// Runs all channels over the cycles before `until`. It is refused where that cycle is over or after 2^62, or as
-    /// `Closed`; that leaves the memory with the pasts that it had. Where memory is refused, it is closed.
+    /// Runs all channels over the cycles before `until`. It is refused as `MemorySession::run` refuses it, or as
+    /// `Closed`. A refusal as `Closed`, `EndPassed` or `EndTooLate` leaves the memory with the pasts that it had; as
+    /// `Memory` it closes it.
     pub fn run(&mut self, alloc: Global, until: Cycle) -> Result<(), CallFault>
         requires well { IsWell self.old }
         ensures well { IsWell self.new }
         ensures answer { ForOpen self.old (λ m. IsCallAnswer (end_refusal m.cycle until) result) }
         ensures done { ForPasts self.old (λ pasts. OnOk result (HasPasts self.new pasts)) }
         ensures now { OnOk result (StandsAt self.new until) }
-        ensures config { (s : Config) → IsOf self.old s → result ≢ Err (call.Session Memory)
-            → IsOf self.new s }
+        ensures config { (config : Config) → IsOf self.old config
+            → result ≢ Err (call.Session Memory) → IsOf self.new config }
         ensures left { ForPasts self.old (λ pasts.
             IfErr result (λ e. e ≢ call.Session Memory → HasPasts self.new pasts)) }
         ensures stays { (cycle : ℕ) → StandsAt self.old cycle
@@ -200,8 +201,8 @@ impl KeptMemory {
         ensures next { ForMemory self.old (λ m pasts. IsCommandRow m.config pasts m.cycle result) }
         ensures taken { ForMemory self.old (λ m pasts.
             HasPasts self.new (with_command_given pasts m.cycle result)) }
-        ensures now { (cycle : ℕ) → StandsAt self.old cycle → StandsAt self.new cycle }
-        ensures config { (s : Config) → IsOf self.old s → IsOf self.new s }
+        ensures now { StandsAsBefore self.old self.new }
+        ensures config { (config : Config) → IsOf self.old config → IsOf self.new config }
         ensures closed { IsClosed self.old → result ≡ None }
     {
         let Some(memory) = self.take(alloc) else {
@@ -222,8 +223,8 @@ impl KeptMemory {
         ensures next { ForMemory self.old (λ m pasts. IsReplyRow m.config pasts m.cycle result) }
         ensures taken { ForMemory self.old (λ m pasts.
             HasPasts self.new (with_reply_given pasts m.cycle result)) }
-        ensures now { (cycle : ℕ) → StandsAt self.old cycle → StandsAt self.new cycle }
-        ensures config { (s : Config) → IsOf self.old s → IsOf self.new s }
+        ensures now { StandsAsBefore self.old self.new }
+        ensures config { (config : Config) → IsOf self.old config → IsOf self.new config }
         ensures closed { IsClosed self.old → result ≡ None }
     {
         let Some(memory) = self.take(alloc) else {
@@ -235,12 +236,13 @@ impl KeptMemory {
         reply
     }
 
-    /// The cycle where an open memory stands: this many are over.
+    /// The cycle where an open memory stands: this many are over. None where it is closed.
     pub fn now(&mut self, alloc: Global) -> Option<Cycle>
         requires well { IsWell self.old }
         ensures well { IsWell self.new }
         ensures now { result ≡ option_map (λ m. m.cycle) self.old.handle.value }
         ensures kept { self.new.handle.value ≡ self.old.handle.value }
+        ensures closed { IsClosed self.old → result ≡ None }
     {
         let Some(memory) = self.take(alloc) else {
             return None;
@@ -251,15 +253,16 @@ impl KeptMemory {
     }
 
     /// The next cycle from now on in which a channel of an open memory acts, if nothing more is sent and there is one:
-    /// none issues anything before that cycle, and in it, one issues a command or a request that was sent arrives.
+    /// none issues anything before that cycle, and in it, one issues a command or a request that was sent arrives. A
+    /// closed memory has none.
     pub fn next_act(&mut self, alloc: Global) -> Option<Cycle>
         requires well { IsWell self.old }
         ensures well { IsWell self.new }
         ensures next { ForMemory self.old (λ m pasts.
             IsNextActOf m.config.channels pasts m.cycle result) }
         ensures left { ForPasts self.old (λ pasts. HasPasts self.new pasts) }
-        ensures now { (cycle : ℕ) → StandsAt self.old cycle → StandsAt self.new cycle }
-        ensures config { (s : Config) → IsOf self.old s → IsOf self.new s }
+        ensures now { StandsAsBefore self.old self.new }
+        ensures config { (config : Config) → IsOf self.old config → IsOf self.new config }
         ensures closed { IsClosed self.old → result ≡ None }
     {
         let Some(memory) = self.take(alloc) else {
@@ -288,7 +291,7 @@ impl KeptMemory {
         address.ok_or(CallFault::NoSuchPlace)
     }
 
-    /// Where the line at an address lies in an open memory.
+    /// Where the line at an address lies in an open memory. None where it is closed.
     pub fn place_of(&mut self, alloc: Global, address: u64) -> Option<Place>
         requires well { IsWell self.old }
         ensures well { IsWell self.new }

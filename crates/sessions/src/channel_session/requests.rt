@@ -1,8 +1,9 @@
-//! A request as it is sent to a session, and the message that carries it.
+//! A request as it is sent to a session, the message that carries it, and the core that an answer goes to.
 
 ghost use Rattle.std.specs.Prelude.{◌≡◌};
 ghost use Rattle.sim_base.specs.Places.{place_of};
 ghost use Rattle.sessions.specs.Sent.{request_of, message_of};
+ghost use Rattle.sessions.specs.Sessions.{core_of};
 
 use sim_base::config::Config;
 use sim_base::message::{Access, ChannelId, CoreId, Cycle, Load, Message, Request};
@@ -55,4 +56,11 @@ pub(crate) fn message_of(
         arrival: request.arrival,
         load: Load::Request(request),
     }
+}
+
+/// The number of the core that a reply or a credit goes to, in a machine with this configuration: that of its link.
+pub(crate) fn core_of(config: &Config, reply: &Message) -> u64
+    ensures { result ≡ core_of config.now reply.now }
+{
+    reply.link / 3 / u64::from(config.channels)
 }

@@ -8,14 +8,14 @@ ghost use Rattle.channel_step.specs.Fit.{queue_room};
 ghost use Rattle.sessions.specs.Sent.{message_of, is_unasked};
 ghost use Rattle.sessions.specs.Ahead.{IsNextAct, first_arrival};
 ghost use Rattle.sessions.specs.Addresses.{IsAddress};
-ghost use Rattle.sessions.specs.Sessions.{core_of, Past, IsSession, IsOpen, no_past, next_command_of, next_reply_of, statistics_of, waiting_of, with_request, with_command, with_reply, number_refusal, refusal, end_refusal, IsAnswer, HasTaken};
+ghost use Rattle.sessions.specs.Sessions.{core_of, IsSession, ForPasts, IsOpen, no_past, next_command_of, next_reply_of, statistics_of, waiting_of, with_request, with_command, with_reply, number_refusal, refusal, end_refusal, IsAnswer, HasTaken};
 ghost use Rattle.sessions.specs.declared.channel_session.fault.SessionFault.TheVariants.{Memory};
 
 use crate::channel_session::cycles::{earlier, end_refusal};
 use crate::channel_session::fault::SessionFault;
 use crate::channel_session::held::{HeldCommands, HeldReplies};
 use crate::channel_session::places::address_of;
-use crate::channel_session::requests::{SentRequest, message_of};
+use crate::channel_session::requests::{SentRequest, core_of, message_of};
 use crate::channel_session::rows::{queue_room, remove_front};
 use address_map::place_of;
 use channel_step::channel::Channel;
@@ -46,8 +46,12 @@ pub struct Session {
 }
 
 impl Session {
-    /// The channel with a number, of a machine with this configuration, before its first cycle. It is refused as
-    /// `NoSuchChannel` where the machine has none with this number.
+    /// The channel with a number, of a machine with this configuration, before its first cycle.
+    ///
+    /// # Errors
+    ///
+    /// - `NoSuchChannel`: the machine has no channel with this number.
+    /// - `Memory`, where it has: memory was refused.
     pub fn open(alloc: Global, config: &Config, number: ChannelId) -> Result<Session, SessionFault>
         ensures answer { IsAnswer (number_refusal config.now number) result }
         ensures opened { IfOk result (λ session. IsSession session (no_past config.now number)) }
@@ -89,7 +93,7 @@ impl Session {
 
     /// The statistics of the cycles that are over.
     pub fn stats(&self) -> ChannelStats
-        ensures { (p : Past) → IsSession self.now p → result ≡ statistics_of p self.now.cycle }
+        ensures { ForPasts self.now (λ past. result ≡ statistics_of past self.now.cycle) }
     {
         self.channel.stats()
     }
@@ -154,7 +158,7 @@ impl Session {
         requires entry { request.now.entry < 2 ^ 64 - 1 }
         requires message { message ≡ message_of self.old.config self.old.number request.now }
         ensures taken { OnOk result (HasTaken self.old self.new request.now) }
-        ensures left { (p : Past) → IsSession self.old p → OnErr result (IsSession self.new p) }
+        ensures left { ForPasts self.old (λ past. OnErr result (IsSession self.new past)) }
         ensures memory { IfErr result (λ e. e ≡ Memory) }
         ensures now { self.new.cycle ≡ self.old.cycle }
     {
@@ -164,15 +168,25 @@ impl Session {
         Ok(())
     }
 
-    /// Sends a request. Its core and channel must be there; it arrives at the cycle where the session stands or later,
-    /// after all that are on their way; neither its entry nor a later one of its core was asked for; and there is a
-    /// credit for it. A refusal leaves the session as it was.
+    /// Sends a request. Any refusal but `Memory` leaves the session as it was; that one leaves its past, and the cycle
+    /// where it stands.
+    ///
+    /// # Errors
+    ///
+    /// The first of these that is so:
+    /// - `NoSuchCore`: the machine has no core with its number.
+    /// - `OtherChannel`: its address lies in another channel.
+    /// - `InThePast`: it arrives in a cycle that is over.
+    /// - `OutOfOrder`: one that is on its way arrives later, or in the same cycle on the same link or a higher one.
+    /// - `EntryPassed`: its entry, or a later one of its core, was asked for already; or it is 2^64 - 1.
+    /// - `NoCredit`: as many requests wait or are on their way as there are credits of all cores.
+    /// - `Memory`: memory was refused.
     pub fn send(&mut self, request: &SentRequest) -> Result<(), SessionFault>
-        ensures answer { (p : Past) → IsSession self.old p
-            → IsAnswer (refusal self.old (waiting_of p self.old.cycle) request.now) result }
-        ensures sent { (p : Past) → IsSession self.old p
-            → OnOk result (IsSession self.new (with_request p request.now)) }
-        ensures left { (p : Past) → IsSession self.old p → OnErr result (IsSession self.new p) }
+        ensures answer { ForPasts self.old (λ past.
+            IsAnswer (refusal self.old (waiting_of past self.old.cycle) request.now) result) }
+        ensures sent { ForPasts self.old (λ past.
+            OnOk result (IsSession self.new (with_request past request.now))) }
+        ensures left { ForPasts self.old (λ past. OnErr result (IsSession self.new past)) }
         ensures same { IfErr result (λ e. e ≢ Memory → self.new ≡ self.old) }
         ensures now { self.new.cycle ≡ self.old.cycle }
         ensures open { IsOpen self.old → IsOpen self.new }
@@ -181,14 +195,14 @@ impl Session {
         self.send_to(request, place)
     }
 
-    /// Sends a request to the place of its address, as `send` does.
+    /// Sends a request to the place of its address, as `send` does: with the same errors, and what they leave.
     pub fn send_to(&mut self, request: &SentRequest, place: Place) -> Result<(), SessionFault>
         requires place { place ≡ place_of self.old.config request.now.address }
-        ensures answer { (p : Past) → IsSession self.old p
-            → IsAnswer (refusal self.old (waiting_of p self.old.cycle) request.now) result }
-        ensures sent { (p : Past) → IsSession self.old p
-            → OnOk result (IsSession self.new (with_request p request.now)) }
-        ensures left { (p : Past) → IsSession self.old p → OnErr result (IsSession self.new p) }
+        ensures answer { ForPasts self.old (λ past.
+            IsAnswer (refusal self.old (waiting_of past self.old.cycle) request.now) result) }
+        ensures sent { ForPasts self.old (λ past.
+            OnOk result (IsSession self.new (with_request past request.now))) }
+        ensures left { ForPasts self.old (λ past. OnErr result (IsSession self.new past)) }
         ensures same { IfErr result (λ e. e ≢ Memory → self.new ≡ self.old) }
         ensures now { self.new.cycle ≡ self.old.cycle }
         ensures open { IsOpen self.old → IsOpen self.new }
@@ -217,7 +231,7 @@ impl Session {
         requires open { IsOpen self.old }
         requires span { self.old.cycle ≤ until }
         requires until { until ≤ 2 ^ 62 }
-        ensures done { (p : Past) → IsSession self.old p → OnOk result (IsSession self.new p) }
+        ensures done { ForPasts self.old (λ past. OnOk result (IsSession self.new past)) }
         ensures now { OnOk result (self.new.cycle ≡ until) }
     {
         let due = self.due_count(until);
@@ -236,13 +250,19 @@ impl Session {
         Ok(())
     }
 
-    /// Runs the channel over the cycles before `until`. It is refused where that cycle is over or after 2^62, which
-    /// leaves the session as it was. Where memory is refused, what the session holds is not known, and it can only be
-    /// closed.
+    /// Runs the channel over the cycles before `until`. Any refusal but `Memory` leaves the session as it was. After
+    /// `Memory` it is not known what the session holds, and it can only be closed.
+    ///
+    /// # Errors
+    ///
+    /// The first of these that is so:
+    /// - `EndPassed`: `until` is before the cycle where the session stands.
+    /// - `EndTooLate`: `until` is after 2^62.
+    /// - `Memory`: memory was refused.
     pub fn run(&mut self, alloc: Global, until: Cycle) -> Result<(), SessionFault>
         requires open { IsOpen self.old }
         ensures answer { IsAnswer (end_refusal self.old.cycle until) result }
-        ensures done { (p : Past) → IsSession self.old p → OnOk result (IsSession self.new p) }
+        ensures done { ForPasts self.old (λ past. OnOk result (IsSession self.new past)) }
         ensures now { OnOk result (self.new.cycle ≡ until) }
         ensures same { IfErr result (λ e. e ≢ Memory → self.new ≡ self.old) }
         ensures open { OnOk result (IsOpen self.new) }
@@ -257,7 +277,7 @@ impl Session {
     /// nothing before that cycle, and in it, it issues a command or a request that was sent arrives.
     pub fn next_act(&mut self) -> Option<Cycle>
         requires open { IsOpen self.old }
-        ensures next { (p : Past) → IsSession self.old p → IsNextAct p self.old.cycle result }
+        ensures next { ForPasts self.old (λ past. IsNextAct past self.old.cycle result) }
         ensures same { self.new ≡ self.old }
     {
         let command = self.channel.next_act(self.cycle);
@@ -282,13 +302,13 @@ impl Session {
     pub fn core_of(&self, reply: &Message) -> u64
         ensures { result ≡ core_of self.now.config reply.now }
     {
-        reply.link / 3 / u64::from(self.config.channels)
+        core_of(&self.config, reply)
     }
 
     /// The cycle of the command that `next_command` takes, if there is one.
     pub fn command_cycle(&self) -> Option<Cycle>
-        ensures { (p : Past) → IsSession self.now p
-            → result ≡ option_map (λ command. command.cycle) (next_command_of p self.now.cycle) }
+        ensures { ForPasts self.now (λ past.
+            result ≡ option_map (λ command. command.cycle) (next_command_of past self.now.cycle)) }
     {
         match self.commands.first() {
             Some(command) => Some(command.cycle),
@@ -298,8 +318,8 @@ impl Session {
 
     /// The cycle in which the reply or credit that `next_reply` takes arrives, if there is one.
     pub fn reply_arrival(&self) -> Option<Cycle>
-        ensures { (p : Past) → IsSession self.now p
-            → result ≡ option_map (λ reply. reply.arrival) (next_reply_of p self.now.cycle) }
+        ensures { ForPasts self.now (λ past.
+            result ≡ option_map (λ reply. reply.arrival) (next_reply_of past self.now.cycle)) }
     {
         match self.replies.first() {
             Some(reply) => Some(reply.arrival),
@@ -309,10 +329,8 @@ impl Session {
 
     /// Takes out the first command that it holds, if there is one.
     fn pop_command(&mut self) -> Option<IssuedCommand>
-        ensures next { (p : Past) → IsSession self.old p
-            → result ≡ next_command_of p self.old.cycle }
-        ensures taken { (p : Past) → IsSession self.old p
-            → IsSession self.new (with_command p result) }
+        ensures next { ForPasts self.old (λ past. result ≡ next_command_of past self.old.cycle) }
+        ensures taken { ForPasts self.old (λ past. IsSession self.new (with_command past result)) }
         ensures now { self.new.cycle ≡ self.old.cycle }
     {
         self.commands.take_next()
@@ -320,10 +338,8 @@ impl Session {
 
     /// The next command of the cycles that are over, if there is one: the first that was not taken. It is taken then.
     pub fn next_command(&mut self) -> Option<IssuedCommand>
-        ensures next { (p : Past) → IsSession self.old p
-            → result ≡ next_command_of p self.old.cycle }
-        ensures taken { (p : Past) → IsSession self.old p
-            → IsSession self.new (with_command p result) }
+        ensures next { ForPasts self.old (λ past. result ≡ next_command_of past self.old.cycle) }
+        ensures taken { ForPasts self.old (λ past. IsSession self.new (with_command past result)) }
         ensures now { self.new.cycle ≡ self.old.cycle }
         ensures open { IsOpen self.old → IsOpen self.new }
     {
@@ -332,10 +348,8 @@ impl Session {
 
     /// Takes out the first reply that it holds, if there is one.
     fn pop_reply(&mut self) -> Option<Message>
-        ensures next { (p : Past) → IsSession self.old p
-            → result ≡ next_reply_of p self.old.cycle }
-        ensures taken { (p : Past) → IsSession self.old p
-            → IsSession self.new (with_reply p result) }
+        ensures next { ForPasts self.old (λ past. result ≡ next_reply_of past self.old.cycle) }
+        ensures taken { ForPasts self.old (λ past. IsSession self.new (with_reply past result)) }
         ensures now { self.new.cycle ≡ self.old.cycle }
     {
         self.replies.take_next()
@@ -344,10 +358,8 @@ impl Session {
     /// The next reply with the data of a Read, or the next credit, that the channel sent in the cycles that are over,
     /// if there is one: the first that was not taken. It is taken then.
     pub fn next_reply(&mut self) -> Option<Message>
-        ensures next { (p : Past) → IsSession self.old p
-            → result ≡ next_reply_of p self.old.cycle }
-        ensures taken { (p : Past) → IsSession self.old p
-            → IsSession self.new (with_reply p result) }
+        ensures next { ForPasts self.old (λ past. result ≡ next_reply_of past self.old.cycle) }
+        ensures taken { ForPasts self.old (λ past. IsSession self.new (with_reply past result)) }
         ensures now { self.new.cycle ≡ self.old.cycle }
         ensures open { IsOpen self.old → IsOpen self.new }
     {

@@ -6,12 +6,12 @@ ghost use Rattle.sessions.specs.Addresses.{IsAddress};
 ghost use Rattle.sessions.specs.Sessions.{core_of, end_refusal, IsAnswer};
 ghost use Rattle.sessions.specs.declared.channel_session.fault.SessionFault.TheVariants.{Memory};
 ghost use Rattle.sessions.specs.declared.channel_session.session.Session.{Session};
-ghost use Rattle.sessions.specs.Memories.{Pasts, IsMemory, ForPasts, IsOpenMemory, no_pasts, AreNewChannels, memory_refusal, with_request, TakesCommand, TakesReply, IsFirstCommand, IsFirstReply, command_from, reply_from, IsNextCommand, IsNextReply, IsNextActOf, stats_of, EachMayRun, EachHasRun};
+ghost use Rattle.sessions.specs.Memories.{Pasts, IsMemory, ForPasts, IsOpenMemory, no_pasts, AreNewChannels, memory_refusal, with_request_of, TakesCommand, TakesReply, IsFirstCommand, IsFirstReply, command_from, reply_from, IsNextCommand, IsNextReply, IsNextActOf, stats_of, EachMayRun, EachHasRun};
 
 use crate::channel_session::cycles::{earlier, end_refusal};
 use crate::channel_session::fault::SessionFault;
 use crate::channel_session::places::address_of;
-use crate::channel_session::requests::SentRequest;
+use crate::channel_session::requests::{SentRequest, core_of};
 use crate::channel_session::session::Session;
 use crate::memory_session::cycles::sooner;
 use sim_base::command::IssuedCommand;
@@ -95,14 +95,19 @@ impl MemorySession {
         address_of(&self.config, place)
     }
 
-    /// Sends a request to the channel of its address, and nothing to another one. It is refused as that channel refuses
-    /// it, which leaves the memory with the pasts that it had.
+    /// Sends a request to the channel of its address, and nothing to another one. A refusal leaves the pasts of all
+    /// channels, and the cycle where they stand.
+    ///
+    /// # Errors
+    ///
+    /// Those of `Session::send` at that channel, in the same order: `NoSuchCore`, `InThePast`, `OutOfOrder`,
+    /// `EntryPassed`, `NoCredit` and `Memory`; `OtherChannel` never comes.
     pub fn send(&mut self, request: &SentRequest) -> Result<(), SessionFault>
         requires open { IsOpenMemory self.old }
         ensures answer { (pasts : Pasts) (other : Session) → IsMemory self.old pasts
             → IsAnswer (memory_refusal self.old pasts other request.now) result }
         ensures sent { ForPasts self.old (λ pasts.
-            OnOk result (IsMemory self.new (with_request self.old.config pasts request.now))) }
+            OnOk result (IsMemory self.new (with_request_of self.old.config pasts request.now))) }
         ensures left { ForPasts self.old (λ pasts. OnErr result (IsMemory self.new pasts)) }
         ensures open { IsOpenMemory self.new }
         ensures now { self.new.cycle ≡ self.old.cycle }
@@ -126,9 +131,15 @@ impl MemorySession {
         Ok(())
     }
 
-    /// Runs all channels over the cycles before `until`. It is refused where that cycle is over or after 2^62, which
-    /// leaves the memory as it was. Where memory is refused to one of them, what they hold is not known, and they can
-    /// only be closed.
+    /// Runs all channels over the cycles before `until`. Any refusal but `Memory` leaves the memory as it was. After
+    /// `Memory` it is not known what the channels hold, and they can only be closed.
+    ///
+    /// # Errors
+    ///
+    /// The first of these that is so:
+    /// - `EndPassed`: `until` is before the cycle where the memory stands.
+    /// - `EndTooLate`: `until` is after 2^62.
+    /// - `Memory`: memory was refused to one of the channels.
     pub fn run(&mut self, alloc: Global, until: Cycle) -> Result<(), SessionFault>
         requires open { IsOpenMemory self.old }
         ensures answer { IsAnswer (end_refusal self.old.cycle until) result }
@@ -146,8 +157,7 @@ impl MemorySession {
 
     /// The channel with the first command that was not taken, and its cycle.
     fn first_command(&self) -> Option<(Cycle, usize)>
-        ensures { (pasts : Pasts) → IsMemory self.now pasts
-            → IsFirstCommand self.now pasts result }
+        ensures { ForPasts self.now (λ pasts. IsFirstCommand self.now pasts result) }
     {
         let mut first = None;
         for (number, session) in self.sessions.iter().enumerate() {
@@ -158,8 +168,7 @@ impl MemorySession {
 
     /// The channel with the first reply that was not taken, and when it arrives.
     fn first_reply(&self) -> Option<(Cycle, usize)>
-        ensures { (pasts : Pasts) → IsMemory self.now pasts
-            → IsFirstReply self.now pasts result }
+        ensures { ForPasts self.now (λ pasts. IsFirstReply self.now pasts result) }
     {
         let mut first = None;
         for (number, session) in self.sessions.iter().enumerate() {
@@ -241,7 +250,7 @@ impl MemorySession {
     pub fn core_of(&self, reply: &Message) -> u64
         ensures { result ≡ core_of self.now.config reply.now }
     {
-        reply.link / 3 / u64::from(self.config.channels)
+        core_of(&self.config, reply)
     }
 
     /// The next cycle from now on in which a channel acts, if nothing more is sent and there is one: none issues

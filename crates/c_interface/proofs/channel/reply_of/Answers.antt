@@ -8,8 +8,8 @@ pub returns-in-Some-clause-next : goal.returns-in-Some-clause-next
 returns-in-Some-clause-next c p h =
     let reply = c.in-Some.reply in
     let given = c.in-Some.ensures {u = tt} in
-    let row : c.of.result ≡ reply_row p.s reply = c.of.ensures ∙ ap (λ core. message_row core reply) (c.core_of.ensures ∙ ap (λ s. core_of s reply) (given.taken p h).config_is) in
-    ap Some row ∙ ap (option_map (reply_row p.s)) (given.next p h)
+    let row : c.of.result ≡ reply_row p.config reply = c.of.ensures ∙ ap (λ core. message_row core reply) (c.core_of.ensures ∙ ap (λ s. core_of s reply) (given.taken p h).config_is) in
+    ap Some row ∙ ap (option_map (reply_row p.config)) (given.next p h)
 
 pub returns-in-Some-clause-taken : goal.returns-in-Some-clause-taken
 returns-in-Some-clause-taken c p h =
@@ -23,7 +23,7 @@ pub returns-in-Some-clause-open : goal.returns-in-Some-clause-open
 returns-in-Some-clause-open c = (c.in-Some.ensures {u = tt}).«open»
 
 pub returns-in-None-clause-next : goal.returns-in-None-clause-next
-returns-in-None-clause-next c p h = ap (option_map (reply_row p.s)) ((c.in-None.ensures {u = tt}).next p h)
+returns-in-None-clause-next c p h = ap (option_map (reply_row p.config)) ((c.in-None.ensures {u = tt}).next p h)
 
 pub returns-in-None-clause-taken : goal.returns-in-None-clause-taken
 returns-in-None-clause-taken c p h =

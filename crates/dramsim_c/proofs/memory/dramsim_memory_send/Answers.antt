@@ -1,5 +1,5 @@
 use Rattle.std.proofs.Common.{subst}
-use Rattle.sessions.specs.Memories.{memory_refusal, with_request}
+use Rattle.sessions.specs.Memories.{memory_refusal, with_request_of}
 use Rattle.c_interface.specs.Statuses.{IsStatus}
 use Rattle.c_interface.specs.Memories.{HasPasts}
 use Rattle.dramsim_c.proofs.Statuses.{done, not-done, status-of}
@@ -11,9 +11,9 @@ returns-clause-status c m pasts is h other =
     (status-of (memory_refusal m pasts other c.to_request.result) c.send.result c.status.result c.status.ensures (c.send.ensures.answer m pasts is h other))
 
 pub returns-clause-sent : goal.returns-clause-sent
-returns-clause-sent c s pasts of h zero =
-    subst (λ r. HasPasts c.send.new.self (with_request s pasts r)) c.to_request.ensures
-    (done (HasPasts c.send.new.self (with_request s pasts c.to_request.result)) c.send.result c.status.result c.status.ensures (c.send.ensures.sent s pasts of h) zero)
+returns-clause-sent c m pasts is h zero =
+    subst (λ r. HasPasts c.send.new.self (with_request_of m.config pasts r)) c.to_request.ensures
+    (done (HasPasts c.send.new.self (with_request_of m.config pasts c.to_request.result)) c.send.result c.status.result c.status.ensures (c.send.ensures.sent m pasts is h) zero)
 
 pub returns-clause-left : goal.returns-clause-left
 returns-clause-left c pasts h some = not-done (HasPasts c.send.new.self pasts) c.send.result c.status.result c.status.ensures (c.send.ensures.left pasts h) some

@@ -13,7 +13,7 @@ returns-clause-next c s p is h =
     let lent = c.deref_mut.result.now in
     let took = (c.in-Some.ensures {u = tt}).session in
     let same : lent ≡ s = lent-is kept.handle.value value lent s took c.deref_mut.ensures.value is in
-    subst (λ (x : Session). c.reply_of-reply.result ≡ option_map (reply_row p.s) (next_reply_of p x.cycle)) same (c.reply_of-reply.ensures.next p (subst (λ x. IsSession x p) (sym same) h))
+    subst (λ (x : Session). c.reply_of-reply.result ≡ option_map (reply_row p.config) (next_reply_of p x.cycle)) same (c.reply_of-reply.ensures.next p (subst (λ x. IsSession x p) (sym same) h))
 
 pub returns-clause-taken : goal.returns-clause-taken
 returns-clause-taken c s p is h =

@@ -1,7 +1,6 @@
 use Rattle.std.proofs.Common.{◌≡◌, ◌∙◌, sym, subst, Ok, Err}
-use Rattle.sessions.specs.Sessions.{IsSession, IsOpen, IsAnswer, refusal, with_request}
+use Rattle.sessions.specs.Sessions.{IsSession, IsOpen, IsAnswer, refusal, waiting_of, with_request}
 use Rattle.sessions.specs.declared.channel_session.session.Session.{Session}
-use Rattle.sessions.specs.Keeps.{waiting}
 use Rattle.c_interface.proofs.Keeping.{passed, refused, same-value, well-put, put-back, lent-fit, lent-is, lent-well}
 use Rattle.c_interface.proofs.channel.KeptChannel.send.Goals as goal
 
@@ -9,8 +8,8 @@ pub returns-in-Err-clause-answer : goal.returns-in-Err-clause-answer
 returns-in-Err-clause-answer c s p is h =
     let request = c.args.request.now in
     let same : c.deref_mut.result.now ≡ s = c.deref_mut.ensures.value ∙ same-value c.args.self.now.handle.value c.in-Some.session.value s (c.in-Some.ensures {u = tt}).session is in
-    refused (refusal s (waiting p.s p.channel p.sent s.cycle) request) c.in-Err.fault
-    (subst (λ (x : Session). IsAnswer {A = Unit {0}} (refusal x (waiting p.s p.channel p.sent x.cycle) request) (Err c.in-Err.fault)) same
+    refused (refusal s (waiting_of p s.cycle) request) c.in-Err.fault
+    (subst (λ (x : Session). IsAnswer {A = Unit {0}} (refusal x (waiting_of p x.cycle) request) (Err c.in-Err.fault)) same
     ((c.in-Err.ensures {u = tt}).answer p (subst (λ (x : Session). IsSession x p) (sym same) h)))
 
 pub returns-in-Ok-clause-answer : goal.returns-in-Ok-clause-answer
@@ -20,8 +19,8 @@ returns-in-Ok-clause-answer c s p is h =
     let lent = c.deref_mut.result.now in
     let took = (c.in-Some.ensures {u = tt}).session in
     let same : lent ≡ s = lent-is kept.handle.value value lent s took c.deref_mut.ensures.value is in
-    passed (refusal s (waiting p.s p.channel p.sent s.cycle) c.args.request.now) tt
-    (subst (λ (x : Session). IsAnswer {A = Unit {0}} (refusal x (waiting p.s p.channel p.sent x.cycle) c.args.request.now) (Ok tt)) same
+    passed (refusal s (waiting_of p s.cycle) c.args.request.now) tt
+    (subst (λ (x : Session). IsAnswer {A = Unit {0}} (refusal x (waiting_of p x.cycle) c.args.request.now) (Ok tt)) same
     ((c.in-Ok.ensures {u = tt}).answer p (subst (λ (x : Session). IsSession x p) (sym same) h)))
 
 pub returns-in-Ok-clause-sent : goal.returns-in-Ok-clause-sent

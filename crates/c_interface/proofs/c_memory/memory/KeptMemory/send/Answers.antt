@@ -1,7 +1,6 @@
 use Rattle.std.proofs.Common.{◌≡◌, ◌∙◌, Ok, Err, sym, subst}
 use Rattle.sessions.specs.Sessions.{IsAnswer}
-use Rattle.sim_base.specs.declared.config.Config.{Config}
-use Rattle.sessions.specs.Memories.{IsMemory, IsOpenMemory, memory_refusal, with_request}
+use Rattle.sessions.specs.Memories.{IsMemory, IsOpenMemory, memory_refusal, with_request_of}
 use Rattle.sessions.specs.declared.memory_session.memory.MemorySession.{MemorySession}
 use Rattle.c_interface.proofs.Keeping.{well-open, well-put, passed, refused}
 use Rattle.c_interface.proofs.CMemoryKeeping.{put-in, lent, lent-same}
@@ -21,13 +20,12 @@ returns-in-Ok-clause-answer c m pasts is h other =
     ((c.in-Ok.ensures {u = tt}).answer pasts other (subst (λ (x : MemorySession). IsMemory x pasts) (sym same) h)))
 
 pub returns-in-Ok-clause-sent : goal.returns-in-Ok-clause-sent
-returns-in-Ok-clause-sent c s pasts of h =
+returns-in-Ok-clause-sent c m pasts is h =
     let request = c.args.request.now in
-    let config : c.deref_mut.result.now.config ≡ s =
-    lent (λ (x : MemorySession). x.config ≡ s) c.args.self.now.handle.value c.in-Some.memory.value c.deref_mut.result.now (c.in-Some.ensures {u = tt}).memory c.deref_mut.ensures.value of in
-    put-in (λ x. IsMemory x (with_request s pasts request)) c.put.new.self.handle.value _ c.put.ensures.memory
-    (subst (λ (k : Config). IsMemory c.send-result.new.self (with_request k pasts request)) config
-    ((c.in-Ok.ensures {u = tt}).sent pasts (lent (λ x. IsMemory x pasts) c.args.self.now.handle.value c.in-Some.memory.value c.deref_mut.result.now (c.in-Some.ensures {u = tt}).memory c.deref_mut.ensures.value h)))
+    let same : c.deref_mut.result.now ≡ m = lent-same c.args.self.now.handle.value c.in-Some.memory.value c.deref_mut.result.now m (c.in-Some.ensures {u = tt}).memory c.deref_mut.ensures.value is in
+    put-in (λ x. IsMemory x (with_request_of m.config pasts request)) c.put.new.self.handle.value _ c.put.ensures.memory
+    (subst (λ (x : MemorySession). IsMemory c.send-result.new.self (with_request_of x.config pasts request)) same
+    ((c.in-Ok.ensures {u = tt}).sent pasts (subst (λ (x : MemorySession). IsMemory x pasts) (sym same) h)))
 
 pub returns-in-Err-clause-answer : goal.returns-in-Err-clause-answer
 returns-in-Err-clause-answer c m pasts is h other =

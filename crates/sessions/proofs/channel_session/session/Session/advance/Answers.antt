@@ -18,7 +18,7 @@ run-requires-clause-can_run c =
     let rest = drop count session.coming.items in
     let cut = cut-at until session.coming.items count k.by_age c.due_count-due.ensures in
     subst (λ x. CanRun session.channel (take count x) session.cycle until) (sym c.deref.ensures.value)
-    (can-run session.channel p.s p.channel session.cycle session.firsts.items p.sent session.coming.items inbox rest until k cut c.requires.span)
+    (can-run session.channel p.config p.channel session.cycle session.firsts.items p.sent session.coming.items inbox rest until k cut c.requires.span)
 
 pub returns-clause-done : goal.returns-clause-done
 returns-clause-done c p h =
@@ -28,15 +28,15 @@ returns-clause-done c p h =
     let until = c.args.until in
     let inbox = take count session.coming.items in
     let rest = drop count session.coming.items in
-    let steps = steps_of p.s p.channel p.sent session.cycle in
+    let steps = steps_of p.config p.channel p.sent session.cycle in
     let cut = cut-at until session.coming.items count k.by_age c.due_count-due.ensures in
-    let fit = keeps-fit session.channel p.s p.channel session.cycle session.firsts.items p.sent session.coming.items inbox rest until k cut c.requires.span in
+    let fit = keeps-fit session.channel p.config p.channel session.cycle session.firsts.items p.sent session.coming.items inbox rest until k cut c.requires.span in
     let lent : take count c.deref.result.now ≡ inbox = ap (take count) c.deref.ensures.value in
-    let done = (c.in_ok-run.ensures {u = tt}) p.s p.channel steps k.mail k.stands (keeps-at p.s p.channel session.cycle p.sent)
-    (subst (λ x. IsFit p.s p.channel steps k.mail x session.cycle until) (sym lent) fit) in
-    let finished : IsDone c.run.new.self p.s p.channel steps k.mail inbox session.cycle until c.hand_out-commands.result c.run.new.commands c.forget_taken-2.new.self.all.items c.run.new.messages.items =
-    subst (λ x. IsDone c.run.new.self p.s p.channel steps k.mail x session.cycle until c.hand_out-commands.result c.run.new.commands c.forget_taken-2.new.self.all.items c.run.new.messages.items) lent done in
-    let gone = has-gone session.channel c.run.new.self p.s p.channel session.cycle session.firsts.items p.sent session.coming.items inbox rest until _ _ _ _ k cut c.requires.span c.requires.until finished in
+    let done = (c.in_ok-run.ensures {u = tt}) p.config p.channel steps k.mail k.stands (keeps-at p.config p.channel session.cycle p.sent)
+    (subst (λ x. IsFit p.config p.channel steps k.mail x session.cycle until) (sym lent) fit) in
+    let finished : IsDone c.run.new.self p.config p.channel steps k.mail inbox session.cycle until c.hand_out-commands.result c.run.new.commands c.forget_taken-2.new.self.all.items c.run.new.messages.items =
+    subst (λ x. IsDone c.run.new.self p.config p.channel steps k.mail x session.cycle until c.hand_out-commands.result c.run.new.commands c.forget_taken-2.new.self.all.items c.run.new.messages.items) lent done in
+    let gone = has-gone session.channel c.run.new.self p.config p.channel session.cycle session.firsts.items p.sent session.coming.items inbox rest until _ _ _ _ k cut c.requires.span c.requires.until finished in
     let forgot = c.in_ok-forget_taken.ensures {u = tt} in
     let kept = c.forget_taken-2.new.self in
     let behind = given-back c.forget_taken.new.self c.take_back.new.self c.hand_out-commands.result c.run.new.commands _ finished.issued c.hand_out-commands.ensures.list finished.commands_behind

@@ -11,12 +11,12 @@ next_act-command-requires c =
     let p = c.requires.open.past in
     let k = c.requires.open.is_session.keeps in
     record {
-      s = p.s;
+      s = p.config;
       channel = p.channel;
-      steps = steps_of p.s p.channel p.sent session.cycle;
+      steps = steps_of p.config p.channel p.sent session.cycle;
       mail = k.mail;
       stands = k.stands;
-      at = keeps-at p.s p.channel session.cycle p.sent;
+      at = keeps-at p.config p.channel session.cycle p.sent;
     }
 
 pub returns-clause-next : goal.returns-clause-next
@@ -26,4 +26,4 @@ returns-clause-next c p h =
     let arrival = c.first_arrival.ensures ∙ ap first_arrival c.deref.ensures.value in
     subst (IsNextAct p session.cycle) (sym (c.earlier.ensures ∙ ap (earlier command) arrival))
     (next-act session p h command
-    (c.next_act-command.ensures.first p.s p.channel (steps_of p.s p.channel p.sent session.cycle) h.keeps.mail h.keeps.stands (keeps-at p.s p.channel session.cycle p.sent)))
+    (c.next_act-command.ensures.first p.config p.channel (steps_of p.config p.channel p.sent session.cycle) h.keeps.mail h.keeps.stands (keeps-at p.config p.channel session.cycle p.sent)))

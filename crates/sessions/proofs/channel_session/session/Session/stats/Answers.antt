@@ -6,4 +6,4 @@ use Rattle.sessions.proofs.channel_session.session.Session.stats.Goals as goal
 pub returns : goal.returns
 returns c p h =
     let session = c.args.self.now in
-    c.stats.ensures p.s p.channel (steps_of p.s p.channel p.sent session.cycle) h.keeps.mail h.keeps.stands ∙ stats-all session p h
+    c.stats.ensures p.config p.channel (steps_of p.config p.channel p.sent session.cycle) h.keeps.mail h.keeps.stands ∙ stats-all session p h

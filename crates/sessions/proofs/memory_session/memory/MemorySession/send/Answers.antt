@@ -2,7 +2,7 @@ use Rattle.std.proofs.Common.{◌<◌, ◌∙◌, length, refl, sym, ap, arith}
 use Rattle.sim_base.specs.Places.{place_of}
 use Rattle.sim_base.specs.declared.config.Config.{Config}
 use Rattle.sim_base.specs.declared.place.Place.{Place}
-use Rattle.sessions.specs.Memories.{with_request}
+use Rattle.sessions.specs.Memories.{with_request_of}
 use Rattle.sessions.proofs.Kept.{channel-in, answer-of, sent-to, left-at, sent-open}
 use Rattle.sessions.proofs.memory_session.memory.MemorySession.send.Goals as goal
 
@@ -41,4 +41,4 @@ pub returns-clause-open : goal.returns-clause-open
 returns-clause-open c =
     let p = c.requires.open.pasts in
     let h = c.requires.open.is_memory in
-    sent-open _ _ p (with_request c.args.self.now.config p c.args.request.now) c.send_to.result (returns-clause-sent c p h) (returns-clause-left c p h)
+    sent-open _ _ p (with_request_of c.args.self.now.config p c.args.request.now) c.send_to.result (returns-clause-sent c p h) (returns-clause-left c p h)
