@@ -1,54 +1,63 @@
-//! A text in the making.
+//! Builds a text part by part, and keeps whether memory was refused for one of them: then there is no text in the end.
+#![tactic(auto)]
 
-ghost use Rattle.std.specs.Prelude.{◌≡◌, true, false, [], IfOk, string_bytes};
-ghost use Rattle.show.specs.Texts.{Puts, Grows, PutsOutput};
+ghost use Rattle.std.specs.Prelude.{◌≡◌, List, ℕ, true, false, [], IfOk, string_bytes};
+ghost use Rattle.text_builder.specs.Texts.{PutsWords, PutsOutput};
 
 use std::alloc::{AllocError, Global};
 use std::fmt::Display;
 
-/// A text in the making. It keeps whether memory was refused for a part of it: then it comes to no end.
+/// A text that grows. It keeps whether memory was refused for a part of it: then it comes to no end.
 #[derive(Drop)]
-pub(crate) struct Text {
+pub struct TextBuilder {
+    alloc: Global,
     text: String,
     was_refused: bool,
 }
 
-impl Text {
-    /// No text yet.
-    pub(crate) fn new(alloc: Global) -> Text
+impl TextBuilder {
+    /// No text yet, whose parts take their memory from here.
+    pub fn new(alloc: Global) -> TextBuilder
         ensures refused { result.was_refused ≡ false }
         ensures empty { string_bytes result.text ≡ [] }
     {
-        Text {
+        TextBuilder {
+            alloc,
             text: String::new(alloc),
             was_refused: false,
         }
     }
 
+    /// Where the memory of its parts comes from.
+    pub fn alloc(&self) -> Global {
+        self.alloc
+    }
+
     /// Keeps that memory was refused for a part.
-    pub(crate) fn refuse(&mut self)
+    pub fn refuse(&mut self)
         ensures { self.new.was_refused ≡ true }
     {
         self.was_refused = true;
     }
 
     /// Appends words.
-    pub(crate) fn push_str(&mut self, words: &str)
-        ensures { Puts (λ put. put ≡ words.now) self.old self.new }
+    pub fn push_str(&mut self, words: &str)
+        ensures { PutsWords words.now self.old self.new }
     {
         self.was_refused |= self.text.push_str(words).is_err();
     }
 
     /// Appends what `write!` is given.
-    pub(crate) fn write_fmt<D: Display + Drop>(&mut self, value: D)
+    pub fn write_fmt<D: Display + Drop>(&mut self, value: D)
         ensures { PutsOutput (D.output value) self.old self.new }
     {
         self.was_refused |= self.text.write(value).is_err();
     }
 
     /// Appends a text, unless memory was refused for it.
-    pub(crate) fn push(&mut self, made: Result<String, AllocError>)
-        ensures { Grows self.old self.new }
+    pub fn push(&mut self, made: Result<String, AllocError>)
+        ensures { (words : List ℕ) → IfOk made (λ text. string_bytes text ≡ words)
+            → PutsWords words self.old self.new }
     {
         match made {
             Ok(words) => self.push_str(words.as_str()),
@@ -57,7 +66,7 @@ impl Text {
     }
 
     /// The whole text, unless memory was refused for a part of it.
-    pub(crate) fn finish(self) -> Result<String, AllocError>
+    pub fn finish(self) -> Result<String, AllocError>
         ensures whole { IfOk result (λ text. self.was_refused ≡ false) }
         ensures text { IfOk result (λ text. text ≡ self.text) }
     {
