@@ -3,6 +3,7 @@
 --     PutsWords words old new      these words
 --     Grows old new      any text
 --     PutsOutput output old new      what a value writes, if that is known
+--     KeepsRefusal old new      no refusal of memory is forgotten
 use Rattle.std.specs.Prelude.{◌≡◌, ⊤, false, ℕ, List, ◌++◌, Option, IfSome, string_bytes}
 use Rattle.text_builder.specs.declared.TextBuilder.{TextBuilder}
 
@@ -28,3 +29,7 @@ Grows old new = Puts (λ put. ⊤) old new
 -- what a value writes was put behind what was there, if that is known, unless memory was refused
 abbrev pub PutsOutput : Option (List ℕ) → TextBuilder → TextBuilder → Type 0
 PutsOutput output old new = IfSome output (λ words. PutsWords words old new)
+
+-- no memory was refused before, where none is refused now
+abbrev pub KeepsRefusal : TextBuilder → TextBuilder → Type 0
+KeepsRefusal old new = new.was_refused ≡ false → old.was_refused ≡ false

@@ -1,8 +1,10 @@
 //! Builds a text part by part, and keeps whether memory was refused for one of them: then there is no text in the end.
 #![tactic(auto)]
 
-ghost use Rattle.std.specs.Prelude.{◌≡◌, List, ℕ, true, false, [], IfOk, string_bytes};
-ghost use Rattle.text_builder.specs.Texts.{PutsWords, PutsOutput};
+pub mod forms;
+
+ghost use Rattle.std.specs.Prelude.{◌≡◌, ◌==◌, ◌||◌, not, List, ℕ, true, false, [], IfOk, string_bytes, string_len};
+ghost use Rattle.text_builder.specs.Texts.{PutsWords, PutsOutput, KeepsRefusal};
 
 use std::alloc::{AllocError, Global};
 use std::fmt::Display;
@@ -33,6 +35,13 @@ impl TextBuilder {
         self.alloc
     }
 
+    /// Whether it has a text, or would have one if memory were not refused.
+    pub fn is_begun(&self) -> bool
+        ensures { result ≡ (self.now.was_refused || not (string_len self.now.text == 0)) }
+    {
+        self.was_refused || !self.text.is_empty()
+    }
+
     /// Keeps that memory was refused for a part.
     pub fn refuse(&mut self)
         ensures { self.new.was_refused ≡ true }
@@ -49,7 +58,8 @@ impl TextBuilder {
 
     /// Appends what `write!` is given.
     pub fn write_fmt<D: Display + Drop>(&mut self, value: D)
-        ensures { PutsOutput (D.output value) self.old self.new }
+        ensures output { PutsOutput (D.output value) self.old self.new }
+        ensures kept { KeepsRefusal self.old self.new }
     {
         self.was_refused |= self.text.write(value).is_err();
     }

@@ -8,7 +8,7 @@ use Rattle.show.proofs.banks.put_banks.Goals as goal
 pub loop-counts-init : goal.loop-counts-init
 loop-counts-init c =
     let head = banks_head c.args.channel (length c.args.banks.now) in
-    headed head (words_as {words = head} (simp append_assoc refl) c.write.ensures) c.put_headings.ensures
+    headed head (words_as {words = head} (simp append_assoc refl) c.write.ensures.output) c.put_headings.ensures
 
 pub loop-counts-preserved : goal.loop-counts-preserved
 loop-counts-preserved c = headed_on (banks_head c.args.channel (length c.args.banks.now)) c.loop-counts.invariant c.put_bank.ensures

@@ -8,5 +8,5 @@ use Rattle.show.proofs.requests.put_latencies.Goals as goal
 pub returns : goal.returns
 returns c =
     let head = latencies_head (replies_of c.args.all) in
-    let first = words_as {words = (latencies_head c.replies_of-replies.result)} (simp append_assoc refl) c.write.ensures in
+    let first = words_as {words = (latencies_head c.replies_of-replies.result)} (simp append_assoc refl) c.write.ensures.output in
     headed_on head (headed head (puts_as (λ put is. is ∙ ap latencies_head c.replies_of-replies.ensures) first) c.put.ensures) c.put_row.ensures

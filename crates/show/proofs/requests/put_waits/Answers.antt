@@ -8,4 +8,4 @@ use Rattle.show.proofs.requests.put_waits.Goals as goal
 pub returns : goal.returns
 returns c =
     let head = waits_head (length c.args.requests.now) in
-    headed head (words_as {words = head} (simp append_assoc refl) c.write.ensures) c.put.ensures
+    headed head (words_as {words = head} (simp append_assoc refl) c.write.ensures.output) c.put.ensures

@@ -9,5 +9,5 @@ pub returns : goal.returns
 returns c =
     let cycles_is : c.stats.inside.cycles ≡ c.args.stats.now.cycles = search rules in
     let channels_is : c.len-channels.result ≡ length c.args.stats.now.channels = search rules in
-    let first = words_as {words = (channels_head c.stats.inside.cycles c.len-channels.result)} (simp append_assoc refl) c.write.ensures in
+    let first = words_as {words = (channels_head c.stats.inside.cycles c.len-channels.result)} (simp append_assoc refl) c.write.ensures.output in
     headed (channels_head c.args.stats.now.cycles (length c.args.stats.now.channels)) (puts_as (λ put is. is ∙ ap₂ channels_head cycles_is channels_is) first) c.put.ensures

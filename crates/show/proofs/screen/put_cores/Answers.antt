@@ -8,5 +8,5 @@ use Rattle.show.proofs.screen.put_cores.Goals as goal
 pub returns : goal.returns
 returns c =
     let cores_is : c.len-cores.result ≡ length c.args.stats.now.cores = search rules in
-    let first = words_as {words = (cores_head c.len-cores.result)} (simp append_assoc refl) c.write.ensures in
+    let first = words_as {words = (cores_head c.len-cores.result)} (simp append_assoc refl) c.write.ensures.output in
     headed (cores_head (length c.args.stats.now.cores)) (puts_as (λ put is. is ∙ ap cores_head cores_is) first) c.put.ensures
