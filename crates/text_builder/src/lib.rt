@@ -20,6 +20,7 @@ pub struct TextBuilder {
 impl TextBuilder {
     /// No text yet, whose parts take their memory from here.
     pub fn new(alloc: Global) -> TextBuilder
+        ensures alloc { result.alloc ≡ alloc }
         ensures refused { result.was_refused ≡ false }
         ensures empty { string_bytes result.text ≡ [] }
     {
@@ -31,7 +32,9 @@ impl TextBuilder {
     }
 
     /// Where the memory of its parts comes from.
-    pub fn alloc(&self) -> Global {
+    pub fn alloc(&self) -> Global
+        ensures { result ≡ self.now.alloc }
+    {
         self.alloc
     }
 
