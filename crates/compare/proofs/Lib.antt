@@ -1,2 +1,2 @@
 pub mod More
-pub mod Sheets
+pub mod Parts

@@ -2,20 +2,20 @@
 
 ghost use Rattle.std.specs.Prelude.{◌^◌, ◌<◌, IfOk};
 ghost use Rattle.compare.specs.Comparison.{names_text, head_text, heading_text, headings_text, comparison_text};
-ghost use Rattle.compare.specs.Sheets.{Puts};
+ghost use Rattle.text_builder.specs.Texts.{PutsWords};
 ghost use Rattle.compare.specs.Strings.{IsText, texts};
 
 use crate::layout::Layout;
 use crate::lines::{CHANGE_WIDTH, VALUE_WIDTH, put_lines};
-use crate::sheet::Sheet;
 use crate::texts::{put_cell, put_label, put_words};
 use sim_base::message::Cycle;
 use statistics::stats::Stats;
 use std::alloc::{AllocError, Global};
+use text_builder::TextBuilder;
 
 // The names of the runs, a line for each.
-fn put_names(names: &[&str], out: &mut Sheet)
-    ensures { Puts (names_text (texts names.now)) out.old out.new }
+fn put_names(names: &[&str], out: &mut TextBuilder)
+    ensures { PutsWords (names_text (texts names.now)) out.old out.new }
 {
     for (place, name) in names.iter().enumerate() {
         write!(out, "run {}: ", place + 1);
@@ -25,8 +25,8 @@ fn put_names(names: &[&str], out: &mut Sheet)
 }
 
 // What stands before the headings: on a screen the names of the runs, and room for the labels.
-fn put_head(layout: Layout, names: &[&str], out: &mut Sheet)
-    ensures { Puts (head_text layout (texts names.now)) out.old out.new }
+fn put_head(layout: Layout, names: &[&str], out: &mut TextBuilder)
+    ensures { PutsWords (head_text layout (texts names.now)) out.old out.new }
 {
     match layout {
         Layout::Screen => {
@@ -39,19 +39,19 @@ fn put_head(layout: Layout, names: &[&str], out: &mut Sheet)
 }
 
 // The headings of a run behind the first.
-fn put_heading(layout: Layout, number: usize, out: &mut Sheet)
-    ensures { Puts (heading_text layout number) out.old out.new }
+fn put_heading(layout: Layout, number: usize, out: &mut TextBuilder)
+    ensures { PutsWords (heading_text layout number) out.old out.new }
 {
-    let run = format!(in out.alloc; "run {number}");
+    let run = format!(in out.alloc(); "run {number}");
     put_cell(layout, VALUE_WIDTH, run, out);
-    let change = format!(in out.alloc; "change {number} %");
+    let change = format!(in out.alloc(); "change {number} %");
     put_cell(layout, CHANGE_WIDTH, change, out);
 }
 
 // The headings of the first run, and of so many others.
-fn put_headings(layout: Layout, others: usize, out: &mut Sheet)
+fn put_headings(layout: Layout, others: usize, out: &mut TextBuilder)
     requires { others < 2 ^ 63 }
-    ensures { Puts (headings_text layout others) out.old out.new }
+    ensures { PutsWords (headings_text layout others) out.old out.new }
 {
     put_words(layout, VALUE_WIDTH, "run 1", out);
     for place in 0..others {
@@ -66,9 +66,10 @@ fn put_comparison(
     names: &[&str],
     runs: &[Stats],
     tails: &[Option<Cycle>],
-    out: &mut Sheet,
+    out: &mut TextBuilder,
 )
-    ensures { Puts (comparison_text layout (texts names.now) runs.now tails.now) out.old out.new }
+    ensures { PutsWords (comparison_text layout (texts names.now) runs.now tails.now)
+        out.old out.new }
 {
     if let Some((base, others)) = runs.split_first() {
         put_head(layout, names, out);
@@ -102,7 +103,7 @@ pub fn compare_text(
 ) -> Result<String, AllocError>
     ensures { IfOk result (IsText (comparison_text layout (texts names.now) runs.now tails.now)) }
 {
-    let mut sheet = Sheet::new(alloc);
-    put_comparison(layout, names, runs, tails, &mut sheet);
-    sheet.finish()
+    let mut text = TextBuilder::new(alloc);
+    put_comparison(layout, names, runs, tails, &mut text);
+    text.finish()
 }

@@ -9,7 +9,6 @@ pub mod layout;
 mod lines;
 mod measures;
 mod quotients;
-mod sheet;
 mod sums;
 mod tails;
 mod texts;

@@ -2,16 +2,16 @@
 
 ghost use Rattle.std.specs.Prelude.{flat_map};
 ghost use Rattle.compare.specs.Lines.{cells_text, beginning_text, line_text, lines_text};
-ghost use Rattle.compare.specs.Sheets.{Puts};
+ghost use Rattle.text_builder.specs.Texts.{PutsWords};
 
 use crate::cells::cell_of;
 use crate::layout::Layout;
 use crate::measures::{FIRST_MEASURES, LAST_MEASURES, Measure, decimals_of, label_of, value_of};
-use crate::sheet::Sheet;
 use crate::tails::put_tails;
 use crate::texts::{change_text, put_cell, put_label, value_text};
 use sim_base::message::Cycle;
 use statistics::stats::Stats;
+use text_builder::TextBuilder;
 
 /// The width of a value, in characters.
 pub(crate) const VALUE_WIDTH: usize = 12;
@@ -20,23 +20,23 @@ pub(crate) const VALUE_WIDTH: usize = 12;
 pub(crate) const CHANGE_WIDTH: usize = 10;
 
 // The value of a run, and its change from the first one.
-fn put_cells(layout: Layout, base: &Stats, measure: Measure, run: &Stats, out: &mut Sheet)
-    ensures { Puts (cells_text layout base.now measure run.now) out.old out.new }
+fn put_cells(layout: Layout, base: &Stats, measure: Measure, run: &Stats, out: &mut TextBuilder)
+    ensures { PutsWords (cells_text layout base.now measure run.now) out.old out.new }
 {
     let cell = cell_of(measure, base, run);
-    let value = value_text(out.alloc, layout, decimals_of(measure), cell.value);
+    let value = value_text(out.alloc(), layout, decimals_of(measure), cell.value);
     put_cell(layout, VALUE_WIDTH, value, out);
-    let change = change_text(out.alloc, layout, cell.change);
+    let change = change_text(out.alloc(), layout, cell.change);
     put_cell(layout, CHANGE_WIDTH, change, out);
 }
 
 // The label of a measure, and the value of the first run.
-fn put_beginning(layout: Layout, base: &Stats, measure: Measure, out: &mut Sheet)
-    ensures { Puts (beginning_text layout base.now measure) out.old out.new }
+fn put_beginning(layout: Layout, base: &Stats, measure: Measure, out: &mut TextBuilder)
+    ensures { PutsWords (beginning_text layout base.now measure) out.old out.new }
 {
     put_label(layout, label_of(measure), out);
     let value = value_text(
-        out.alloc,
+        out.alloc(),
         layout,
         decimals_of(measure),
         value_of(measure, base),
@@ -45,8 +45,8 @@ fn put_beginning(layout: Layout, base: &Stats, measure: Measure, out: &mut Sheet
 }
 
 // The line of a measure.
-fn put_line(layout: Layout, base: &Stats, others: &[Stats], measure: Measure, out: &mut Sheet)
-    ensures { Puts (line_text layout base.now others.now measure) out.old out.new }
+fn put_line(layout: Layout, base: &Stats, others: &[Stats], measure: Measure, out: &mut TextBuilder)
+    ensures { PutsWords (line_text layout base.now others.now measure) out.old out.new }
 {
     put_beginning(layout, base, measure, out);
     for run in others {
@@ -61,9 +61,10 @@ fn put_lines_of(
     base: &Stats,
     others: &[Stats],
     measures: &[Measure],
-    out: &mut Sheet,
+    out: &mut TextBuilder,
 )
-    ensures { Puts (flat_map (line_text layout base.now others.now) measures.now) out.old out.new }
+    ensures { PutsWords (flat_map (line_text layout base.now others.now) measures.now)
+        out.old out.new }
 {
     for measure in measures {
         put_line(layout, base, others, *measure, out);
@@ -76,9 +77,9 @@ pub(crate) fn put_lines(
     base: &Stats,
     others: &[Stats],
     tails: &[Option<Cycle>],
-    out: &mut Sheet,
+    out: &mut TextBuilder,
 )
-    ensures { Puts (lines_text layout base.now others.now tails.now) out.old out.new }
+    ensures { PutsWords (lines_text layout base.now others.now tails.now) out.old out.new }
 {
     put_lines_of(layout, base, others, &FIRST_MEASURES, out);
     put_tails(layout, tails, out);

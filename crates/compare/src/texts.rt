@@ -1,15 +1,15 @@
 //! Values and changes as texts.
 
 ghost use Rattle.std.specs.Prelude.{◌≡◌, ◌^◌, ◌<◌, ◌≤◌, List, ℕ, IfOk, IfSome, string_bytes};
-ghost use Rattle.compare.specs.Sheets.{Puts};
+ghost use Rattle.text_builder.specs.Texts.{PutsWords};
 ghost use Rattle.compare.specs.Strings.{IsText};
 ghost use Rattle.compare.specs.Texts.{rounded, tenths_text, thousandths_text, fixed_text, missing_text, value_text, signed_text, change_text, cell_text, label_text};
 
 use crate::changes::Change;
 use crate::layout::Layout;
 use crate::measures::Decimals;
-use crate::sheet::Sheet;
 use std::alloc::{AllocError, Global};
+use text_builder::TextBuilder;
 
 /// The width of the labels, in characters: that of the longest one.
 const LABEL_WIDTH: usize = 22;
@@ -108,13 +108,13 @@ pub(crate) fn change_text(
 }
 
 /// Appends a cell, whose text is known.
-pub(crate) fn put_words(layout: Layout, width: usize, text: &str, out: &mut Sheet)
-    ensures { Puts (cell_text layout width text.now) out.old out.new }
+pub(crate) fn put_words(layout: Layout, width: usize, text: &str, out: &mut TextBuilder)
+    ensures { PutsWords (cell_text layout width text.now) out.old out.new }
 {
     match layout {
         Layout::Screen => {
             out.push_str("  ");
-            out.push(" ".repeat(out.alloc, width.saturating_sub(text.len())));
+            out.push(" ".repeat(out.alloc(), width.saturating_sub(text.len())));
             out.push_str(text);
         }
         Layout::Csv => {
@@ -130,10 +130,10 @@ pub(crate) fn put_cell(
     layout: Layout,
     width: usize,
     text: Result<String, AllocError>,
-    out: &mut Sheet,
+    out: &mut TextBuilder,
 )
     ensures { (words : List ℕ) → IfOk text (IsText words)
-        → Puts (cell_text layout width words) out.old out.new }
+        → PutsWords (cell_text layout width words) out.old out.new }
 {
     match text {
         Ok(text) => put_words(layout, width, text.as_str(), out),
@@ -142,12 +142,15 @@ pub(crate) fn put_cell(
 }
 
 /// Appends the first cell of a line.
-pub(crate) fn put_label(layout: Layout, label: &str, out: &mut Sheet)
-    ensures { Puts (label_text layout label.now) out.old out.new }
+pub(crate) fn put_label(layout: Layout, label: &str, out: &mut TextBuilder)
+    ensures { PutsWords (label_text layout label.now) out.old out.new }
 {
     out.push_str(label);
     match layout {
-        Layout::Screen => out.push(" ".repeat(out.alloc, LABEL_WIDTH.saturating_sub(label.len()))),
+        Layout::Screen => out.push(" ".repeat(
+            out.alloc(),
+            LABEL_WIDTH.saturating_sub(label.len()),
+        )),
         Layout::Csv => {}
     }
 }

@@ -1,4 +1,3 @@
 pub mod Screen
-pub mod Texts
 pub mod Banks
 pub mod Requests

@@ -3,12 +3,11 @@
 ghost use Rattle.std.specs.Prelude.{IfOk, length, string_bytes};
 ghost use Rattle.show.specs.Screen.{Extends};
 ghost use Rattle.show.specs.Banks.{banks_head, AreBanksOf, AreBanks, IsBanksScreen};
-ghost use Rattle.show.specs.Texts.{Puts, Grows};
+ghost use Rattle.text_builder.specs.Texts.{Puts, Grows};
 
 use crate::options::Options;
 use crate::screen::put_screen;
 use crate::table::Table;
-use crate::text::Text;
 use command_table::list::CommandList;
 use measures::bank_counts::channel_counts;
 use measures::bank_counts::counts::BankCounts;
@@ -17,6 +16,7 @@ use sim_base::config::Config;
 use sim_base::place::BankId;
 use statistics::stats::Stats;
 use std::alloc::{AllocError, Global};
+use text_builder::TextBuilder;
 
 /// The headings of a bank's numbers.
 static BANK_HEADINGS: [&str; 6] = ["act", "rd", "wr", "pre", "hits %", "conflicts"];
@@ -43,7 +43,7 @@ fn bank_row(counts: &BankCounts) -> [Number; 6] {
 }
 
 // Appends the line of a bank.
-fn put_bank(alloc: Global, counts: &BankCounts, out: &mut Text)
+fn put_bank(alloc: Global, counts: &BankCounts, out: &mut TextBuilder)
     ensures { Grows out.old out.new }
 {
     let BankId { rank, group, bank } = counts.bank;
@@ -52,7 +52,7 @@ fn put_bank(alloc: Global, counts: &BankCounts, out: &mut Text)
 }
 
 // Appends the banks of a channel.
-fn put_banks(alloc: Global, channel: usize, banks: &[BankCounts], out: &mut Text)
+fn put_banks(alloc: Global, channel: usize, banks: &[BankCounts], out: &mut TextBuilder)
     ensures { Puts (Extends (banks_head channel (length banks.now))) out.old out.new }
 {
     let count = banks.len();
@@ -67,7 +67,7 @@ fn put_banks(alloc: Global, channel: usize, banks: &[BankCounts], out: &mut Text
 }
 
 // Appends the banks of a channel, by its commands.
-fn put_channel(alloc: Global, channel: usize, commands: &CommandList, out: &mut Text)
+fn put_channel(alloc: Global, channel: usize, commands: &CommandList, out: &mut TextBuilder)
     ensures { Puts (AreBanksOf commands.now channel) out.old out.new }
 {
     match channel_counts(alloc, channel, commands) {
@@ -77,7 +77,7 @@ fn put_channel(alloc: Global, channel: usize, commands: &CommandList, out: &mut 
 }
 
 // Appends the banks of so many channels.
-fn put_channels(alloc: Global, channels: usize, commands: &CommandList, out: &mut Text)
+fn put_channels(alloc: Global, channels: usize, commands: &CommandList, out: &mut TextBuilder)
     ensures { Puts (AreBanks commands.now channels) out.old out.new }
 {
     for channel in 0..channels {
@@ -99,7 +99,7 @@ pub fn show_banks(
 ) -> Result<String, AllocError>
     ensures { IfOk result (λ text. IsBanksScreen stats.now commands.now (string_bytes text)) }
 {
-    let mut text = Text::new(alloc);
+    let mut text = TextBuilder::new(alloc);
     put_screen(alloc, stats, options, config, &mut text);
     put_channels(alloc, stats.channels.len(), commands, &mut text);
     text.finish()

@@ -7,7 +7,6 @@ mod requests;
 mod rows;
 mod screen;
 mod table;
-mod text;
 
 pub use banks::show_banks;
 pub use requests::show_requests;

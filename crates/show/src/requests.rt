@@ -4,12 +4,11 @@ ghost use Rattle.std.specs.Prelude.{◌≡◌, ◌≤◌, length, IfOk, string_b
 ghost use Rattle.measures.specs.Latency.{read_latencies};
 ghost use Rattle.show.specs.Requests.{latencies_head, waits_head, replies_of, AreRequests};
 ghost use Rattle.show.specs.Screen.{Extends};
-ghost use Rattle.show.specs.Texts.{Puts};
+ghost use Rattle.text_builder.specs.Texts.{Puts};
 
 use crate::options::Options;
 use crate::rows::{COLUMNS, Row, nanoseconds};
 use crate::table::Table;
-use crate::text::Text;
 use measures::number::Number;
 use measures::request_measures::latency::{
     Latencies, core_latency_percentiles, latency_percentiles,
@@ -18,6 +17,7 @@ use measures::request_measures::waiting::{Class, Waits, channel_waits};
 use request_table::times::RequestTimes;
 use sim_base::message::{ChannelId, CoreId};
 use std::alloc::{AllocError, Global};
+use text_builder::TextBuilder;
 
 /// The headings of a core's read latency; the last four are shown with a clock only.
 static LATENCY_HEADINGS: [&str; 9] = [
@@ -152,7 +152,7 @@ fn put_latencies(
     rows: Result<Vec<Row>, AllocError>,
     all: Option<Latencies>,
     options: Options,
-    out: &mut Text,
+    out: &mut TextBuilder,
 )
     ensures { Puts (Extends (latencies_head (replies_of all))) out.old out.new }
 {
@@ -177,7 +177,7 @@ fn put_reads(
     cores: CoreId,
     requests: &[RequestTimes],
     options: Options,
-    out: &mut Text,
+    out: &mut TextBuilder,
 )
     ensures { Puts (Extends (latencies_head (length (read_latencies requests.now))))
         out.old out.new }
@@ -195,7 +195,7 @@ fn put_waits(
     channels: ChannelId,
     requests: &[RequestTimes],
     options: Options,
-    out: &mut Text,
+    out: &mut TextBuilder,
 )
     ensures { Puts (Extends (waits_head (length requests.now))) out.old out.new }
 {
@@ -235,7 +235,7 @@ pub fn show_requests(
 ) -> Result<String, AllocError>
     ensures { IfOk result (λ text. AreRequests requests.now (string_bytes text)) }
 {
-    let mut text = Text::new(alloc);
+    let mut text = TextBuilder::new(alloc);
     put_reads(alloc, cores, requests, options, &mut text);
     put_waits(alloc, channels, requests, options, &mut text);
     text.finish()

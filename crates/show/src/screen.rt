@@ -2,17 +2,17 @@
 
 ghost use Rattle.std.specs.Prelude.{IfOk, length, string_bytes};
 ghost use Rattle.show.specs.Screen.{Extends, IsScreen, channels_head, cores_head};
-ghost use Rattle.show.specs.Texts.{Puts, Grows};
+ghost use Rattle.text_builder.specs.Texts.{Puts, Grows};
 
 use crate::options::Options;
 use crate::rows::{
     CHANNEL_HEADINGS, CLOCKED_CHANNEL_HEADINGS, CORE_HEADINGS, channel_rows, core_rows, nanoseconds,
 };
 use crate::table::Table;
-use crate::text::Text;
 use sim_base::config::Config;
 use statistics::stats::Stats;
 use std::alloc::{AllocError, Global};
+use text_builder::TextBuilder;
 
 // The headings of the channels.
 fn channel_headings(config: Option<&Config>, khz: Option<u64>) -> &'static [&'static str] {
@@ -37,7 +37,7 @@ fn put_channels(
     stats: &Stats,
     options: Options,
     config: Option<&Config>,
-    out: &mut Text,
+    out: &mut TextBuilder,
 )
     ensures { Puts (Extends (channels_head stats.now.cycles (length stats.now.channels)))
         out.old out.new }
@@ -57,7 +57,7 @@ fn put_channels(
 }
 
 // The cores of a run.
-fn put_cores(alloc: Global, stats: &Stats, options: Options, out: &mut Text)
+fn put_cores(alloc: Global, stats: &Stats, options: Options, out: &mut TextBuilder)
     ensures { Puts (Extends (cores_head (length stats.now.cores))) out.old out.new }
 {
     let cores = stats.cores.len();
@@ -75,7 +75,7 @@ fn put_cores(alloc: Global, stats: &Stats, options: Options, out: &mut Text)
 }
 
 // The cycles in ns, where the clock is given.
-fn put_time(alloc: Global, cycles: u64, khz: Option<u64>, out: &mut Text)
+fn put_time(alloc: Global, cycles: u64, khz: Option<u64>, out: &mut TextBuilder)
     ensures { Grows out.old out.new }
 {
     if let Some(khz) = khz {
@@ -91,7 +91,7 @@ pub(crate) fn put_screen(
     stats: &Stats,
     options: Options,
     config: Option<&Config>,
-    out: &mut Text,
+    out: &mut TextBuilder,
 )
     ensures { Puts (IsScreen stats.now) out.old out.new }
 {
@@ -126,7 +126,7 @@ pub fn show_text(
 ) -> Result<String, AllocError>
     ensures { IfOk result (λ text. IsScreen stats.now (string_bytes text)) }
 {
-    let mut text = Text::new(alloc);
+    let mut text = TextBuilder::new(alloc);
     put_screen(alloc, stats, options, config, &mut text);
     text.finish()
 }

@@ -1,11 +1,11 @@
 //! Tables of text: a line of headings, and below it a line for each row, with each column flush right.
 
-ghost use Rattle.show.specs.Texts.{Grows};
+ghost use Rattle.text_builder.specs.Texts.{Grows};
 
 use crate::rows::{Row, summary_rows};
-use crate::text::Text;
 use measures::number::Number;
 use std::alloc::{AllocError, Global};
+use text_builder::TextBuilder;
 
 /// A table with more lines than this is shown in three, unless all are asked for.
 const MOST_LINES: usize = 16;
@@ -35,7 +35,7 @@ fn label_of(alloc: Global, row: usize, summarized: bool) -> Result<String, Alloc
 }
 
 // Appends a cell, padded on the left.
-fn put_cell(text: &str, width: usize, out: &mut Text)
+fn put_cell(text: &str, width: usize, out: &mut TextBuilder)
     ensures { Grows out.old out.new }
 {
     for _ in text.len()..width {
@@ -45,7 +45,7 @@ fn put_cell(text: &str, width: usize, out: &mut Text)
 }
 
 // Appends a cell, unless memory was refused for its text.
-fn put_made(text: Result<String, AllocError>, width: usize, out: &mut Text)
+fn put_made(text: Result<String, AllocError>, width: usize, out: &mut TextBuilder)
     ensures { Grows out.old out.new }
 {
     match text {
@@ -65,7 +65,7 @@ pub(crate) struct Table<'a> {
 
 impl Table<'_> {
     /// Appends the line of headings.
-    pub(crate) fn put_headings(&self, out: &mut Text)
+    pub(crate) fn put_headings(&self, out: &mut TextBuilder)
         ensures { Grows out.old out.new }
     {
         put_cell(self.label, LABEL_WIDTH, out);
@@ -82,7 +82,7 @@ impl Table<'_> {
         alloc: Global,
         label: Result<String, AllocError>,
         row: &[Number],
-        out: &mut Text,
+        out: &mut TextBuilder,
     )
         ensures { Grows out.old out.new }
     {
@@ -94,7 +94,7 @@ impl Table<'_> {
         out.push_str("\n");
     }
 
-    fn put_lines(&self, alloc: Global, rows: &[Row], summarized: bool, out: &mut Text)
+    fn put_lines(&self, alloc: Global, rows: &[Row], summarized: bool, out: &mut TextBuilder)
         ensures { Grows out.old out.new }
     {
         self.put_headings(out);
@@ -104,7 +104,7 @@ impl Table<'_> {
     }
 
     // Appends the table of rows, or of their summary.
-    fn put_rows(&self, alloc: Global, rows: &[Row], out: &mut Text)
+    fn put_rows(&self, alloc: Global, rows: &[Row], out: &mut TextBuilder)
         ensures { Grows out.old out.new }
     {
         if rows.len() <= MOST_LINES || self.all {
@@ -118,7 +118,12 @@ impl Table<'_> {
 
     /// Appends the table of rows, or of their summary, unless memory was refused for them: the headings, and a line for
     /// each row.
-    pub(crate) fn put(&self, alloc: Global, rows: Result<Vec<Row>, AllocError>, out: &mut Text)
+    pub(crate) fn put(
+        &self,
+        alloc: Global,
+        rows: Result<Vec<Row>, AllocError>,
+        out: &mut TextBuilder,
+    )
         ensures { Grows out.old out.new }
     {
         match rows {

@@ -2,17 +2,17 @@
 
 use crate::explain_text::lines::{Position, line_at};
 use crate::explain_text::links::put_links;
-use crate::explain_text::pieces::Explanation;
 use crate::explain_text::pieces::Piece::{Foreign, Number, Words};
 use crate::explain_text::relations::put_relation;
 use crate::explain_text::section::Section;
 use sim_base::fault::Fault;
 use sim_base::key::{DOCUMENT_KEYS, Key};
 use std::alloc::{AllocError, Global};
+use text_builder::TextBuilder;
 use toml::Table;
 
 // What is wrong at a place of a document, and the line of that place.
-fn put_place<'a>(text: &mut Explanation, document: &'a [u8], offset: usize, flaw: &'a str) {
+fn put_place<'a>(text: &mut TextBuilder, document: &'a [u8], offset: usize, flaw: &'a str) {
     let Position { line, column } = Position::behind(document.get(..offset).unwrap_or(document));
     let pieces = [Number(line), Number(column), Words(flaw)];
     text.fill(" line {}, column {}: {}\n", &pieces);
@@ -23,9 +23,9 @@ fn put_place<'a>(text: &mut Explanation, document: &'a [u8], offset: usize, flaw
 }
 
 // Why a document in UTF-8 is not TOML.
-fn put_error(text: &mut Explanation, document: &str) {
+fn put_error(text: &mut TextBuilder, document: &str) {
     match toml::table_from_str(text.alloc(), document) {
-        Ok(_) => text.push(" a configuration is a TOML document in UTF-8\n"),
+        Ok(_) => text.push_str(" a configuration is a TOML document in UTF-8\n"),
         Err(error) => match error.span() {
             Some(span) => put_place(text, document.as_bytes(), span.start, error.message()),
             None => text.refuse(),
@@ -34,7 +34,7 @@ fn put_error(text: &mut Explanation, document: &str) {
 }
 
 // Why a document is not TOML in UTF-8.
-fn put_syntax(text: &mut Explanation, document: &[u8]) {
+fn put_syntax(text: &mut TextBuilder, document: &[u8]) {
     match str::from_utf8(document) {
         Ok(document) => put_error(text, document),
         Err(error) => put_place(text, document, error.valid_up_to(), "this is no UTF-8"),
@@ -52,7 +52,7 @@ fn table_of(alloc: Global, document: &[u8]) -> Result<Table, AllocError> {
 }
 
 // What is wrong with a key, or with its range, or with a relation.
-fn put_flaw(text: &mut Explanation, document: &Section<'_>, fault: Fault) {
+fn put_flaw(text: &mut TextBuilder, document: &Section<'_>, fault: Fault) {
     match fault {
         Fault::ConfigKey(Key::Unknown) => document.put_unknown(text),
         Fault::ConfigKey(Key::Link) | Fault::ConfigRange(Key::Link) => put_links(text, document),
@@ -70,10 +70,10 @@ pub fn config_text(
     path: &str,
     document: &[u8],
 ) -> Result<String, AllocError> {
-    let mut text = Explanation::new(alloc);
+    let mut text = TextBuilder::new(alloc);
     if fault == Fault::ConfigSyntax {
         put_syntax(&mut text, document);
-        return text.end();
+        return text.finish();
     }
     match table_of(alloc, document) {
         Ok(table) => {
@@ -87,5 +87,5 @@ pub fn config_text(
         }
         Err(_) => text.refuse(),
     }
-    text.end()
+    text.finish()
 }

@@ -1,10 +1,10 @@
 //! What is said of the items of `link`.
 
 use crate::explain_text::keys::ITEM_KEYS;
-use crate::explain_text::pieces::Explanation;
 use crate::explain_text::pieces::Piece::Number;
 use crate::explain_text::section::Section;
 use sim_base::key::Key;
+use text_builder::TextBuilder;
 use toml::value::Array;
 use toml::{Table, Value};
 
@@ -33,7 +33,7 @@ pub(crate) fn id_of(value: &Value) -> Option<u64> {
 }
 
 // Says what is wrong with an item that is a table, if something is.
-fn put_table(text: &mut Explanation, item: &Section<'_>) {
+fn put_table(text: &mut TextBuilder, item: &Section<'_>) {
     let id = integer_at(item.table, "id");
     let latency = integer_at(item.table, "latency");
     match (id, latency, item.unknown()) {
@@ -46,7 +46,7 @@ fn put_table(text: &mut Explanation, item: &Section<'_>) {
     }
 }
 
-fn put_item(text: &mut Explanation, path: &str, item: u64, value: &Value) {
+fn put_item(text: &mut TextBuilder, path: &str, item: u64, value: &Value) {
     match value {
         Value::Table(table) => {
             let section = Section {
@@ -65,7 +65,7 @@ fn put_item(text: &mut Explanation, path: &str, item: u64, value: &Value) {
 }
 
 // Says what is wrong with the first item that is not right, in a text that is not begun.
-fn put_items(text: &mut Explanation, path: &str, items: &Array) {
+fn put_items(text: &mut TextBuilder, path: &str, items: &Array) {
     let mut item = 0u64;
     for value in items {
         item = item.saturating_add(1);
@@ -74,12 +74,12 @@ fn put_items(text: &mut Explanation, path: &str, items: &Array) {
             return;
         }
     }
-    text.push(" each item of link is a table of id, 0 to 12287, and latency, 1 to 1000000\n");
+    text.push_str(" each item of link is a table of id, 0 to 12287, and latency, 1 to 1000000\n");
 }
 
 /// Says what is wrong with `link`, or with the first of its items that is not right, after the path, in a text that is
 /// not begun.
-pub(crate) fn put_links(text: &mut Explanation, document: &Section<'_>) {
+pub(crate) fn put_links(text: &mut TextBuilder, document: &Section<'_>) {
     match items_of(document.table) {
         Some(items) => put_items(text, document.path, items),
         None => document.put_key(text, Key::Link),

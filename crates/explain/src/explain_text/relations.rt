@@ -1,10 +1,11 @@
 //! What is said of a relation between the numbers of a configuration.
 
 use crate::explain_text::links::{id_of, integer_at, items_of};
-use crate::explain_text::pieces::Explanation;
 use crate::explain_text::pieces::Piece::{Entry, Number, Words};
 use sim_base::key::Key;
 use std::alloc::{AllocError, Global};
+use text_builder::TextBuilder;
+use text_builder::forms::Append;
 use toml::Table;
 use toml::value::Array;
 
@@ -152,34 +153,34 @@ fn is_broken(number: u8, left: u64, right: u64) -> bool {
 }
 
 // Says how the sides of a relation compare, with numbers in place of the keys.
-fn put_compared(text: &mut Explanation, broken: &str, table: &Table) {
+fn put_compared(text: &mut TextBuilder, broken: &str, table: &Table) {
     for word in broken.split('%') {
         match number_at(table, word) {
-            Some(number) => text.put(Number(number)),
-            None => text.push(word),
+            Some(number) => Number(number).append_to(text),
+            None => text.push_str(word),
         }
     }
 }
 
 // Says of a relation between two sides that it must hold, or how its sides compare where it does not, and what the
 // right one comes to where that does not show it.
-fn put_sides(text: &mut Explanation, number: u8, table: &Table) {
+fn put_sides(text: &mut TextBuilder, number: u8, table: &Table) {
     let Some(relation) = relation_of(number) else {
         let pieces = [Number(u64::from(number))];
         text.fill(" relation {} does not hold\n", &pieces);
         return;
     };
-    text.push(relation.rule);
+    text.push_str(relation.rule);
     let right = right_at(table, number);
     if !is_broken(number, left_at(table, number), right) {
-        text.push(" must hold\n");
+        text.push_str(" must hold\n");
         return;
     }
-    text.push(" does not hold: ");
+    text.push_str(" does not hold: ");
     put_compared(text, relation.broken, table);
     match number {
         6 => text.fill(", which is {}\n", &[Number(right)]),
-        _ => text.push("\n"),
+        _ => text.push_str("\n"),
     }
 }
 
@@ -196,14 +197,14 @@ fn absent_link(items: Option<&Array>, links: u64) -> Option<u64> {
 }
 
 // Relation 8: each link that has a latency of its own exists.
-fn put_absent_link(text: &mut Explanation, table: &Table) {
+fn put_absent_link(text: &mut TextBuilder, table: &Table) {
     let links = times_cores(table, value_at(table, "channels")).saturating_mul(3);
     match absent_link(items_of(table), links) {
         Some(id) => text.fill(
             " link has the id {}, and there are the links 0 to {}: 3 for each pair of a core and a channel\n",
             &[Number(id), Number(links.saturating_sub(1))],
         ),
-        None => text.push(" each id of link must be less than 3 * cores * channels\n"),
+        None => text.push_str(" each id of link must be less than 3 * cores * channels\n"),
     }
 }
 
@@ -225,28 +226,28 @@ fn repeated_id(alloc: Global, items: Option<&Array>) -> Result<Option<u64>, Allo
 }
 
 // Relation 9: no two latencies are for the same link.
-fn put_repeated_link(text: &mut Explanation, table: &Table) {
+fn put_repeated_link(text: &mut TextBuilder, table: &Table) {
     match repeated_id(text.alloc(), items_of(table)) {
         Ok(Some(id)) => text.fill(" two items of link have the id {}\n", &[Number(id)]),
-        Ok(None) => text.push(" no two items of link may have the same id\n"),
+        Ok(None) => text.push_str(" no two items of link may have the same id\n"),
         Err(_) => text.refuse(),
     }
 }
 
 // Relation 10: if there are several ranks, an address has a field for the rank.
-fn put_rank(text: &mut Explanation, table: &Table) {
-    text.push(" where ranks is above 1 fields must have \"rank\"");
+fn put_rank(text: &mut TextBuilder, table: &Table) {
+    text.push_str(" where ranks is above 1 fields must have \"rank\"");
     if let Some(fields) = table.get("fields") {
         text.fill(
             ": ranks = {}, {}",
             &[Number(value_at(table, "ranks")), Entry(Key::Fields, fields)],
         );
     }
-    text.push("\n");
+    text.push_str("\n");
 }
 
 /// Says which relation does not hold, and with which numbers, after the path.
-pub(crate) fn put_relation(text: &mut Explanation, number: u8, table: &Table) {
+pub(crate) fn put_relation(text: &mut TextBuilder, number: u8, table: &Table) {
     match number {
         8 => put_absent_link(text, table),
         9 => put_repeated_link(text, table),

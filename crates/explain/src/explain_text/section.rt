@@ -2,10 +2,10 @@
 
 use crate::explain_text::keys::{is_known, range_of, type_of};
 use crate::explain_text::nearest::nearest;
-use crate::explain_text::pieces::Explanation;
 use crate::explain_text::pieces::Piece::{Entry, Foreign, Place, Words};
 use sim_base::key::Key;
 use std::alloc::{AllocError, Global};
+use text_builder::TextBuilder;
 use toml::{Table, Value};
 
 /// The table of a document, or of an item of `link`.
@@ -20,7 +20,7 @@ pub(crate) struct Section<'a> {
 
 impl<'a> Section<'a> {
     /// Says what is wrong with the type of a key's value, or that the key is missing, after the path.
-    pub(crate) fn put_key(&self, text: &mut Explanation, key: Key) {
+    pub(crate) fn put_key(&self, text: &mut TextBuilder, key: Key) {
         match self.table.get(key.name()) {
             Some(value) => self.put_value(text, key, value, type_of(key)),
             None => self.put_missing(text, key),
@@ -28,7 +28,7 @@ impl<'a> Section<'a> {
     }
 
     /// Says that the value of a key is out of its range, after the path.
-    pub(crate) fn put_range(&self, text: &mut Explanation, key: Key) {
+    pub(crate) fn put_range(&self, text: &mut TextBuilder, key: Key) {
         match self.table.get(key.name()) {
             Some(value) => self.put_value(text, key, value, ""),
             None => self.put_absent(text, key),
@@ -36,7 +36,7 @@ impl<'a> Section<'a> {
     }
 
     // What stands at a key, and what may stand there: what is of this type and in the range of the key.
-    fn put_value(&self, text: &mut Explanation, key: Key, value: &'a Value, of_type: &'static str) {
+    fn put_value(&self, text: &mut TextBuilder, key: Key, value: &'a Value, of_type: &'static str) {
         let pieces = [
             Place(self.item),
             Entry(key, value),
@@ -47,12 +47,12 @@ impl<'a> Section<'a> {
     }
 
     // What may stand at a key that is not there.
-    fn put_absent(&self, text: &mut Explanation, key: Key) {
+    fn put_absent(&self, text: &mut TextBuilder, key: Key) {
         let pieces = [Place(self.item), Words(key.name()), Words(range_of(key))];
         text.fill("{} at {} {} may stand\n", &pieces);
     }
 
-    fn put_missing(&self, text: &mut Explanation, key: Key) {
+    fn put_missing(&self, text: &mut TextBuilder, key: Key) {
         let pieces = [
             Place(self.item),
             Words(key.name()),
@@ -64,7 +64,7 @@ impl<'a> Section<'a> {
     }
 
     // What stands in the document and may have been meant as the missing key, as a line after the path.
-    fn put_instead(&self, text: &mut Explanation, key: Key) {
+    fn put_instead(&self, text: &mut TextBuilder, key: Key) {
         if let Some(holder) = self.holder_of(key) {
             text.fill(
                 "{}: it stands in the table {}, and must stand in none, so before the first line in brackets\n",
@@ -118,7 +118,7 @@ impl<'a> Section<'a> {
     }
 
     /// Says which name is not known, and which may be meant, after the path.
-    pub(crate) fn put_unknown(&self, text: &mut Explanation) {
+    pub(crate) fn put_unknown(&self, text: &mut TextBuilder) {
         let Some(name) = self.unknown() else {
             text.fill("{} a key is not known\n", &[Place(self.item)]);
             return;
@@ -134,7 +134,7 @@ impl<'a> Section<'a> {
     }
 
     // Says that a name is not known, and which one may be meant, after the path.
-    fn put_meant(&self, text: &mut Explanation, name: &'a str, meant: &'static str) {
+    fn put_meant(&self, text: &mut TextBuilder, name: &'a str, meant: &'static str) {
         let pieces = [Place(self.item), Foreign(name.as_bytes()), Words(meant)];
         text.fill("{} the key {} is not known: did you mean {}?\n", &pieces);
     }

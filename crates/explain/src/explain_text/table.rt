@@ -1,9 +1,9 @@
 //! What is said of a table that is refused.
 
-use crate::explain_text::pieces::Explanation;
 use crate::explain_text::pieces::Piece::{Foreign, Number};
 use csv::{ByteRecord, Reader, ReaderBuilder};
 use std::alloc::{AllocError, Global};
+use text_builder::TextBuilder;
 
 /// The tables that a row may stand in.
 #[derive(Clone, Copy)]
@@ -89,7 +89,7 @@ fn header_words(kind: TableKind) -> &'static str {
 }
 
 // What is wrong with a row of commands that has as many fields as the header.
-fn put_command_flaw(text: &mut Explanation, record: &ByteRecord) {
+fn put_command_flaw(text: &mut TextBuilder, record: &ByteRecord) {
     let command = record.get(COMMAND).unwrap_or(b"");
     let (word, form) = if !is_command(command) {
         (
@@ -108,7 +108,7 @@ fn put_command_flaw(text: &mut Explanation, record: &ByteRecord) {
 }
 
 // What is wrong with a row below the header, which has so many columns.
-fn put_flaw(text: &mut Explanation, kind: TableKind, record: &ByteRecord, columns: usize) {
+fn put_flaw(text: &mut TextBuilder, kind: TableKind, record: &ByteRecord, columns: usize) {
     let fields = record.len();
     if fields != columns {
         text.fill(
@@ -119,12 +119,12 @@ fn put_flaw(text: &mut Explanation, kind: TableKind, record: &ByteRecord, column
     }
     match kind {
         TableKind::Commands => put_command_flaw(text, record),
-        TableKind::Statistics => text.push("a run writes another record there\n"),
+        TableKind::Statistics => text.push_str("a run writes another record there\n"),
     }
 }
 
 // What stands in a row.
-fn put_fields(text: &mut Explanation, record: &ByteRecord) {
+fn put_fields(text: &mut TextBuilder, record: &ByteRecord) {
     match fields_of(text.alloc(), record) {
         Ok(fields) => text.fill(": {}\n", &[Foreign(fields.get(1..).unwrap_or(b""))]),
         Err(_) => text.refuse(),
@@ -144,17 +144,17 @@ pub fn row_text(
         .flexible(true)
         .from_reader(alloc, table);
     let mut record = ByteRecord::new(alloc);
-    let mut text = Explanation::new(alloc);
+    let mut text = TextBuilder::new(alloc);
     let found = read_to(&mut reader, &mut record, row);
     match found {
         Ok(Some(_)) => put_fields(&mut text, &record),
-        Ok(None) => text.push(" is missing\n"),
+        Ok(None) => text.push_str(" is missing\n"),
         Err(_) => text.refuse(),
     }
     match (row, found) {
-        (0, _) => text.push(header_words(kind)),
+        (0, _) => text.push_str(header_words(kind)),
         (_, Ok(Some(columns))) => put_flaw(&mut text, kind, &record, columns),
         _ => {}
     }
-    text.end()
+    text.finish()
 }

@@ -1,11 +1,11 @@
 //! What is said of a trace that is refused.
 
 use crate::explain_text::lines::line_at;
-use crate::explain_text::pieces::Explanation;
 use crate::explain_text::pieces::Piece::{Foreign, Number, Words};
 use cpu_trace::number::read_number;
 use sim_base::fault::LineCause;
 use std::alloc::{AllocError, Global};
+use text_builder::TextBuilder;
 
 /// The first bytes of a file that gzip wrote.
 static GZIP: [u8; 2] = [0x1F, 0x8B];
@@ -37,7 +37,7 @@ fn words_of(line: &[u8]) -> LineWords<'_> {
 }
 
 // What is wrong with this word of a line with two or three.
-fn put_word(text: &mut Explanation, word: &[u8]) {
+fn put_word(text: &mut TextBuilder, word: &[u8]) {
     let form = match read_number(word) {
         Err(LineCause::TooLarge) => {
             "{} is above 2^64 - 1 = 18446744073709551615, the greatest number that may stand there\n"
@@ -48,7 +48,7 @@ fn put_word(text: &mut Explanation, word: &[u8]) {
 }
 
 // What is wrong with a line.
-fn put_flaw(text: &mut Explanation, line: &[u8]) {
+fn put_flaw(text: &mut TextBuilder, line: &[u8]) {
     let LineWords { count, first_bad } = words_of(line);
     let form = match (count, first_bad) {
         (2 | 3, Some(word)) => return put_word(text, word),
@@ -62,7 +62,7 @@ fn put_flaw(text: &mut Explanation, line: &[u8]) {
 }
 
 // What stands on a line, if the line is there, and what is wrong with it.
-fn put_line(text: &mut Explanation, line: Option<&[u8]>) {
+fn put_line(text: &mut TextBuilder, line: Option<&[u8]>) {
     let Some(line) = line else {
         return put_flaw(text, b"");
     };
@@ -73,7 +73,7 @@ fn put_line(text: &mut Explanation, line: Option<&[u8]>) {
 /// Says what stands on a line of a trace, counted from 1, and what is wrong with it, after the path and the line's
 /// number. Of a compressed trace it says how to name it.
 pub fn line_text(alloc: Global, path: &str, line: u64, trace: &[u8]) -> Result<String, AllocError> {
-    let mut text = Explanation::new(alloc);
+    let mut text = TextBuilder::new(alloc);
     if trace.starts_with(&GZIP) {
         text.fill(
             "the trace is compressed by gzip: name <(zcat {}) in its place\n",
@@ -82,5 +82,5 @@ pub fn line_text(alloc: Global, path: &str, line: u64, trace: &[u8]) -> Result<S
     } else {
         put_line(&mut text, line_at(trace, line));
     }
-    text.end()
+    text.finish()
 }

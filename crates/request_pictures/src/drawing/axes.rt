@@ -1,10 +1,11 @@
 //! The ticks of axes, as lines across a picture with a label beside it. All labels of an axis are in one unit.
 
 ghost use Rattle.std.specs.Prelude.{◌<◌};
+ghost use Rattle.text_builder.specs.Texts.{KeepsRefusal};
 
-use crate::drawing::markup::{Piece, fill};
+use crate::drawing::markup::Piece;
 use crate::drawing::scales::{share_of, tick_step};
-use std::alloc::AllocError;
+use text_builder::TextBuilder;
 
 /// What an axis of values counts.
 #[derive(Clone, Copy)]
@@ -48,26 +49,20 @@ fn label_of(quantity: Quantity, value: u64, step: u64) -> [Piece; 2] {
 }
 
 // A tick, so many hundredths of a percent from where its axis begins, which `side` names.
-fn put_tick(
-    side: &'static str,
-    offset: u64,
-    label: [Piece; 2],
-    out: &mut String,
-) -> Result<(), AllocError> {
+fn put_tick(side: &'static str, offset: u64, label: [Piece; 2], out: &mut TextBuilder)
+    ensures { KeepsRefusal out.old out.new }
+{
     let [number, unit] = label;
-    fill(
+    out.fill(
         "<i class=\"{}{}%\"><b>{}{}</b></i>",
         &[Piece::Text(side), Piece::Hundredths(offset), number, unit],
-        out,
-    )
+    );
 }
 
 /// Appends the ticks of the values from 0 up to `top`: at most five above 0.
-pub(crate) fn put_value_ticks(
-    quantity: Quantity,
-    top: u64,
-    out: &mut String,
-) -> Result<(), AllocError> {
+pub(crate) fn put_value_ticks(quantity: Quantity, top: u64, out: &mut TextBuilder)
+    ensures { KeepsRefusal out.old out.new }
+{
     let step = tick_step(top, 5);
     for tick in 0..=top / step {
         let value = tick.saturating_mul(step);
@@ -77,19 +72,19 @@ pub(crate) fn put_value_ticks(
             offset,
             label_of(quantity, value, step),
             out,
-        )?;
+        );
     }
-    Ok(())
 }
 
 /// Appends the ticks of the cycles of a picture that shows the `span` cycles from `from` on: at most six.
-pub(crate) fn put_cycle_ticks(from: u64, span: u64, out: &mut String) -> Result<(), AllocError> {
+pub(crate) fn put_cycle_ticks(from: u64, span: u64, out: &mut TextBuilder)
+    ensures { KeepsRefusal out.old out.new }
+{
     let step = tick_step(span, 5);
     let end = from.saturating_add(span);
     for tick in from.div_ceil(step)..=end / step {
         let cycle = tick.saturating_mul(step);
         let offset = share_of(u128::from(cycle.saturating_sub(from)), span, 10_000);
-        put_tick("x\" style=\"left:", offset, count_label(cycle, step), out)?;
+        put_tick("x\" style=\"left:", offset, count_label(cycle, step), out);
     }
-    Ok(())
 }

@@ -1,6 +1,9 @@
 //! Text of a page, put together from pieces.
 
-use std::alloc::AllocError;
+ghost use Rattle.text_builder.specs.Texts.{KeepsRefusal};
+
+use text_builder::TextBuilder;
+use text_builder::forms::Append;
 
 /// A piece of text.
 #[derive(Clone, Copy)]
@@ -27,49 +30,32 @@ const GROUPS: [u64; 6] = [
     1_000,
 ];
 
-fn put_grouped(number: u64, out: &mut String) -> Result<(), AllocError> {
+fn put_grouped(number: u64, out: &mut TextBuilder)
+    ensures { KeepsRefusal out.old out.new }
+{
     if number < 1_000 {
         return write!(out, "{number}");
     }
     for size in GROUPS {
         let group = number / size;
         if group >= 1_000 {
-            write!(out, "{:03},", group % 1_000)?;
+            write!(out, "{:03},", group % 1_000);
         } else if group > 0 {
-            write!(out, "{group},")?;
+            write!(out, "{group},");
         }
     }
-    write!(out, "{:03}", number % 1_000)
+    write!(out, "{:03}", number % 1_000);
 }
 
-fn put_piece(piece: Piece, out: &mut String) -> Result<(), AllocError> {
-    match piece {
-        Piece::Text(text) => out.push_str(text),
-        Piece::Number(number) => write!(out, "{number}"),
-        Piece::Grouped(number) => put_grouped(number, out),
-        Piece::Tenths(number) => write!(out, "{}.{}", number / 10, number % 10),
-        Piece::Hundredths(number) => write!(out, "{}.{:02}", number / 100, number % 100),
-    }
-}
-
-/// Appends a form to a text, with pieces in place of its `{}`, in turn. The only error is out of memory.
-pub(crate) fn fill(form: &str, pieces: &[Piece], out: &mut String) -> Result<(), AllocError> {
-    let mut pieces = pieces.iter();
-    for words in form.split_inclusive("{}") {
-        match words.strip_suffix("{}") {
-            Some(words) => put_with(words, pieces.next(), out)?,
-            None => out.push_str(words)?,
+impl Append for Piece {
+    fn append_to(self, out: &mut TextBuilder) {
+        match self {
+            Piece::Text(text) => out.push_str(text),
+            Piece::Number(number) => write!(out, "{number}"),
+            Piece::Grouped(number) => put_grouped(number, out),
+            Piece::Tenths(number) => write!(out, "{}.{}", number / 10, number % 10),
+            Piece::Hundredths(number) => write!(out, "{}.{:02}", number / 100, number % 100),
         }
-    }
-    Ok(())
-}
-
-// Appends words, and a piece if there is one.
-fn put_with(words: &str, piece: Option<&Piece>, out: &mut String) -> Result<(), AllocError> {
-    out.push_str(words)?;
-    match piece {
-        Some(piece) => put_piece(*piece, out),
-        None => Ok(()),
     }
 }
 
@@ -80,19 +66,22 @@ pub struct LegendEntry {
     pub text: &'static str,
 }
 
-fn put_entry(entry: &LegendEntry, out: &mut String) -> Result<(), AllocError> {
-    fill(
+fn put_entry(entry: &LegendEntry, out: &mut TextBuilder)
+    ensures { KeepsRefusal out.old out.new }
+{
+    out.fill(
         "<li><svg class=\"patch\" viewBox=\"0 0 10 10\"><rect class=\"{}\" width=\"10\" height=\"10\"/></svg>{}</li>",
         &[Piece::Text(entry.class), Piece::Text(entry.text)],
-        out,
-    )
+    );
 }
 
 /// Appends a legend as a list.
-pub(crate) fn put_legend(entries: &[LegendEntry], out: &mut String) -> Result<(), AllocError> {
-    out.push_str("<ul class=\"legend\">")?;
+pub(crate) fn put_legend(entries: &[LegendEntry], out: &mut TextBuilder)
+    ensures { KeepsRefusal out.old out.new }
+{
+    out.push_str("<ul class=\"legend\">");
     for entry in entries {
-        put_entry(entry, out)?;
+        put_entry(entry, out);
     }
-    out.push_str("</ul>\n")
+    out.push_str("</ul>\n");
 }

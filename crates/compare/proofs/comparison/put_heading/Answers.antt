@@ -2,11 +2,11 @@
 use Rattle.std.proofs.Common.{append_assoc}
 use Rattle.std.proofs.lemmas.Result.{IfOk-weaker}
 use Rattle.compare.specs.Comparison.{heading_text}
-use Rattle.compare.proofs.Sheets.{puts_both}
+use Rattle.text_builder.proofs.Texts.{words_both}
 use Rattle.compare.proofs.comparison.put_heading.Goals as goal
 
 pub returns : goal.returns
 unfolding heading_text
 returns c =
-    puts_both (c.put_cell.ensures _ c.format-run.ensures.ok)
+    words_both (c.put_cell.ensures _ c.format-run.ensures.ok)
     (c.put_cell-2.ensures _ (IfOk-weaker c.format-change.result _ _ (λ text is. simp append_assoc is) c.format-change.ensures.ok))

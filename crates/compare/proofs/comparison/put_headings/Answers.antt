@@ -4,7 +4,8 @@ use Rattle.std.specs.List.{flat_map}
 use Rattle.sim_base.specs.History.{below}
 use Rattle.compare.specs.Texts.{cell_text}
 use Rattle.compare.specs.Comparison.{heading_text, headings_text}
-use Rattle.compare.proofs.Sheets.{part_below_more, puts_as, puts_both}
+use Rattle.text_builder.proofs.Texts.{words_as, words_both}
+use Rattle.compare.proofs.Parts.{part_below_more}
 use Rattle.compare.proofs.comparison.put_headings.Goals as goal
 
 pub loop-place-preserved : goal.loop-place-preserved
@@ -14,5 +15,5 @@ pub returns : goal.returns
 unfolding headings_text
 returns c =
     let all : c.loop-place.place ≡ c.args.others = omega arith in
-    puts_as (ap (λ n. (cell_text c.args.layout 12 (codes "run 1") ++ flat_map (λ place. heading_text c.args.layout (place + 2)) (below n)) ++ codes "\n") all)
-    (puts_both c.loop-place.invariant c.push_str.ensures)
+    words_as (ap (λ n. (cell_text c.args.layout 12 (codes "run 1") ++ flat_map (λ place. heading_text c.args.layout (place + 2)) (below n)) ++ codes "\n") all)
+    (words_both c.loop-place.invariant c.push_str.ensures)

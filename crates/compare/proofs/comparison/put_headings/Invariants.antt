@@ -4,8 +4,8 @@ use Rattle.std.specs.List.{flat_map}
 use Rattle.sim_base.specs.History.{below}
 use Rattle.compare.specs.Comparison.{heading_text}
 use Rattle.compare.specs.Texts.{cell_text}
-use Rattle.compare.specs.Sheets.{Puts}
+use Rattle.text_builder.specs.Texts.{PutsWords}
 use Rattle.compare.proofs.comparison.put_headings.Given as goal
 
 abbrev pub invariant-loop-place : goal.invariant-loop-place
-invariant-loop-place l = Puts (cell_text l.layout 12 (codes "run 1") ++ flat_map (λ place. heading_text l.layout (place + 2)) (below l.place)) l.fn.out l.out
+invariant-loop-place l = PutsWords (cell_text l.layout 12 (codes "run 1") ++ flat_map (λ place. heading_text l.layout (place + 2)) (below l.place)) l.fn.out l.out

@@ -5,18 +5,18 @@ use Rattle.std.specs.List.{flat_map}
 use Rattle.sim_base.specs.History.{below}
 use Rattle.compare.specs.Comparison.{name_text, names_text}
 use Rattle.compare.proofs.More.{names_more}
-use Rattle.compare.proofs.Sheets.{puts_as, puts_both}
+use Rattle.text_builder.proofs.Texts.{words_as, words_both}
 use Rattle.compare.proofs.comparison.put_names.Goals as goal
 
 pub loop-place-preserved : goal.loop-place-preserved
 loop-place-preserved c =
     let number_is = sym (append_assoc (codes "run ") (decimal (c.loop-place.place + 1)) (codes ": ")) in
-    puts_as (sym (names_more c.args.names.now c.loop-place.place _ c.loop-place-test.true))
-    (puts_both c.loop-place.invariant (puts_both (puts_both (puts_as number_is c.write.ensures) c.push_str.ensures) c.push_str-in-loop-place.ensures))
+    words_as (sym (names_more c.args.names.now c.loop-place.place _ c.loop-place-test.true))
+    (words_both c.loop-place.invariant (words_both (words_both (words_as number_is c.write.ensures.output) c.push_str.ensures) c.push_str-in-loop-place.ensures))
 
 pub returns : goal.returns
 unfolding names_text
 returns c =
     let all : c.loop-place.place ≡ length c.args.names.now = omega arith in
-    puts_as (ap (λ n. flat_map (λ place. name_text (place + 1) (get_or (map (λ name. name.now) c.args.names.now) place [])) (below n)) (all ∙ sym (length-map c.args.names.now (λ name. name.now))))
+    words_as (ap (λ n. flat_map (λ place. name_text (place + 1) (get_or (map (λ name. name.now) c.args.names.now) place [])) (below n)) (all ∙ sym (length-map c.args.names.now (λ name. name.now))))
     c.loop-place.invariant

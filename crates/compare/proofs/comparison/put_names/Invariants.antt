@@ -3,8 +3,8 @@ use Rattle.std.proofs.Common.{◌+◌, [], get_or, map}
 use Rattle.std.specs.List.{flat_map}
 use Rattle.sim_base.specs.History.{below}
 use Rattle.compare.specs.Comparison.{name_text}
-use Rattle.compare.specs.Sheets.{Puts}
+use Rattle.text_builder.specs.Texts.{PutsWords}
 use Rattle.compare.proofs.comparison.put_names.Given as goal
 
 abbrev pub invariant-loop-place : goal.invariant-loop-place
-invariant-loop-place l = Puts (flat_map (λ place. name_text (place + 1) (get_or (map (λ n. n.now) l.names) place [])) (below l.place)) l.fn.out l.out
+invariant-loop-place l = PutsWords (flat_map (λ place. name_text (place + 1) (get_or (map (λ n. n.now) l.names) place [])) (below l.place)) l.fn.out l.out

@@ -2,11 +2,11 @@
 use Rattle.std.proofs.Common.{ap, ap₂}
 use Rattle.compare.specs.Lines.{beginning_text}
 use Rattle.compare.specs.Texts.{cell_text, label_text, value_text}
-use Rattle.compare.proofs.Sheets.{puts_as, puts_both}
+use Rattle.text_builder.proofs.Texts.{words_as, words_both}
 use Rattle.compare.proofs.lines.put_beginning.Goals as goal
 
 pub returns : goal.returns
 unfolding beginning_text
 returns c =
-    puts_both (puts_as (ap (label_text c.args.layout) c.label_of.ensures) c.put_label.ensures)
-    (puts_as (ap₂ (λ d v. cell_text c.args.layout 12 (value_text c.args.layout d v)) c.decimals_of.ensures c.value_of.ensures.value) (c.put_cell.ensures _ c.value_text-value.ensures))
+    words_both (words_as (ap (label_text c.args.layout) c.label_of.ensures) c.put_label.ensures)
+    (words_as (ap₂ (λ d v. cell_text c.args.layout 12 (value_text c.args.layout d v)) c.decimals_of.ensures c.value_of.ensures.value) (c.put_cell.ensures _ c.value_text-value.ensures))

@@ -2,8 +2,8 @@
 use Rattle.std.proofs.Common.{◌++◌, take}
 use Rattle.std.specs.List.{flat_map}
 use Rattle.compare.specs.Lines.{beginning_text, cells_text}
-use Rattle.compare.specs.Sheets.{Puts}
+use Rattle.text_builder.specs.Texts.{PutsWords}
 use Rattle.compare.proofs.lines.put_line.Given as goal
 
 abbrev pub invariant-loop-run : goal.invariant-loop-run
-invariant-loop-run l = Puts (beginning_text l.layout l.base l.measure ++ flat_map (cells_text l.layout l.base l.measure) (take l.run-index l.others)) l.fn.out l.out
+invariant-loop-run l = PutsWords (beginning_text l.layout l.base l.measure ++ flat_map (cells_text l.layout l.base l.measure) (take l.run-index l.others)) l.fn.out l.out

@@ -3,10 +3,10 @@ use Rattle.std.proofs.Common.{ap, sym, ◌++◌}
 use Rattle.std.specs.Prelude.{codes}
 use Rattle.std.specs.List.{repeat}
 use Rattle.compare.specs.Texts.{label_text}
-use Rattle.compare.proofs.Sheets.{puts_as, puts_both}
+use Rattle.text_builder.proofs.Texts.{words_as, words_both}
 use Rattle.compare.proofs.texts.put_label.Goals as goal
 
 pub returns-in-Screen : goal.returns-in-Screen
 returns-in-Screen c =
-    puts_as (ap (λ layout. label_text layout c.args.label.now) (sym c.in-Screen.is))
-    (puts_as (ap (λ n. c.args.label.now ++ repeat n (codes " ")) c.saturating_sub.ensures) (puts_both c.push_str.ensures (c.push.ensures _ c.repeat.ensures.bytes)))
+    words_as (ap (λ layout. label_text layout c.args.label.now) (sym c.in-Screen.is))
+    (words_as (ap (λ n. c.args.label.now ++ repeat n (codes " ")) c.saturating_sub.ensures) (words_both c.push_str.ensures (c.push.ensures _ c.repeat.ensures.bytes)))

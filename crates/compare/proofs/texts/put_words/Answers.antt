@@ -3,11 +3,11 @@ use Rattle.std.proofs.Common.{ap, sym, ◌++◌}
 use Rattle.std.specs.Prelude.{codes}
 use Rattle.std.specs.List.{repeat}
 use Rattle.compare.specs.Texts.{cell_text}
-use Rattle.compare.proofs.Sheets.{puts_as, puts_both}
+use Rattle.text_builder.proofs.Texts.{words_as, words_both}
 use Rattle.compare.proofs.texts.put_words.Goals as goal
 
 pub returns-in-Screen : goal.returns-in-Screen
 returns-in-Screen c =
-    puts_as (ap (λ layout. cell_text layout c.args.width c.args.text.now) (sym c.in-Screen.is))
-    (puts_as (ap (λ n. codes "  " ++ repeat n (codes " ") ++ c.args.text.now) c.saturating_sub.ensures)
-    (puts_both (puts_both c.push_str.ensures (c.push.ensures _ c.repeat.ensures.bytes)) c.push_str-in-Screen.ensures))
+    words_as (ap (λ layout. cell_text layout c.args.width c.args.text.now) (sym c.in-Screen.is))
+    (words_as (ap (λ n. codes "  " ++ repeat n (codes " ") ++ c.args.text.now) c.saturating_sub.ensures)
+    (words_both (words_both c.push_str.ensures (c.push.ensures _ c.repeat.ensures.bytes)) c.push_str-in-Screen.ensures))

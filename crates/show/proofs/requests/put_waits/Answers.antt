@@ -1,10 +1,11 @@
 -- The head, and the table below it.
 use Rattle.std.proofs.Common.{length, append_assoc, refl}
 use Rattle.show.specs.Requests.{waits_head}
-use Rattle.show.proofs.Texts.{wrote, headed}
+use Rattle.text_builder.proofs.Texts.{words_as}
+use Rattle.show.proofs.Texts.{headed}
 use Rattle.show.proofs.requests.put_waits.Goals as goal
 
 pub returns : goal.returns
 returns c =
     let head = waits_head (length c.args.requests.now) in
-    headed head (wrote head c.write.ensures (simp append_assoc refl)) c.put.ensures
+    headed head (words_as {words = head} (simp append_assoc refl) c.write.ensures.output) c.put.ensures

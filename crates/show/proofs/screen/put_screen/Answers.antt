@@ -1,7 +1,8 @@
 -- The channels, and the cores and the time below them.
 use Rattle.std.proofs.Common.{length}
 use Rattle.show.specs.Screen.{cores_head}
-use Rattle.show.proofs.Texts.{headed_on, puts_both, screen_of}
+use Rattle.text_builder.proofs.Texts.{puts_both}
+use Rattle.show.proofs.Texts.{headed_on, screen_of}
 use Rattle.show.proofs.screen.put_screen.Goals as goal
 
 pub returns : goal.returns

@@ -1,4 +1,4 @@
-use Rattle.show.proofs.Texts.{finished}
+use Rattle.text_builder.proofs.Texts.{finished}
 use Rattle.show.proofs.screen.show_text.Goals as goal
 
 pub returns : goal.returns

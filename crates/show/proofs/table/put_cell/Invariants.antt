@@ -1,5 +1,5 @@
 -- The text that was there has more behind it.
-use Rattle.show.specs.Texts.{Grows}
+use Rattle.text_builder.specs.Texts.{Grows}
 use Rattle.show.proofs.table.put_cell.Given as goal
 
 abbrev pub invariant-loop : goal.invariant-loop

@@ -1,4 +1,4 @@
-use Rattle.show.proofs.Texts.{grows_on}
+use Rattle.text_builder.proofs.Texts.{grows_on}
 use Rattle.show.proofs.table.Table.put_headings.Goals as goal
 
 pub loop-heading-init : goal.loop-heading-init

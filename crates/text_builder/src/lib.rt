@@ -1,0 +1,91 @@
+//! Builds a text part by part, and keeps whether memory was refused for one of them: then there is no text in the end.
+#![tactic(auto)]
+
+pub mod forms;
+
+ghost use Rattle.std.specs.Prelude.{◌≡◌, ◌==◌, ◌||◌, not, List, ℕ, true, false, [], IfOk, string_bytes, string_len};
+ghost use Rattle.text_builder.specs.Texts.{PutsWords, PutsOutput, KeepsRefusal};
+
+use std::alloc::{AllocError, Global};
+use std::fmt::Display;
+
+/// A text that grows. It keeps whether memory was refused for a part of it: then it comes to no end.
+#[derive(Drop)]
+pub struct TextBuilder {
+    alloc: Global,
+    text: String,
+    was_refused: bool,
+}
+
+impl TextBuilder {
+    /// No text yet, whose parts take their memory from here.
+    pub fn new(alloc: Global) -> TextBuilder
+        ensures alloc { result.alloc ≡ alloc }
+        ensures refused { result.was_refused ≡ false }
+        ensures empty { string_bytes result.text ≡ [] }
+    {
+        TextBuilder {
+            alloc,
+            text: String::new(alloc),
+            was_refused: false,
+        }
+    }
+
+    /// Where the memory of its parts comes from.
+    pub fn alloc(&self) -> Global
+        ensures { result ≡ self.now.alloc }
+    {
+        self.alloc
+    }
+
+    /// Whether it has a text, or would have one if memory were not refused.
+    pub fn is_begun(&self) -> bool
+        ensures { result ≡ (self.now.was_refused || not (string_len self.now.text == 0)) }
+    {
+        self.was_refused || !self.text.is_empty()
+    }
+
+    /// Keeps that memory was refused for a part.
+    pub fn refuse(&mut self)
+        ensures { self.new.was_refused ≡ true }
+    {
+        self.was_refused = true;
+    }
+
+    /// Appends words.
+    pub fn push_str(&mut self, words: &str)
+        ensures { PutsWords words.now self.old self.new }
+    {
+        self.was_refused |= self.text.push_str(words).is_err();
+    }
+
+    /// Appends what `write!` is given.
+    pub fn write_fmt<D: Display + Drop>(&mut self, value: D)
+        ensures output { PutsOutput (D.output value) self.old self.new }
+        ensures kept { KeepsRefusal self.old self.new }
+    {
+        self.was_refused |= self.text.write(value).is_err();
+    }
+
+    /// Appends a text, unless memory was refused for it.
+    pub fn push(&mut self, made: Result<String, AllocError>)
+        ensures { (words : List ℕ) → IfOk made (λ text. string_bytes text ≡ words)
+            → PutsWords words self.old self.new }
+    {
+        match made {
+            Ok(words) => self.push_str(words.as_str()),
+            Err(AllocError) => self.refuse(),
+        }
+    }
+
+    /// The whole text, unless memory was refused for a part of it.
+    pub fn finish(self) -> Result<String, AllocError>
+        ensures whole { IfOk result (λ text. self.was_refused ≡ false) }
+        ensures text { IfOk result (λ text. text ≡ self.text) }
+    {
+        if self.was_refused {
+            return Err(AllocError);
+        }
+        Ok(self.text)
+    }
+}
