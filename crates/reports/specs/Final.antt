@@ -33,18 +33,22 @@ final_fields ranks item numbers =
 abbrev pub blank : Numbers
 blank = record { core = None; channel = None; rank = None; group = None; bank = None; entry = None; cycle = None; value = None }
 
+-- a count of a core, or of what it holds for a channel
+abbrev pub core_numbers : ℕ → Option ℕ → ℕ → Numbers
+core_numbers core channel count = record blank { core = Some core; channel = channel; value = Some count }
+
 -- how many entries a core issued and retired
 abbrev pub progress_rows : ℕ → ℕ → LastCore → List (List (List ℕ))
 progress_rows ranks core state =
-    final_fields ranks (codes "issued") (record blank { core = Some core; value = Some state.issued })
-    ∷ final_fields ranks (codes "retired") (record blank { core = Some core; value = Some state.retired })
+    final_fields ranks (codes "issued") (core_numbers core None state.issued)
+    ∷ final_fields ranks (codes "retired") (core_numbers core None state.retired)
     ∷ []
 
 -- the credits that a core holds for a channel
 abbrev pub credit_rows : ℕ → ℕ → ℕ → Credits → List (List (List ℕ))
 credit_rows ranks core channel credits =
-    final_fields ranks (codes "credit_read") (record blank { core = Some core; channel = Some channel; value = Some credits.read })
-    ∷ final_fields ranks (codes "credit_write") (record blank { core = Some core; channel = Some channel; value = Some credits.write })
+    final_fields ranks (codes "credit_read") (core_numbers core (Some channel) credits.read)
+    ∷ final_fields ranks (codes "credit_write") (core_numbers core (Some channel) credits.write)
     ∷ []
 
 -- the credits that a core holds, by channel

@@ -2,7 +2,7 @@
 
 ghost use Rattle.std.specs.Prelude.{◌≡◌, ◌<◌, ◌≤◌, length, drop, map, Some, IfErr};
 ghost use Rattle.reports.specs.Rows.{fields_text, row_text, rows_text, numbered, IsReportFault, WritesOnOk};
-ghost use Rattle.reports.specs.Final.{final_header, final_fields, progress_rows, credit_rows, credits_of_core, due_rows, open_numbers, open_fields, queued_item, queued_numbers, queued_fields, channel_rows, flight_item, flight_entry, core_of_link, channel_of_link, flight_numbers, flight_fields, final_text};
+ghost use Rattle.reports.specs.Final.{final_header, final_fields, core_numbers, progress_rows, credit_rows, credits_of_core, due_rows, open_numbers, open_fields, queued_item, queued_numbers, queued_fields, channel_rows, flight_item, flight_entry, core_of_link, channel_of_link, flight_numbers, flight_fields, final_text};
 ghost use Rattle.reports.specs.Tables.{AddsRows};
 
 use crate::line::{Line, put, put_last, put_rank, put_word};
@@ -81,6 +81,17 @@ fn write_numbers<W: Write>(
     table.write_row(start, writer);
 }
 
+fn numbers_of_core(core: u64, channel: Option<u64>, count: u64) -> Numbers
+    ensures { result ≡ core_numbers core channel count }
+{
+    Numbers {
+        core: Some(core),
+        channel,
+        value: Some(count),
+        ..BLANK
+    }
+}
+
 fn write_progress<W: Write>(
     table: &mut Table,
     ranks: u32,
@@ -91,16 +102,8 @@ fn write_progress<W: Write>(
     ensures { AddsRows W.contents writer.old table.old writer.new table.new
         (rows_text (progress_rows ranks core state.now)) }
 {
-    let issued = Numbers {
-        core: Some(core),
-        value: Some(state.issued),
-        ..BLANK
-    };
-    let retired = Numbers {
-        core: Some(core),
-        value: Some(state.retired),
-        ..BLANK
-    };
+    let issued = numbers_of_core(core, None, state.issued);
+    let retired = numbers_of_core(core, None, state.retired);
     write_numbers(table, ranks, b"issued", &issued, writer);
     write_numbers(table, ranks, b"retired", &retired, writer);
 }
@@ -136,18 +139,8 @@ fn write_credits<W: Write>(
     ensures { AddsRows W.contents writer.old table.old writer.new table.new
         (rows_text (credit_rows ranks pair.core pair.channel credits)) }
 {
-    let of_reads = Numbers {
-        core: Some(pair.core),
-        channel: Some(pair.channel),
-        value: Some(credits.read),
-        ..BLANK
-    };
-    let of_writes = Numbers {
-        core: Some(pair.core),
-        channel: Some(pair.channel),
-        value: Some(credits.write),
-        ..BLANK
-    };
+    let of_reads = numbers_of_core(pair.core, Some(pair.channel), credits.read);
+    let of_writes = numbers_of_core(pair.core, Some(pair.channel), credits.write);
     write_numbers(table, ranks, b"credit_read", &of_reads, writer);
     write_numbers(table, ranks, b"credit_write", &of_writes, writer);
 }

@@ -109,7 +109,7 @@ fn texts_of<R: Threads + Sync, P: Sync, T: TableLines<P> + Sync>(
         .par_iter()
         .with_min_len(1)
         .map(
-            |piece: &P| -> Result<Vec<u8>, Fault>
+            move |piece: &P| -> Result<Vec<u8>, Fault>
                 ensures { IsTextOf (T.lines of.entry.now piece.now) result }
             { text_of(alloc, of, piece) },
         )
@@ -154,7 +154,7 @@ fn write_round<R: Threads + Sync, P: Sync, T: TableLines<P> + Sync, W: Write>(
 {
     let rt = threads.rt;
     let alloc = threads.alloc;
-    let mut put_together = || -> Result<Vec<Vec<u8>>, Fault> { texts_of(rt, alloc, of, next) };
+    let mut put_together = move || -> Result<Vec<Vec<u8>>, Fault> { texts_of(rt, alloc, of, next) };
     let mut write = || -> Result<(), Fault> { write_texts(texts, writer) };
     let (found, written) = join_mut(rt, &mut put_together, &mut write);
     written?;

@@ -20,7 +20,8 @@ fn breaks_distance(table: &[Rule], channel: &Channel, row: IssuedCommand, number
 {
     let kind = row.command.kind();
     let around = around_command(channel, row.command);
-    table.iter().any(|rule| rule.number == number && is_ahead_by(around, rule, kind, row.cycle))
+    table.iter().any(move |rule| rule.number == number
+        && is_ahead_by(around, rule, kind, row.cycle))
 }
 
 fn breaks_window(channel: &Channel, row: IssuedCommand) -> bool
@@ -39,7 +40,7 @@ fn is_overdue(ranks: &[Rank], now: u64, rank: u32) -> bool
 fn has_overdue(ranks: &[Rank], count: u32, now: u64) -> bool
     ensures { result ≡ list_any (kept_overdue ranks.now now) (below count) }
 {
-    (0..count).any(|rank| is_overdue(ranks, now, rank))
+    (0..count).any(move |rank| is_overdue(ranks, now, rank))
 }
 
 fn breaks_refresh(config: &Config, channel: &Channel, row: IssuedCommand) -> bool
@@ -60,17 +61,27 @@ fn is_open(banks: &[Bank], bank: BankId) -> bool
     kept_row(banks, bank).is_some()
 }
 
+fn is_open_at(banks: &[Bank], rank: u32, group: u32, bank: u32) -> bool
+    ensures { result ≡ is_some (kept_row banks.now
+        (record { rank = rank; group = group; bank = bank })) }
+{
+    is_open(banks, BankId { rank, group, bank })
+}
+
 fn has_open_in_group(banks: &[Bank], rank: u32, group: u32) -> bool
     ensures { result ≡ has_kept_open_in_group banks.now rank group }
 {
-    (0..4).any(|bank| is_open(banks, BankId { rank, group, bank }))
+    is_open_at(banks, rank, group, 0)
+        || is_open_at(banks, rank, group, 1)
+        || is_open_at(banks, rank, group, 2)
+        || is_open_at(banks, rank, group, 3)
 }
 
 #[tactic(auto, unfolding(crate::specs::Kept::has_kept_open))]
 fn has_open(config: &Config, banks: &[Bank], rank: u32) -> bool
     ensures { result ≡ has_kept_open config.now banks.now rank }
 {
-    (0..config.groups).any(|group| has_open_in_group(banks, rank, group))
+    (0..config.groups).any(move |group| has_open_in_group(banks, rank, group))
 }
 
 fn finds_banks(config: &Config, banks: &[Bank], command: Command) -> bool
@@ -95,7 +106,7 @@ fn comes_too_soon(table: &[Rule], channel: &Channel, row: IssuedCommand) -> bool
     let around = around_command(channel, row.command);
     table
         .iter()
-        .any(|rule| is_ahead_by(around, rule, kind, row.cycle))
+        .any(move |rule| is_ahead_by(around, rule, kind, row.cycle))
 }
 
 /// Whether a row keeps every rule of its channel: one pass over the rules, which does not tell the number of a broken

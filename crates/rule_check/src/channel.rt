@@ -1,6 +1,6 @@
 //! How one more row changes what is kept of a channel.
 
-ghost use Rattle.std.specs.Prelude.{ℕ, ◌≡◌, ◌+◌, ◌*◌, ◌/◌, ◌%◌, ◌<◌, ◌≤◌, ◌&&◌, ◌==◌, ◌++◌, ◌∷◌, [], List, Some, IfSome, IfOk, length, slice_index_or};
+ghost use Rattle.std.specs.Prelude.{ℕ, ◌≡◌, ◌+◌, ◌*◌, ◌/◌, ◌%◌, ◌<◌, ◌≤◌, ◌^◌, max, ◌&&◌, ◌==◌, ◌++◌, ◌∷◌, [], List, Some, IfSome, IfOk, length, slice_index_or};
 ghost use Rattle.sim_base.specs.declared.config.Config.{Config};
 ghost use Rattle.sim_base.specs.declared.command.IssuedCommand.{IssuedCommand};
 ghost use Rattle.sim_base.specs.Rules.{bank_of};
@@ -168,12 +168,20 @@ fn note_in_ranks(t: &Timing, ranks: &mut [Rank], command: Command, cycle: u64)
     }
 }
 
+// The longest time from an ACT, a RD or a WR until its bank may be closed.
+fn least_open(t: &Timing) -> u64
+    ensures value { result ≡ max t.now.n_ras (max t.now.n_rtp (t.now.n_cwl + 4 + t.now.n_wr)) }
+    ensures small { result < 2 ^ 34 }
+{
+    let write = u64::from(t.n_cwl) + 4 + u64::from(t.n_wr);
+    u64::from(t.n_ras).max(u64::from(t.n_rtp).max(write))
+}
+
 fn first_deadline(config: &Config) -> u64
     ensures { result ≡ first_deadline config.now }
 {
     let t = &config.timing;
-    let write = u64::from(t.n_cwl) + 4 + u64::from(t.n_wr);
-    let open = u64::from(t.n_ras).max(u64::from(t.n_rtp).max(write));
+    let open = least_open(t);
     let others = u64::from(config.ranks - 1) * (u64::from(t.n_rp) + 1);
     u64::from(t.n_refi) + (open + u64::from(t.n_rp) + others)
 }

@@ -5,6 +5,7 @@ ghost use Rattle.std.specs.Str.{bytes_eq};
 ghost use Rattle.csv.specs.Records.{fields_of};
 ghost use Rattle.rule_check.specs.Fields.{limits_of, column_count, text_at, operand, is_header, rank_is_named, operands_are_named, is_empty, rank_in, bank_in, source_in, act_in, access_in, pre_in, has_no_operands, whole_rank_in, command_in, row_in};
 ghost use Rattle.rule_check.specs.Fields.{BankFits, CommandFits, RowFits};
+ghost use Rattle.rule_check.specs.Numbers.{number_below};
 
 use crate::limits::Limits;
 use crate::numbers::{NUMBER_LIMIT, number_below, small_number};
@@ -73,6 +74,31 @@ fn is_word(text: &[u8], word: &[u8]) -> bool
     text == word
 }
 
+// Whether a field after that of the rank has this text.
+fn is_named(ranks: u32, fields: &ByteRecord, k: usize, word: &[u8]) -> bool
+    requires { k < 6 }
+    ensures { result ≡ bytes_eq (operand ranks (fields_of fields.now) k) word.now }
+{
+    is_word(operand(ranks, fields, k), word)
+}
+
+// Whether a field after that of the rank is empty.
+fn is_blank(ranks: u32, fields: &ByteRecord, k: usize) -> bool
+    requires { k < 6 }
+    ensures { result ≡ is_empty (operand ranks (fields_of fields.now) k) }
+{
+    operand(ranks, fields, k).is_empty()
+}
+
+// The number in a field after that of the rank, if it has one below a limit.
+fn number_in(ranks: u32, fields: &ByteRecord, k: usize, limit: u32) -> Option<u32>
+    requires { k < 6 }
+    ensures value { result ≡ number_below limit (operand ranks (fields_of fields.now) k) }
+    ensures below { IfSome result (λ n. n < limit) }
+{
+    small_number(limit, operand(ranks, fields, k))
+}
+
 fn column_count(ranks: u32) -> usize
     ensures { result ≡ column_count ranks }
 {
@@ -93,12 +119,12 @@ fn is_rank_named(ranks: u32, fields: &ByteRecord) -> bool
 fn are_operands_named(ranks: u32, fields: &ByteRecord) -> bool
     ensures { result ≡ operands_are_named ranks (fields_of fields.now) }
 {
-    is_word(operand(ranks, fields, GROUP), b"group")
-        && is_word(operand(ranks, fields, BANK), b"bank")
-        && is_word(operand(ranks, fields, ROW), b"row")
-        && is_word(operand(ranks, fields, COLUMN), b"column")
-        && is_word(operand(ranks, fields, CORE), b"core")
-        && is_word(operand(ranks, fields, ENTRY), b"entry")
+    is_named(ranks, fields, GROUP, b"group")
+        && is_named(ranks, fields, BANK, b"bank")
+        && is_named(ranks, fields, ROW, b"row")
+        && is_named(ranks, fields, COLUMN, b"column")
+        && is_named(ranks, fields, CORE, b"core")
+        && is_named(ranks, fields, ENTRY, b"entry")
 }
 
 /// Whether a record has the names of the columns of a table of so many ranks, and nothing else.
@@ -131,20 +157,28 @@ fn bank_in(limits: Limits, fields: &ByteRecord) -> Option<BankId>
     ensures value { result ≡ bank_in limits (fields_of fields.now) }
     ensures fits { IfSome result (BankFits limits) }
 {
-    let rank = rank_in(limits, fields)?;
-    let group = small_number(limits.groups, operand(limits.ranks, fields, GROUP))?;
-    let bank = small_number(4, operand(limits.ranks, fields, BANK))?;
-    Some(BankId { rank, group, bank })
+    let rank = rank_in(limits, fields);
+    let group = number_in(limits.ranks, fields, GROUP, limits.groups);
+    let bank = number_in(limits.ranks, fields, BANK, 4);
+    match (rank, group, bank) {
+        (Some(rank), Some(group), Some(bank)) => Some(BankId { rank, group, bank }),
+        _ => None,
+    }
 }
 
 #[tactic(auto, unfolding(crate::specs::Fields::source_in))]
 fn source_in(limits: Limits, fields: &ByteRecord) -> Option<Source>
     ensures { result ≡ source_in limits (fields_of fields.now) }
 {
-    let core = number_below(u64::from(limits.cores), operand(limits.ranks, fields, CORE))?;
-    let entry = number_below(NUMBER_LIMIT, operand(limits.ranks, fields, ENTRY))?;
-    let core = core as u16;
-    Some(Source { core, entry })
+    let core = number_in(limits.ranks, fields, CORE, u32::from(limits.cores));
+    let entry = number_below(NUMBER_LIMIT, operand(limits.ranks, fields, ENTRY));
+    match (core, entry) {
+        (Some(core), Some(entry)) => Some(Source {
+            core: core as u16,
+            entry,
+        }),
+        _ => None,
+    }
 }
 
 #[tactic(auto, unfolding(crate::specs::Fields::act_in))]
@@ -152,13 +186,14 @@ fn act_in(limits: Limits, fields: &ByteRecord) -> Option<Command>
     ensures value { result ≡ act_in limits (fields_of fields.now) }
     ensures fits { IfSome result (CommandFits limits) }
 {
-    let bank = bank_in(limits, fields)?;
-    let row = small_number(limits.rows, operand(limits.ranks, fields, ROW))?;
-    let source = source_in(limits, fields)?;
-    if operand(limits.ranks, fields, COLUMN).is_empty() {
-        Some(Command::Act { bank, row, source })
-    } else {
-        None
+    let bank = bank_in(limits, fields);
+    let row = number_in(limits.ranks, fields, ROW, limits.rows);
+    let source = source_in(limits, fields);
+    match (bank, row, source) {
+        (Some(bank), Some(row), Some(source)) if is_blank(limits.ranks, fields, COLUMN) => {
+            Some(Command::Act { bank, row, source })
+        }
+        _ => None,
     }
 }
 
@@ -168,10 +203,13 @@ fn access_in(limits: Limits, fields: &ByteRecord, access: Access) -> Option<Comm
     ensures value { result ≡ access_in limits (fields_of fields.now) access }
     ensures fits { IfSome result (CommandFits limits) }
 {
-    let bank = bank_in(limits, fields)?;
-    let row = small_number(limits.rows, operand(limits.ranks, fields, ROW))?;
-    let column = small_number(limits.columns, operand(limits.ranks, fields, COLUMN))?;
-    let source = source_in(limits, fields)?;
+    let bank = bank_in(limits, fields);
+    let row = number_in(limits.ranks, fields, ROW, limits.rows);
+    let column = number_in(limits.ranks, fields, COLUMN, limits.columns);
+    let source = source_in(limits, fields);
+    let (Some(bank), Some(row), Some(column), Some(source)) = (bank, row, column, source) else {
+        return None;
+    };
     match access {
         Access::Read => Some(Command::Rd {
             bank,
@@ -193,14 +231,12 @@ fn pre_in(limits: Limits, fields: &ByteRecord) -> Option<Command>
     ensures value { result ≡ pre_in limits (fields_of fields.now) }
     ensures fits { IfSome result (CommandFits limits) }
 {
-    let bank = bank_in(limits, fields)?;
-    let source = source_in(limits, fields)?;
-    if operand(limits.ranks, fields, ROW).is_empty()
-        && operand(limits.ranks, fields, COLUMN).is_empty()
-    {
-        Some(Command::Pre { bank, source })
-    } else {
-        None
+    if !is_blank(limits.ranks, fields, ROW) || !is_blank(limits.ranks, fields, COLUMN) {
+        return None;
+    }
+    match (bank_in(limits, fields), source_in(limits, fields)) {
+        (Some(bank), Some(source)) => Some(Command::Pre { bank, source }),
+        _ => None,
     }
 }
 
@@ -208,12 +244,12 @@ fn pre_in(limits: Limits, fields: &ByteRecord) -> Option<Command>
 fn has_no_operands(ranks: u32, fields: &ByteRecord) -> bool
     ensures { result ≡ has_no_operands ranks (fields_of fields.now) }
 {
-    operand(ranks, fields, GROUP).is_empty()
-        && operand(ranks, fields, BANK).is_empty()
-        && operand(ranks, fields, ROW).is_empty()
-        && operand(ranks, fields, COLUMN).is_empty()
-        && operand(ranks, fields, CORE).is_empty()
-        && operand(ranks, fields, ENTRY).is_empty()
+    is_blank(ranks, fields, GROUP)
+        && is_blank(ranks, fields, BANK)
+        && is_blank(ranks, fields, ROW)
+        && is_blank(ranks, fields, COLUMN)
+        && is_blank(ranks, fields, CORE)
+        && is_blank(ranks, fields, ENTRY)
 }
 
 // The REF or the PREA that a record writes.
@@ -222,13 +258,13 @@ fn whole_rank_in(limits: Limits, fields: &ByteRecord, refreshes: bool) -> Option
     ensures value { result ≡ whole_rank_in limits (fields_of fields.now) refreshes }
     ensures fits { IfSome result (CommandFits limits) }
 {
-    let rank = rank_in(limits, fields)?;
-    if !has_no_operands(limits.ranks, fields) {
-        None
-    } else if refreshes {
-        Some(Command::Ref { rank })
-    } else {
-        Some(Command::Prea { rank })
+    match rank_in(limits, fields) {
+        Some(rank) if has_no_operands(limits.ranks, fields) => Some(if refreshes {
+            Command::Ref { rank }
+        } else {
+            Command::Prea { rank }
+        }),
+        _ => None,
     }
 }
 
@@ -265,12 +301,15 @@ pub fn row_in(limits: Limits, fields: &ByteRecord) -> Option<IssuedCommand>
     if fields.len() != column_count(limits.ranks) {
         return None;
     }
-    let cycle = number_below(NUMBER_LIMIT, text_at(fields, 0))?;
-    let channel = small_number(u32::from(limits.channels), text_at(fields, 1))?;
-    let command = command_in(limits, fields)?;
-    Some(IssuedCommand {
-        cycle,
-        channel,
-        command,
-    })
+    let cycle = number_below(NUMBER_LIMIT, text_at(fields, 0));
+    let channel = small_number(u32::from(limits.channels), text_at(fields, 1));
+    let command = command_in(limits, fields);
+    match (cycle, channel, command) {
+        (Some(cycle), Some(channel), Some(command)) => Some(IssuedCommand {
+            cycle,
+            channel,
+            command,
+        }),
+        _ => None,
+    }
 }

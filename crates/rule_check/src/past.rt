@@ -79,7 +79,7 @@ fn breaks(
 fn lowest_by(config: &Config, table: &[Rule], before: &Before<'_>, row: IssuedCommand) -> Option<u8>
     ensures { result ≡ lowest_by config.now table.now before.now.last before.now.channel.now row }
 {
-    (1u8..22).find(|number| breaks(config, table, before, row, u32::from(*number)))
+    (1u8..22).find(move |number| breaks(config, table, before, row, u32::from(*number)))
 }
 
 // Most rows break no rule, which takes only one pass to find out.
