@@ -1,6 +1,7 @@
 -- Counters of the requests for some lines, or for some rows.
-use Rattle.std.proofs.Common.{◌≡◌, ℕ, ◌+◌, ◌<◌, ◌≤◌, Bool, true, false, cond, eqb, ◌||◌, List, [], ◌∷◌, ◌++◌, length, get_or, set, ◌-◌, refl, sym, ap, ◌∙◌, inl, inr, arith}
-use Rattle.std.proofs.lemmas.Bool.{cases_Bool, eq-eqb, eqb-true, eqb-false}
+use Rattle.std.proofs.Common.{◌≡◌, ℕ, suc, ◌+◌, ◌<◌, ◌≤◌, Bool, true, false, cond, eqb, ◌||◌, ◌&&◌, ◌==◌, List, [], ◌∷◌, ◌++◌, length, get_or, set, ◌-◌, refl, sym, ap, ◌∙◌, inl, inr, arith}
+use Rattle.std.proofs.lemmas.Bool.{cases_Bool, eq-eqb, eqb-true, eqb-false, and_from, false≢true}
+use Rattle.std.specs.Prelude.{All}
 use Rattle.std.proofs.lemmas.List.{length-set, get_or-set_same, get_or-set_other}
 use Rattle.std.proofs.lemmas.List.Sums.{sum_by-cons, sum_by_push, sum_by-remove, count_by-le-length, length-filter}
 use Rattle.std.proofs.lemmas.List.{length-map}
@@ -9,11 +10,15 @@ use mir.Val.{bool_byte}
 use Rattle.std.specs.List.{list_any, remove, zip}
 use Rattle.sim_base.specs.Places.{is_line}
 use Rattle.sim_base.specs.Scheduling.{asks_for_line}
+use Rattle.sim_base.specs.Access.{is_access}
+use Rattle.sim_base.proofs.Accesses.{is_access-own}
+use Rattle.sim_base.specs.declared.message.Access.{Access}
+use Rattle.sim_base.specs.declared.message.Access.TheVariants as access
 use Rattle.sim_base.specs.declared.message.Request.{Request}
 use Rattle.sim_base.specs.declared.place.Place.{Place}
 use Rattle.queue.specs.declared.request_log.Arrived.{Arrived}
 use Rattle.queue.specs.Log.{arrived_now, waiting, waiting_requests, eligible_column}
-use Rattle.queue.specs.Columns.{line_slot, slot_of_line, slot_count, AreCounted, is_blocked, blocked_count}
+use Rattle.queue.specs.Columns.{line_slot, slot_of_line, slot_count, AreCounted, is_blocked, blocked_count, bank_number, asks_for_row}
 use Rattle.queue.proofs.SameLine.{line_same}
 use Rattle.queue.proofs.Waiting.{waiting_append, waiting_one}
 use Rattle.queue.proofs.Eligible.{length-eligible}
@@ -116,3 +121,38 @@ blocked_few log = omega (arith, count_by-le-length is_blocked (zip log (eligible
 pub byte_is : (b : Bool) → bool_byte b ≡ cond b 1 0
 byte_is true = refl
 byte_is false = refl
+
+-- a request for a line asks for its row
+asks_its_row : (place : Place) (r : Request) → is_line r.place place ≡ true → asks_for_row (bank_number place) r.access place.row r ≡ true
+asks_its_row place r same =
+    let place_is : r.place ≡ place = line_same r.place place same in
+    let bank = bank_number r.place == bank_number place in
+    and_from (bank && is_access r.access r.access) (r.place.row == place.row)
+    (and_from bank (is_access r.access r.access) (eq-eqb (bank_number r.place) (bank_number place) (ap bank_number place_is)) (is_access-own r.access))
+    (eq-eqb r.place.row place.row (ap (λ (p : Place). p.row) place_is))
+
+-- a request for a line asks for none of its rows, to read or to write: there is none
+neither : (place : Place) (r : Request) (w : Access) → r.access ≡ w → asks_for_row (bank_number place) access.Read place.row r ≡ false
+    → asks_for_row (bank_number place) access.Write place.row r ≡ false → is_line r.place place ≡ false
+neither place r w access_is no_read no_write = elim (cases_Bool (is_line r.place place)) [
+  | inl same ↦ absurd (of_kind w (ap (λ a. asks_for_row (bank_number place) a place.row r) (sym access_is) ∙ asks_its_row place r same))
+  | inr apart ↦ apart
+]
+  where
+    of_kind : (a : Access) → asks_for_row (bank_number place) a place.row r ≡ true → ⊥
+    of_kind access.Read asks = false≢true (sym no_read ∙ asks)
+    of_kind access.Write asks = false≢true (sym no_write ∙ asks)
+
+none_of_line : (place : Place) (rs : List Request) → All (λ r. asks_for_row (bank_number place) access.Read place.row r ≡ false) rs
+    → All (λ r. asks_for_row (bank_number place) access.Write place.row r ≡ false) rs → list_any (λ q. is_line q.place place) rs ≡ false
+none_of_line place [] no_read no_write = refl
+none_of_line place (r ∷ rs) no_read no_write =
+    let first : 0 < length (r ∷ rs) = omega arith in
+    ap (λ b. b || list_any (λ (q : Request). is_line q.place place) rs) (neither place r r.access refl (no_read 0 r first) (no_write 0 r first))
+    ∙ none_of_line place rs (λ k d below. no_read (suc k) d (omega (arith, below))) (λ k d below. no_write (suc k) d (omega (arith, below)))
+
+-- where no request asks for the row of a place, to read or to write, none asks for its line
+pub no_row_no_line : (place : Place) (rs : List Request) → All (λ r. asks_for_row (bank_number place) access.Read place.row r ≡ false) rs
+    → All (λ r. asks_for_row (bank_number place) access.Write place.row r ≡ false) rs → asks_for_line place rs ≡ false
+unfolding asks_for_line
+no_row_no_line place rs no_read no_write = none_of_line place rs no_read no_write

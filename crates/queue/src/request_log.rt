@@ -7,9 +7,10 @@ pub mod words;
 ghost use Rattle.std.specs.Prelude.{◌≡◌, ◌^◌, ◌+◌, ◌-◌, ◌<◌, ◌≤◌, length, vec_capacity};
 ghost use Rattle.queue.specs.Columns.{bank_number, tag_word, slot_of_row, waiting_items};
 
-use crate::request_log::lines::{counters, is_line_asked, next_for_line};
+use crate::request_log::lines::{counters, next_for_line};
 use crate::request_log::words::{LEFT, bank_number, line_slot, row_slot, tag_word};
 use sim_base::message::{Access, Request};
+use sim_base::place::Place;
 use std::alloc::{AllocError, Global};
 use std::marker::Model;
 
@@ -97,6 +98,7 @@ impl RequestLog {
     ghost use Rattle.std.specs.Prelude.{true, false, [], IfOk, IfSome};
     ghost use Rattle.queue.specs.Log.{waiting, waiting_requests, with_arrival, served_at, activated_at, waits_at, eligible_column};
     ghost use Rattle.queue.specs.Log.{is_eligible_at, marks_once_served};
+    ghost use Rattle.sim_base.specs.Scheduling.{asks_for_line};
     ghost use Rattle.queue.specs.Columns.{tag_column, NoneAsksForRow};
 
     /// No requests, with places for so many of them, of which at most `room` wait at a time. Only this call allocates
@@ -165,6 +167,26 @@ impl RequestLog {
         self.rows[row_slot(bank, access, row, self.row_mask)] != 0
     }
 
+    /// Whether some request that waits may ask for the line of a place: false only where none does.
+    #[inline(always)]
+    fn may_ask_for_line(&self, place: Place) -> bool
+        ensures { result ≡ false → asks_for_line place (waiting_requests self.now.log) ≡ false }
+    {
+        let bank = bank_number(place);
+        self.lines[line_slot(place, self.mask)] != 0
+            && (self.may_ask(bank, Access::Read, place.row)
+                || self.may_ask(bank, Access::Write, place.row))
+    }
+
+    /// Whether a request that waits asks for the line of a place. The oldest that does may be served.
+    #[inline(always)]
+    fn is_line_asked(&self, place: Place) -> bool
+        ensures { result ≡ asks_for_line place (waiting_requests self.now.log) }
+    {
+        self.may_ask_for_line(place)
+            && next_for_line(true, place, 0, &self.log, &self.tags).is_some()
+    }
+
     /// How many places are left.
     #[inline(always)]
     pub fn free(&self) -> usize
@@ -179,9 +201,9 @@ impl RequestLog {
         requires { length self.old.log < self.old.places }
         ensures { self.new ≡ record self.old { log = with_arrival self.old.log request } }
     {
+        let asked = self.is_line_asked(request.place);
         let line = line_slot(request.place, self.mask);
         let alike = self.lines[line];
-        let asked = is_line_asked(request.place, alike, &self.log, &self.tags);
         self.tags.push_reserved(tag_of(!asked, request));
         self.log.push_reserved(Arrived {
             request,

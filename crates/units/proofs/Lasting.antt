@@ -1,5 +1,7 @@
 -- When a run is over, as its units and links show it, and how long it is surely not.
 use Rattle.std.proofs.Common.{◌≡◌, ℕ, suc, ◌+◌, ◌-◌, ◌*◌, ◌/◌, ◌%◌, ◌<◌, ◌≤◌, Bool, true, false, min, List, [], length, get_or, Option, Some, ◌⊎◌, inl, inr, refl, sym, ap, subst, ◌∙◌, arith}
+use Rattle.std.specs.declared.boxed.Box.{Box}
+use Rattle.std.specs.declared.alloc.Global.{Global}
 use Rattle.std.specs.Prelude.{Any}
 use Rattle.std.proofs.lemmas.Bool.{cases_lt}
 use Rattle.std.proofs.lemmas.Grind.{div_ceil_times}
@@ -36,10 +38,10 @@ pub record IsCorePlace (s : Config) (traces : List (List Entry)) (now place : �
   pub below : place < s.cores
   pub stands : IsCoreAt s traces place now (view_of c)
 
-pub core-place : (machine : Machine) (now place : ℕ) (c : Core) → IsPart machine (unit_at machine.config place) now (part.Core c) → IsCorePlace machine.config machine.traces.items now place c
+pub core-place : (machine : Machine) (now place : ℕ) (c : Box Core Global) → IsPart machine (unit_at machine.config place) now (part.Core c) → IsCorePlace machine.config machine.traces.items now place c.value
 core-place machine now place c h = go (cases_lt place machine.config.cores)
   where
-    go : (place < machine.config.cores) ⊎ (machine.config.cores ≤ place) → IsCorePlace machine.config machine.traces.items now place c
+    go : (place < machine.config.cores) ⊎ (machine.config.cores ≤ place) → IsCorePlace machine.config machine.traces.items now place c.value
     go (inl l) = record { below = l; stands = subst (λ u. IsPart machine u now (part.Core c)) (core-at_place machine.config place l) h }
     go (inr l) =
         let e : place ≡ machine.config.cores + (place - machine.config.cores) = omega arith in
@@ -52,11 +54,11 @@ pub record IsChannelPlace (s : Config) (traces : List (List Entry)) (now place :
   pub is : place ≡ s.cores + channel
   pub stands : IsChannelAt s traces channel now c
 
-pub channel-place : (machine : Machine) (now place : ℕ) (c : Channel) (rows : Option (List IssuedCommand)) → IsPart machine (unit_at machine.config place) now (part.Channel c rows)
-    → IsChannelPlace machine.config machine.traces.items now place c
+pub channel-place : (machine : Machine) (now place : ℕ) (c : Box Channel Global) (rows : Option (List IssuedCommand)) → IsPart machine (unit_at machine.config place) now (part.Channel c rows)
+    → IsChannelPlace machine.config machine.traces.items now place c.value
 channel-place machine now place c rows h = go (cases_lt place machine.config.cores)
   where
-    go : (place < machine.config.cores) ⊎ (machine.config.cores ≤ place) → IsChannelPlace machine.config machine.traces.items now place c
+    go : (place < machine.config.cores) ⊎ (machine.config.cores ≤ place) → IsChannelPlace machine.config machine.traces.items now place c.value
     go (inl l) = let wrong : ⊥ = subst (λ u. IsPart machine u now (part.Channel c rows)) (core-at_place machine.config place l) h in absurd wrong
     go (inr l) =
         let e : place ≡ machine.config.cores + (place - machine.config.cores) = omega arith in

@@ -1,5 +1,7 @@
 -- What a unit tells of itself when it is asked.
 use Rattle.std.proofs.Common.{◌≡◌, ℕ, ◌+◌, ◌-◌, Bool, true, false, List, ◌++◌, length, replicate, Option, Some, None, is_some, sym, ap, subst, ◌∙◌, arith}
+use Rattle.std.specs.declared.boxed.Box.{Box}
+use Rattle.std.specs.declared.alloc.Global.{Global}
 use Rattle.std.proofs.lemmas.Bool.{false≢true}
 use Rattle.std.proofs.lemmas.List.{append-nil}
 use Rattle.sim_base.specs.declared.config.Config.{Config}
@@ -61,18 +63,18 @@ channel-next_act machine channel from next = go next
         }
 
 -- a core of a simulator may be asked
-pub core-may_rest : (machine : Machine) (u : MachineUnit) (c : Core) (now : ℕ) → IsPart machine u now (part.Core c) → MayRest (view_of c)
+pub core-may_rest : (machine : Machine) (u : MachineUnit) (c : Box Core Global) (now : ℕ) → IsPart machine u now (part.Core c) → MayRest (view_of c.value)
 core-may_rest machine (unit.Core core) c now h =
     record { s = machine.config; core = core; trace = trace_of machine.traces.items core; steps = core_steps_of machine.config machine.traces.items now core; mail = mail_before machine.config machine.traces.items now (unit.Core core) now; stands = h }
 core-may_rest machine (unit.Channel channel) c now h = absurd h
 
-pub core-cycle : (machine : Machine) (u : MachineUnit) (c : Core) (now : ℕ) → IsPart machine u now (part.Core c) → c.cycle ≡ now
+pub core-cycle : (machine : Machine) (u : MachineUnit) (c : Box Core Global) (now : ℕ) → IsPart machine u now (part.Core c) → c.value.cycle ≡ now
 core-cycle machine (unit.Core core) c now h = h.now ∙ length-core_steps_of machine.config machine.traces.items now core
 core-cycle machine (unit.Channel channel) c now h = absurd h
 
 -- a channel of a simulator may be asked
-pub channel-stands_at : (machine : Machine) (u : MachineUnit) (c : Channel) (rows : Option (List IssuedCommand)) (now : ℕ) → IsPart machine u now (part.Channel c rows)
-    → StandsAt c now
+pub channel-stands_at : (machine : Machine) (u : MachineUnit) (c : Box Channel Global) (rows : Option (List IssuedCommand)) (now : ℕ) → IsPart machine u now (part.Channel c rows)
+    → StandsAt c.value now
 channel-stands_at machine (unit.Channel channel) c rows now h =
     record {
       s = machine.config;
@@ -90,8 +92,8 @@ ChannelTells c now next =
     (s : Config) (channel : ℕ) (rows : List (Option Command)) (mail : List Message) → ChannelStandsFor c s channel rows mail → length rows ≡ now
     → IsFirstCycle (λ cycle. is_some (choice s channel (rows ++ replicate (cycle - now) None) mail)) now next
 
-pub channel-tells : (machine : Machine) (u : MachineUnit) (c : Channel) (rows : Option (List IssuedCommand)) (now : ℕ) (next : Option ℕ)
-    → IsPart machine u now (part.Channel c rows) → ChannelTells c now next → IsNextActOf machine u now next
+pub channel-tells : (machine : Machine) (u : MachineUnit) (c : Box Channel Global) (rows : Option (List IssuedCommand)) (now : ℕ) (next : Option ℕ)
+    → IsPart machine u now (part.Channel c rows) → ChannelTells c.value now next → IsNextActOf machine u now next
 channel-tells machine (unit.Channel channel) c rows now next h tells =
     channel-next_act machine channel now next
     (tells machine.config channel (channel_steps_of machine.config machine.traces.items now channel) (mail_before machine.config machine.traces.items now (unit.Channel channel) now) h.0 (length-channel_steps_of machine.config machine.traces.items now channel))

@@ -1,5 +1,7 @@
 -- Units in their order, each of which stands for its part of a run.
 use Rattle.std.proofs.Common.{◌≡◌, ℕ, suc, ◌+◌, ◌-◌, ◌<◌, ltb, true, false, List, [], ◌∷◌, ◌++◌, length, Option, Some, None, IfSome, ◌⊎◌, inl, inr, refl, sym, ap, subst, ◌∙◌, zero-add, add-one, arith}
+use Rattle.std.specs.declared.boxed.Box.{Box}
+use Rattle.std.specs.declared.alloc.Global.{Global}
 use Rattle.std.specs.Prelude.{slice_get, map}
 use Rattle.std.proofs.lemmas.List.{length-append, append-nil}
 use Rattle.std.proofs.lemmas.List.FromFn.{map-range_with_len_more}
@@ -47,12 +49,12 @@ channel-at_place s place channel f =
     let g : place - s.cores ≡ channel = omega arith in
     cond-false _ _ _ e ∙ ap unit.Channel g
 
-pub first-core : (machine : Machine) (parts : List UnitState) (core : ℕ) (c : Core) → StandAt machine 0 parts → length parts ≡ core → core < machine.config.cores
-    → CoreStandsFor machine.config core (trace_of machine.traces.items core) [] [] (view_of c) → StandAt machine 0 (parts ++ part.Core c ∷ [])
+pub first-core : (machine : Machine) (parts : List UnitState) (core : ℕ) (c : Box Core Global) → StandAt machine 0 parts → length parts ≡ core → core < machine.config.cores
+    → CoreStandsFor machine.config core (trace_of machine.traces.items core) [] [] (view_of c.value) → StandAt machine 0 (parts ++ part.Core c ∷ [])
 first-core machine parts core c h e l k =
     stand-push machine 0 parts (part.Core c) h
     (subst (λ i. IsPart machine (unit_at machine.config i) 0 (part.Core c)) (sym e)
-    (subst (λ u. IsPart machine u 0 (part.Core c)) (sym (core-at_place machine.config core l)) (cores-start machine.config machine.traces.items core (view_of c) k)))
+    (subst (λ u. IsPart machine u 0 (part.Core c)) (sym (core-at_place machine.config core l)) (cores-start machine.config machine.traces.items core (view_of c.value) k)))
 
 history-none : (s : Config) (traces : List (List Entry)) (channel : ℕ) → history_of s traces 0 channel ≡ []
 unfolding run steps_of_channel issued_commands
@@ -63,12 +65,12 @@ kept-same : {X : Type 0} (kept : Option (List X)) (xs ys : List X) → xs ≡ ys
 kept-same None xs ys e h = tt
 kept-same (Some rows) xs ys e h = h ∙ e
 
-pub first-channel : (machine : Machine) (parts : List UnitState) (channel : ℕ) (c : Channel) (rows : Option (List IssuedCommand)) → StandAt machine 0 parts
-    → length parts ≡ machine.config.cores + channel → ChannelStandsFor c machine.config channel [] [] → IfSome rows (λ r. r ≡ []) → StandAt machine 0 (parts ++ part.Channel c rows ∷ [])
+pub first-channel : (machine : Machine) (parts : List UnitState) (channel : ℕ) (c : Box Channel Global) (rows : Option (List IssuedCommand)) → StandAt machine 0 parts
+    → length parts ≡ machine.config.cores + channel → ChannelStandsFor c.value machine.config channel [] [] → IfSome rows (λ r. r ≡ []) → StandAt machine 0 (parts ++ part.Channel c rows ∷ [])
 first-channel machine parts channel c rows h e k none =
     stand-push machine 0 parts (part.Channel c rows) h
     (subst (λ u. IsPart machine u 0 (part.Channel c rows)) (sym (channel-at_place machine.config (length parts) channel e))
-    (channels-start machine.config machine.traces.items channel c k, kept-same rows [] (commands_at machine 0 channel) (sym (history-none machine.config machine.traces.items channel)) none))
+    (channels-start machine.config machine.traces.items channel c.value k, kept-same rows [] (commands_at machine 0 channel) (sym (history-none machine.config machine.traces.items channel)) none))
 
 -- the elements that come before one are fewer than all
 pub seam-within : {X : Type 0} (xs ys rest : List X) (x : X) (n : ℕ) → ys ++ x ∷ rest ≡ xs → length xs ≡ n → length ys < n

@@ -26,9 +26,9 @@ use Rattle.units.specs.declared.part.UnitState.TheVariants as part
 -- A unit stands for what the one with this number did in the cycles of a run before one. With a channel its commands
 -- may be kept.
 abbrev pub IsPart : Machine → MachineUnit → ℕ → UnitState → Type 0
-IsPart machine (unit.Core core) now (part.Core c) = IsCoreAt machine.config machine.traces.items core now (view_of c)
+IsPart machine (unit.Core core) now (part.Core c) = IsCoreAt machine.config machine.traces.items core now (view_of c.value)
 IsPart machine (unit.Channel channel) now (part.Channel c commands) =
-    HasChannelAt machine channel now c × IfSome commands (λ rows. rows ≡ commands_at machine now channel)
+    HasChannelAt machine channel now c.value × IfSome commands (λ rows. rows ≡ commands_at machine now channel)
 IsPart machine (unit.Core core) now (part.Channel c commands) = ⊥
 IsPart machine (unit.Channel channel) now (part.Core c) = ⊥
 

@@ -11,11 +11,12 @@ use core_window::core_unit::Core;
 use sim_base::message::{Cycle, Message};
 use std::alloc::AllocError;
 
-/// A core, or a channel with the commands that it issued, in their order, where they are kept.
+/// A core, or a channel with the commands that it issued, in their order, where they are kept. It takes little room by
+/// itself, so that it is moved at little cost where a machine is taken apart and put together.
 #[derive(Drop)]
 pub enum UnitState {
-    Core(Core),
-    Channel(Channel, Option<CommandList>),
+    Core(Box<Core>),
+    Channel(Box<Channel>, Option<CommandList>),
 }
 
 impl UnitState {

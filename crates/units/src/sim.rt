@@ -84,7 +84,9 @@ fn add_cores(alloc: Global, machine: &Machine, parts: &mut Vec<UnitState>) -> Re
     ensures stand { OnOk result (StandAt machine.now 0 parts.new.items) }
 {
     for core in 0..machine.config.cores {
-        parts.push(UnitState::Core(first_core(alloc, machine, core)?))?;
+        let first = first_core(alloc, machine, core)?;
+        let own = Box::new(alloc, first)?;
+        parts.push(UnitState::Core(own))?;
     }
     Ok(())
 }
@@ -130,7 +132,8 @@ fn add_channels(
     ensures stand { OnOk result (StandAt machine.now 0 parts.new.items) }
 {
     for number in 0..u32::from(machine.config.channels) {
-        let channel = first_channel(alloc, &machine.config, number, tables.requests)?;
+        let first = first_channel(alloc, &machine.config, number, tables.requests)?;
+        let channel = Box::new(alloc, first)?;
         let list = list_for(alloc, tables.commands);
         parts.push(UnitState::Channel(channel, list))?;
     }

@@ -78,7 +78,7 @@ fn add_part(kept: &mut Kept, part: UnitState) -> Result<(), AllocError>
     match part {
         UnitState::Core(_) => Ok(()),
         UnitState::Channel(channel, commands) => {
-            add(&mut kept.served, list_of(channel))?;
+            add(&mut kept.served, list_of(Box::into_inner(channel)))?;
             add(&mut kept.commands, commands)
         }
     }

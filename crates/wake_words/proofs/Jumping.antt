@@ -155,19 +155,19 @@ awake-sim machine now phase parts links units words h e f =
     some-part (x ∷ xs) l = x
 
 -- one unit more that stands at a cycle
-pub units-push : (now : ℕ) (parts : List UnitState) (units : List TimedUnit) (p : UnitState) (unit : TimedUnit) → AreTimedUnits now parts units → unit.part.value ≡ p → unit.at ≡ now → AreTimedUnits now (parts ++ p ∷ []) (units ++ unit ∷ [])
+pub units-push : (now : ℕ) (parts : List UnitState) (units : List TimedUnit) (p : UnitState) (unit : TimedUnit) → AreTimedUnits now parts units → unit.part ≡ p → unit.at ≡ now → AreTimedUnits now (parts ++ p ∷ []) (units ++ unit ∷ [])
 units-push now parts units p unit h e f = record {
   count = length-push_suc units unit ∙ ap suc h.count ∙ sym (length-push_suc parts p);
   parts_are = λ k d g l. part-at k d g (omega (arith, l, length-push_suc parts p)) (cases_lt k (length parts));
   stand = λ k d l. at k d (omega (arith, l, length-push_suc parts p)) (cases_lt k (length parts));
 }
   where
-    part-at : (k : ℕ) (d : TimedUnit) (g : UnitState) → k < suc (length parts) → (k < length parts) ⊎ (length parts ≤ k) → (get_or (units ++ unit ∷ []) k d).part.value ≡ get_or (parts ++ p ∷ []) k g
+    part-at : (k : ℕ) (d : TimedUnit) (g : UnitState) → k < suc (length parts) → (k < length parts) ⊎ (length parts ≤ k) → (get_or (units ++ unit ∷ []) k d).part ≡ get_or (parts ++ p ∷ []) k g
     part-at k d g l (inl m) =
-        ap (λ (x : TimedUnit). x.part.value) (get_or_append_left units (unit ∷ []) d k (omega (arith, m, h.count))) ∙ h.parts_are k d g m ∙ sym (get_or_append_left parts (p ∷ []) g k m)
+        ap (λ (x : TimedUnit). x.part) (get_or_append_left units (unit ∷ []) d k (omega (arith, m, h.count))) ∙ h.parts_are k d g m ∙ sym (get_or_append_left parts (p ∷ []) g k m)
     part-at k d g l (inr m) =
         let last : k ≡ length parts = omega (arith, l, m) in
-        ap (λ n. (get_or (units ++ unit ∷ []) n d).part.value) (last ∙ sym h.count) ∙ ap (λ (x : TimedUnit). x.part.value) (get_or-append_seam units unit [] d) ∙ e
+        ap (λ n. (get_or (units ++ unit ∷ []) n d).part) (last ∙ sym h.count) ∙ ap (λ (x : TimedUnit). x.part) (get_or-append_seam units unit [] d) ∙ e
         ∙ sym (ap (λ n. get_or (parts ++ p ∷ []) n g) last ∙ get_or-append_seam parts p [] g)
 
     at : (k : ℕ) (d : TimedUnit) → k < suc (length parts) → (k < length parts) ⊎ (length parts ≤ k) → (get_or (units ++ unit ∷ []) k d).at ≡ now

@@ -1,5 +1,7 @@
 -- Units that are left alone.
 use Rattle.std.proofs.Common.{◌≡◌, ℕ, suc, ◌+◌, ◌-◌, ◌^◌, ◌<◌, ◌≤◌, not, length, get_or, Bool, true, false, cond, ltb, leb, ◌&&◌, List, [], ◌∷◌, ◌++◌, Option, Some, None, refl, sym, ap, ap₂, subst, ◌∙◌, arith}
+use Rattle.std.specs.declared.boxed.Box.{Box}
+use Rattle.std.specs.declared.alloc.Global.{Global}
 use Rattle.std.specs.Prelude.{filter, unwrap_or}
 use Rattle.std.proofs.lemmas.Bool.Decides.{nat_tests}
 use Rattle.std.proofs.lemmas.List.{append-nil}
@@ -172,7 +174,7 @@ abbrev pub CoreKeepsSilent : CoreUnit → ℕ → Type 0
 CoreKeepsSilent c until =
     (s : Config) (core : ℕ) (trace : List Entry) (rows : List CoreStep) (mail : List Message) → CoreStandsFor s core trace rows mail (view_of c) → IsSilentUntil s core trace rows mail until
 
-pub core-silent : (machine : Machine) (u : MachineUnit) (c : CoreUnit) (from until : ℕ) → IsPart machine u from (part.Core c) → CoreKeepsSilent c until → IsSilent machine.config machine.traces.items from until u
+pub core-silent : (machine : Machine) (u : MachineUnit) (c : Box CoreUnit Global) (from until : ℕ) → IsPart machine u from (part.Core c) → CoreKeepsSilent c.value until → IsSilent machine.config machine.traces.items from until u
 core-silent machine (Core core) c from until h keeps = λ n l.
     keeps machine.config core (trace_of machine.traces.items core) (core_steps_of machine.config machine.traces.items from core) (mail_before machine.config machine.traces.items from (Core core) from) h n (omega (arith, length-core_steps_of machine.config machine.traces.items from core, l))
 core-silent machine (Channel channel) c from until h keeps = absurd h

@@ -45,12 +45,12 @@ pub record Sleeper : Type 0 where
 -- units in their order, each at the same cycle
 pub record AreTimedUnits (now : ℕ) (parts : List UnitState) (units : List TimedUnit) : Type 0 where
   pub count : length units ≡ length parts
-  pub parts_are : (k : ℕ) (d : TimedUnit) (e : UnitState) → k < length parts → (slice_index_or units k d).part.value ≡ slice_index_or parts k e
+  pub parts_are : (k : ℕ) (d : TimedUnit) (e : UnitState) → k < length parts → (slice_index_or units k d).part ≡ slice_index_or parts k e
   pub stand : (k : ℕ) (d : TimedUnit) → k < length parts → (slice_index_or units k d).at ≡ now
 
 -- a unit with its word
 abbrev pub sleeper : TimedUnit → ℕ → Sleeper
-sleeper unit word = record { part = unit.part.value; at = unit.at; wake = word }
+sleeper unit word = record { part = unit.part; at = unit.at; wake = word }
 
 -- the unit at a place with its word
 abbrev pub sleeper_at : List TimedUnit → List ℕ → ℕ → TimedUnit → Sleeper

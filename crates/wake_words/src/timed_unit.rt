@@ -28,7 +28,7 @@ pub struct Span {
 /// A unit, and the cycle where it stands.
 #[derive(Drop)]
 pub struct TimedUnit {
-    pub part: Box<UnitState>,
+    pub part: UnitState,
     pub at: Cycle,
 }
 
@@ -133,6 +133,6 @@ impl TimedUnit {
         let TimedUnit { mut part, at, .. } = self;
         mail.inbox.clear();
         part.run(&mail.inbox, at, now, &mut mail.sent)?;
-        Ok(Box::into_inner(part))
+        Ok(part)
     }
 }

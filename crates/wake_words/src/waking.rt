@@ -131,7 +131,6 @@ pub fn timed_units(
 {
     let mut units = Vec::with_capacity(alloc, parts.len())?;
     for part in parts {
-        let part = Box::new(alloc, part)?;
         units.push(TimedUnit { part, at: now })?;
     }
     Ok(units)

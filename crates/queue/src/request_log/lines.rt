@@ -51,17 +51,6 @@ pub(crate) fn next_for_line(
     None
 }
 
-/// Whether a request that waits asks for the line of a place. `alike` is 0 only where none does. The oldest that does
-/// may be served.
-#[inline(always)]
-pub(crate) fn is_line_asked(place: Place, alike: u16, log: &[Arrived], tags: &[u8]) -> bool
-    requires alike { alike ≡ 0 → asks_for_line place (waiting_requests log.now) ≡ false }
-    requires tags { tags.now ≡ tag_column log.now }
-    ensures { result ≡ asks_for_line place (waiting_requests log.now) }
-{
-    alike != 0 && next_for_line(true, place, 0, log, tags).is_some()
-}
-
 /// From so many requests on there are fewer counters for each.
 const MANY: usize = 4_096;
 

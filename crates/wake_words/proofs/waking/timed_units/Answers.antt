@@ -19,7 +19,7 @@ loop-part-preserved c =
           let short = ap length steps.0 in
           omega arith,
       subst (AreTimedUnits c.args.now (at.yielded ++ x ∷ [])) (sym c.in_ok-push.ensures.items)
-          (units-push c.args.now at.yielded at.units.items x (record { part = c.in_ok-part.part; at = c.args.now }) at.invariant.2 c.in_ok-part.ensures.ok refl),
+          (units-push c.args.now at.yielded at.units.items x (record { part = x; at = c.args.now }) at.invariant.2 refl refl),
     )
 
 pub returns : goal.returns

@@ -1,32 +1,20 @@
 -- The tag of the request says whether an older one of its line waits.
-use Rattle.std.proofs.Common.{◌≡◌, ◌+◌, ◌<◌, ◌++◌, ◌∷◌, [], not, cond, List, length, get_or, sym, ap, ◌∙◌, arith}
+use Rattle.std.proofs.Common.{◌≡◌, ◌+◌, ◌<◌, ◌++◌, ◌∷◌, [], not, cond, length, get_or, sym, ap, ◌∙◌, arith}
 use Rattle.std.proofs.lemmas.List.{length_push, length-set, get_or_default}
 use Rattle.sim_base.specs.Scheduling.{asks_for_line}
 use Rattle.sim_base.proofs.Lists.{bit}
-use Rattle.queue.specs.declared.request_log.Arrived.{Arrived}
 use Rattle.queue.specs.Log.{arrived_now, waiting_requests}
 use Rattle.queue.specs.Columns.{slot_of_line, slot_of_row, tag_word, bank_number, tag_column, blocked_count}
 use Rattle.queue.proofs.Tags.{length-tags}
 use Rattle.queue.proofs.TagsChanged.{tag_push, blocked_push}
-use Rattle.queue.proofs.Counted.{none_asks, few_counted, counted_push, requests_push, requests_few, blocked_few, byte_is}
+use Rattle.queue.proofs.Counted.{few_counted, counted_push, requests_push, requests_few, blocked_few, byte_is}
 use Rattle.queue.proofs.request_log.RequestLog.arrive.Goals as goal
-
-pub is_line_asked-asked-requires-clause-alike : goal.is_line_asked-asked-requires-clause-alike
-is_line_asked-asked-requires-clause-alike c none =
-    let q = c.self.inside in
-    let slot = c.line_slot-line.result in
-    let slot_is = c.line_slot-line.ensures.value in
-    let below : slot < length q.lines.items = omega (arith, c.line_slot-line.ensures.within, c.self.invariant.masked) in
-    let count_is : c.index-alike.result.now ≡ get_or q.lines.items slot 0 = c.index-alike.ensures ∙ get_or_default q.lines.items slot c.index-alike.result.now 0 below in
-    ap (λ (log : List Arrived). asks_for_line c.args.request.place (waiting_requests log)) c.deref.ensures.value
-    ∙ none_asks q.mask q.lines.items (waiting_requests q.log.items) c.args.request.place c.self.invariant.lines_are (omega (arith, below, slot_is))
-    (ap (λ k. get_or q.lines.items k 0) (sym slot_is) ∙ sym count_is ∙ none)
 
 pub push_reserved-requires : goal.push_reserved-requires
 push_reserved-requires c =
     let q = c.self.inside in
     let long : length q.tags.items ≡ length q.log.items = ap length c.self.invariant.tags_are ∙ length-tags q.log.items in
-    omega (arith, c.requires, ap (λ v. length v.log) c.self.view_is, ap (λ v. v.places) c.self.view_is, c.self.invariant.tag_room, c.deref-2.ensures.len, ap length c.deref-2.ensures.value, long)
+    omega (arith, c.requires, ap (λ v. length v.log) c.self.view_is, ap (λ v. v.places) c.self.view_is, c.self.invariant.tag_room, long)
 
 pub overflow_add-alike : goal.overflow_add-alike
 overflow_add-alike c =
@@ -60,7 +48,7 @@ invariant_of-self c =
     let more : c.push_reserved-2.new.self.items ≡ log ++ arrived_now r ∷ [] = c.push_reserved-2.ensures.items in
     let free : length log < q.places = omega (arith, c.requires, ap (λ v. length v.log) c.self.view_is, ap (λ v. v.places) c.self.view_is) in
     let asked : c.is_line_asked-asked.result ≡ asks_for_line r.place (waiting_requests log) =
-    c.is_line_asked-asked.ensures ∙ ap (λ (l : List Arrived). asks_for_line r.place (waiting_requests l)) c.deref.ensures.value in
+    c.is_line_asked-asked.ensures ∙ ap (λ v. asks_for_line r.place (waiting_requests v.log)) (sym c.self.view_is) in
     let requests : waiting_requests c.push_reserved-2.new.self.items ≡ waiting_requests log ++ r ∷ [] = ap waiting_requests more ∙ requests_push log r in
     let slot = c.line_slot-line.result in
     let below : slot < length q.lines.items = omega (arith, c.line_slot-line.ensures.within, k.masked) in

@@ -1,5 +1,4 @@
-use Rattle.std.proofs.Common.{◌∙◌, sym, subst}
-use Rattle.units.specs.Parts.{IsPart, IsReadyFor}
+use Rattle.std.proofs.Common.{◌∙◌}
 use Rattle.units.specs.Units.{unit_at}
 use Rattle.wake_words.specs.Wakes.{sleeper}
 use Rattle.units.proofs.Due.{exists-at}
@@ -12,12 +11,12 @@ run-requires c =
     let s = machine.config in
     let r = c.requires in
     let u = unit_at s c.args.place in
-    let before = waits-ready machine u c.args.now (sleeper c.args.self r.waits.word) c.deref.result.now (exists-at s c.args.place r.place) r.early r.waits.waits (c.deref.ensures.value ∙ c.clear.ensures.items) in
+    let ready = waits-ready machine u c.args.now (sleeper c.args.self r.waits.word) c.deref.result.now (exists-at s c.args.place r.place) r.early r.waits.waits (c.deref.ensures.value ∙ c.clear.ensures.items) in
     record {
       ready = record {
         machine = machine;
         unit = u;
-        ready = subst (λ p. IsReadyFor machine u p c.deref.result.now c.args.self.at c.args.now) (sym c.deref_mut.ensures.value) before;
+        ready = ready;
       };
     }
 
@@ -27,6 +26,5 @@ returns c =
     let s = machine.config in
     let r = c.requires in
     let u = unit_at s c.args.place in
-    let before = waits-ready machine u c.args.now (sleeper c.args.self r.waits.word) c.deref.result.now (exists-at s c.args.place r.place) r.early r.waits.waits (c.deref.ensures.value ∙ c.clear.ensures.items) in
-    let ready = subst (λ p. IsReadyFor machine u p c.deref.result.now c.args.self.at c.args.now) (sym c.deref_mut.ensures.value) before in
-    subst (IsPart machine u c.args.now) (sym c.into_inner.ensures) (c.in_ok-run.ensures {u = tt} machine u ready).ran.stands
+    let ready = waits-ready machine u c.args.now (sleeper c.args.self r.waits.word) c.deref.result.now (exists-at s c.args.place r.place) r.early r.waits.waits (c.deref.ensures.value ∙ c.clear.ensures.items) in
+    (c.in_ok-run.ensures {u = tt} machine u ready).ran.stands

@@ -1,10 +1,9 @@
-use Rattle.std.proofs.Common.{◌≡◌, [], refl, sym, ap, subst, ◌∙◌, arith}
+use Rattle.std.proofs.Common.{◌≡◌, [], refl, sym, ap, ◌∙◌, arith}
 use Rattle.std.specs.Prelude.{filter}
 use Rattle.sim_base.specs.declared.message.Unit.{Unit as MachineUnit}
 use Rattle.links.specs.InFlight.{InFlight, is_due}
 use Rattle.span_laws.specs.Mail.{mail_in}
 use Rattle.span_laws.proofs.Silent.{silent-sooner}
-use Rattle.units.specs.Parts.{IsReadyFor}
 use Rattle.units.specs.Units.{unit_at}
 use Rattle.wake_words.specs.Wakes.{sleeper}
 use Rattle.units.proofs.Due.{exists-at}
@@ -23,10 +22,9 @@ run_and_tell-requires c =
     let here = c.args.span.now.here in
     let there = c.args.span.now.there in
     let until = c.args.span.now.until in
-    let before = woken-ready machine u here there until (sleeper c.args.self.now r.waits.word) c.deref.result.now (exists-at s c.args.place r.place) r.order r.early r.brought.known r.waits.waits
+    let ready = woken-ready machine u here there until (sleeper c.args.self.now r.waits.word) c.deref.result.now (exists-at s c.args.place r.place) r.order r.early r.brought.known r.waits.waits
     (c.deref.ensures.value
     ∙ held-mail machine here there until u c.unit_at-unit.result c.args.traffic.now.links c.take_due_into.new.inbox.items r.brought c.unit_at-unit.ensures c.in_ok-take_due_into.ensures.ok) in
-    let ready = subst (λ p. IsReadyFor machine u p c.deref.result.now c.args.self.now.at until) (sym c.deref_mut.ensures.value) before in
     record { ready = record { machine = machine; unit = u; ready = ready } }
 
 pub arrival_word-requires : goal.arrival_word-requires
@@ -39,10 +37,9 @@ arrival_word-requires c =
     let here = c.args.span.now.here in
     let there = c.args.span.now.there in
     let until = c.args.span.now.until in
-    let before = woken-ready machine u here there until (sleeper c.args.self.now r.waits.word) c.deref.result.now (exists-at s c.args.place r.place) r.order r.early r.brought.known r.waits.waits
+    let ready = woken-ready machine u here there until (sleeper c.args.self.now r.waits.word) c.deref.result.now (exists-at s c.args.place r.place) r.order r.early r.brought.known r.waits.waits
     (c.deref.ensures.value
     ∙ held-mail machine here there until u c.unit_at-unit.result c.args.traffic.now.links c.take_due_into.new.inbox.items r.brought c.unit_at-unit.ensures c.in_ok-take_due_into.ensures.ok) in
-    let ready = subst (λ p. IsReadyFor machine u p c.deref.result.now c.args.self.now.at until) (sym c.deref_mut.ensures.value) before in
     (c.in_ok-send.ensures {u = tt} machine u ready).since
 
 pub returns-clause-gone : goal.returns-clause-gone
@@ -55,10 +52,9 @@ returns-clause-gone c =
     let here = c.args.span.now.here in
     let there = c.args.span.now.there in
     let until = c.args.span.now.until in
-    let before = woken-ready machine u here there until (sleeper c.args.self.now r.waits.word) c.deref.result.now (exists-at s c.args.place r.place) r.order r.early r.brought.known r.waits.waits
+    let ready = woken-ready machine u here there until (sleeper c.args.self.now r.waits.word) c.deref.result.now (exists-at s c.args.place r.place) r.order r.early r.brought.known r.waits.waits
     (c.deref.ensures.value
     ∙ held-mail machine here there until u c.unit_at-unit.result c.args.traffic.now.links c.take_due_into.new.inbox.items r.brought c.unit_at-unit.ensures c.in_ok-take_due_into.ensures.ok) in
-    let ready = subst (λ p. IsReadyFor machine u p c.deref.result.now c.args.self.now.at until) (sym c.deref_mut.ensures.value) before in
     let wake = c.arrival_word.result in
     let told = c.in_ok-send.ensures {u = tt} machine u ready in
     let links = c.args.traffic.now.links in
