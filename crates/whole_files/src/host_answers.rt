@@ -1,6 +1,6 @@
 //! What the host's answers about files mean to the program.
 
-ghost use Rattle.std.specs.Prelude.{◌≡◌, Ok, Err, IfOk, IfErr, IsOk, IsErr};
+ghost use Rattle.std.specs.Prelude.{◌≡◌, ◌⊎◌, Ok, Err, IfOk, IfErr, IsOk, IsErr};
 ghost use Rattle.whole_files.specs.HostAnswers.{IsFolder, IsPlainFile, IsMissing, LacksMemory};
 
 use refusal::reason::Reason;
@@ -12,6 +12,7 @@ use std::io::{self, ErrorKind};
 fn read_fault(error: &io::Error) -> Fault
     ensures memory { LacksMemory error.now → result ≡ Fault.Memory }
     ensures read { (¬ LacksMemory error.now) → result ≡ Fault.Read }
+    ensures fault { (result ≡ Fault.Memory) ⊎ (result ≡ Fault.Read) }
 {
     match error.kind() {
         ErrorKind::OutOfMemory => Fault::Memory,
@@ -29,6 +30,7 @@ pub(crate) fn bytes_read(
     ensures bytes { IfOk answer (λ bytes. result ≡ Ok bytes) }
     ensures memory { IfErr answer (λ e. LacksMemory e → result ≡ Err Fault.Memory) }
     ensures read { IfErr answer (λ e. (¬ LacksMemory e) → result ≡ Err Fault.Read) }
+    ensures fault { IfErr result (λ e. (e ≡ Fault.Memory) ⊎ (e ≡ Fault.Read)) }
 {
     match answer {
         Ok(bytes) => Ok(bytes),
@@ -41,6 +43,7 @@ pub(crate) fn bytes_read(
 pub(crate) fn written<T>(alloc: Global, path: &str, answer: io::Result<T>) -> Result<T, Reason>
     ensures given { IfOk answer (λ value. result ≡ Ok value) }
     ensures refused { IfErr answer (λ _. result ≡ Err Fault.Write) }
+    ensures fault { IfErr result (λ e. e ≡ Fault.Write) }
 {
     match answer {
         Ok(value) => Ok(value),
