@@ -48,6 +48,23 @@ struct Operands {
 
 const NO_SOURCE: Source = Source { core: 0, entry: 0 };
 
+/// The operands of a command of a whole rank.
+#[inline(always)]
+fn operands_of_rank(rank: u32) -> Operands
+    ensures { result ≡ operands_in (Command.Ref rank) }
+{
+    Operands {
+        bank: BankId {
+            rank,
+            group: 0,
+            bank: 0,
+        },
+        row: 0,
+        column: 0,
+        source: NO_SOURCE,
+    }
+}
+
 fn operands_of(command: Command) -> Operands
     ensures operands { result ≡ operands_in command }
     ensures command { command_with (kind_of command) result ≡ command }
@@ -82,16 +99,7 @@ fn operands_of(command: Command) -> Operands
             column: 0,
             source,
         },
-        Command::Prea { rank } | Command::Ref { rank } => Operands {
-            bank: BankId {
-                rank,
-                group: 0,
-                bank: 0,
-            },
-            row: 0,
-            column: 0,
-            source: NO_SOURCE,
-        },
+        Command::Prea { rank } | Command::Ref { rank } => operands_of_rank(rank),
     }
 }
 

@@ -1,6 +1,6 @@
 //! Numbers as a screen shows them: at most four digits that say something.
 
-ghost use Rattle.std.specs.Prelude.{◌≡◌, ◌*◌, ◌/◌, ◌^◌, ◌<◌, Some, None, min};
+ghost use Rattle.std.specs.Prelude.{◌≡◌, ◌*◌, ◌/◌, ◌^◌, ◌<◌, Some, None, IfOk, codes, min, string_bytes};
 ghost use Rattle.measures.specs.Number.{halves_of};
 
 use std::alloc::{AllocError, Global};
@@ -189,8 +189,10 @@ impl Number {
         }
     }
 
-    /// The number as a screen shows it. The only error is out of memory.
-    pub fn text(self, alloc: Global) -> Result<String, AllocError> {
+    /// The number as a screen shows it; `-` for one that is not there. The only error is out of memory.
+    pub fn text(self, alloc: Global) -> Result<String, AllocError>
+        ensures absent { self.halves ≡ None → IfOk result (λ text. string_bytes text ≡ codes "-") }
+    {
         match self.halves {
             Some(halves) => scale_of(self.form, halves).text(alloc, halves),
             None => String::from_str(alloc, "-"),
