@@ -8,7 +8,7 @@ use Rattle.circular_buffer.specs.Buffer.{Buffer}
 use Rattle.sim_base.specs.History.{is_before, insert_by_age, by_age}
 use Rattle.sim_base.specs.declared.message.Message.{Message}
 use Rattle.sim_base.proofs.Arrived.{by_age-puts, fold-puts}
-use Rattle.links.specs.Rings.{contents, lesser_of}
+use Rattle.links.specs.Rings.{contents, earlier_of}
 use Rattle.links.proofs.Merging.{merge_first, merge_second}
 use Rattle.links.proofs.Room.{items_at, taken_out}
 
@@ -43,7 +43,7 @@ abbrev arrival_of_first : List Message → Option ℕ
 arrival_of_first ms = option_map (λ m. m.arrival) (slice_get ms 0)
 
 pub first_of_both : (xs ys : List Message) → by_age ys ≡ ys
-    → lesser_of (option_map (λ (m : Message). m.arrival) (slice_get xs 0)) (option_map (λ (m : Message). m.arrival) (slice_get ys 0))
+    → earlier_of (option_map (λ (m : Message). m.arrival) (slice_get xs 0)) (option_map (λ (m : Message). m.arrival) (slice_get ys 0))
     ≡ option_map (λ (m : Message). m.arrival) (slice_get (fold insert_by_age xs ys) 0)
 first_of_both [] ys s = ap arrival_of_first (sym (fold_from_none ys s))
 first_of_both (a ∷ xs) [] s = refl

@@ -9,4 +9,5 @@ pub mod Next
 pub mod Merging
 pub mod Heads
 pub mod Due
+pub mod Overrides
 pub mod Shortest

@@ -14,7 +14,7 @@ use Rattle.sim_base.specs.declared.message.Message.{Message}
 use Rattle.sim_base.proofs.Arrived.{put, puts, by_age-puts, Each-by_age}
 use Rattle.sim_base.proofs.Each.{Each-append}
 use Rattle.sim_base.proofs.Ordered.{Each-weaker, Sorted}
-use Rattle.links.specs.Rings.{contents, joined, sooner_of, AreRings}
+use Rattle.links.specs.Rings.{contents, joined, earlier_arrival, AreRings}
 use Rattle.links.proofs.Ages.{in_order-Sorted, by_age-nil}
 
 -- some message arrives in this cycle
@@ -93,21 +93,21 @@ empty_where_none None (m ∷ ms) h e = absurd h.0
 empty_where_none (Some a) ms h e = absurd (true≢false e)
 
 -- ---- ring by ring
-abbrev soonest_of : Option ℕ → List (List Message) → Option ℕ
-soonest_of least rings = fold sooner_of least rings
+abbrev earliest_of : Option ℕ → List (List Message) → Option ℕ
+earliest_of least rings = fold earlier_arrival least rings
 
-bound_kept : (least : Option ℕ) (bound : ℕ) (ms : List Message) → IsSomeAnd least (λ a. a ≤ bound) → IsSomeAnd (sooner_of least ms) (λ a. a ≤ bound)
+bound_kept : (least : Option ℕ) (bound : ℕ) (ms : List Message) → IsSomeAnd least (λ a. a ≤ bound) → IsSomeAnd (earlier_arrival least ms) (λ a. a ≤ bound)
 bound_kept least bound [] h = h
 bound_kept least bound (m ∷ ms) h = lesser least m.arrival bound h
 
-bound_stays : (least : Option ℕ) (bound : ℕ) (rings : List (List Message)) → IsSomeAnd least (λ a. a ≤ bound) → IsSomeAnd (soonest_of least rings) (λ a. a ≤ bound)
+bound_stays : (least : Option ℕ) (bound : ℕ) (rings : List (List Message)) → IsSomeAnd least (λ a. a ≤ bound) → IsSomeAnd (earliest_of least rings) (λ a. a ≤ bound)
 bound_stays least bound [] h = h
-bound_stays least bound (ms ∷ rest) h = bound_stays (sooner_of least ms) bound rest (bound_kept least bound ms h)
+bound_stays least bound (ms ∷ rest) h = bound_stays (earlier_arrival least ms) bound rest (bound_kept least bound ms h)
 
 pub not_sooner : (m y : Message) → is_before y m ≡ false → m.arrival ≤ y.arrival
 not_sooner m y h = grind (arith, nat_tests)
 
-first_bounds : (least : Option ℕ) (ms : List Message) → Sorted ms → Each (λ (m : Message). IsSomeAnd (sooner_of least ms) (λ a. a ≤ m.arrival)) ms
+first_bounds : (least : Option ℕ) (ms : List Message) → Sorted ms → Each (λ (m : Message). IsSomeAnd (earlier_arrival least ms) (λ a. a ≤ m.arrival)) ms
 first_bounds least [] s = tt
 first_bounds least (m ∷ ms) s = (
   lesser_last least m.arrival m.arrival (omega arith),
@@ -115,13 +115,13 @@ first_bounds least (m ∷ ms) s = (
       (λ y h. lesser_last least m.arrival y.arrival (not_sooner m y h)) ms s.0,
 )
 
-reached : (ch first : ℕ) (least : Option ℕ) (rings : List (List Message)) → AreRings ch first rings → Each (λ (m : Message). IsSomeAnd (soonest_of least rings) (λ a. a ≤ m.arrival)) (joined rings)
+reached : (ch first : ℕ) (least : Option ℕ) (rings : List (List Message)) → AreRings ch first rings → Each (λ (m : Message). IsSomeAnd (earliest_of least rings) (λ a. a ≤ m.arrival)) (joined rings)
 reached ch first least [] h = tt
 reached ch first least (ms ∷ rest) h =
-    Each-append (λ (m : Message). IsSomeAnd (soonest_of (sooner_of least ms) rest) (λ a. a ≤ m.arrival)) ms (joined rest)
-    (Each-weaker _ (λ (m : Message). IsSomeAnd (soonest_of (sooner_of least ms) rest) (λ a. a ≤ m.arrival)) (λ m b. bound_stays (sooner_of least ms) m.arrival rest b) ms
+    Each-append (λ (m : Message). IsSomeAnd (earliest_of (earlier_arrival least ms) rest) (λ a. a ≤ m.arrival)) ms (joined rest)
+    (Each-weaker _ (λ (m : Message). IsSomeAnd (earliest_of (earlier_arrival least ms) rest) (λ a. a ≤ m.arrival)) (λ m b. bound_stays (earlier_arrival least ms) m.arrival rest b) ms
     (first_bounds least ms (in_order-Sorted ms h.0.in_order)))
-    (reached ch (first + 1) (sooner_of least ms) rest h.1)
+    (reached ch (first + 1) (earlier_arrival least ms) rest h.1)
 
 list_any-more : (p : Message → Bool) (xs ys : List Message) → list_any p xs ≡ true → list_any p (xs ++ ys) ≡ true
 list_any-more p [] ys h = cc
@@ -139,26 +139,26 @@ IsArrival-more : (least : Option ℕ) (xs ys : List Message) → IsArrival least
 IsArrival-more None xs ys h = tt
 IsArrival-more (Some a) xs ys h = list_any-more (λ (m : Message). eqb m.arrival a) xs ys h
 
-sooner_arrives : (least : Option ℕ) (xs ms : List Message) → IsArrival least xs → IsArrival (sooner_of least ms) (xs ++ ms)
+sooner_arrives : (least : Option ℕ) (xs ms : List Message) → IsArrival least xs → IsArrival (earlier_arrival least ms) (xs ++ ms)
 sooner_arrives least xs [] h = IsArrival-more least xs [] h
 sooner_arrives least xs (m ∷ ms) h =
     arrival_more least m.arrival (xs ++ m ∷ ms) (IsArrival-more least xs (m ∷ ms) h) (list_any-here (λ (y : Message). eqb y.arrival m.arrival) xs m ms (eq-eqb m.arrival m.arrival refl))
 
-soonest_arrives : (least : Option ℕ) (xs : List Message) (rings : List (List Message)) → IsArrival least xs → IsArrival (soonest_of least rings) (xs ++ joined rings)
-soonest_arrives least xs [] h = IsArrival-more least xs [] h
-soonest_arrives least xs (ms ∷ rest) h =
-    subst (IsArrival (soonest_of least (ms ∷ rest))) (append_assoc xs ms (joined rest)) (soonest_arrives (sooner_of least ms) (xs ++ ms) rest (sooner_arrives least xs ms h))
+earliest_arrives : (least : Option ℕ) (xs : List Message) (rings : List (List Message)) → IsArrival least xs → IsArrival (earliest_of least rings) (xs ++ joined rings)
+earliest_arrives least xs [] h = IsArrival-more least xs [] h
+earliest_arrives least xs (ms ∷ rest) h =
+    subst (IsArrival (earliest_of least (ms ∷ rest))) (append_assoc xs ms (joined rest)) (earliest_arrives (earlier_arrival least ms) (xs ++ ms) rest (sooner_arrives least xs ms h))
 
 -- the rings in the words of the code
-pub fold-contents : (least : Option ℕ) (rings : List (Buffer Message)) → fold (λ least ring. sooner_of least ring.items) least rings ≡ fold sooner_of least (contents rings)
+pub fold-contents : (least : Option ℕ) (rings : List (Buffer Message)) → fold (λ least ring. earlier_arrival least ring.items) least rings ≡ fold earlier_arrival least (contents rings)
 fold-contents least [] = refl
-fold-contents least (r ∷ rings) = fold-contents (sooner_of least r.items) rings
+fold-contents least (r ∷ rings) = fold-contents (earlier_arrival least r.items) rings
 
-pub soonest_bounds : (ch : ℕ) (rings : List (List Message)) → AreRings ch 0 rings → Each (λ (m : Message). IsSomeAnd (fold sooner_of None rings) (λ a. a ≤ m.arrival)) (joined rings)
-soonest_bounds ch rings h = reached ch 0 None rings h
+pub earliest_bounds : (ch : ℕ) (rings : List (List Message)) → AreRings ch 0 rings → Each (λ (m : Message). IsSomeAnd (fold earlier_arrival None rings) (λ a. a ≤ m.arrival)) (joined rings)
+earliest_bounds ch rings h = reached ch 0 None rings h
 
-pub soonest_is : (rings : List (List Message)) → IsArrival (fold sooner_of None rings) (joined rings)
-soonest_is rings = soonest_arrives None [] rings tt
+pub earliest_is : (rings : List (List Message)) → IsArrival (fold earlier_arrival None rings) (joined rings)
+earliest_is rings = earliest_arrives None [] rings tt
 
 -- nothing stands in any ring where nothing is in flight, and only there
 pub by_age-empty : (ms : List Message) → by_age ms ≡ [] → ms ≡ []

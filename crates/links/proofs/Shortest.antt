@@ -1,200 +1,143 @@
--- The least latency over all links, from the overrides and the kinds that some link has no override of.
-use Rattle.std.proofs.Common.{ℕ, zero, suc, ◌+◌, ◌*◌, ◌/◌, ◌%◌, ◌<◌, ◌≤◌, ◌≡◌, Bool, true, false, ◌&&◌, ◌||◌, cond, eqb, min, List, [], ◌∷◌, length, map, Option, Some, None, refl, sym, ap, ap₂, ◌∙◌, subst, inl, inr, ◌⊎◌, arith}
-use Rattle.std.specs.Prelude.{fold, filter, count_by, find, All, unwrap_or}
-use Rattle.std.specs.Option.{IfSome, option_map}
+-- The least latency of the links of a kind, from the overrides of that kind and its usual latency.
+use Rattle.std.proofs.Common.{ℕ, zero, suc, ◌*◌, ◌%◌, ◌<◌, ◌≤◌, ◌≡◌, Bool, true, false, cond, eqb, min, List, [], ◌∷◌, map, Option, Some, None, refl, sym, ap, ◌∙◌, subst, inl, inr, ◌⊎◌, arith}
+use Rattle.std.specs.Prelude.{filter, find}
+use Rattle.std.specs.Option.{IfSome}
 use Rattle.std.specs.List.{AllByRecursion as Each, list_any, IsDistinct}
-use Rattle.std.proofs.lemmas.Bool.{cond_both, cond-true, cond-false, eqb-true, eq-eqb, lt-ltb, ltb-true, cases_lt, cases_Bool, or_parts}
-use Rattle.std.proofs.lemmas.Bool.Decides.{nat_tests}
-use Rattle.std.proofs.lemmas.List.Elements.{All-head, All-tail}
-use Rattle.std.proofs.lemmas.List.Sums.{length-filter}
-use Rattle.std.proofs.lemmas.List.{length-map}
-use Rattle.std.proofs.lemmas.Map.Steps.{length-le_from_distinct_below, le-length_from_below}
-use Rattle.std.proofs.Math.Nat.{mul_assoc}
+use Rattle.std.proofs.lemmas.Bool.{cond_both, cond-true, cond-false, eqb-true, eq-eqb, cases_lt, cases_Bool, true≢false}
 use Rattle.sim_base.specs.declared.config.Config.{Config}
 use Rattle.sim_base.specs.declared.overrides.Override.{Override}
-use Rattle.sim_base.specs.Config.{usual_latency, latency}
-use Rattle.sim_base.specs.Ranges.{LatencyInRange}
+use Rattle.sim_base.specs.Config.{latency}
+use Rattle.sim_base.proofs.Added.{link_below}
 use Rattle.sim_base.proofs.Each.{IfSome-find}
-use Rattle.sim_base.proofs.Ordered.{Each-weaker}
-use Rattle.sim_base.proofs.LinkNumbers.{override_in_range}
-use Rattle.links.specs.Latencies.{has_usual, usual_or_longest, least_own}
+use Rattle.links.specs.Latencies.{has_usual, least_own_of, least_of_kind}
+use Rattle.links.proofs.Overrides.{is_of, is_kind, kind_latency, least_from-each, Each-from_all, find_none, latency_free, latency_own, latency_in_range, found_least, usual_link, usual_counts}
 
--- whether an override is of a link
-abbrev pub is_of : ℕ → Override → Bool
-is_of link o = eqb o.link link
+-- an override of a link is looked for among those of the link's kind
+find-kind : (link kind : ℕ) → eqb (link % 3) kind ≡ true → (os : List Override) → find (is_of link) (filter (is_kind kind) os) ≡ find (is_of link) os
+find-kind link kind k [] = refl
+find-kind link kind k (o ∷ os) =
+    cond_both (is_kind kind o) (o ∷ filter (is_kind kind) os) (filter (is_kind kind) os) (λ x. find (is_of link) x ≡ cond (is_of link o) (Some o) (find (is_of link) os))
+    (λ e. ap (cond (is_of link o) (Some o)) (find-kind link kind k os))
+    (λ e. find-kind link kind k os ∙ sym (cond-false (is_of link o) (Some o) (find (is_of link) os) (other (is_of link o) refl e)))
+  where
+    other : (b : Bool) → is_of link o ≡ b → is_kind kind o ≡ false → b ≡ false
+    other false e f = refl
+    other true e f = absurd (true≢false (sym k ∙ ap (λ x. eqb (x % 3) kind) (sym (eqb-true o.link link e)) ∙ f))
 
--- whether an override is of a link of some kind
-abbrev pub is_kind : ℕ → Override → Bool
-is_kind kind o = eqb (o.link % 3) kind
+links-differ : (l : ℕ) (p : Override → Bool) (os : List Override) → Each (λ (y : ℕ). eqb l y ≡ false) (map (λ (o : Override). o.link) os) → Each (λ (y : ℕ). eqb l y ≡ false) (map (λ (o : Override). o.link) (filter p os))
+links-differ l p [] h = tt
+links-differ l p (o ∷ os) h =
+    cond_both (p o) (o ∷ filter p os) (filter p os) (λ x. Each (λ (y : ℕ). eqb l y ≡ false) (map (λ (q : Override). q.link) x)) (λ e. (h.0, links-differ l p os h.1)) (λ e. links-differ l p os h.1)
 
--- the pairs of units between which the links of a kind with an override run
-abbrev pairs : ℕ → List Override → List ℕ
-pairs kind os = map (λ (o : Override). o.link / 3) (filter (is_kind kind) os)
-
-pub Each-from_all : {X : Type 0} (P : X → Type 0) (xs : List X) → All P xs → Each P xs
-Each-from_all P [] h = tt
-Each-from_all P (x ∷ xs) h = (All-head P x xs h, Each-from_all P xs (All-tail P x xs h))
-
--- an override of the link between a pair, of a kind
-of_pair : (kind q link : ℕ) → kind < 3 → (eqb (link % 3) kind && eqb q (link / 3)) ≡ eqb link (3 * q + kind)
-of_pair kind q link h = grind (arith, nat_tests)
-
-pairs-any : (kind q : ℕ) → kind < 3 → (os : List Override) → list_any (eqb q) (pairs kind os) ≡ list_any (is_of (3 * q + kind)) os
-pairs-any kind q k [] = refl
-pairs-any kind q k (o ∷ os) =
-    cond_both (is_kind kind o) (o ∷ filter (is_kind kind) os) (filter (is_kind kind) os)
-    (λ x. list_any (eqb q) (map (λ (p : Override). p.link / 3) x) ≡ (eqb o.link (3 * q + kind) || list_any (is_of (3 * q + kind)) os))
-    (λ b. ap₂ (λ x y. x || y) (ap (λ t. t && eqb q (o.link / 3)) (sym b) ∙ of_pair kind q o.link k) (pairs-any kind q k os))
-    (λ b. ap₂ (λ x y. x || y) (ap (λ t. t && eqb q (o.link / 3)) (sym b) ∙ of_pair kind q o.link k) (pairs-any kind q k os))
-
--- links of one kind that differ are of pairs that differ
-pairs_differ : (kind l m : ℕ) → eqb (l % 3) kind ≡ true → eqb (m % 3) kind ≡ true → eqb l m ≡ false → eqb (l / 3) (m / 3) ≡ false
-pairs_differ kind l m h k e = grind (arith, nat_tests)
-
-pairs_apart : (kind l : ℕ) → eqb (l % 3) kind ≡ true → (os : List Override) → Each (λ (y : ℕ). eqb l y ≡ false) (map (λ (o : Override). o.link) os)
-    → Each (λ (y : ℕ). eqb (l / 3) y ≡ false) (pairs kind os)
-pairs_apart kind l k [] h = tt
-pairs_apart kind l k (o ∷ os) h =
-    cond_both (is_kind kind o) (o ∷ filter (is_kind kind) os) (filter (is_kind kind) os)
-    (λ x. Each (λ (y : ℕ). eqb (l / 3) y ≡ false) (map (λ (p : Override). p.link / 3) x))
-    (λ b. (pairs_differ kind l o.link k b h.0, pairs_apart kind l k os h.1))
-    (λ b. pairs_apart kind l k os h.1)
-
-pairs_distinct : (kind : ℕ) (os : List Override) → IsDistinct eqb (map (λ (o : Override). o.link) os) → IsDistinct eqb (pairs kind os)
+distinct-filter : (p : Override → Bool) (os : List Override) → IsDistinct eqb (map (λ (o : Override). o.link) os) → IsDistinct eqb (map (λ (o : Override). o.link) (filter p os))
 unfolding IsDistinct
-pairs_distinct kind [] h = tt
-pairs_distinct kind (o ∷ os) h =
-    cond_both (is_kind kind o) (o ∷ filter (is_kind kind) os) (filter (is_kind kind) os)
-    (λ x. IsDistinct eqb (map (λ (p : Override). p.link / 3) x))
-    (λ b. (pairs_apart kind o.link b os h.0, pairs_distinct kind os h.1))
-    (λ b. pairs_distinct kind os h.1)
+distinct-filter p [] h = tt
+distinct-filter p (o ∷ os) h =
+    cond_both (p o) (o ∷ filter p os) (filter p os) (λ x. IsDistinct eqb (map (λ (q : Override). q.link) x)) (λ e. (links-differ o.link p os h.0, distinct-filter p os h.1)) (λ e. distinct-filter p os h.1)
 
-any_below : (link n : ℕ) (os : List Override) → Each (λ (o : Override). o.link < n) os → list_any (is_of link) os ≡ true → link < n
-any_below link n [] h k = cc
-any_below link n (o ∷ os) h k = by (cases_Bool (eqb o.link link)) (any_below link n os h.1)
+all-of_kind : (kind : ℕ) (os : List Override) → Each (λ (p : Override). is_kind kind p ≡ true) (filter (is_kind kind) os)
+all-of_kind kind [] = tt
+all-of_kind kind (o ∷ os) =
+    cond_both (is_kind kind o) (o ∷ filter (is_kind kind) os) (filter (is_kind kind) os) (Each (λ (p : Override). is_kind kind p ≡ true)) (λ e. (e, all-of_kind kind os)) (λ e. all-of_kind kind os)
+
+-- the links of a kind, as numbers
+abbrev IsOfKind : Config → ℕ → ℕ → Type 0
+IsOfKind s kind link = (link < 3 * s.cores * s.channels) × (link % 3 ≡ kind)
+
+-- some link of a kind has this latency
+abbrev pub Attained : Config → ℕ → ℕ → Type 0
+Attained s kind n = (link : ℕ) × IsOfKind s kind link × (latency s link ≡ n)
+
+abbrev own_of : Config → ℕ → List Override
+own_of s kind = filter (is_kind kind) s.overrides
+
+own-attained : (s : Config) (kind : ℕ) → Attained s kind (least_own_of s kind) ⊎ (least_own_of s kind ≡ 1000000)
+own-attained s kind = by (found_least 1000000 (own_of s kind) (distinct-filter (is_kind kind) s.overrides s.links_differ))
   where
-    by : (eqb o.link link ≡ true) ⊎ (eqb o.link link ≡ false) → (list_any (is_of link) os ≡ true → link < n) → link < n
-    by (inl e) rest = let same : o.link ≡ link = eqb-true o.link link e in let below : o.link < n = h.0 in omega arith
-    by (inr e) rest = rest (ap (λ t. t || list_any (is_of link) os) (sym e) ∙ k)
+    by : (least_own_of s kind ≡ 1000000) ⊎ ((o : Override) × (find (is_of o.link) (own_of s kind) ≡ Some o) × (o.latency ≡ least_own_of s kind)) → Attained s kind (least_own_of s kind) ⊎ (least_own_of s kind ≡ 1000000)
+    by (inl e) = inr e
+    by (inr (o, f, g)) =
+        let has = λ (p : Override). is_kind kind p ≡ true in
+        let exist : Each (λ (p : Override). p.link < 3 * s.cores * s.channels) s.overrides = Each-from_all (λ (p : Override). p.link < 3 * s.cores * s.channels) s.overrides s.links_exist in
+        let own : is_kind kind o ≡ true = subst (λ r. IfSome r has) f (IfSome-find has (is_of o.link) (own_of s kind) (all-of_kind kind s.overrides)) in
+        let found : find (is_of o.link) s.overrides ≡ Some o = sym (find-kind o.link kind own s.overrides) ∙ f in
+        let low : o.link < 3 * s.cores * s.channels =
+        subst (λ r. IfSome r (λ (p : Override). p.link < 3 * s.cores * s.channels)) found (IfSome-find (λ (p : Override). p.link < 3 * s.cores * s.channels) (is_of o.link) s.overrides exist) in
+        inl (o.link, (low, eqb-true (o.link % 3) kind own), latency_own s o.link o found ∙ g)
 
--- a test fails somewhere below n, or nowhere
-search_below : (p : ℕ → Bool) (n : ℕ) → ((q : ℕ) × (q < n) × (p q ≡ false)) ⊎ ((q : ℕ) → q < n → p q ≡ true)
-search_below p zero = inr (λ q h. absurd (omega arith))
-search_below p (suc n) = by (search_below p n) (cases_Bool (p n))
+own-meets : (s : Config) (link : ℕ) (o : Override) → find (is_of link) s.overrides ≡ Some o → least_own_of s (link % 3) ≤ o.latency
+own-meets s link o f =
+    let own = own_of s (link % 3) in
+    let found : find (is_of link) own ≡ Some o = find-kind link (link % 3) (eq-eqb (link % 3) (link % 3) refl) s.overrides ∙ f in
+    subst (λ r. IfSome r (λ (p : Override). least_own_of s (link % 3) ≤ p.latency)) found
+    (IfSome-find (λ (p : Override). least_own_of s (link % 3) ≤ p.latency) (is_of link) own (least_from-each 1000000 own))
+
+least-own : (s : Config) (kind : ℕ) → least_of_kind s kind (kind_latency s kind) ≤ least_own_of s kind
+least-own s kind =
+    cond_both (has_usual s kind) (min (least_own_of s kind) (kind_latency s kind)) (least_own_of s kind) (λ x. x ≤ least_own_of s kind) (λ e. omega arith) (λ e. omega arith)
+
+least-usual : (s : Config) (kind : ℕ) → has_usual s kind ≡ true → least_of_kind s kind (kind_latency s kind) ≤ kind_latency s kind
+least-usual s kind h =
+    let e : least_of_kind s kind (kind_latency s kind) ≡ min (least_own_of s kind) (kind_latency s kind) = cond-true _ _ _ h in
+    omega arith
+
+-- no link of the kind has a lower latency
+meets-at : (s : Config) (link : ℕ) → link < 3 * s.cores * s.channels → least_of_kind s (link % 3) (kind_latency s (link % 3)) ≤ latency s link
+meets-at s link l = by (find (is_of link) s.overrides) refl
   where
-    by : ((q : ℕ) × (q < n) × (p q ≡ false)) ⊎ ((q : ℕ) → q < n → p q ≡ true) → (p n ≡ true) ⊎ (p n ≡ false)
-        → ((q : ℕ) × (q < suc n) × (p q ≡ false)) ⊎ ((q : ℕ) → q < suc n → p q ≡ true)
-    by (inl w) b = inl (w.0, omega (arith, w.1), w.2)
-    by (inr h) (inr b) = inl (n, omega arith, b)
-    by (inr h) (inl b) = inr (λ q l. at_last q l (cases_lt q n))
-      where
-        at_last : (q : ℕ) → q < suc n → (q < n) ⊎ (n ≤ q) → p q ≡ true
-        at_last q l (inl k) = h q k
-        at_last q l (inr k) = let same : n ≡ q = omega arith in subst (λ x. p x ≡ true) same b
-
--- the links of a machine, as pairs of units with a kind
-links_count : (s : Config) → 3 * s.cores * s.channels ≡ 3 * (s.cores * s.channels)
-links_count s = mul_assoc 3 s.cores s.channels
-
-length-pairs : (kind : ℕ) (os : List Override) → length (pairs kind os) ≡ count_by (is_kind kind) os
-length-pairs kind os = length-map (filter (is_kind kind) os) (λ (o : Override). o.link / 3) ∙ length-filter (is_kind kind) os
-
--- where there are fewer overrides of a kind than links, one of them has none
-pub usual_link : (s : Config) (kind : ℕ) → kind < 3 → has_usual s kind ≡ true
-    → (link : ℕ) × (link < 3 * s.cores * s.channels) × (link % 3 ≡ kind) × (list_any (is_of link) s.overrides ≡ false)
-usual_link s kind k h = by (search_below (λ q. list_any (eqb q) (pairs kind s.overrides)) (s.cores * s.channels))
-  where
-    few : length (pairs kind s.overrides) < s.cores * s.channels
-    few = omega (arith, length-pairs kind s.overrides, ltb-true (count_by (is_kind kind) s.overrides) (s.cores * s.channels) h)
-
-    by : ((q : ℕ) × (q < s.cores * s.channels) × (list_any (eqb q) (pairs kind s.overrides) ≡ false)) ⊎ ((q : ℕ) → q < s.cores * s.channels → list_any (eqb q) (pairs kind s.overrides) ≡ true)
-        → (link : ℕ) × (link < 3 * s.cores * s.channels) × (link % 3 ≡ kind) × (list_any (is_of link) s.overrides ≡ false)
-    by (inl (q, l, e)) = (3 * q + kind, omega (arith, links_count s), omega arith, sym (pairs-any kind q k s.overrides) ∙ e)
-    by (inr all) = absurd (omega (arith, few, le-length_from_below (pairs kind s.overrides) (s.cores * s.channels) all))
-
-none_same : (q : ℕ) (xs : List ℕ) → list_any (eqb q) xs ≡ false → Each (λ (y : ℕ). eqb q y ≡ false) xs
-none_same q [] h = tt
-none_same q (x ∷ xs) h = ((or_parts (eqb q x) (list_any (eqb q) xs) h).0, none_same q xs (or_parts (eqb q x) (list_any (eqb q) xs) h).1)
-
--- where a link has no override, there are fewer of its kind than links
-pub usual_counts : (s : Config) (link : ℕ) → link < 3 * s.cores * s.channels → list_any (is_of link) s.overrides ≡ false → has_usual s (link % 3) ≡ true
-unfolding IsDistinct
-usual_counts s link l free =
-    let kind = link % 3 in
-    let q = link / 3 in
-    let k : kind < 3 = omega arith in
-    let here : 3 * q + kind ≡ link = omega arith in
-    let open_pair : list_any (eqb q) (pairs kind s.overrides) ≡ false =
-    pairs-any kind q k s.overrides ∙ ap (λ x. list_any (is_of x) s.overrides) here ∙ free in
-    let in_range : q < s.cores * s.channels = omega (arith, links_count s) in
-    let differ : IsDistinct eqb (q ∷ pairs kind s.overrides) = (none_same q (pairs kind s.overrides) open_pair, pairs_distinct kind s.overrides s.links_differ) in
-    let exist : Each (λ (o : Override). o.link < 3 * s.cores * s.channels) s.overrides = Each-from_all (λ (o : Override). o.link < 3 * s.cores * s.channels) s.overrides s.links_exist in
-    let all : length (q ∷ pairs kind s.overrides) ≤ s.cores * s.channels =
-    length-le_from_distinct_below (q ∷ pairs kind s.overrides) (s.cores * s.channels) differ (λ p h. below p h exist in_range k) in
-    lt-ltb (count_by (is_kind kind) s.overrides) (s.cores * s.channels) (omega (arith, length-pairs kind s.overrides))
-  where
-    below : (p : ℕ) → list_any (eqb p) (link / 3 ∷ pairs (link % 3) s.overrides) ≡ true → Each (λ (o : Override). o.link < 3 * s.cores * s.channels) s.overrides
-        → link / 3 < s.cores * s.channels → link % 3 < 3 → p < s.cores * s.channels
-    below p h exist in_range k = by (cases_Bool (eqb p (link / 3)))
-      where
-        by : (eqb p (link / 3) ≡ true) ⊎ (eqb p (link / 3) ≡ false) → p < s.cores * s.channels
-        by (inl e) = let same : p ≡ link / 3 = eqb-true p (link / 3) e in omega arith
-        by (inr e) =
-            let found : list_any (eqb p) (pairs (link % 3) s.overrides) ≡ true = ap (λ t. t || list_any (eqb p) (pairs (link % 3) s.overrides)) (sym e) ∙ h in
-            let low : 3 * p + link % 3 < 3 * s.cores * s.channels =
-            any_below (3 * p + link % 3) (3 * s.cores * s.channels) s.overrides exist (sym (pairs-any (link % 3) p k s.overrides) ∙ found) in
-            omega (arith, links_count s)
-
-abbrev least_from : ℕ → List Override → ℕ
-least_from a os = fold (λ least o. min least o.latency) a os
-
-least_from-start : (a : ℕ) (os : List Override) → least_from a os ≤ a
-least_from-start a [] = omega arith
-least_from-start a (o ∷ os) = omega (arith, least_from-start (min a o.latency) os)
-
-pub least_from-each : (a : ℕ) (os : List Override) → Each (λ (o : Override). least_from a os ≤ o.latency) os
-least_from-each a [] = tt
-least_from-each a (o ∷ os) = (omega (arith, least_from-start (min a o.latency) os), least_from-each (min a o.latency) os)
-
-pub find_none : (p : Override → Bool) (os : List Override) → find p os ≡ None → list_any p os ≡ false
-find_none p [] h = refl
-find_none p (o ∷ os) h = by (cases_Bool (p o)) (find_none p os)
-  where
-    by : (p o ≡ true) ⊎ (p o ≡ false) → (find p os ≡ None → list_any p os ≡ false) → (p o || list_any p os) ≡ false
-    by (inl e) rest = let found : find p (o ∷ os) ≡ Some o = cond-true (p o) (Some o) (find p os) e in cc
-    by (inr e) rest = ap (λ t. t || list_any p os) e ∙ rest (sym (cond-false (p o) (Some o) (find p os) e) ∙ h)
-
-none_found : (p : Override → Bool) (os : List Override) → list_any p os ≡ false → find p os ≡ None
-none_found p [] h = refl
-none_found p (o ∷ os) h = cond-false _ _ _ (or_parts (p o) (list_any p os) h).0 ∙ none_found p os (or_parts (p o) (list_any p os) h).1
-
-pub latency_free : (s : Config) (link : ℕ) → list_any (is_of link) s.overrides ≡ false → latency s link ≡ usual_latency s link
-unfolding latency
-latency_free s link h = ap (λ o. unwrap_or (option_map (λ (o : Override). o.latency) o) (usual_latency s link)) (none_found (is_of link) s.overrides h)
-
-pub latency_own : (s : Config) (link : ℕ) (o : Override) → find (is_of link) s.overrides ≡ Some o → latency s link ≡ o.latency
-unfolding latency
-latency_own s link o h = ap (λ x. unwrap_or (option_map (λ (o : Override). o.latency) x) (usual_latency s link)) h
-
--- what is no more than the latency of each override, and of each link without one, is no more than that of any link
-latency_at_least : (s : Config) (link b : ℕ) → Each (λ (o : Override). b ≤ o.latency) s.overrides → (list_any (is_of link) s.overrides ≡ false → b ≤ usual_latency s link) → b ≤ latency s link
-latency_at_least s link b own usual = by (find (is_of link) s.overrides) refl
-  where
-    by : (r : Option Override) → find (is_of link) s.overrides ≡ r → b ≤ latency s link
-    by None e = subst (λ x. b ≤ x) (sym (latency_free s link (find_none (is_of link) s.overrides e))) (usual (find_none (is_of link) s.overrides e))
+    by : (r : Option Override) → find (is_of link) s.overrides ≡ r → least_of_kind s (link % 3) (kind_latency s (link % 3)) ≤ latency s link
+    by None e =
+        let free : list_any (is_of link) s.overrides ≡ false = find_none (is_of link) s.overrides e in
+        subst (λ x. least_of_kind s (link % 3) (kind_latency s (link % 3)) ≤ x) (sym (latency_free s link free)) (least-usual s (link % 3) (usual_counts s link l free))
     by (Some o) e =
-        let low : b ≤ o.latency = subst (λ r. IfSome r (λ (o : Override). b ≤ o.latency)) e (IfSome-find (λ (o : Override). b ≤ o.latency) (is_of link) s.overrides own) in
-        subst (λ x. b ≤ x) (sym (latency_own s link o e)) low
+        let a : least_of_kind s (link % 3) (kind_latency s (link % 3)) ≤ least_own_of s (link % 3) = least-own s (link % 3) in
+        let b : least_own_of s (link % 3) ≤ o.latency = own-meets s link o e in
+        let c : latency s link ≡ o.latency = latency_own s link o e in
+        omega arith
 
--- the least of the latencies that count
+pub least-meets : (s : Config) (kind link : ℕ) → IsOfKind s kind link → least_of_kind s kind (kind_latency s kind) ≤ latency s link
+least-meets s kind link h = subst (λ k. least_of_kind s k (kind_latency s k) ≤ latency s link) h.1 (meets-at s link h.0)
+
+either-attained : (s : Config) (kind a b : ℕ) → Attained s kind a ⊎ (a ≡ 1000000) → Attained s kind b → Attained s kind (min a b) ⊎ (min a b ≡ 1000000)
+either-attained s kind a b h k = by (cases_lt a b)
+  where
+    by : (a < b) ⊎ (b ≤ a) → Attained s kind (min a b) ⊎ (min a b ≡ 1000000)
+    by (inl l) = let e : a ≡ min a b = omega arith in subst (λ x. Attained s kind x ⊎ (x ≡ 1000000)) e h
+    by (inr l) = let e : b ≡ min a b = omega arith in inl (subst (Attained s kind) e k)
+
+-- some link of the kind has it
+pub least-attained : (s : Config) (kind : ℕ) → kind < 3 → Attained s kind (least_of_kind s kind (kind_latency s kind))
+least-attained s kind k = decide (by (cases_Bool (has_usual s kind)))
+  where
+    least : ℕ
+    least = least_of_kind s kind (kind_latency s kind)
+
+    by : (has_usual s kind ≡ true) ⊎ (has_usual s kind ≡ false) → Attained s kind (least_of_kind s kind (kind_latency s kind)) ⊎ (least_of_kind s kind (kind_latency s kind) ≡ 1000000)
+    by (inl e) =
+        let w = usual_link s kind k e in
+        let usual : Attained s kind (kind_latency s kind) = (w.0, (w.1, w.2), latency_free s w.0 w.3 ∙ ap (kind_latency s) w.2) in
+        let same : min (least_own_of s kind) (kind_latency s kind) ≡ least_of_kind s kind (kind_latency s kind) = sym (cond-true _ _ _ e) in
+        subst (λ x. Attained s kind x ⊎ (x ≡ 1000000)) same (either-attained s kind (least_own_of s kind) (kind_latency s kind) (own-attained s kind) usual)
+    by (inr e) =
+        let same : least_own_of s kind ≡ least_of_kind s kind (kind_latency s kind) = sym (cond-false _ _ _ e) in
+        subst (λ x. Attained s kind x ⊎ (x ≡ 1000000)) same (own-attained s kind)
+
+    decide : Attained s kind (least_of_kind s kind (kind_latency s kind)) ⊎ (least_of_kind s kind (kind_latency s kind) ≡ 1000000) → Attained s kind (least_of_kind s kind (kind_latency s kind))
+    decide (inl w) = w
+    decide (inr e) =
+        let some_link : 2 < 3 * s.cores * s.channels = omega (arith, link_below s.cores s.channels 0 0 2 s.machine_in_range.cores_in.0 s.machine_in_range.channels_in.0 (omega arith)) in
+        let high : latency s kind ≤ 1000000 = (latency_in_range s kind).1 in
+        let low : least_of_kind s kind (kind_latency s kind) ≤ latency s kind = least-meets s kind kind (omega arith, omega arith) in
+        (kind, (omega arith, omega arith), omega arith)
+
+pub positive-at : (s : Config) (kind : ℕ) → kind < 3 → 1 ≤ least_of_kind s kind (kind_latency s kind)
+positive-at s kind k = let w = least-attained s kind k in subst (λ x. 1 ≤ x) w.2 (latency_in_range s w.0).0
+
+-- the least of the latencies of the kinds
 abbrev pub least_of : Config → ℕ
-least_of s = min (min (min (least_own s) (usual_or_longest s 0 s.request_latency)) (usual_or_longest s 1 s.reply_latency)) (usual_or_longest s 2 s.credit_latency)
+least_of s = min (min (least_of_kind s 0 s.request_latency) (least_of_kind s 1 s.reply_latency)) (least_of_kind s 2 s.credit_latency)
 
--- the latency of a kind
-abbrev pub kind_latency : Config → ℕ → ℕ
-kind_latency s kind = cond (eqb kind 0) s.request_latency (cond (eqb kind 1) s.reply_latency s.credit_latency)
-
-least_of-kind : (s : Config) (kind : ℕ) → kind < 3 → least_of s ≤ usual_or_longest s kind (kind_latency s kind)
+least_of-kind : (s : Config) (kind : ℕ) → kind < 3 → least_of s ≤ least_of_kind s kind (kind_latency s kind)
 least_of-kind s zero h = omega arith
 least_of-kind s (suc zero) h = omega arith
 least_of-kind s (suc (suc zero)) h = omega arith
@@ -203,89 +146,27 @@ least_of-kind s (suc (suc (suc n))) h = absurd (omega arith)
 -- no link has a lower latency
 pub least_of-meets : (s : Config) (link : ℕ) → link < 3 * s.cores * s.channels → least_of s ≤ latency s link
 least_of-meets s link l =
-    let own_low : least_of s ≤ least_own s = omega arith in
-    latency_at_least s link (least_of s)
-    (Each-weaker (λ (o : Override). least_own s ≤ o.latency) (λ (o : Override). least_of s ≤ o.latency) (λ o h. omega (arith, own_low, h)) s.overrides (least_from-each 1000000 s.overrides))
-    (λ free. subst (λ x. least_of s ≤ x) (cond-true _ _ _ (usual_counts s link l free)) (least_of-kind s (link % 3) (omega arith)))
-
-pub latency_in_range : (s : Config) (link : ℕ) → LatencyInRange (latency s link)
-latency_in_range s link = by (find (is_of link) s.overrides) refl
-  where
-    usual_in_range : LatencyInRange (usual_latency s link)
-    usual_in_range =
-        cond_both (eqb (link % 3) 0) _ _ LatencyInRange (λ e. s.latencies_in_range.request_in)
-        (λ e. cond_both (eqb (link % 3) 1) _ _ LatencyInRange (λ f. s.latencies_in_range.reply_in) (λ f. s.latencies_in_range.credit_in))
-
-    by : (r : Option Override) → find (is_of link) s.overrides ≡ r → LatencyInRange (latency s link)
-    by None e = subst LatencyInRange (sym (latency_free s link (find_none (is_of link) s.overrides e))) usual_in_range
-    by (Some o) e = subst LatencyInRange (sym (latency_own s link o e)) (override_in_range s.overrides link o s.overrides_in_range e)
+    let a : least_of s ≤ least_of_kind s (link % 3) (kind_latency s (link % 3)) = least_of-kind s (link % 3) (omega arith) in
+    let b : least_of_kind s (link % 3) (kind_latency s (link % 3)) ≤ latency s link = meets-at s link l in
+    omega arith
 
 -- some link has this latency
-abbrev pub Attained : Config → ℕ → Type 0
-Attained s b = (link : ℕ) × (link < 3 * s.cores * s.channels) × (latency s link ≡ b)
+abbrev pub Taken : Config → ℕ → Type 0
+Taken s n = (link : ℕ) × (link < 3 * s.cores * s.channels) × (latency s link ≡ n)
 
-kind_attained : (s : Config) (kind : ℕ) → kind < 3 → Attained s (usual_or_longest s kind (kind_latency s kind)) ⊎ (usual_or_longest s kind (kind_latency s kind) ≡ 1000000)
-kind_attained s kind k = by (cases_Bool (has_usual s kind))
+min-taken : (s : Config) (a b : ℕ) → Taken s a → Taken s b → Taken s (min a b)
+min-taken s a b h k = by (cases_lt a b)
   where
-    by : (has_usual s kind ≡ true) ⊎ (has_usual s kind ≡ false)
-        → Attained s (usual_or_longest s kind (kind_latency s kind)) ⊎ (usual_or_longest s kind (kind_latency s kind) ≡ 1000000)
-    by (inl e) =
-        let w = usual_link s kind k e in
-        inl (w.0, w.1, latency_free s w.0 w.3 ∙ ap (kind_latency s) w.2 ∙ sym (cond-true _ _ _ e))
-    by (inr e) = inr (cond-false _ _ _ e)
+    by : (a < b) ⊎ (b ≤ a) → Taken s (min a b)
+    by (inl l) = let e : a ≡ min a b = omega arith in subst (Taken s) e h
+    by (inr l) = let e : b ≡ min a b = omega arith in subst (Taken s) e k
 
-links_apart : (link : ℕ) (os : List Override) → Each (λ (y : ℕ). eqb link y ≡ false) (map (λ (o : Override). o.link) os) → Each (λ (o : Override). eqb link o.link ≡ false) os
-links_apart link [] h = tt
-links_apart link (o ∷ os) h = (h.0, links_apart link os h.1)
-
--- the least latency of an override is that of the one which is found for its link
-pub found_least : (a : ℕ) (os : List Override) → IsDistinct eqb (map (λ (o : Override). o.link) os)
-    → (least_from a os ≡ a) ⊎ ((o : Override) × (find (is_of o.link) os ≡ Some o) × (o.latency ≡ least_from a os))
-unfolding IsDistinct
-found_least a [] d = inl refl
-found_least a (o ∷ os) d = by (found_least (min a o.latency) os d.1) (cases_lt o.latency a)
-  where
-    by : (least_from (min a o.latency) os ≡ min a o.latency) ⊎ ((p : Override) × (find (is_of p.link) os ≡ Some p) × (p.latency ≡ least_from (min a o.latency) os)) → (o.latency < a) ⊎ (a ≤ o.latency)
-        → (least_from a (o ∷ os) ≡ a) ⊎ ((p : Override) × (find (is_of p.link) (o ∷ os) ≡ Some p) × (p.latency ≡ least_from a (o ∷ os)))
-    by (inl e) (inl l) = inr (o, cond-true _ _ _ (eq-eqb o.link o.link refl), omega arith)
-    by (inl e) (inr l) = inl (omega arith)
-    by (inr (p, f, g)) b =
-        let other : eqb o.link p.link ≡ false =
-        subst (λ r. IfSome r (λ (q : Override). eqb o.link q.link ≡ false)) f (IfSome-find (λ (q : Override). eqb o.link q.link ≡ false) (is_of p.link) os (links_apart o.link os d.0)) in
-        inr (p, cond-false _ _ _ other ∙ f, g)
-
-own_attained : (s : Config) → Attained s (least_own s) ⊎ (least_own s ≡ 1000000)
-own_attained s = by (found_least 1000000 s.overrides s.links_differ)
-  where
-    by : (least_own s ≡ 1000000) ⊎ ((o : Override) × (find (is_of o.link) s.overrides ≡ Some o) × (o.latency ≡ least_own s)) → Attained s (least_own s) ⊎ (least_own s ≡ 1000000)
-    by (inl e) = inr e
-    by (inr (o, f, g)) =
-        let exist : Each (λ (p : Override). p.link < 3 * s.cores * s.channels) s.overrides = Each-from_all (λ (p : Override). p.link < 3 * s.cores * s.channels) s.overrides s.links_exist in
-        let low : o.link < 3 * s.cores * s.channels =
-        subst (λ r. IfSome r (λ (p : Override). p.link < 3 * s.cores * s.channels)) f (IfSome-find (λ (p : Override). p.link < 3 * s.cores * s.channels) (is_of o.link) s.overrides exist) in
-        inl (o.link, low, latency_own s o.link o f ∙ g)
-
-min_attained : (s : Config) (a b : ℕ) → Attained s a ⊎ (a ≡ 1000000) → Attained s b ⊎ (b ≡ 1000000) → Attained s (min a b) ⊎ (min a b ≡ 1000000)
-min_attained s a b h k = by (cases_lt a b)
-  where
-    by : (a < b) ⊎ (b ≤ a) → Attained s (min a b) ⊎ (min a b ≡ 1000000)
-    by (inl l) = let e : a ≡ min a b = omega arith in subst (λ x. Attained s x ⊎ (x ≡ 1000000)) e h
-    by (inr l) = let e : b ≡ min a b = omega arith in subst (λ x. Attained s x ⊎ (x ≡ 1000000)) e k
+kind-taken : (s : Config) (kind : ℕ) → kind < 3 → Taken s (least_of_kind s kind (kind_latency s kind))
+kind-taken s kind k = let w = least-attained s kind k in (w.0, w.1.0, w.2)
 
 -- some link has the least latency
-pub least_of-attained : (s : Config) → Attained s (least_of s)
-least_of-attained s =
-    by (min_attained s _ _ (min_attained s _ _ (min_attained s _ _ (own_attained s) (kind_attained s 0 (omega arith))) (kind_attained s 1 (omega arith))) (kind_attained s 2 (omega arith)))
-  where
-    some_link : 0 < 3 * s.cores * s.channels
-    some_link = search (arith, s.machine_in_range.cores_in.0, s.machine_in_range.channels_in.0)
-
-    by : Attained s (least_of s) ⊎ (least_of s ≡ 1000000) → Attained s (least_of s)
-    by (inl w) = w
-    by (inr e) =
-        let high : latency s 0 ≤ 1000000 = (latency_in_range s 0).1 in
-        let low : least_of s ≤ latency s 0 = least_of-meets s 0 some_link in
-        (0, some_link, omega arith)
+pub least_of-attained : (s : Config) → Taken s (least_of s)
+least_of-attained s = min-taken s _ _ (min-taken s _ _ (kind-taken s 0 (omega arith)) (kind-taken s 1 (omega arith))) (kind-taken s 2 (omega arith))
 
 pub least_of-positive : (s : Config) → 1 ≤ least_of s
 least_of-positive s =

@@ -10,8 +10,8 @@
 --     IsByAge ms      messages stand by age
 --     AreRings channels first rings      each ring holds messages that go to it, by age
 --     AreInRings channels numbers rings      what holds of the messages in flight on the links of a machine
---     sooner_of least ms      the lesser of a cycle and of the first arrival
---     lesser_of first second      the lesser of two cycles
+--     earlier_arrival least ms      the earlier of a cycle and of the first arrival
+--     earlier_of first second      the earlier of two cycles
 --     arrives_later until m      a message does not arrive before a cycle
 --     due_of until ms, later_of until ms      those of some messages that arrive before a cycle, and the others
 --     head_of until ms      those at the head that arrive before a cycle
@@ -164,10 +164,10 @@ HaveGained old new ms = messages_in new ≡ fold insert_by_age (messages_in old)
 abbrev pub JoinAlike : List Message → List Message → Type 0
 JoinAlike old new = (ms : List Message) → fold insert_by_age ms new ≡ fold insert_by_age ms old
 
--- the lesser of a cycle and of the arrival of the first message; if there is only one of them, that one
-abbrev pub sooner_of : Option ℕ → List Message → Option ℕ
-sooner_of least [] = least
-sooner_of least (m ∷ ms) = Some (option_map_or (λ cycle. min cycle m.arrival) least m.arrival)
+-- the earlier of a cycle and of the arrival of the first message; if there is only one of them, that one
+abbrev pub earlier_arrival : Option ℕ → List Message → Option ℕ
+earlier_arrival least [] = least
+earlier_arrival least (m ∷ ms) = Some (option_map_or (λ cycle. min cycle m.arrival) least m.arrival)
 
 -- the same rings, some of which may have got more room, and which may have got empty rings behind them
 pub record Grows (old new : List (Buffer Message)) : Type 0 where
@@ -179,11 +179,11 @@ pub record Grows (old new : List (Buffer Message)) : Type 0 where
 abbrev pub arrives_later : ℕ → Message → Bool
 arrives_later until m = not (arrives_before until m)
 
--- the lesser of two cycles; if there is only one of them, that one
-abbrev pub lesser_of : Option ℕ → Option ℕ → Option ℕ
-lesser_of None second = second
-lesser_of (Some a) None = Some a
-lesser_of (Some a) (Some b) = Some (min a b)
+-- the earlier of two cycles; if there is only one of them, that one
+abbrev pub earlier_of : Option ℕ → Option ℕ → Option ℕ
+earlier_of None second = second
+earlier_of (Some a) None = Some a
+earlier_of (Some a) (Some b) = Some (min a b)
 
 -- those of some messages that arrive before a cycle
 abbrev pub due_of : ℕ → List Message → List Message

@@ -4,7 +4,7 @@ ghost use Rattle.std.specs.Prelude.{◌≡◌, ◌+◌, ◌<◌, ◌^◌, ◌≤
 ghost use Rattle.std.specs.List.{list_all};
 ghost use Rattle.std.specs.List.Sorted.{IsPermutation};
 ghost use Rattle.links.specs.InFlight.{nothing_in_flight, with_sent, due_before, without_due, in_flight_to, first_arrival, NoneBefore, SomeAt};
-ghost use Rattle.links.specs.Rings.{ring_of, ring_if_any, contents, messages_in, messages_at, IsByAge, sooner_of, lesser_of, due_in, due_in_both, left_in, left_both, AreRings, HasRoom, HaveRoomForAll, AreNumbers, AreCounts, IsOneMore, HaveCountedRoom, CanTakeUp, HoldSame, HaveGained, JoinAlike, Grows};
+ghost use Rattle.links.specs.Rings.{ring_of, ring_if_any, contents, messages_in, messages_at, IsByAge, earlier_arrival, earlier_of, due_in, due_in_both, left_in, left_both, AreRings, HasRoom, HaveRoomForAll, AreNumbers, AreCounts, IsOneMore, HaveCountedRoom, CanTakeUp, HoldSame, HaveGained, JoinAlike, Grows};
 
 use crate::merge::{copy_heads, messages_of};
 use crate::rings::{Ring, drop_first, first_arrival, make_room, put_by_age, take_before};
@@ -445,9 +445,9 @@ fn first_arrival_in(rings: &[Ring], number: usize) -> Option<Cycle>
     first_arrival(rings.get(number)?)
 }
 
-/// The lesser of two cycles; if there is only one of them, that one.
-fn lesser(first: Option<Cycle>, second: Option<Cycle>) -> Option<Cycle>
-    ensures { result ≡ lesser_of first second }
+/// The earlier of two cycles; if there is only one of them, that one.
+fn earlier(first: Option<Cycle>, second: Option<Cycle>) -> Option<Cycle>
+    ensures { result ≡ earlier_of first second }
 {
     match (first, second) {
         (Some(a), Some(b)) => Some(a.min(b)),
@@ -462,9 +462,9 @@ fn all_empty(rings: &[Ring]) -> bool
     rings.iter().all(|ring| ring.is_empty())
 }
 
-/// The lesser of a cycle and of the arrival of a ring's first message; if there is only one of them, that one.
-fn sooner(least: Option<Cycle>, ring: &Ring) -> Option<Cycle>
-    ensures { result ≡ sooner_of least ring.now.items }
+/// The earlier of a cycle and of the arrival of a ring's first message; if there is only one of them, that one.
+fn earlier_arrival(least: Option<Cycle>, ring: &Ring) -> Option<Cycle>
+    ensures { result ≡ earlier_arrival least ring.now.items }
 {
     match first_arrival(ring) {
         Some(arrival) => Some(least.map_or(arrival, |cycle: Cycle| cycle.min(arrival))),
@@ -473,10 +473,12 @@ fn sooner(least: Option<Cycle>, ring: &Ring) -> Option<Cycle>
 }
 
 /// The least arrival of a ring's first message.
-fn soonest(rings: &[Ring]) -> Option<Cycle>
-    ensures { result ≡ fold (λ least ring. sooner_of least ring.items) None rings.now }
+fn earliest(rings: &[Ring]) -> Option<Cycle>
+    ensures { result ≡ fold (λ least ring. earlier_arrival least ring.items) None rings.now }
 {
-    rings.iter().fold(None, |least, ring| sooner(least, ring))
+    rings
+        .iter()
+        .fold(None, |least, ring| earlier_arrival(least, ring))
 }
 
 impl Links {
@@ -565,7 +567,7 @@ impl Links {
         let first = first_arrival_in(&self.rings, number);
         match unit {
             Unit::Channel(_) => first,
-            Unit::Core(_) => lesser(first, first_arrival_in(&self.rings, number + 1)),
+            Unit::Core(_) => earlier(first, first_arrival_in(&self.rings, number + 1)),
         }
     }
 
@@ -575,6 +577,6 @@ impl Links {
         ensures least { IfSome result (λ cycle. NoneBefore cycle self.now.messages) }
         ensures attained { IfSome result (λ cycle. SomeAt cycle self.now.messages) }
     {
-        soonest(&self.rings)
+        earliest(&self.rings)
     }
 }

@@ -4,10 +4,7 @@ use Rattle.links.proofs.latency.shortest.Goals as goal
 use Rattle.links.proofs.latency.shortest.Goals.{After-from}
 
 is_least : (c : After-from) → c.from.result ≡ least_of c.args.config.now
-is_least c =
-    c.from.ensures
-    ∙ c.min-least.ensures
-    ∙ ap₂ min (c.min-2.ensures ∙ ap₂ min (c.min.ensures ∙ ap₂ min c.least_own.ensures c.usual.ensures) c.usual-2.ensures) c.usual-3.ensures
+is_least c = c.from.ensures ∙ c.min-2.ensures ∙ ap₂ min (c.min.ensures ∙ ap₂ min c.least_of_kind-request.ensures c.least_of_kind-reply.ensures) c.least_of_kind-credit.ensures
 
 pub returns-clause-meets : goal.returns-clause-meets
 returns-clause-meets c = rw (is_least c) (least_of-meets c.args.config.now)

@@ -3,13 +3,13 @@ use Rattle.std.specs.Prelude.{slice_get, filter, All, IfSome}
 use Rattle.sim_base.specs.History.{is_unit, by_age}
 use Rattle.std.specs.Option.{option_map}
 use Rattle.sim_base.specs.declared.message.Message.{Message}
-use Rattle.links.specs.Rings.{contents, joined, ring_at, lesser_of}
+use Rattle.links.specs.Rings.{contents, joined, ring_at, earlier_of}
 use Rattle.links.specs.InFlight.{receiver_of}
 use Rattle.links.proofs.Ages.{filter-in_order, first_is_least, by_age-twice}
 use Rattle.links.proofs.Both.{first_of_both}
 use Rattle.links.proofs.Held.{at_no_unit, at_channel, at_core, ring_is}
 use Rattle.links.proofs.flight.Links.next_arrival_at.Goals as goal
-use Rattle.links.proofs.flight.Links.next_arrival_at.Goals.{In-Channel, After-lesser}
+use Rattle.links.proofs.flight.Links.next_arrival_at.Goals.{In-Channel, After-earlier}
 
 pub returns-in_default-clause-first : goal.returns-in_default-clause-first
 returns-in_default-clause-first c =
@@ -36,11 +36,11 @@ returns-in-Channel-clause-least c =
     (subst (λ r. IfSome r (λ cycle. All (λ (m : Message). cycle ≤ m.arrival) (filter to all))) (sym (to_channel c))
     (first_is_least (filter to all) (filter-in_order to all (by_age-twice (joined (contents c.self.inside.rings.items))))))
 
-to_core : (c : After-lesser) → c.lesser.result
+to_core : (c : After-earlier) → c.earlier.result
     ≡ option_map (λ (m : Message). m.arrival) (slice_get (filter (λ m. is_unit (receiver_of c.self.inside.channels m.link) c.args.unit) (by_age (joined (contents c.self.inside.rings.items)))) 0)
 to_core c =
-    c.lesser.ensures
-    ∙ ap₂ lesser_of
+    c.earlier.ensures
+    ∙ ap₂ earlier_of
     (c.first_arrival_in-first.ensures ∙ ap (λ rings. option_map (λ (m : Message). m.arrival) (slice_get (ring_at (contents rings) c.in-Some.number) 0)) c.deref.ensures.value)
     (c.first_arrival_in.ensures ∙ ap (λ rings. option_map (λ (m : Message). m.arrival) (slice_get (ring_at (contents rings) (c.in-Some.number + 1)) 0)) c.deref-in-Core.ensures.value)
     ∙ first_of_both _ _ (ring_is _ (c.in-Some.number + 1) 0 _ c.self.invariant.1).in_order
