@@ -207,8 +207,8 @@ impl<'a> TableLines<Rows<'a>> for CommandLines {
 
 /// Writes the table of commands: a header, and then a row for each command, in their order.
 ///
-/// Where `ranks` is above 1 the table has a column for the rank. The call takes memory for a batch of
-/// rows, below 64 KB, and some 14 KB for the writer of `csv` and what it is handed.
+/// Where `ranks` is above 1 the table has a column for the rank. The call takes memory for two
+/// batches of rows, 256 KB each, and some 14 KB for the writer of `csv` and what it is handed.
 ///
 /// # Errors
 ///

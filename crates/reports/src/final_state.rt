@@ -399,8 +399,8 @@ fn write_rows<W: Write>(table: &mut Table, state: &FinalState, ranks: u32, write
 /// credits that each core holds for each channel; for each channel the refreshes that are due by rank, the open rows
 /// and the queue; and the messages in flight. Fields that a row does not have are empty.
 ///
-/// Where `ranks` is above 1 the table has a column for the rank. The call takes memory for a batch of
-/// rows, below 64 KB, and some 14 KB for the writer of `csv` and what it is handed.
+/// Where `ranks` is above 1 the table has a column for the rank. The call takes memory for two
+/// batches of rows, 256 KB each, and some 14 KB for the writer of `csv` and what it is handed.
 ///
 /// # Errors
 ///

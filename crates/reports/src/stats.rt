@@ -160,7 +160,7 @@ fn write_rows<W: Write>(table: &mut Table, stats: &Stats, writer: &mut W)
 /// Writes the table of statistics: a header, how many cycles there were, and then a row for each count of each core and
 /// of each channel, by number. A channel that may drain its writes has a row `draining` after all others.
 ///
-/// The call takes memory for a batch of rows, below 64 KB, and some 14 KB for the writer of `csv` and what it is
+/// The call takes memory for two batches of rows, 256 KB each, and some 14 KB for the writer of `csv` and what it is
 /// handed.
 ///
 /// # Errors

@@ -8,13 +8,15 @@ use crate::block::Block;
 use crate::line::{Line, ROOM, put_last_word, text_from};
 use csv::{QuoteStyle, Writer, WriterBuilder};
 use sim_base::fault::Fault;
-use std::alloc::Global;
+use std::alloc::{AllocError, Global};
 use std::io::Write;
 use std::mem;
 
-// Once this many bytes wait in the list, everything that waits goes out. Together with what `csv` may hold, that is
-// some 54 KB, for which the list need not grow again.
-const BATCH: usize = 44 * 1024;
+// Once this many bytes wait in the list, everything that waits goes out.
+const BATCH: usize = 236 * 1024;
+
+// As much stands in the list at most: a batch, and what `csv` and the block may hold.
+const LIST_ROOM: usize = BATCH + 20 * 1024;
 
 /// Why rows are lost.
 #[derive(Clone, Copy)]
@@ -36,6 +38,16 @@ impl Loss {
     }
 }
 
+// An empty list with room for all that waits. Where memory for it is refused, it has none, and grows as rows come.
+fn list_with_room(alloc: Global) -> Vec<u8>
+    ensures { result.items ≡ [] }
+{
+    match Vec::with_capacity(alloc, LIST_ROOM) {
+        Ok(list) => list,
+        Err(AllocError) => Vec::new(alloc),
+    }
+}
+
 // A writer that appends rows to this text, without quotes. Its buffer of 8 KB is cleared here, so one writer is made
 // for many rows.
 fn rows_after(text: Vec<u8>) -> Writer<Vec<u8>>
@@ -50,31 +62,42 @@ fn rows_after(text: Vec<u8>) -> Writer<Vec<u8>>
         .from_writer(text)
 }
 
-// Hands rows to the writer.
+// Hands rows to the writer. The list in which they stood takes the place of an empty one, and is empty then.
 #[inline(always)]
-fn write_out<W: Write>(rows: Writer<Vec<u8>>, writer: &mut W) -> Result<(), Loss>
+fn write_out<W: Write>(
+    rows: Writer<Vec<u8>>,
+    writer: &mut W,
+    spare: &mut Vec<u8>,
+) -> Result<(), Loss>
+    requires empty { spare.old.items ≡ [] }
     ensures written { WritesOnOk result W.contents writer.old writer.new
         ((writer_under rows).items ++ writer_pending rows) }
+    ensures empty { spare.new.items ≡ [] }
 {
-    let Ok(batch) = rows.into_inner() else {
+    let Ok(mut batch) = rows.into_inner() else {
         return Err(Loss::Memory);
     };
     let Ok(()) = writer.write_all(&batch) else {
         return Err(Loss::Write);
     };
+    batch.clear();
+    *spare = batch;
     Ok(())
 }
 
-/// Rows that wait for a writer, less than 64 KB of them, and the row that is being put together. They go out together.
-/// The last of them wait in a block, which `csv` gets as one text. Once rows are lost, the table keeps why, and takes
-/// no further rows out; `finish` then refuses.
+/// Rows that wait for a writer, at most 256 KB of them, and the row that is being put together. They go out together.
+/// The last of them wait in a block, which `csv` gets as one text. The list in which rows went out is kept for later
+/// ones, so that it need not grow again. Once rows are lost, the table keeps why, and takes no further rows out;
+/// `finish` then refuses.
 #[derive(Drop)]
 pub(crate) struct Table {
     pub(crate) line: Line,
     block: Block,
     alloc: Global,
     rows: Writer<Vec<u8>>,
+    spare: Vec<u8>,
     lost: Option<Loss>,
+    ghost empty: { spare.items ≡ [] },
     ghost plain: { writer_setup rows ≡ plain_writer },
     ghost no_field: { fields_written rows ≡ 0 },
     ghost no_byte: { has_written rows ≡ false },
@@ -91,7 +114,8 @@ impl Table {
             line: [0; ROOM],
             block: Block::new(),
             alloc,
-            rows: rows_after(Vec::new(alloc)),
+            rows: rows_after(list_with_room(alloc)),
+            spare: Vec::new(alloc),
             lost: None,
         }
     }
@@ -121,8 +145,11 @@ impl Table {
         ensures line { self.new.line ≡ self.old.line }
     {
         self.put_block()?;
-        let full = mem::replace(&mut self.rows, rows_after(Vec::new(self.alloc)));
-        write_out(full, writer)
+        // the list grows as rows come where memory for this is refused
+        let _room = self.spare.reserve(LIST_ROOM);
+        let spare = mem::replace(&mut self.spare, Vec::new(self.alloc));
+        let full = mem::replace(&mut self.rows, rows_after(spare));
+        write_out(full, writer, &mut self.spare)
     }
 
     // Hands the rows of the block on. If enough rows wait, they go out.
@@ -215,8 +242,12 @@ impl Table {
         ensures { SendsOnOk result W.contents writer.old self writer.new }
     {
         self.close()?;
-        let Table { rows, .. } = self;
-        write_out(rows, writer)
+        let Table {
+            rows,
+            mut spare,
+            ..
+        } = self;
+        write_out(rows, writer, &mut spare)
     }
 
     /// Hands the rows that still wait to the writer, and tells whether any were lost. A table that is not finished

@@ -25,7 +25,7 @@ use Rattle.units.specs.Views.{SimView}
 use Rattle.units.specs.declared.machine.Machine.{Machine}
 use Rattle.shards.specs.declared.shard.Shard.{Shard}
 use Rattle.shards.specs.declared.job.JobName.{JobName}
-use Rattle.shards.specs.declared.merging.Span.{Span}
+use Rattle.shards.specs.declared.merging.PhaseSpan.{PhaseSpan}
 use Rattle.shards.specs.Shards.{IsSplit, AreFrom, IsAtRest, IsUpTo, nth_shard}
 use Rattle.shards.specs.Jobs.{JobView, IsJob, job_at, jobs_at}
 
@@ -62,7 +62,7 @@ pub record PhaseView : Type 0 where
   pub until : ℕ
 
 -- the phase of a machine in shards over the cycles of a span, which has its number
-abbrev pub phase_over : Machine → List ℕ → Span → PhaseView
+abbrev pub phase_over : Machine → List ℕ → PhaseSpan → PhaseView
 phase_over machine bounds span =
     record { machine = machine; bounds = bounds; number = span.number; from = span.from; until = span.until }
 

@@ -17,7 +17,7 @@ use units::machine::Machine;
 
 /// The cycles of a phase, from one on and before another, and its number.
 #[derive(Clone, Copy)]
-pub(crate) struct Span {
+pub(crate) struct PhaseSpan {
     pub number: u64,
     pub from: Cycle,
     pub until: Cycle,
@@ -29,7 +29,7 @@ pub(crate) struct Outline {
     pub machine: Arc<Machine>,
     /// The place where each shard begins, and the number of units.
     pub bounds: Vec<usize>,
-    pub span: Span,
+    pub span: PhaseSpan,
 }
 
 impl Model for Outline {

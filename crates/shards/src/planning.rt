@@ -6,7 +6,7 @@ ghost use Rattle.shards.specs.Phases.{MayGo, jobs_of};
 ghost use Rattle.shards.specs.Standing.{AreShardsAt, MayStopAt};
 
 use crate::job::{Job, JobName};
-use crate::merging::{Outline, Phase, Span, no_results};
+use crate::merging::{Outline, Phase, PhaseSpan, no_results};
 use crate::shard::Shard;
 use crate::sharded::ShardedSim;
 use crate::split::{Standing, joined};
@@ -102,7 +102,7 @@ pub fn plan(sim: ShardedSim, alloc: Global, limit: Cycle) -> Result<Planned, All
         let shards = settled(alloc, &standing, shards, inbound)?;
         return Ok(Planned::AtLimit(joined(alloc, standing, shards, number)?));
     }
-    let span = Span {
+    let span = PhaseSpan {
         number,
         from: wake,
         until: end_of_phase(&machine.config, wake, limit),

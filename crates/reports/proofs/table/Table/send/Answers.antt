@@ -11,6 +11,6 @@ returns-clause-written g c =
     let waits = waiting c.args.self.now in
     let fresh = c.replace-full.new.dest in
     let rest = (writer_under fresh).items ++ writer_pending fresh ++ table.block in
-    let none : rest ≡ [] = rw (c.replace-full.ensures.after, c.rows_after.ensures.under, c.new.ensures.items, c.rows_after.ensures.pending, c.in_ok-put_block.ensures.empty) refl in
+    let none : rest ≡ [] = rw (c.replace-full.ensures.after, c.rows_after.ensures.under, c.replace-spare.ensures.value, c.reserve-room.ensures.items, table.empty, c.rows_after.ensures.pending, c.in_ok-put_block.ensures.empty) refl in
     let wrote = rw c.replace-full.ensures.value at c.write_out.ensures.written in
     held-none c.write_out.result _ _ rest none (held-out c.write_out.result _ _ front waits (emptied front table.block waits c.in_ok-put_block.ensures.empty c.in_ok-put_block.ensures.waiting) wrote)
