@@ -24,7 +24,7 @@ use Rattle.bank_ready.specs.Stands.{rank_count, StandsFor as BanksStandFor}
 use Rattle.bank_ready.specs.declared.banks.Banks.{Banks}
 use Rattle.bank_ready.specs.Refreshes.{RefreshCounts, owed, lowest_owed, StandsFor as RefreshesStandFor}
 use Rattle.bank_ready.proofs.Due.{due_from_owed, lowest_due_from_owed}
-use Rattle.statistics.specs.Channels.{channel_stats, channel_cycle_with, channel_joined, moves_hit, is_late_act, ChannelFits}
+use Rattle.statistics.specs.Channels.{channel_stats, channel_cycle_with, channel_joined, issues_hit, is_late_act, ChannelFits}
 use Rattle.statistics.specs.declared.channels.ChannelStats.{ChannelStats}
 use Rattle.statistics.proofs.ChannelBounds.{channel_stats-fit}
 use Rattle.statistics.proofs.ChannelChoices.{choice-not_late}
@@ -61,7 +61,7 @@ use Rattle.channel_step.proofs.Places.{queue-ranks}
 
 -- what a channel is readied by: a log of which one more or none is served, with its marks, and the candidates for it
 pub readied : (c : Channel) (s : Config) (channel : ℕ) (steps : List (Option Command)) (mail : List Message) (command : Command) (hit : Bool) (log : List Arrived) (bank_candidates : BankCandidates) (served : Option (Vec ServedRequest Global))
-    → IsInCycle c s channel steps mail → Some command ≡ choice s channel steps mail → moves_hit (issued_commands channel steps) (Some command) ≡ hit
+    → IsInCycle c s channel steps mail → Some command ≡ choice s channel steps mail → issues_hit (issued_commands channel steps) (Some command) ≡ hit
     → all_requests log ≡ all_requests c.queue.log → waiting_requests log ≡ unserved_by command (waiting_requests c.queue.log)
     → marks_in log ≡ marks_of (issued_commands channel steps ++ row_of channel (length steps) command ∷ []) (waiting_requests log)
     → bank_count bank_candidates ≡ bank_count c.bank_candidates
@@ -221,7 +221,7 @@ has-issued c d s channel steps mail command issued hit commands commands_then me
   messages_are = sent;
 }
 
--- only a command that moves data sends messages
+-- only a column command sends messages
 pub silent-act : (s : Config) (channel cycle : ℕ) (bank : BankId) (row : ℕ) (source : Source) (messages : List Message) → messages ≡ messages ++ messages_of s channel cycle (Act bank row source)
 unfolding messages_of
 silent-act s channel cycle bank row source messages = sym (append-nil messages)

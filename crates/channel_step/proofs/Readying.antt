@@ -26,7 +26,7 @@ use Rattle.queue.specs.Stands.{bank_count, IsAmong, with_row, closed_in, StandsF
 use Rattle.queue.proofs.Stood.{same_rows, bank_named}
 use Rattle.queue.proofs.Waits.{request_at as placed_at}
 use Rattle.request_table.specs.declared.served_requests.ServedRequest.{ServedRequest}
-use Rattle.statistics.specs.Channels.{moves_hit}
+use Rattle.statistics.specs.Channels.{issues_hit}
 use Rattle.fr_fcfs.specs.Requests.{IsInBanks, KnowsRows}
 use Rattle.channel_step.specs.Past.{is_named}
 use Rattle.channel_step.specs.Stands.{marks_of}
@@ -40,7 +40,7 @@ use Rattle.channel_step.proofs.Cycle.{joined-differ}
 use Rattle.channel_step.proofs.Foreseen.{request-needs}
 use Rattle.channel_step.proofs.Issuing.{readied, late-none}
 use Rattle.channel_step.proofs.Leaving.{at-waiting, served-waits, served-marks, mark-at, activated-marks}
-use Rattle.channel_step.proofs.Marks.{column_either, opens_none, moves_none, marks-act, marks-no_act, served-none, hit-mark, column-opens_none}
+use Rattle.channel_step.proofs.Marks.{column_either, opens_none, marks-act, marks-no_act, served-none, hit-mark, column-opens_none}
 use Rattle.channel_step.proofs.Serving.{rows_in, kept-quiet, kept-served}
 
 -- the bank that the request at a place asks for is one that has candidates
@@ -59,14 +59,14 @@ groups-are c s channel steps mail h = ap (λ (x : Config). x.groups) (sym h.made
 
 -- a command that serves none and opens no row leaves the log
 quiet-readied : (c : Channel) (s : Config) (channel : ℕ) (steps : List (Option Command)) (mail : List Message) (command : Command) (bank_candidates : BankCandidates) → IsInCycle c s channel steps mail
-    → Some command ≡ choice s channel steps mail → moves_none command ≡ true → opens_none command ≡ true → is_column_command command ≡ false → is_hit (issued_commands channel steps) command ≡ false
+    → Some command ≡ choice s channel steps mail → opens_none command ≡ true → is_column_command command ≡ false → is_hit (issued_commands channel steps) command ≡ false
     → bank_count bank_candidates ≡ bank_count c.bank_candidates
     → CandidatesStandFor bank_candidates c.queue.log (λ bank. row_after (bank_at bank) (open_row (bank_at bank) (issued_commands channel steps)) command)
     → IsReadied (record c { bank_candidates = bank_candidates }) s channel steps mail command false
-quiet-readied c s channel steps mail command bank_candidates h chosen none opens quiet no_hit count stands =
+quiet-readied c s channel steps mail command bank_candidates h chosen opens quiet no_hit count stands =
     let history = issued_commands channel steps in
     let row = row_of channel (length steps) command in
-    readied c s channel steps mail command false c.queue.log bank_candidates c.served h chosen no_hit refl (sym (served-none (waiting_requests c.queue.log) command none))
+    readied c s channel steps mail command false c.queue.log bank_candidates c.served h chosen no_hit refl (sym (served-none (waiting_requests c.queue.log) command quiet))
     (h.joined.marks_are ∙ sym (marks-no_act history row (waiting_requests c.queue.log) opens)) count stands
     (kept-quiet c.served history row mail (late-none s channel steps mail command chosen) quiet h.keeps_served)
 
@@ -82,7 +82,7 @@ closed-readied c s channel steps mail slot bank_candidates h l chosen count stan
     let bank = bank_in r.place in
     let rows : ℕ → Option ℕ = λ n. open_row (bank_at n) (issued_commands channel steps) in
     let among = placed-among c s channel steps mail slot h l in
-    quiet-readied c s channel steps mail (Pre bank (source_of r)) bank_candidates h chosen refl refl refl refl count
+    quiet-readied c s channel steps mail (Pre bank (source_of r)) bank_candidates h chosen refl refl refl count
     (same_rows bank_candidates c.queue.log (with_row (number_of bank) None rows) (λ n. row_after (bank_at n) (rows n) (Pre bank (source_of r))) stands
     (λ n there. ap (λ t. cond t None (rows n)) (bank_named n bank among.group among.bank)))
 
@@ -116,7 +116,7 @@ opened-readied c s channel steps mail slot bank_candidates h l w chosen count st
 column-rows : (bank : BankId) (row : Option ℕ) (r : Request) → row ≡ row_after bank row (column_command r)
 column-rows bank row r = column_either (λ command. row ≡ row_after bank row command) r refl refl
 
--- an RD or WR serves the request
+-- a column command serves the request
 pub served-readied : (c : Channel) (s : Config) (channel : ℕ) (steps : List (Option Command)) (mail : List Message) (slot : ℕ) (bank_candidates : BankCandidates) (served : Option (Vec ServedRequest Global))
     → IsInCycle c s channel steps mail → slot < length c.queue.log → waits_at c.queue.log slot ≡ true
     → let r = request_at c.queue.log slot in
@@ -136,7 +136,7 @@ served-readied c s channel steps mail slot bank_candidates served h l w chosen c
     let rows : ℕ → Option ℕ = λ n. open_row (bank_at n) history in
     let differ = joined-differ _ _ _ _ s channel steps mail j in
     let no_act = column-opens_none r in
-    let is_hit : moves_hit history (Some command) ≡ hit = hit-mark history r ∙ ap not (sym (mark-at (is_named history) log slot l w j.marks_are)) in
+    let is_hit : issues_hit history (Some command) ≡ hit = hit-mark history r ∙ ap not (sym (mark-at (is_named history) log slot l w j.marks_are)) in
     readied c s channel steps mail command hit (served_at log slot) bank_candidates served h chosen is_hit (all_served log slot) (served-waits log slot l w differ)
     (served-marks (is_named history) log slot j.marks_are ∙ sym (marks-no_act history row (waiting_requests (served_at log slot)) no_act))
     count
@@ -153,12 +153,12 @@ pub rank-readied : (c : Channel) (s : Config) (channel : ℕ) (steps : List (Opt
     → IsReadied (record c { bank_candidates = bank_candidates }) s channel steps mail (Prea rank) false
 rank-readied c s channel steps mail rank bank_candidates h chosen count stands =
     let rows : ℕ → Option ℕ = λ n. open_row (bank_at n) (issued_commands channel steps) in
-    quiet-readied c s channel steps mail (Prea rank) bank_candidates h chosen refl refl refl refl count
+    quiet-readied c s channel steps mail (Prea rank) bank_candidates h chosen refl refl refl count
     (same_rows bank_candidates c.queue.log (closed_in rank rows) (λ n. row_after (bank_at n) (rows n) (Prea rank)) stands (λ n there. refl))
 
 pub refresh-readied : (c : Channel) (s : Config) (channel : ℕ) (steps : List (Option Command)) (mail : List Message) (rank : ℕ) → IsInCycle c s channel steps mail
     → Some (Ref rank) ≡ choice s channel steps mail → IsReadied c s channel steps mail (Ref rank) false
-refresh-readied c s channel steps mail rank h chosen = quiet-readied c s channel steps mail (Ref rank) c.bank_candidates h chosen refl refl refl refl refl h.candidates_stand
+refresh-readied c s channel steps mail rank h chosen = quiet-readied c s channel steps mail (Ref rank) c.bank_candidates h chosen refl refl refl refl h.candidates_stand
 
 -- what the request at a place needs, where this row of its bank is open, or none is
 pub needed-with : (history : List IssuedCommand) (r : Request) (o : Option ℕ) → o ≡ open_row (bank_in r.place) history → needed history r ≡ needed_at o r

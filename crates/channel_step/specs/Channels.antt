@@ -243,8 +243,8 @@ seen_with c refreshing = record { queued = length (waiting_requests c.queue.log)
 abbrev pub seen_of : Channel → ℕ → Seen
 seen_of c now = seen_with c (is_some (lowest_owed c.refresh now))
 
--- the statistics of a channel after one more cycle, in which this was seen and it issues this command, which moves
--- data of a row hit or not
+-- the statistics of a channel after one more cycle, in which this was seen and it issues this command, which is a row
+-- hit or not
 abbrev pub counted : Channel → Seen → Command → Bool → ChannelStats
 counted c seen command hit = channel_joined c.stats (cycle_with_hit c.config seen.queued seen.refreshing seen.draining (Some command) hit)
 

@@ -2,7 +2,7 @@
 --     IsChosen c choice      a channel is in a cycle, and this was chosen for it
 --     IsDoing c slot command      it issues a command in it, and at a place a request waits
 --     request_of c slot      the request at a place of its log
---     data_command c slot      the RD or WR of that request
+--     column_command_at c slot      the column command of that request
 --     opening_command c slot, closing_command c slot      the ACT that it needs, and the PRE
 --     command_needed c history slot      what it needs after these commands
 --     rank_command s channel steps rank      what a rank needs that is to be refreshed
@@ -26,7 +26,7 @@ use Rattle.sim_base.specs.declared.message.Request.{Request}
 use Rattle.bank_ready.specs.Stands.{followed_by, StandsFor as BanksStandFor}
 use Rattle.bank_ready.specs.Refreshes.{StandsFor as RefreshesStandFor}
 use Rattle.queue.specs.Log.{waiting_requests, waits_at}
-use Rattle.statistics.specs.Channels.{channel_stats, moves_hit}
+use Rattle.statistics.specs.Channels.{channel_stats, issues_hit}
 use Rattle.fr_fcfs.specs.Choices.{command_of, IsFor}
 use Rattle.fr_fcfs.specs.declared.choice.Choice.{Choice}
 use Rattle.channel_step.specs.Past.{Steps, requests_of, CarriesRequest, Differ}
@@ -64,9 +64,9 @@ pub record IsDoing (c : Channel) (slot : ℕ) (command : Command) : Type 0 where
 abbrev pub request_of : Channel → ℕ → Request
 request_of c slot = request_at c.queue.log slot
 
--- its RD or WR
-abbrev pub data_command : Channel → ℕ → Command
-data_command c slot = column_command (request_of c slot)
+-- its column command
+abbrev pub column_command_at : Channel → ℕ → Command
+column_command_at c slot = column_command (request_of c slot)
 
 -- the ACT that it needs where no row of its bank is open
 abbrev pub opening_command : Channel → ℕ → Command
@@ -93,8 +93,8 @@ abbrev pub commands_with : ℕ → Steps → Command → List IssuedCommand
 commands_with channel steps command = followed_by (issued_commands channel steps) channel (length steps) command
 
 -- What a channel is in the cycle after these steps once its queue, its candidates and the requests that it keeps are as
--- after a command that it chose, which may move data of a row hit. Its banks, its refreshes and its statistics have
--- still to take note of it.
+-- after a command that it chose, which is a row hit or not. Its banks, its refreshes and its statistics have still to
+-- take note of it.
 pub record IsReadied (c : Channel) (s : Config) (channel : ℕ) (steps : Steps) (mail : List Message) (command : Command) (hit : Bool) : Type 0 where
   pub made_for : IsMadeFor c s channel
   pub cycle_is : c.cycle ≡ length steps
@@ -102,7 +102,7 @@ pub record IsReadied (c : Channel) (s : Config) (channel : ℕ) (steps : Steps) 
   pub arrived : Each (λ (m : Message). m.arrival < length steps + 1) mail
   pub differ : Differ (requests_of mail)
   pub chosen : Some command ≡ choice s channel steps mail
-  pub hit_is : moves_hit (issued_commands channel steps) (Some command) ≡ hit
+  pub hit_is : issues_hit (issued_commands channel steps) (Some command) ≡ hit
   pub within_before : length (queued_requests (issued_commands channel steps) mail (length steps + 1)) ≤ queue_room s
   pub queue_is : waiting_requests c.queue.log ≡ queued_requests (commands_with channel steps command) mail (length steps + 1)
   pub drained_is : c.queue.drain_decided ≡ drains s channel steps mail (length steps)

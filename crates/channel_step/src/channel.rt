@@ -25,7 +25,7 @@ ghost use Rattle.channel_step.specs.Channels.{IsAhead, IsAheadFor, IsFound, IsQu
 ghost use Rattle.channel_step.specs.Channels.{IsInCycle, IsInSomeCycle, StaysInCycle, IsNextBefore};
 ghost use Rattle.channel_step.specs.Channels.{CountsDrains, seen_with, seen_of, counted, after_cycle, passed};
 ghost use Rattle.channel_step.specs.Readied.{IsChosen, IsDoing, IsReadied, IsReady, HasReadied, seen_after};
-ghost use Rattle.channel_step.specs.Readied.{opening_command, closing_command, data_command, command_needed, rank_command};
+ghost use Rattle.channel_step.specs.Readied.{opening_command, closing_command, column_command_at, command_needed, rank_command};
 ghost use Rattle.channel_step.specs.Fit.{queue_room, idle_until, IsFit};
 ghost use Rattle.channel_step.specs.Runs.{CanStep, CanRun, HasIssued, HasAdvanced, IsDone, StandsAt, first_arrival, IsListed};
 
@@ -264,8 +264,8 @@ impl Channel {
         }
     }
 
-    /// Counts a cycle in which a command is issued, which may move data of a row hit. The cycle is then over, and what
-    /// comes next is not known.
+    /// Counts a cycle in which a command is issued, which is a row hit or not. The cycle is then over, and what comes
+    /// next is not known.
     #[inline(always)]
     fn count(&mut self, seen: Seen, command: Command, hit: bool)
         requires cycle { self.old.cycle < 2 ^ 62 }
@@ -454,15 +454,15 @@ impl Channel {
         }
     }
 
-    /// Readies the channel for the RD or WR of the request at a place, which no longer waits then, and tells whether it
-    /// is a row hit. On an error the request is not added to those that are kept.
+    /// Readies the channel for the column command of the request at a place, which then waits no more, and tells whether
+    /// it is a row hit. On an error the request is not added to those that are kept.
     #[inline(always)]
     fn serve(&mut self, slot: usize) -> Result<bool, AllocError>
-        requires { IsDoing self.old slot (data_command self.old slot) }
+        requires { IsDoing self.old slot (column_command_at self.old slot) }
         ensures { (s : Config) (channel : ℕ) (steps : Steps) (mail : List Message)
             → IsInCycle self.old s channel steps mail
-            → Some (data_command self.old slot) ≡ choice s channel steps mail
-            → IfOk result (IsReadied self.new s channel steps mail (data_command self.old slot)) }
+            → Some (column_command_at self.old slot) ≡ choice s channel steps mail
+            → IfOk result (IsReadied self.new s channel steps mail (column_command_at self.old slot)) }
     {
         let unblocked = self.queue.serve(slot);
         self.bank_candidates
@@ -479,22 +479,22 @@ impl Channel {
         Ok(hit)
     }
 
-    /// Moves the data of the request at a place, and sends what follows from it.
+    /// Issues the column command of the request at a place, and sends what follows from it.
     #[inline(always)]
-    fn move_data(
+    fn issue_column_command(
         &mut self,
         slot: usize,
         seen: Seen,
         commands: &mut Option<CommandList>,
         messages: &mut Vec<Message>,
     ) -> Result<(), AllocError>
-        requires doing { IsDoing self.old slot (data_command self.old slot) }
+        requires doing { IsDoing self.old slot (column_command_at self.old slot) }
         requires seen { seen ≡ seen_of self.old self.old.cycle }
         requires early { self.old.cycle < 2 ^ 62 }
         ensures { (s : Config) (channel : ℕ) (steps : Steps) (mail : List Message)
             → IsInCycle self.old s channel steps mail
-            → Some (data_command self.old slot) ≡ choice s channel steps mail
-            → OnOk result (HasIssued self.new s channel steps mail (data_command self.old slot)
+            → Some (column_command_at self.old slot) ≡ choice s channel steps mail
+            → OnOk result (HasIssued self.new s channel steps mail (column_command_at self.old slot)
             commands.old commands.new messages.old.items messages.new.items) }
     {
         let now = self.cycle;
@@ -505,7 +505,7 @@ impl Channel {
     }
 
     /// Issues what the request at a place needs: an ACT where no row of its bank is open, a PRE where another one is,
-    /// and else its RD or WR. On an error some of it may not be done.
+    /// and else its column command. On an error some of it may not be done.
     #[inline(always)]
     fn issue_for(
         &mut self,
@@ -534,7 +534,7 @@ impl Channel {
                 let command = self.close_bank(slot);
                 self.issue(command, false, seen, commands)
             }
-            Some(_) => self.move_data(slot, seen, commands, messages),
+            Some(_) => self.issue_column_command(slot, seen, commands, messages),
         }
     }
 

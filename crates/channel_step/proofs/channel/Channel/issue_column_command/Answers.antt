@@ -8,7 +8,7 @@ use Rattle.queue.specs.Log.{absent, LogView}
 use Rattle.channel_step.specs.Queued.{request_at}
 use Rattle.channel_step.specs.Readied.{IsReadied}
 use Rattle.channel_step.proofs.Issuing.{seen-is, has-issued}
-use Rattle.channel_step.proofs.channel.Channel.move_data.Goals as goal
+use Rattle.channel_step.proofs.channel.Channel.issue_column_command.Goals as goal
 
 pub issue-requires-clause-ready : goal.issue-requires-clause-ready
 issue-requires-clause-ready c =

@@ -111,8 +111,8 @@ issue-requires-in-Some-clause-early c =
     let ready = c.close_bank-command.ensures.readied p.s p.channel p.steps p.mail p.is_in (ap Some (c.close_bank-command.ensures.command ∙ sym is) ∙ chosen-needs x slot p) in
     omega (arith, ready.cycle_is, p.is_in.cycle_is, c.requires.early)
 
-pub move_data-requires-clause-doing : goal.move_data-requires-clause-doing
-move_data-requires-clause-doing c =
+pub issue_column_command-requires-clause-doing : goal.issue_column_command-requires-clause-doing
+issue_column_command-requires-clause-doing c =
     let x = c.args.self.now in
     let slot = c.args.slot in
     let r = request_at x.queue.log slot in
@@ -172,15 +172,15 @@ returns-in-Some-2 c s channel steps mail h chosen =
     let opens : c.open_row.result ≡ open_row (bank_in r.place) history =
     c.open_row.ensures x.queue.log history h.candidates_stand ∙ ap (λ (b : BankId). open_row b history) (c.bank_id.ensures ∙ ap bank_in place) in
     let is : needed history r ≡ column_command r = needed-moving history r c.in-Some.row (sym c.in-Some.is ∙ opens) (c.if-row-place.false ∙ ap (λ (q : Place). q.row) place) in
-    subst (λ (z : Command). OnOk c.move_data.result (HasIssued c.move_data.new.self s channel steps mail z c.args.commands.now c.move_data.new.commands c.args.messages.now.items c.move_data.new.messages.items)) (sym is)
-    (c.move_data.ensures s channel steps mail h (ap Some (sym is) ∙ chosen))
+    subst (λ (z : Command). OnOk c.issue_column_command.result (HasIssued c.issue_column_command.new.self s channel steps mail z c.args.commands.now c.issue_column_command.new.commands c.args.messages.now.items c.issue_column_command.new.messages.items)) (sym is)
+    (c.issue_column_command.ensures s channel steps mail h (ap Some (sym is) ∙ chosen))
 
 pub bounds-log-slot : goal.bounds-log-slot
 bounds-log-slot c =
     subst (λ l. c.args.slot < length l) (sym (c.log-2.ensures.log ∙ ap (λ (v : LogView). v.log) c.log.ensures)) c.requires.chosen.place.0
 
-pub move_data-requires-clause-seen : goal.move_data-requires-clause-seen
-move_data-requires-clause-seen c = c.seen-seen.ensures ∙ ap (seen_with c.args.self.now) c.refreshing.ensures
+pub issue_column_command-requires-clause-seen : goal.issue_column_command-requires-clause-seen
+issue_column_command-requires-clause-seen c = c.seen-seen.ensures ∙ ap (seen_with c.args.self.now) c.refreshing.ensures
 
-pub move_data-requires-clause-early : goal.move_data-requires-clause-early
-move_data-requires-clause-early c = c.requires.early
+pub issue_column_command-requires-clause-early : goal.issue_column_command-requires-clause-early
+issue_column_command-requires-clause-early c = c.requires.early
