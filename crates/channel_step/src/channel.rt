@@ -771,7 +771,7 @@ impl Channel {
 }
 
 /// How many places a channel's queue has: one for each credit.
-fn room_of(config: &Config) -> usize
+pub fn queue_room(config: &Config) -> usize
     ensures room { result ≡ queue_room config.now }
     ensures most { result ≤ 8192 }
 {
@@ -786,7 +786,7 @@ fn copy_and_queue(alloc: Global, config: &Config) -> Result<(Config, Queue), All
         ≡ empty_queue (queue_room config.now) config.now.write_high config.now.write_low) }
 {
     let copy = config.copy(alloc)?;
-    let room = room_of(config);
+    let room = queue_room(config);
     let queue = Queue::with_room(alloc, room, config.write_high, config.write_low)?;
     Ok((copy, queue))
 }
