@@ -20,7 +20,7 @@ use Rattle.sim_base.specs.declared.message.Request.{Request}
 use Rattle.statistics.specs.Channels.{channel_cycle_with, channel_cycle}
 use Rattle.statistics.specs.declared.channels.ChannelStats.{ChannelStats}
 use Rattle.statistics.proofs.ChannelMail.{AgreeUpTo-later, channel_stats-later}
-use Rattle.channel_step.specs.Past.{requests_of, CarriesRequest, IsOther, Differ, is_named}
+use Rattle.channel_step.specs.Past.{requests_of, CarriesRequest, IsOther, Differ, is_named, past_of}
 use Rattle.channel_step.specs.Fit.{IsUnnamed}
 use Rattle.channel_step.specs.Stands.{Recalls, HasJoined}
 use Rattle.channel_step.proofs.Requests.{ArrivedBefore, requests-arrived, carries-stamped, queued_requests-arrivals}
@@ -39,9 +39,9 @@ not_before now new h = Each-weaker (λ (m : Message). m.arrival ≡ now) (λ (m 
 
 -- when the requests of a cycle have joined
 pub joined : (queue : List Request) (drained : Bool) (marks : List Bool) (stats : ChannelStats) (s : Config) (channel : ℕ) (steps : List (Option Command)) (mail new : List Message)
-    → Recalls queue drained marks stats s channel steps mail → Arrives s channel steps mail new
+    → Recalls queue drained marks stats (past_of s channel steps mail) → Arrives s channel steps mail new
     → HasJoined (queue ++ requests_of new) (drains_with s drained (count_by (λ r. is_access access.Write r.access) (queue ++ requests_of new))) (marks ++ map (λ r. false) (requests_of new)) stats
-    s channel steps (mail ++ new)
+    (past_of s channel steps (mail ++ new))
 joined queue drained marks stats s channel steps mail new h a =
     let now = length steps in
     let history = issued_commands channel steps in
@@ -69,7 +69,7 @@ joined queue drained marks stats s channel steps mail new h a =
 
 -- what the channel then chooses
 pub joined-choice : (queue : List Request) (drained : Bool) (marks : List Bool) (stats : ChannelStats) (s : Config) (channel : ℕ) (steps : List (Option Command)) (mail : List Message)
-    → HasJoined queue drained marks stats s channel steps mail
+    → HasJoined queue drained marks stats (past_of s channel steps mail)
     → choice s channel steps mail
     ≡ choice_between s (issued_commands channel steps) (length steps) (candidates s drained queue) (lowest_due s (issued_commands channel steps) (length steps))
 joined-choice queue drained marks stats s channel steps mail h = choice-next s channel steps mail queue drained (sym h.queue_is) (sym h.drained_is)
@@ -99,7 +99,7 @@ Differ-filter p (r ∷ rs) d = by (p r) (Differ-filter p rs d.1)
 
 -- the requests that wait are of different entries
 pub joined-differ : (queue : List Request) (drained : Bool) (marks : List Bool) (stats : ChannelStats) (s : Config) (channel : ℕ) (steps : List (Option Command)) (mail : List Message)
-    → HasJoined queue drained marks stats s channel steps mail → Differ queue
+    → HasJoined queue drained marks stats (past_of s channel steps mail) → Differ queue
 unfolding queued_requests
 joined-differ queue drained marks stats s channel steps mail h =
     subst Differ (sym h.queue_is) (Differ-filter (is_queued (issued_commands channel steps) (length steps + 1)) (requests_of mail) h.differ)

@@ -16,6 +16,7 @@ use Rattle.fr_fcfs.specs.Requests.{IsInBanks}
 use Rattle.fr_fcfs.specs.Choices.{StandFor, choice_in, command_of, IsFor}
 use Rattle.fr_fcfs.specs.Cycles.{IsNextAt}
 use Rattle.fr_fcfs.specs.declared.choice.Choice.{Choice}
+use Rattle.channel_step.specs.Past.{past_of}
 use Rattle.channel_step.specs.Fit.{IsIdle}
 use Rattle.channel_step.specs.Channels.{IsMadeFor, IsInCycle, IsInSomeCycle, IsNeededIn}
 use Rattle.channel_step.specs.declared.channel.Channel.{Channel}
@@ -28,7 +29,7 @@ drains-configured c s channel h =
     ap₂ (λ high low. drains_by high low c.queue.drain_decided (write_count (waiting_requests c.queue.log))) h.high_is h.low_is
 
 -- what is decided holds for the cycle
-pub drain_decided-drains : (c : Channel) (s : Config) (channel : ℕ) (steps : List (Option Command)) (mail : List Message) → IsInCycle c s channel steps mail
+pub drain_decided-drains : (c : Channel) (s : Config) (channel : ℕ) (steps : List (Option Command)) (mail : List Message) → IsInCycle c (past_of s channel steps mail)
     → is_draining c.queue ≡ c.queue.drain_decided
 drain_decided-drains c s channel steps mail h =
     let j = h.joined in
@@ -46,11 +47,11 @@ pub made-in_banks : (c : Channel) (s : Config) (channel ranks : ℕ) → IsMadeF
 made-in_banks c s channel ranks h e = subst (λ n. All (IsInBanks n) (all_requests c.queue.log)) (sym e) h.in_banks
 
 pub cycle-in_banks : (c : Channel) (now : ℕ) → IsInSomeCycle c now → All (IsInBanks (rank_count c.banks)) (all_requests c.queue.log)
-cycle-in_banks c now h = made-in_banks c h.s h.channel (rank_count c.banks) h.is_in.made_for h.is_in.banks_stand.ranks
+cycle-in_banks c now h = made-in_banks c h.past.config h.past.channel (rank_count c.banks) h.is_in.made_for h.is_in.banks_stand.ranks
 
 -- what would be chosen for the queue in a later cycle is what the channel does in it, if nothing is issued and nothing
 -- arrives before it
-pub cycle-later : (c : Channel) (s : Config) (channel : ℕ) (steps : List (Option Command)) (mail : List Message) (cycle : ℕ) → IsInCycle c s channel steps mail → length steps ≤ cycle
+pub cycle-later : (c : Channel) (s : Config) (channel : ℕ) (steps : List (Option Command)) (mail : List Message) (cycle : ℕ) → IsInCycle c (past_of s channel steps mail) → length steps ≤ cycle
     → choice_in s (issued_commands channel steps) c.queue cycle ≡ choice s channel (steps ++ replicate (cycle - length steps) None) mail
 cycle-later c s channel steps mail cycle h l =
     let j = h.joined in
@@ -62,7 +63,7 @@ cycle-later c s channel steps mail cycle h l =
     ∙ sym (idle-choice s channel steps mail (requests-arrived s channel (length steps + 1) mail j.requests j.arrived) n)
 
 -- where nothing would be chosen before a cycle, the channel is idle before it
-pub none-before : (c : Channel) (s : Config) (channel : ℕ) (steps : List (Option Command)) (mail : List Message) (now end : ℕ) → IsInCycle c s channel steps mail → length steps ≡ now
+pub none-before : (c : Channel) (s : Config) (channel : ℕ) (steps : List (Option Command)) (mail : List Message) (now end : ℕ) → IsInCycle c (past_of s channel steps mail) → length steps ≡ now
     → ((t : ℕ) → now ≤ t → t < end → choice_in s (issued_commands channel steps) c.queue t ≡ None) → IsIdle s channel steps mail (end - length steps)
 none-before c s channel steps mail now end h at none k l =
     let then : length steps + k - length steps ≡ k = omega arith in
@@ -75,9 +76,9 @@ some-is None e = absurd (false≢true e)
 some-is (Some x) e = (x, refl)
 
 -- what is chosen next for the queue needs the next command of the channel
-pub found-before : (c : Channel) (s : Config) (channel : ℕ) (steps : List (Option Command)) (mail : List Message) (now end cycle : ℕ) (chosen : Choice) → IsInCycle c s channel steps mail
+pub found-before : (c : Channel) (s : Config) (channel : ℕ) (steps : List (Option Command)) (mail : List Message) (now end cycle : ℕ) (chosen : Choice) → IsInCycle c (past_of s channel steps mail)
     → length steps ≡ now → IsNextAt (choice_in s (issued_commands channel steps) c.queue) now cycle (command_of s (issued_commands channel steps) c.queue.log chosen) → IsFor s.ranks c.queue.log chosen
-    → cycle < end → IsNeededIn s channel steps mail c.queue.log end cycle chosen
+    → cycle < end → IsNeededIn (past_of s channel steps mail) c.queue.log end cycle chosen
 found-before c s channel steps mail now end cycle chosen h at n place l =
     let from = n.from_now in
     let some = some-is (command_of s (issued_commands channel steps) c.queue.log chosen) n.there_is in
@@ -94,7 +95,7 @@ found-before c s channel steps mail now end cycle chosen h at n place l =
     }
 
 -- the parts of the channel stand for its commands
-pub cycle-stands : (c : Channel) (s : Config) (channel : ℕ) (steps : List (Option Command)) (mail : List Message) → IsInCycle c s channel steps mail
+pub cycle-stands : (c : Channel) (s : Config) (channel : ℕ) (steps : List (Option Command)) (mail : List Message) → IsInCycle c (past_of s channel steps mail)
     → StandFor c.bank_candidates c.banks c.refresh c.queue c.config.groups s (issued_commands channel steps)
 cycle-stands c s channel steps mail h =
     record {

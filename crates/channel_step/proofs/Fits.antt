@@ -22,7 +22,7 @@ use Rattle.sim_base.specs.declared.message.Request.{Request}
 use Rattle.statistics.proofs.ChannelMail.{AgreeUpTo-later}
 use Rattle.statistics.proofs.ChannelSteps.{issued_now, issued_commands-push}
 use Rattle.statistics.specs.declared.channels.ChannelStats.{ChannelStats}
-use Rattle.channel_step.specs.Past.{requests_of, CarriesRequest, IsOther, Differ}
+use Rattle.channel_step.specs.Past.{requests_of, CarriesRequest, IsOther, Differ, past_of}
 use Rattle.channel_step.specs.Fit.{queue_room, is_of, is_named_by, IsUnnamed, ComeByAge, IsFit}
 use Rattle.channel_step.specs.Stands.{HasJoined}
 use Rattle.channel_step.proofs.Requests.{carries-stamped, requests-append}
@@ -152,7 +152,7 @@ unnamed-next history channel now (Some command) rest h k = unnamed-both history 
 
 -- what is chosen in a cycle does not stand in the name of what arrives later
 chosen-not_later : (queue : List Request) (drained : Bool) (marks : List Bool) (stats : ChannelStats) (s : Config) (channel : ℕ) (steps : List (Option Command)) (mail : List Message) (rest : List Request)
-    → HasJoined queue drained marks stats s channel steps mail → Each (λ (r : Request). Each (IsOther r) rest) (requests_of mail)
+    → HasJoined queue drained marks stats (past_of s channel steps mail) → Each (λ (r : Request). Each (IsOther r) rest) (requests_of mail)
     → IfSome (choice s channel steps mail) (λ c. IfSome (source_in c) (λ source. Each (λ (r : Request). is_source r source ≡ false) rest))
 unfolding queued_requests
 chosen-not_later queue drained marks stats s channel steps mail rest h k =
@@ -168,7 +168,7 @@ pub fit-rest : (queue : List Request) (drained : Bool) (marks : List Bool) (stat
     → length steps ≡ now → IsFit s channel steps mail inbox now until
     → let new = take (due_count inbox now) inbox in
     let rest = drop (due_count inbox now) inbox in
-    HasJoined queue drained marks stats s channel steps (mail ++ new)
+    HasJoined queue drained marks stats (past_of s channel steps (mail ++ new))
     → IsFit s channel (steps ++ choice s channel steps (mail ++ new) ∷ []) (mail ++ new) rest (now + 1) until
     × (choice s channel steps (mail ++ inbox) ≡ choice s channel steps (mail ++ new))
 fit-rest queue drained marks stats s channel steps mail inbox now until at h j =

@@ -10,6 +10,7 @@ use Rattle.queue.specs.Log.{waiting_requests, all_requests, waits_at}
 use Rattle.queue.specs.View.{QueueView, is_draining}
 use Rattle.fr_fcfs.specs.Arrivals.{KeepsNext}
 use Rattle.fr_fcfs.specs.Choices.{choice_in, command_of, IsFor}
+use Rattle.channel_step.specs.Past.{past_of}
 use Rattle.channel_step.specs.Queued.{request_at, drain_decided}
 use Rattle.sim_base.specs.History.{issued_commands}
 use Rattle.sim_base.specs.declared.message.Message.{Message}
@@ -64,8 +65,8 @@ found-ahead : (s : Config) (history : List IssuedCommand) (queue : QueueView) (n
 found-ahead s history queue now None h place = h
 found-ahead s history queue now (Some next) h place = record { then_is = h.then_is; none_before = h.none_before; place = place }
 
-pub kept-in_cycle : (c : Channel) (s : Config) (channel : ℕ) (steps : List (Option Command)) (mail : List Message) (now : ℕ) (next : Option (ℕ × Choice)) → IsInCycle c s channel steps mail → now ≡ c.cycle
-    → IsFound c s (issued_commands channel steps) now next → IsInCycle (record c { ahead = Known next }) s channel steps mail
+pub kept-in_cycle : (c : Channel) (s : Config) (channel : ℕ) (steps : List (Option Command)) (mail : List Message) (now : ℕ) (next : Option (ℕ × Choice)) → IsInCycle c (past_of s channel steps mail) → now ≡ c.cycle
+    → IsFound c s (issued_commands channel steps) now next → IsInCycle (record c { ahead = Known next }) (past_of s channel steps mail)
 kept-in_cycle c s channel steps mail now next h at f =
     let history = issued_commands channel steps in
     record {

@@ -16,7 +16,7 @@ use Rattle.sim_base.specs.declared.message.Message.{Message}
 use Rattle.sim_base.proofs.Arrived.{before_le}
 use Rattle.statistics.proofs.ChannelMail.{AgreeUpTo-later}
 use Rattle.statistics.proofs.ChannelSteps.{issued_commands-push}
-use Rattle.channel_step.specs.Past.{requests_of, CarriesRequest}
+use Rattle.channel_step.specs.Past.{requests_of, CarriesRequest, past_of}
 use Rattle.channel_step.specs.Fit.{IsUnnamed, ComeByAge, IsFit, IsIdle}
 use Rattle.queue.specs.Log.{waiting_requests}
 use Rattle.channel_step.specs.Queued.{marks_in}
@@ -131,13 +131,13 @@ goes-some s channel steps mail inbox now until n end h = omega (arith, h.due, pr
 -- what is left where nothing is issued before that
 pub waits : (d : Channel) (s : Config) (channel : ℕ) (steps : List (Option Command)) (mail inbox : List Message) (now until n end : ℕ) → Goes s channel steps mail inbox now until n end
     → IsIdle s channel steps (mail ++ take n inbox) (end - length steps) → StandsFor d s channel (steps ++ replicate (end - length steps) None) (mail ++ take n inbox)
-    → HasRun d s channel steps mail inbox now (end - 1 + 1) until n [] []
+    → HasRun d (past_of s channel steps mail) inbox now (end - 1 + 1) until n [] []
 waits d s channel steps mail inbox now until n end h idle stands =
     let within = goes-end s channel steps mail inbox now until n end h in
     let k = end - length steps in
     let last : end ≡ end - 1 + 1 = omega (arith, within.0) in
     let passed = goes-idle s channel steps mail inbox now until n end end h (omega (arith, within.0)) (omega arith) idle in
-    subst (λ t. HasRun d s channel steps mail inbox now t until n [] []) last
+    subst (λ t. HasRun d (past_of s channel steps mail) inbox now t until n [] []) last
     (record {
       stands = subst (λ r. StandsFor d s channel r (mail ++ take n inbox)) (sym passed.0) stands;
       fit = subst (λ r. IsFit s channel r (mail ++ take n inbox) (drop n inbox) end until) (sym passed.0) passed.1;
@@ -147,7 +147,7 @@ waits d s channel steps mail inbox now until n end h idle stands =
     })
 
 -- a command in a cycle in which nothing arrives
-act-fit : (c : Channel) (s : Config) (channel : ℕ) (steps : List (Option Command)) (mail inbox : List Message) (now until : ℕ) (command : Command) → IsInCycle c s channel steps mail → length steps ≡ now
+act-fit : (c : Channel) (s : Config) (channel : ℕ) (steps : List (Option Command)) (mail inbox : List Message) (now until : ℕ) (command : Command) → IsInCycle c (past_of s channel steps mail) → length steps ≡ now
     → IsFit s channel steps mail inbox now until → Each (λ (m : Message). now + 1 ≤ m.arrival) inbox → Some command ≡ choice s channel steps mail
     → (choice s channel steps (mail ++ inbox) ≡ Some command) × IsFit s channel (steps ++ Some command ∷ []) mail inbox (now + 1) until
 act-fit c s channel steps mail inbox now until command h at f late is =
@@ -157,7 +157,7 @@ act-fit c s channel steps mail inbox now until command h at f late is =
     let q = c.queue in
     let left =
     fit-rest (waiting_requests q.log) q.drain_decided (marks_in q.log) c.stats s channel steps mail inbox now until at f
-    (subst (λ m. HasJoined (waiting_requests q.log) q.drain_decided (marks_in q.log) c.stats s channel steps m) (sym same) h.joined) in
+    (subst (λ m. HasJoined (waiting_requests q.log) q.drain_decided (marks_in q.log) c.stats (past_of s channel steps m)) (sym same) h.joined) in
     let chosen : choice s channel steps (mail ++ take n inbox) ≡ Some command = ap (choice s channel steps) same ∙ sym is in (
       left.1 ∙ chosen,
       subst (λ o. IsFit s channel (steps ++ o ∷ []) mail inbox (now + 1) until) chosen
@@ -167,10 +167,10 @@ act-fit c s channel steps mail inbox now until command h at f late is =
 
 -- what is left where a command is issued in a cycle, and none before that
 pub acts : (c d : Channel) (s : Config) (channel : ℕ) (steps : List (Option Command)) (mail inbox : List Message) (now until n end cycle : ℕ) (command : Command) → Goes s channel steps mail inbox now until n end
-    → IsNextIn s channel steps (mail ++ take n inbox) end cycle command
-    → IsInCycle c s channel (steps ++ replicate (cycle - length steps) None) (mail ++ take n inbox)
+    → IsNextIn (past_of s channel steps (mail ++ take n inbox)) end cycle command
+    → IsInCycle c (past_of s channel (steps ++ replicate (cycle - length steps) None) (mail ++ take n inbox))
     → StandsFor d s channel ((steps ++ replicate (cycle - length steps) None) ++ Some command ∷ []) (mail ++ take n inbox)
-    → HasRun d s channel steps mail inbox now (cycle + 1) until n (issued_in channel cycle (Some command)) (messages_at s channel cycle (Some command))
+    → HasRun d (past_of s channel steps mail) inbox now (cycle + 1) until n (issued_in channel cycle (Some command)) (messages_at s channel cycle (Some command))
 acts c d s channel steps mail inbox now until n end cycle command h i in_cycle stands =
     let at = h.at in
     let from = i.from_now in
@@ -204,7 +204,7 @@ acts c d s channel steps mail inbox now until n end cycle command h i in_cycle s
     }
 
 -- a channel that has taken in what arrives in a cycle is on such a way
-pub goes : (d : Channel) (s : Config) (channel : ℕ) (steps : List (Option Command)) (mail inbox : List Message) (now until n end : ℕ) → IsInCycle d s channel steps (mail ++ take n inbox) → length steps ≡ now
+pub goes : (d : Channel) (s : Config) (channel : ℕ) (steps : List (Option Command)) (mail inbox : List Message) (now until n end : ℕ) → IsInCycle d (past_of s channel steps (mail ++ take n inbox)) → length steps ≡ now
     → IsFit s channel steps mail inbox now until → now < until → n ≡ length (take_while (λ (m : Message). eqb m.arrival now) inbox) → end ≡ first_arrival (rest_of inbox n) until
     → Goes s channel steps mail inbox now until n end
 goes d s channel steps mail inbox now until n end h at f l e then =

@@ -38,6 +38,7 @@ use Rattle.queue.specs.Stands.{bank_count, StandsFor as CandidatesStandFor}
 use Rattle.queue.proofs.Stood.{same_rows}
 use Rattle.fr_fcfs.specs.Requests.{IsInBanks}
 use Rattle.request_table.specs.declared.served_requests.ServedRequest.{ServedRequest}
+use Rattle.channel_step.specs.Past.{past_of}
 use Rattle.channel_step.specs.Fit.{queue_room}
 use Rattle.channel_step.specs.Stands.{marks_of}
 use Rattle.channel_step.specs.Queued.{marks_in}
@@ -61,13 +62,13 @@ use Rattle.channel_step.proofs.Places.{queue-ranks}
 
 -- what a channel is readied by: a log of which one more or none is served, with its marks, and the candidates for it
 pub readied : (c : Channel) (s : Config) (channel : ℕ) (steps : List (Option Command)) (mail : List Message) (command : Command) (hit : Bool) (log : List Arrived) (bank_candidates : BankCandidates) (served : Option (Vec ServedRequest Global))
-    → IsInCycle c s channel steps mail → Some command ≡ choice s channel steps mail → issues_hit (issued_commands channel steps) (Some command) ≡ hit
+    → IsInCycle c (past_of s channel steps mail) → Some command ≡ choice s channel steps mail → issues_hit (issued_commands channel steps) (Some command) ≡ hit
     → all_requests log ≡ all_requests c.queue.log → waiting_requests log ≡ unserved_by command (waiting_requests c.queue.log)
     → marks_in log ≡ marks_of (issued_commands channel steps ++ row_of channel (length steps) command ∷ []) (waiting_requests log)
     → bank_count bank_candidates ≡ bank_count c.bank_candidates
     → CandidatesStandFor bank_candidates log (λ bank. row_after (bank_at bank) (open_row (bank_at bank) (issued_commands channel steps)) command)
     → KeepsServed served (issued_commands channel steps ++ row_of channel (length steps) command ∷ []) mail
-    → IsReadied (record c { queue = record c.queue { log = log }; bank_candidates = bank_candidates; served = served }) s channel steps mail command hit
+    → IsReadied (record c { queue = record c.queue { log = log }; bank_candidates = bank_candidates; served = served }) (past_of s channel steps mail) command hit
 readied c s channel steps mail command hit log bank_candidates served h chosen hit_is all left marks count stands keeps =
     let j = h.joined in
     let history = issued_commands channel steps in
@@ -107,7 +108,7 @@ readied c s channel steps mail command hit log bank_candidates served h chosen h
     }
 
 -- what is seen of a channel in a cycle is what is seen after its steps
-pub seen-is : (c : Channel) (s : Config) (channel : ℕ) (steps : List (Option Command)) (mail : List Message) → IsInCycle c s channel steps mail → seen_of c c.cycle ≡ seen_after s channel steps mail
+pub seen-is : (c : Channel) (s : Config) (channel : ℕ) (steps : List (Option Command)) (mail : List Message) → IsInCycle c (past_of s channel steps mail) → seen_of c c.cycle ≡ seen_after (past_of s channel steps mail)
 seen-is c s channel steps mail h =
     let j = h.joined in
     let history = issued_commands channel steps in
@@ -121,29 +122,29 @@ seen-is c s channel steps mail h =
 abbrev pub seen_with : Channel → Bool → Seen
 seen_with c refreshing = record { queued = length (waiting_requests c.queue.log); refreshing = refreshing; draining = is_draining c.queue }
 
-pub seen-told : (c : Channel) (s : Config) (channel : ℕ) (steps : List (Option Command)) (mail : List Message) (refreshing : Bool) (seen : Seen) → IsInCycle c s channel steps mail → seen ≡ seen_with c refreshing
-    → refreshing ≡ is_some (lowest_owed c.refresh c.cycle) → seen ≡ seen_after s channel steps mail
+pub seen-told : (c : Channel) (s : Config) (channel : ℕ) (steps : List (Option Command)) (mail : List Message) (refreshing : Bool) (seen : Seen) → IsInCycle c (past_of s channel steps mail) → seen ≡ seen_with c refreshing
+    → refreshing ≡ is_some (lowest_owed c.refresh c.cycle) → seen ≡ seen_after (past_of s channel steps mail)
 seen-told c s channel steps mail refreshing seen h e f = e ∙ ap (seen_with c) f ∙ seen-is c s channel steps mail h
 
 pub late-none : (s : Config) (channel : ℕ) (steps : List (Option Command)) (mail : List Message) (command : Command) → Some command ≡ choice s channel steps mail → is_late_act (issued_commands channel steps) (Some command) ≡ false
 late-none s channel steps mail command e = subst (λ o. is_late_act (issued_commands channel steps) o ≡ false) (sym e) (choice-not_late s channel steps mail)
 
 -- what is counted of a cycle is what its statistics say
-pub counted-is : (c : Channel) (s : Config) (channel : ℕ) (steps : List (Option Command)) (mail : List Message) (command : Command) (hit : Bool) (seen : Seen) → IsReadied c s channel steps mail command hit
-    → seen ≡ seen_after s channel steps mail
+pub counted-is : (c : Channel) (s : Config) (channel : ℕ) (steps : List (Option Command)) (mail : List Message) (command : Command) (hit : Bool) (seen : Seen) → IsReadied c (past_of s channel steps mail) command hit
+    → seen ≡ seen_after (past_of s channel steps mail)
     → channel_joined c.stats (cycle_with_hit c.config seen.queued seen.refreshing seen.draining (Some command) hit) ≡ channel_stats s channel (steps ++ Some command ∷ []) mail
 unfolding channel_cycle_with
 counted-is c s channel steps mail command hit seen h e =
     let o = Some command in
-    let there = seen_after s channel steps mail in
+    let there = seen_after (past_of s channel steps mail) in
     ap (λ (x : Seen). channel_joined c.stats (cycle_with_hit c.config x.queued x.refreshing x.draining o hit)) e
     ∙ ap₂ (λ x b. channel_joined c.stats (cycle_with_hit x there.queued there.refreshing there.draining o b)) h.made_for.config_is (sym h.hit_is)
     ∙ ap₂ channel_joined h.stats_are (sym (cycle-with s channel steps mail o))
     ∙ sym (channel_stats-push s channel steps o mail (late-none s channel steps mail command h.chosen))
 
 -- it fits, since a cycle and the greatest length of the queue do
-pub counted-fits : (c : Channel) (s : Config) (channel : ℕ) (steps : List (Option Command)) (mail : List Message) (command : Command) (hit : Bool) (seen : Seen) → IsReadied c s channel steps mail command hit
-    → seen ≡ seen_after s channel steps mail → c.cycle < 2 ^ 62
+pub counted-fits : (c : Channel) (s : Config) (channel : ℕ) (steps : List (Option Command)) (mail : List Message) (command : Command) (hit : Bool) (seen : Seen) → IsReadied c (past_of s channel steps mail) command hit
+    → seen ≡ seen_after (past_of s channel steps mail) → c.cycle < 2 ^ 62
     → ChannelFits (channel_joined c.stats (cycle_with_hit c.config seen.queued seen.refreshing seen.draining (Some command) hit))
 unfolding channel_stats
 counted-fits c s channel steps mail command hit seen h e early =
@@ -158,12 +159,12 @@ counted-fits c s channel steps mail command hit seen h e early =
     (channel_stats-fit s channel (steps ++ Some command ∷ []) mail (omega (arith, length-push_suc steps (Some command))) (omega arith))
 
 -- a channel counts cycles of draining where it ever drains
-pub readied-drains : (c : Channel) (s : Config) (channel : ℕ) (steps : List (Option Command)) (mail : List Message) (command : Command) (hit : Bool) → IsReadied c s channel steps mail command hit → CountsDrains c
+pub readied-drains : (c : Channel) (s : Config) (channel : ℕ) (steps : List (Option Command)) (mail : List Message) (command : Command) (hit : Bool) → IsReadied c (past_of s channel steps mail) command hit → CountsDrains c
 readied-drains c s channel steps mail command hit h = drains-counted c s channel steps mail h.made_for.config_is h.stats_are
 
 -- what it stands for when the command is noted and counted
 pub issued-stands : (c : Channel) (s : Config) (channel : ℕ) (steps : List (Option Command)) (mail : List Message) (command : Command) (hit : Bool) (seen : Seen) (banks : Banks) (refresh : RefreshCounts)
-    → IsReadied c s channel steps mail command hit → seen ≡ seen_after s channel steps mail
+    → IsReadied c (past_of s channel steps mail) command hit → seen ≡ seen_after (past_of s channel steps mail)
     → BanksStandFor banks s (issued_commands channel steps ++ row_of channel c.cycle command ∷ [])
     → RefreshesStandFor refresh s (issued_commands channel steps ++ row_of channel c.cycle command ∷ [])
     → StandsFor (record c { cycle = c.cycle + 1; banks = banks; refresh = refresh; ahead = Unknown; stats = channel_joined c.stats (cycle_with_hit c.config seen.queued seen.refreshing seen.draining (Some command) hit) })
@@ -212,9 +213,9 @@ issued-stands c s channel steps mail command hit seen banks refresh h e b r =
 
 -- what is told of it when it has issued the command
 pub has-issued : (c d : Channel) (s : Config) (channel : ℕ) (steps : List (Option Command)) (mail : List Message) (command issued : Command) (hit : Bool) (commands commands_then : Option (List IssuedCommand)) (messages messages_then : List Message)
-    → IsReadied c s channel steps mail issued hit → issued ≡ command → StandsFor d s channel (steps ++ Some issued ∷ []) mail
+    → IsReadied c (past_of s channel steps mail) issued hit → issued ≡ command → StandsFor d s channel (steps ++ Some issued ∷ []) mail
     → commands_then ≡ with_more commands (issued_in c.number c.cycle (Some issued)) → messages_then ≡ messages ++ messages_of s channel (length steps) command
-    → HasIssued d s channel steps mail command commands commands_then messages messages_then
+    → HasIssued d (past_of s channel steps mail) command commands commands_then messages messages_then
 has-issued c d s channel steps mail command issued hit commands commands_then messages messages_then h is stands told sent = record {
   stands = subst (λ z. StandsFor d s channel (steps ++ Some z ∷ []) mail) is stands;
   commands_are = told ∙ ap₂ (λ number t. with_more commands (issued_in number t (Some issued))) h.made_for.number_is h.cycle_is ∙ ap (λ z. with_more commands (issued_in channel (length steps) (Some z))) is;
@@ -263,7 +264,7 @@ chosen-is : (s : Config) (channel : ℕ) (steps : List (Option Command)) (mail :
 chosen-is s channel steps mail command e = e ∙ choice-next s channel steps mail _ _ refl refl
 
 -- it speaks of a rank that there is
-pub command-rank : (c : Channel) (s : Config) (channel : ℕ) (steps : List (Option Command)) (mail : List Message) (command : Command) (hit : Bool) → IsReadied c s channel steps mail command hit
+pub command-rank : (c : Channel) (s : Config) (channel : ℕ) (steps : List (Option Command)) (mail : List Message) (command : Command) (hit : Bool) → IsReadied c (past_of s channel steps mail) command hit
     → rank_of command < rank_count c.banks
 command-rank c s channel steps mail command hit h =
     let history = issued_commands channel steps in
@@ -274,7 +275,7 @@ command-rank c s channel steps mail command hit h =
     omega (arith, h.banks_stand.ranks)
 
 -- and if it is a REF, that is due
-pub command-owed : (c : Channel) (s : Config) (channel : ℕ) (steps : List (Option Command)) (mail : List Message) (command : Command) (hit : Bool) → IsReadied c s channel steps mail command hit
+pub command-owed : (c : Channel) (s : Config) (channel : ℕ) (steps : List (Option Command)) (mail : List Message) (command : Command) (hit : Bool) → IsReadied c (past_of s channel steps mail) command hit
     → RefIsOwed c.refresh c.cycle command
 command-owed c s channel steps mail command hit h =
     let history = issued_commands channel steps in

@@ -28,7 +28,7 @@ use Rattle.queue.proofs.Waits.{request_at as placed_at}
 use Rattle.request_table.specs.declared.served_requests.ServedRequest.{ServedRequest}
 use Rattle.statistics.specs.Channels.{issues_hit}
 use Rattle.fr_fcfs.specs.Requests.{IsInBanks, KnowsRows}
-use Rattle.channel_step.specs.Past.{is_named}
+use Rattle.channel_step.specs.Past.{is_named, past_of}
 use Rattle.channel_step.specs.Stands.{marks_of}
 use Rattle.channel_step.specs.Queued.{request_at, served_now}
 use Rattle.channel_step.specs.Runs.{with_more}
@@ -44,25 +44,25 @@ use Rattle.channel_step.proofs.Marks.{column_either, opens_none, marks-act, mark
 use Rattle.channel_step.proofs.Serving.{rows_in, kept-quiet, kept-served}
 
 -- the bank that the request at a place asks for is one that has candidates
-pub placed-among : (c : Channel) (s : Config) (channel : ℕ) (steps : List (Option Command)) (mail : List Message) (slot : ℕ) → IsInCycle c s channel steps mail → slot < length c.queue.log
+pub placed-among : (c : Channel) (s : Config) (channel : ℕ) (steps : List (Option Command)) (mail : List Message) (slot : ℕ) → IsInCycle c (past_of s channel steps mail) → slot < length c.queue.log
     → IsAmong c.bank_candidates (bank_in (request_at c.queue.log slot).place)
 placed-among c s channel steps mail slot h l =
     let placed = placed_at (IsInBanks s.ranks) c.queue.log slot h.made_for.in_banks l in
     record { number = omega (arith, placed.rank, placed.group, placed.bank, h.made_for.banks_are); group = placed.group; bank = placed.bank }
 
 -- its candidates know which rows are open
-pub knows-rows : (c : Channel) (s : Config) (channel : ℕ) (steps : List (Option Command)) (mail : List Message) → IsInCycle c s channel steps mail → KnowsRows c.bank_candidates (issued_commands channel steps)
+pub knows-rows : (c : Channel) (s : Config) (channel : ℕ) (steps : List (Option Command)) (mail : List Message) → IsInCycle c (past_of s channel steps mail) → KnowsRows c.bank_candidates (issued_commands channel steps)
 knows-rows c s channel steps mail h = record { log = c.queue.log; stands = h.candidates_stand }
 
-pub groups-are : (c : Channel) (s : Config) (channel : ℕ) (steps : List (Option Command)) (mail : List Message) → IsInCycle c s channel steps mail → s.groups ≡ c.config.groups
+pub groups-are : (c : Channel) (s : Config) (channel : ℕ) (steps : List (Option Command)) (mail : List Message) → IsInCycle c (past_of s channel steps mail) → s.groups ≡ c.config.groups
 groups-are c s channel steps mail h = ap (λ (x : Config). x.groups) (sym h.made_for.config_is)
 
 -- a command that serves none and opens no row leaves the log
-quiet-readied : (c : Channel) (s : Config) (channel : ℕ) (steps : List (Option Command)) (mail : List Message) (command : Command) (bank_candidates : BankCandidates) → IsInCycle c s channel steps mail
+quiet-readied : (c : Channel) (s : Config) (channel : ℕ) (steps : List (Option Command)) (mail : List Message) (command : Command) (bank_candidates : BankCandidates) → IsInCycle c (past_of s channel steps mail)
     → Some command ≡ choice s channel steps mail → opens_none command ≡ true → is_column_command command ≡ false → is_hit (issued_commands channel steps) command ≡ false
     → bank_count bank_candidates ≡ bank_count c.bank_candidates
     → CandidatesStandFor bank_candidates c.queue.log (λ bank. row_after (bank_at bank) (open_row (bank_at bank) (issued_commands channel steps)) command)
-    → IsReadied (record c { bank_candidates = bank_candidates }) s channel steps mail command false
+    → IsReadied (record c { bank_candidates = bank_candidates }) (past_of s channel steps mail) command false
 quiet-readied c s channel steps mail command bank_candidates h chosen opens quiet no_hit count stands =
     let history = issued_commands channel steps in
     let row = row_of channel (length steps) command in
@@ -71,12 +71,12 @@ quiet-readied c s channel steps mail command bank_candidates h chosen opens quie
     (kept-quiet c.served history row mail (late-none s channel steps mail command chosen) quiet h.keeps_served)
 
 -- a PRE closes the bank of a request
-pub closed-readied : (c : Channel) (s : Config) (channel : ℕ) (steps : List (Option Command)) (mail : List Message) (slot : ℕ) (bank_candidates : BankCandidates) → IsInCycle c s channel steps mail
+pub closed-readied : (c : Channel) (s : Config) (channel : ℕ) (steps : List (Option Command)) (mail : List Message) (slot : ℕ) (bank_candidates : BankCandidates) → IsInCycle c (past_of s channel steps mail)
     → slot < length c.queue.log
     → let r = request_at c.queue.log slot in
     Some (Pre (bank_in r.place) (source_of r)) ≡ choice s channel steps mail → bank_count bank_candidates ≡ bank_count c.bank_candidates
     → CandidatesStandFor bank_candidates c.queue.log (with_row (number_of (bank_in r.place)) None (λ bank. open_row (bank_at bank) (issued_commands channel steps)))
-    → IsReadied (record c { bank_candidates = bank_candidates }) s channel steps mail (Pre (bank_in r.place) (source_of r)) false
+    → IsReadied (record c { bank_candidates = bank_candidates }) (past_of s channel steps mail) (Pre (bank_in r.place) (source_of r)) false
 closed-readied c s channel steps mail slot bank_candidates h l chosen count stands =
     let r = request_at c.queue.log slot in
     let bank = bank_in r.place in
@@ -87,12 +87,12 @@ closed-readied c s channel steps mail slot bank_candidates h l chosen count stan
     (λ n there. ap (λ t. cond t None (rows n)) (bank_named n bank among.group among.bank)))
 
 -- an ACT opens a row in it, and marks the request
-pub opened-readied : (c : Channel) (s : Config) (channel : ℕ) (steps : List (Option Command)) (mail : List Message) (slot : ℕ) (bank_candidates : BankCandidates) → IsInCycle c s channel steps mail
+pub opened-readied : (c : Channel) (s : Config) (channel : ℕ) (steps : List (Option Command)) (mail : List Message) (slot : ℕ) (bank_candidates : BankCandidates) → IsInCycle c (past_of s channel steps mail)
     → slot < length c.queue.log → waits_at c.queue.log slot ≡ true
     → let r = request_at c.queue.log slot in
     Some (needed_at None r) ≡ choice s channel steps mail → bank_count bank_candidates ≡ bank_count c.bank_candidates
     → CandidatesStandFor bank_candidates (activated_at c.queue.log slot) (with_row (number_of (bank_in r.place)) (Some r.place.row) (λ bank. open_row (bank_at bank) (issued_commands channel steps)))
-    → IsReadied (record c { queue = record c.queue { log = activated_at c.queue.log slot }; bank_candidates = bank_candidates }) s channel steps mail (needed_at None r) false
+    → IsReadied (record c { queue = record c.queue { log = activated_at c.queue.log slot }; bank_candidates = bank_candidates }) (past_of s channel steps mail) (needed_at None r) false
 opened-readied c s channel steps mail slot bank_candidates h l w chosen count stands =
     let log = c.queue.log in
     let r = request_at log slot in
@@ -118,13 +118,13 @@ column-rows bank row r = column_either (λ command. row ≡ row_after bank row c
 
 -- a column command serves the request
 pub served-readied : (c : Channel) (s : Config) (channel : ℕ) (steps : List (Option Command)) (mail : List Message) (slot : ℕ) (bank_candidates : BankCandidates) (served : Option (Vec ServedRequest Global))
-    → IsInCycle c s channel steps mail → slot < length c.queue.log → waits_at c.queue.log slot ≡ true
+    → IsInCycle c (past_of s channel steps mail) → slot < length c.queue.log → waits_at c.queue.log slot ≡ true
     → let r = request_at c.queue.log slot in
     let hit = not (get_or c.queue.log slot absent).activated in
     Some (column_command r) ≡ choice s channel steps mail → bank_count bank_candidates ≡ bank_count c.bank_candidates
     → CandidatesStand bank_candidates (served_at c.queue.log slot) (issued_commands channel steps)
     → rows_in served ≡ with_more (rows_in c.served) (served_now c.number c.cycle r hit ∷ [])
-    → IsReadied (record c { queue = record c.queue { log = served_at c.queue.log slot }; bank_candidates = bank_candidates; served = served }) s channel steps mail (column_command r) hit
+    → IsReadied (record c { queue = record c.queue { log = served_at c.queue.log slot }; bank_candidates = bank_candidates; served = served }) (past_of s channel steps mail) (column_command r) hit
 served-readied c s channel steps mail slot bank_candidates served h l w chosen count stands more =
     let j = h.joined in
     let log = c.queue.log in
@@ -147,17 +147,17 @@ served-readied c s channel steps mail slot bank_candidates served h l w chosen c
     h.keeps_served)
 
 -- what a rank needs that is to be refreshed closes its banks, or leaves them closed
-pub rank-readied : (c : Channel) (s : Config) (channel : ℕ) (steps : List (Option Command)) (mail : List Message) (rank : ℕ) (bank_candidates : BankCandidates) → IsInCycle c s channel steps mail
+pub rank-readied : (c : Channel) (s : Config) (channel : ℕ) (steps : List (Option Command)) (mail : List Message) (rank : ℕ) (bank_candidates : BankCandidates) → IsInCycle c (past_of s channel steps mail)
     → Some (Prea rank) ≡ choice s channel steps mail → bank_count bank_candidates ≡ bank_count c.bank_candidates
     → CandidatesStandFor bank_candidates c.queue.log (closed_in rank (λ bank. open_row (bank_at bank) (issued_commands channel steps)))
-    → IsReadied (record c { bank_candidates = bank_candidates }) s channel steps mail (Prea rank) false
+    → IsReadied (record c { bank_candidates = bank_candidates }) (past_of s channel steps mail) (Prea rank) false
 rank-readied c s channel steps mail rank bank_candidates h chosen count stands =
     let rows : ℕ → Option ℕ = λ n. open_row (bank_at n) (issued_commands channel steps) in
     quiet-readied c s channel steps mail (Prea rank) bank_candidates h chosen refl refl refl count
     (same_rows bank_candidates c.queue.log (closed_in rank rows) (λ n. row_after (bank_at n) (rows n) (Prea rank)) stands (λ n there. refl))
 
-pub refresh-readied : (c : Channel) (s : Config) (channel : ℕ) (steps : List (Option Command)) (mail : List Message) (rank : ℕ) → IsInCycle c s channel steps mail
-    → Some (Ref rank) ≡ choice s channel steps mail → IsReadied c s channel steps mail (Ref rank) false
+pub refresh-readied : (c : Channel) (s : Config) (channel : ℕ) (steps : List (Option Command)) (mail : List Message) (rank : ℕ) → IsInCycle c (past_of s channel steps mail)
+    → Some (Ref rank) ≡ choice s channel steps mail → IsReadied c (past_of s channel steps mail) (Ref rank) false
 refresh-readied c s channel steps mail rank h chosen = quiet-readied c s channel steps mail (Ref rank) c.bank_candidates h chosen refl refl refl refl h.candidates_stand
 
 -- what the request at a place needs, where this row of its bank is open, or none is
@@ -172,15 +172,12 @@ pub needed-moving : (history : List IssuedCommand) (r : Request) (row : ℕ) →
 needed-moving history r row e same = needed-with history r (Some row) e ∙ cond-true (eqb row r.place.row) (column_command r) (Pre (bank_in r.place) (source_of r)) (eq-eqb row r.place.row same)
 
 -- what was chosen is what the request at a place needs
-pub chosen-needs : (c : Channel) (slot : ℕ) (p : IsChosen c (chosen.Request slot)) → Some (needed (issued_commands p.channel p.steps) (request_at c.queue.log slot)) ≡ choice p.s p.channel p.steps p.mail
-chosen-needs c slot p = sym (request-needs p.s (issued_commands p.channel p.steps) c.queue.log slot p.place.0) ∙ p.needed ∙ p.is_chosen
+pub chosen-needs : (c : Channel) (slot : ℕ) (p : IsChosen c (chosen.Request slot)) → Some (needed (issued_commands p.past.channel p.past.steps) (request_at c.queue.log slot)) ≡ choice p.past.config p.past.channel p.past.steps p.past.mail
+chosen-needs c slot p = sym (request-needs p.past.config (issued_commands p.past.channel p.past.steps) c.queue.log slot p.place.0) ∙ p.needed ∙ p.is_chosen
 
-pub doing : (c : Channel) (slot : ℕ) (command : Command) (p : IsChosen c (chosen.Request slot)) → needed (issued_commands p.channel p.steps) (request_at c.queue.log slot) ≡ command → IsDoing c slot command
+pub doing : (c : Channel) (slot : ℕ) (command : Command) (p : IsChosen c (chosen.Request slot)) → needed (issued_commands p.past.channel p.past.steps) (request_at c.queue.log slot) ≡ command → IsDoing c slot command
 doing c slot command p e = record {
-  s = p.s;
-  channel = p.channel;
-  steps = p.steps;
-  mail = p.mail;
+  past = p.past;
   is_in = p.is_in;
   within = p.place.0;
   waits = p.place.1;

@@ -9,6 +9,7 @@ use Rattle.sim_base.specs.Machine.{channel_run}
 use Rattle.sim_base.specs.declared.command.Command.{Command}
 use Rattle.sim_base.specs.declared.command.IssuedCommand.{IssuedCommand}
 use Rattle.sim_base.specs.declared.message.Message.{Message}
+use Rattle.channel_step.specs.Past.{past_of}
 use Rattle.channel_step.specs.Fit.{IsFit}
 use Rattle.channel_step.specs.Channels.{StandsFor}
 use Rattle.channel_step.specs.Runs.{HasRun, HasAdvanced, CanRun, with_more}
@@ -21,7 +22,7 @@ run-length s channel steps mail from now at l = omega (arith, length-channel_run
 
 -- no cycle is over yet
 pub run-begins : (c : Channel) (s : Config) (channel : ℕ) (steps : List (Option Command)) (mail inbox : List Message) (from until : ℕ) → StandsFor c s channel steps mail
-    → IsFit s channel steps mail inbox from until → HasRun c s channel steps mail inbox from from until 0 [] []
+    → IsFit s channel steps mail inbox from until → HasRun c (past_of s channel steps mail) inbox from from until 0 [] []
 unfolding channel_run
 run-begins c s channel steps mail inbox from until h f =
     let none : from - from ≡ 0 = omega arith in
@@ -41,7 +42,7 @@ none_left until (m ∷ ms) h = let a = h.0.0 in let b = h.0.1 in absurd (omega a
 
 -- all cycles are over, and all messages have arrived
 pub run-ends : (c : Channel) (s : Config) (channel : ℕ) (steps : List (Option Command)) (mail inbox : List Message) (from until arrived : ℕ) (commands : List IssuedCommand) (messages : List Message)
-    → HasRun c s channel steps mail inbox from until until arrived commands messages → StandsFor c s channel (channel_run s channel steps (mail ++ inbox) (until - from)) (mail ++ inbox)
+    → HasRun c (past_of s channel steps mail) inbox from until until arrived commands messages → StandsFor c s channel (channel_run s channel steps (mail ++ inbox) (until - from)) (mail ++ inbox)
 run-ends c s channel steps mail inbox from until arrived commands messages h =
     let rest : drop arrived inbox ≡ [] = none_left until (drop arrived inbox) h.fit.in_span in
     let all : take arrived inbox ≡ inbox = sym (append-nil (take arrived inbox)) ∙ ap (λ x. take arrived inbox ++ x) (sym rest) ∙ take-append-drop arrived inbox in
@@ -53,14 +54,14 @@ rest_of inbox arrived = take (length inbox - arrived) (drop arrived inbox)
 
 -- what is left is fit for the next cycle
 pub run-fit : (c : Channel) (s : Config) (channel : ℕ) (steps : List (Option Command)) (mail inbox : List Message) (from now until arrived : ℕ) (commands : List IssuedCommand) (messages : List Message)
-    → HasRun c s channel steps mail inbox from now until arrived commands messages
+    → HasRun c (past_of s channel steps mail) inbox from now until arrived commands messages
     → IsFit s channel (channel_run s channel steps (mail ++ inbox) (now - from)) (mail ++ take arrived inbox) (rest_of inbox arrived) now until
 run-fit c s channel steps mail inbox from now until arrived commands messages h =
     subst (λ i. IsFit s channel (channel_run s channel steps (mail ++ inbox) (now - from)) (mail ++ take arrived inbox) i now until) (sym (take_rest inbox arrived)) h.fit
 
 -- the channel may go on
 pub run-can_go_on : (c : Channel) (s : Config) (channel : ℕ) (steps : List (Option Command)) (mail inbox : List Message) (from now until arrived : ℕ) (commands : List IssuedCommand) (messages : List Message)
-    → length steps ≡ from → from ≤ now → HasRun c s channel steps mail inbox from now until arrived commands messages → CanRun c (rest_of inbox arrived) now until
+    → length steps ≡ from → from ≤ now → HasRun c (past_of s channel steps mail) inbox from now until arrived commands messages → CanRun c (rest_of inbox arrived) now until
 run-can_go_on c s channel steps mail inbox from now until arrived commands messages at l h =
     record {
       s = s;
@@ -75,10 +76,10 @@ run-can_go_on c s channel steps mail inbox from now until arrived commands messa
 -- when it has gone on, with what is added
 pub run-turned : (c d : Channel) (s : Config) (channel : ℕ) (steps : List (Option Command)) (mail inbox : List Message) (from now until arrived n last : ℕ)
     (commands more_commands : List IssuedCommand) (messages more_messages : List Message) → length steps ≡ from → from ≤ now → now ≤ last
-    → HasRun c s channel steps mail inbox from now until arrived commands messages
-    → HasAdvanced d s channel (channel_run s channel steps (mail ++ inbox) (now - from)) (mail ++ take arrived inbox) (rest_of inbox arrived) now (last + 1) until n
+    → HasRun c (past_of s channel steps mail) inbox from now until arrived commands messages
+    → HasAdvanced d (past_of s channel (channel_run s channel steps (mail ++ inbox) (now - from)) (mail ++ take arrived inbox)) (rest_of inbox arrived) now (last + 1) until n
     (Some commands) (Some more_commands) messages more_messages
-    → HasRun d s channel steps mail inbox from (last + 1) until (arrived + n) more_commands more_messages
+    → HasRun d (past_of s channel steps mail) inbox from (last + 1) until (arrived + n) more_commands more_messages
 run-turned c d s channel steps mail inbox from now until arrived n last commands more_commands messages more_messages at l m h turned =
     let k = turned.has_run in
     let all = mail ++ inbox in
@@ -126,7 +127,7 @@ with_more-more (Some rows) more most = ap Some (append_assoc rows more most)
 
 -- no cycle is over yet, and nothing was added to the lists
 pub turned-none : (c : Channel) (s : Config) (channel : ℕ) (steps : List (Option Command)) (mail inbox : List Message) (from until : ℕ) (commands : Option (List IssuedCommand)) (messages : List Message)
-    → StandsFor c s channel steps mail → IsFit s channel steps mail inbox from until → HasAdvanced c s channel steps mail inbox from from until 0 commands commands messages messages
+    → StandsFor c s channel steps mail → IsFit s channel steps mail inbox from until → HasAdvanced c (past_of s channel steps mail) inbox from from until 0 commands commands messages messages
 turned-none c s channel steps mail inbox from until commands messages h f =
     record {
       issued = [];
@@ -139,10 +140,10 @@ turned-none c s channel steps mail inbox from until commands messages h f =
 -- one step of the loop more
 pub turned-more : (c d : Channel) (s : Config) (channel : ℕ) (steps : List (Option Command)) (mail inbox : List Message) (from now until arrived n last : ℕ)
     (commands more_commands most_commands : Option (List IssuedCommand)) (messages more_messages most_messages : List Message) → length steps ≡ from → from ≤ now → now ≤ last
-    → HasAdvanced c s channel steps mail inbox from now until arrived commands more_commands messages more_messages
-    → HasAdvanced d s channel (channel_run s channel steps (mail ++ inbox) (now - from)) (mail ++ take arrived inbox) (rest_of inbox arrived) now (last + 1) until n
+    → HasAdvanced c (past_of s channel steps mail) inbox from now until arrived commands more_commands messages more_messages
+    → HasAdvanced d (past_of s channel (channel_run s channel steps (mail ++ inbox) (now - from)) (mail ++ take arrived inbox)) (rest_of inbox arrived) now (last + 1) until n
     more_commands most_commands more_messages most_messages
-    → HasAdvanced d s channel steps mail inbox from (last + 1) until (arrived + n) commands most_commands messages most_messages
+    → HasAdvanced d (past_of s channel steps mail) inbox from (last + 1) until (arrived + n) commands most_commands messages most_messages
 turned-more c d s channel steps mail inbox from now until arrived n last commands more_commands most_commands messages more_messages most_messages at l m h turned =
     record {
       issued = h.issued ++ turned.issued;

@@ -20,7 +20,7 @@ use Rattle.statistics.proofs.Repeats.{channel_stretch-replicate}
 use Rattle.bank_ready.specs.Stands.{StandsFor as BanksStandFor}
 use Rattle.bank_ready.specs.Refreshes.{RefreshCounts, lowest_owed, StandsFor as RefreshesStandFor}
 use Rattle.bank_ready.proofs.Due.{lowest_due_from_owed}
-use Rattle.channel_step.specs.Past.{requests_of}
+use Rattle.channel_step.specs.Past.{requests_of, past_of}
 use Rattle.channel_step.specs.Stands.{marks_of}
 use Rattle.channel_step.specs.Counted.{cycle_with_hit}
 use Rattle.channel_step.specs.Fit.{queue_room}
@@ -38,7 +38,7 @@ use Rattle.channel_step.proofs.Starting.{at-drains}
 
 -- the next cycle, when it is decided whether the channel drains its writes in it
 pub drain_decided-in_cycle : (c : Channel) (s : Config) (channel : ℕ) (steps : List (Option Command)) (mail : List Message) → StandsFor c s channel steps mail
-    → IsInCycle (record c { queue = drain_decided c.queue }) s channel steps mail
+    → IsInCycle (record c { queue = drain_decided c.queue }) (past_of s channel steps mail)
 drain_decided-in_cycle c s channel steps mail h =
     let r = h.recalls in
     let before : Each (ArrivedBefore (length steps)) (requests_of mail) = requests-arrived s channel (length steps) mail r.past.requests r.past.arrived in
@@ -74,8 +74,8 @@ drain_decided-in_cycle c s channel steps mail h =
 -- a channel is in its next cycle, if it is equal to one that was between two cycles and has decided whether it drains
 -- its writes
 pub settled_stands : (c d : Channel) (s : Config) (channel : ℕ) (steps : List (Option Command)) (mail : List Message)
-    → d ≡ record c { queue = drain_decided c.queue } → StandsFor c s channel steps mail → IsInCycle d s channel steps mail
-settled_stands c d s channel steps mail e h = subst (λ x. IsInCycle x s channel steps mail) (sym e) (drain_decided-in_cycle c s channel steps mail h)
+    → d ≡ record c { queue = drain_decided c.queue } → StandsFor c s channel steps mail → IsInCycle d (past_of s channel steps mail)
+settled_stands c d s channel steps mail e h = subst (λ x. IsInCycle x (past_of s channel steps mail)) (sym e) (drain_decided-in_cycle c s channel steps mail h)
 
 -- the statistics of steps and of idle cycles after them
 idle-stretch : (s : Config) (channel : ℕ) (mail : List Message) (n : ℕ) (steps : List (Option Command))
@@ -120,7 +120,7 @@ idle-stats s channel steps mail n due h alike =
 abbrev pub passed_by : Channel → Config → ℕ → Bool → ChannelStats
 passed_by c s n due = channel_joined c.stats (channel_times n (cycle_with_hit s (length (waiting_requests c.queue.log)) due c.queue.drain_decided None false))
 
-passed-stats : (c : Channel) (s : Config) (channel : ℕ) (steps : List (Option Command)) (mail : List Message) (n : ℕ) (due : Bool) → IsInCycle c s channel steps mail
+passed-stats : (c : Channel) (s : Config) (channel : ℕ) (steps : List (Option Command)) (mail : List Message) (n : ℕ) (due : Bool) → IsInCycle c (past_of s channel steps mail)
     → Each (ArrivedBefore (length steps + 1)) (requests_of mail) → IsDueThroughout s channel steps n due → passed_by c s n due ≡ channel_stats s channel (steps ++ replicate n None) mail
 passed-stats c s channel steps mail n due h before alike =
     let j = h.joined in
@@ -132,12 +132,12 @@ times-longest : (a b m n : ℕ) (none : Bool) → a ≤ m → b ≤ m → max a 
 times-longest a b m n true h k = omega arith
 times-longest a b m n false h k = omega arith
 
-passed-longest : (c : Channel) (s : Config) (channel : ℕ) (steps : List (Option Command)) (mail : List Message) (n : ℕ) (due : Bool) → IsInCycle c s channel steps mail
+passed-longest : (c : Channel) (s : Config) (channel : ℕ) (steps : List (Option Command)) (mail : List Message) (n : ℕ) (due : Bool) → IsInCycle c (past_of s channel steps mail)
     → (passed_by c s n due).queued_max ≤ queue_room s
 passed-longest c s channel steps mail n due h = times-longest c.stats.queued_max (length (waiting_requests c.queue.log)) (queue_room s) n (eqb n 0) h.made_for.longest h.made_for.within
 
 -- the statistics after them fit
-pub passed-fits : (c : Channel) (s : Config) (channel : ℕ) (steps : List (Option Command)) (mail : List Message) (n : ℕ) (due : Bool) → IsInCycle c s channel steps mail
+pub passed-fits : (c : Channel) (s : Config) (channel : ℕ) (steps : List (Option Command)) (mail : List Message) (n : ℕ) (due : Bool) → IsInCycle c (past_of s channel steps mail)
     → Each (ArrivedBefore (length steps + 1)) (requests_of mail) → IsDueThroughout s channel steps n due → length steps + n ≤ 2 ^ 62 → ChannelFits (passed_by c s n due)
 unfolding channel_stats
 passed-fits c s channel steps mail n due h before alike early =
@@ -149,9 +149,9 @@ passed-fits c s channel steps mail n due h before alike early =
     subst ChannelFits (sym is) (channel_stats-fit s channel more mail (omega (arith, length-idle steps n)) (omega arith))
 
 -- after them the channel is in a cycle that is as the first
-pub passed-in_cycle : (c : Channel) (s : Config) (channel : ℕ) (steps : List (Option Command)) (mail : List Message) (n : ℕ) (due : Bool) (until : ℕ) → IsInCycle c s channel steps mail
+pub passed-in_cycle : (c : Channel) (s : Config) (channel : ℕ) (steps : List (Option Command)) (mail : List Message) (n : ℕ) (due : Bool) (until : ℕ) → IsInCycle c (past_of s channel steps mail)
     → Each (ArrivedBefore (length steps + 1)) (requests_of mail) → IsDueThroughout s channel steps n due → until ≡ length steps + n
-    → IsInCycle (record c { cycle = until; stats = passed_by c s n due }) s channel (steps ++ replicate n None) mail
+    → IsInCycle (record c { cycle = until; stats = passed_by c s n due }) (past_of s channel (steps ++ replicate n None) mail)
 passed-in_cycle c s channel steps mail n due until h before alike e =
     let more = steps ++ replicate n None in
     let j = h.joined in
@@ -191,7 +191,7 @@ passed-in_cycle c s channel steps mail n due until h before alike e =
     }
 
 -- when at least one cycle was passed it stands after them
-skipped-stands : (c : Channel) (s : Config) (channel : ℕ) (steps : List (Option Command)) (mail : List Message) (n : ℕ) → IsInCycle c s channel (steps ++ replicate n None) mail
+skipped-stands : (c : Channel) (s : Config) (channel : ℕ) (steps : List (Option Command)) (mail : List Message) (n : ℕ) → IsInCycle c (past_of s channel (steps ++ replicate n None) mail)
     → Each (λ (m : Message). m.arrival < length steps + 1) mail → Each (ArrivedBefore (length steps + 1)) (requests_of mail) → 0 < n → StandsFor c s channel (steps ++ replicate n None) mail
 skipped-stands c s channel steps mail zero h arrived before some = absurd (omega arith)
 skipped-stands c s channel steps mail (suc k) h arrived before some =
@@ -231,7 +231,7 @@ abbrev pub IsDueIn : RefreshCounts → ℕ → ℕ → ℕ → Type 0
 IsDueIn counts now until due = (cycle : ℕ) → now ≤ cycle → cycle < until → is_some (lowest_owed counts cycle) ≡ nat_le due cycle
 
 -- either none of the next n cycles is before that, or each is
-alike : (c : Channel) (s : Config) (channel : ℕ) (steps : List (Option Command)) (mail : List Message) (until due n : ℕ) → IsInCycle c s channel steps mail
+alike : (c : Channel) (s : Config) (channel : ℕ) (steps : List (Option Command)) (mail : List Message) (until due n : ℕ) → IsInCycle c (past_of s channel steps mail)
     → IsDueIn c.refresh c.cycle until due → c.cycle + n ≤ until → ((k : ℕ) → k < n → nat_le due (c.cycle + k) ≡ nat_le due c.cycle)
     → IsDueThroughout s channel steps n (is_some (lowest_owed c.refresh c.cycle))
 alike c s channel steps mail until due n h dues l same k m =
@@ -242,24 +242,24 @@ alike c s channel steps mail until due n h dues l same k m =
     ∙ sym (dues c.cycle (omega arith) (omega arith))
 
 -- what is counted, by what is seen
-passed-is : (c : Channel) (s : Config) (channel : ℕ) (steps : List (Option Command)) (mail : List Message) (until : ℕ) → IsInCycle c s channel steps mail
+passed-is : (c : Channel) (s : Config) (channel : ℕ) (steps : List (Option Command)) (mail : List Message) (until : ℕ) → IsInCycle c (past_of s channel steps mail)
     → passed c until ≡ passed_by c s (until - c.cycle) (is_some (lowest_owed c.refresh c.cycle))
 passed-is c s channel steps mail until h =
     ap₂ (λ x d. channel_joined c.stats (channel_times (until - c.cycle) (cycle_with_hit x (length (waiting_requests c.queue.log)) (is_some (lowest_owed c.refresh c.cycle)) d None false)))
     h.made_for.config_is (drain_decided-drains c s channel steps mail h)
 
-pass-fits : (c : Channel) (s : Config) (channel : ℕ) (steps : List (Option Command)) (mail : List Message) (until : ℕ) → IsInCycle c s channel steps mail
+pass-fits : (c : Channel) (s : Config) (channel : ℕ) (steps : List (Option Command)) (mail : List Message) (until : ℕ) → IsInCycle c (past_of s channel steps mail)
     → Each (ArrivedBefore (length steps + 1)) (requests_of mail) → IsDueThroughout s channel steps (until - c.cycle) (is_some (lowest_owed c.refresh c.cycle)) → c.cycle ≤ until → until ≤ 2 ^ 62
     → ChannelFits (passed c until)
 pass-fits c s channel steps mail until h before due l early =
     subst ChannelFits (sym (passed-is c s channel steps mail until h))
     (passed-fits c s channel steps mail (until - c.cycle) _ h before due (omega (arith, h.cycle_is)))
 
-pass-in_cycle : (c : Channel) (s : Config) (channel : ℕ) (steps : List (Option Command)) (mail : List Message) (until : ℕ) → IsInCycle c s channel steps mail
+pass-in_cycle : (c : Channel) (s : Config) (channel : ℕ) (steps : List (Option Command)) (mail : List Message) (until : ℕ) → IsInCycle c (past_of s channel steps mail)
     → Each (ArrivedBefore (length steps + 1)) (requests_of mail) → IsDueThroughout s channel steps (until - c.cycle) (is_some (lowest_owed c.refresh c.cycle)) → c.cycle ≤ until
-    → IsInCycle (record c { cycle = until; stats = passed c until }) s channel (steps ++ replicate (until - c.cycle) None) mail
+    → IsInCycle (record c { cycle = until; stats = passed c until }) (past_of s channel (steps ++ replicate (until - c.cycle) None) mail)
 pass-in_cycle c s channel steps mail until h before due l =
-    subst (λ x. IsInCycle (record c { cycle = until; stats = x }) s channel (steps ++ replicate (until - c.cycle) None) mail) (sym (passed-is c s channel steps mail until h))
+    subst (λ x. IsInCycle (record c { cycle = until; stats = x }) (past_of s channel (steps ++ replicate (until - c.cycle) None) mail)) (sym (passed-is c s channel steps mail until h))
     (passed-in_cycle c s channel steps mail (until - c.cycle) _ until h before due (omega (arith, h.cycle_is)))
 
 -- the channel in the first of the cycles that it skips with a refresh that is due, and at the end of them
@@ -268,14 +268,14 @@ passed_to c until = record c { cycle = until; stats = passed c until }
 
 -- what is known where a channel passes over cycles
 pub record Skips (c : Channel) (s : Config) (channel : ℕ) (steps : List (Option Command)) (mail : List Message) (until due : ℕ) : Type 0 where
-  pub in_cycle : IsInCycle c s channel steps mail
+  pub in_cycle : IsInCycle c (past_of s channel steps mail)
   pub from_now : c.cycle ≤ due
   pub within : due ≤ until
   pub early : until ≤ 2 ^ 62
   pub dues : IsDueIn c.refresh c.cycle until due
 
 -- all requests are there from the first of them on
-pub there-before : (c : Channel) (s : Config) (channel : ℕ) (steps : List (Option Command)) (mail : List Message) → IsInCycle c s channel steps mail → Each (ArrivedBefore (length steps + 1)) (requests_of mail)
+pub there-before : (c : Channel) (s : Config) (channel : ℕ) (steps : List (Option Command)) (mail : List Message) → IsInCycle c (past_of s channel steps mail) → Each (ArrivedBefore (length steps + 1)) (requests_of mail)
 there-before c s channel steps mail h = requests-arrived s channel (length steps + 1) mail h.joined.requests h.joined.arrived
 
 skips-alike : (c : Channel) (s : Config) (channel : ℕ) (steps : List (Option Command)) (mail : List Message) (until due : ℕ) → Skips c s channel steps mail until due
@@ -294,7 +294,7 @@ skips-first_fits c s channel steps mail until due h =
     pass-fits c s channel steps mail due h.in_cycle (there-before c s channel steps mail h.in_cycle) (skips-alike c s channel steps mail until due h) h.from_now (omega arith)
 
 pub skips-second : (c : Channel) (s : Config) (channel : ℕ) (steps : List (Option Command)) (mail : List Message) (until due : ℕ) → Skips c s channel steps mail until due
-    → IsInCycle (passed_to c due) s channel (steps ++ replicate (due - c.cycle) None) mail
+    → IsInCycle (passed_to c due) (past_of s channel (steps ++ replicate (due - c.cycle) None) mail)
 skips-second c s channel steps mail until due h =
     pass-in_cycle c s channel steps mail due h.in_cycle (there-before c s channel steps mail h.in_cycle) (skips-alike c s channel steps mail until due h) h.from_now
 
@@ -317,7 +317,7 @@ skips-second_fits c s channel steps mail until due h =
 
 -- the channel after the cycles that it passes over
 pub skips-in_cycle : (c : Channel) (s : Config) (channel : ℕ) (steps : List (Option Command)) (mail : List Message) (until due : ℕ) → Skips c s channel steps mail until due
-    → IsInCycle (passed_to (passed_to c due) until) s channel (steps ++ replicate (until - length steps) None) mail
+    → IsInCycle (passed_to (passed_to c due) until) (past_of s channel (steps ++ replicate (until - length steps) None) mail)
 skips-in_cycle c s channel steps mail until due h =
     let d = passed_to (passed_to c due) until in
     let n = due - c.cycle in
@@ -330,17 +330,17 @@ skips-in_cycle c s channel steps mail until due h =
     append_assoc steps (replicate n None) (replicate m None)
     ∙ ap (λ x. steps ++ x) (replicate-append-replicate {A = Option Command} n m None)
     ∙ ap (λ k. steps ++ replicate k None) (let e : n + m ≡ until - length steps = omega arith in e) in
-    subst (λ r. IsInCycle d s channel r mail) whole
+    subst (λ r. IsInCycle d (past_of s channel r mail)) whole
     (pass-in_cycle (passed_to c due) s channel (steps ++ replicate n None) mail until second
     (there-before (passed_to c due) s channel (steps ++ replicate n None) mail second) (skips-alike_second c s channel steps mail until due h) within)
 
 -- the channel after the cycles that it passes over, where a refresh is due in none of them
 pub skips-not_due : (c : Channel) (s : Config) (channel : ℕ) (steps : List (Option Command)) (mail : List Message) (until due : ℕ) → Skips c s channel steps mail until due → until ≤ due
-    → IsInCycle (passed_to c due) s channel (steps ++ replicate (until - length steps) None) mail
+    → IsInCycle (passed_to c due) (past_of s channel (steps ++ replicate (until - length steps) None) mail)
 skips-not_due c s channel steps mail until due h l =
     let within = h.within in
     let is = h.in_cycle.cycle_is in
-    subst (λ n. IsInCycle (passed_to c due) s channel (steps ++ replicate n None) mail) (let e : due - c.cycle ≡ until - length steps = omega arith in e) (skips-second c s channel steps mail until due h)
+    subst (λ n. IsInCycle (passed_to c due) (past_of s channel (steps ++ replicate n None) mail)) (let e : due - c.cycle ≡ until - length steps = omega arith in e) (skips-second c s channel steps mail until due h)
 
 -- and where one is due in each
 skips-alike_due : (c : Channel) (s : Config) (channel : ℕ) (steps : List (Option Command)) (mail : List Message) (until due : ℕ) → Skips c s channel steps mail until due → due ≤ c.cycle
@@ -352,12 +352,12 @@ skips-alike_due c s channel steps mail until due h l =
     (λ k m. le-leb due (c.cycle + k) (omega arith) ∙ sym (le-leb due c.cycle (omega arith)))
 
 pub skips-due : (c : Channel) (s : Config) (channel : ℕ) (steps : List (Option Command)) (mail : List Message) (until due : ℕ) → Skips c s channel steps mail until due → due ≤ c.cycle
-    → IsInCycle (passed_to c until) s channel (steps ++ replicate (until - length steps) None) mail
+    → IsInCycle (passed_to c until) (past_of s channel (steps ++ replicate (until - length steps) None) mail)
 skips-due c s channel steps mail until due h l =
     let within = h.within in
     let from_now = h.from_now in
     let is = h.in_cycle.cycle_is in
-    subst (λ n. IsInCycle (passed_to c until) s channel (steps ++ replicate n None) mail) (let e : until - c.cycle ≡ until - length steps = omega arith in e)
+    subst (λ n. IsInCycle (passed_to c until) (past_of s channel (steps ++ replicate n None) mail)) (let e : until - c.cycle ≡ until - length steps = omega arith in e)
     (pass-in_cycle c s channel steps mail until h.in_cycle (there-before c s channel steps mail h.in_cycle) (skips-alike_due c s channel steps mail until due h l) (omega arith))
 
 pub skips-due_fits : (c : Channel) (s : Config) (channel : ℕ) (steps : List (Option Command)) (mail : List Message) (until due : ℕ) → Skips c s channel steps mail until due → due ≤ c.cycle
@@ -368,14 +368,14 @@ skips-due_fits c s channel steps mail until due h l =
     pass-fits c s channel steps mail until h.in_cycle (there-before c s channel steps mail h.in_cycle) (skips-alike_due c s channel steps mail until due h l) (omega arith) h.early
 
 -- and where there are none
-pub waited-none : (c : Channel) (s : Config) (channel : ℕ) (steps : List (Option Command)) (mail : List Message) (until : ℕ) → c.cycle ≡ until → IsInCycle c s channel steps mail
-    → IsInCycle c s channel (steps ++ replicate (until - length steps) None) mail
+pub waited-none : (c : Channel) (s : Config) (channel : ℕ) (steps : List (Option Command)) (mail : List Message) (until : ℕ) → c.cycle ≡ until → IsInCycle c (past_of s channel steps mail)
+    → IsInCycle c (past_of s channel (steps ++ replicate (until - length steps) None) mail)
 waited-none c s channel steps mail until at h =
     let is = h.cycle_is in
     let none : until - length steps ≡ 0 = omega arith in
-    subst (λ r. IsInCycle c s channel r mail) (sym (ap (λ n. steps ++ replicate n None) none ∙ append-nil steps)) h
+    subst (λ r. IsInCycle c (past_of s channel r mail)) (sym (ap (λ n. steps ++ replicate n None) none ∙ append-nil steps)) h
 
 -- the channel stands after them, where there are some
-pub waited-stands : (c d : Channel) (s : Config) (channel : ℕ) (steps : List (Option Command)) (mail : List Message) (n : ℕ) → IsInCycle c s channel steps mail
-    → IsInCycle d s channel (steps ++ replicate n None) mail → 0 < n → StandsFor d s channel (steps ++ replicate n None) mail
+pub waited-stands : (c d : Channel) (s : Config) (channel : ℕ) (steps : List (Option Command)) (mail : List Message) (n : ℕ) → IsInCycle c (past_of s channel steps mail)
+    → IsInCycle d (past_of s channel (steps ++ replicate n None) mail) → 0 < n → StandsFor d s channel (steps ++ replicate n None) mail
 waited-stands c d s channel steps mail n h k some = skipped-stands d s channel steps mail n k h.joined.arrived (there-before c s channel steps mail h) some

@@ -25,7 +25,7 @@ use Rattle.queue.specs.View.{QueueView, places_for, is_draining, drains_by}
 use Rattle.fr_fcfs.specs.Requests.{IsInBanks}
 use Rattle.fr_fcfs.specs.Choices.{StandFor, choice_in}
 use Rattle.fr_fcfs.specs.Cycles.{IsFirstCycle}
-use Rattle.channel_step.specs.Past.{requests_of}
+use Rattle.channel_step.specs.Past.{requests_of, past_of}
 use Rattle.channel_step.specs.Stands.{Recalls}
 use Rattle.channel_step.specs.Channels.{IsForeseen, KeepsServed, StandsFor}
 use Rattle.channel_step.specs.Runs.{StandsAt}
@@ -40,7 +40,7 @@ use Rattle.channel_step.proofs.Serving.{kept-none}
 use Rattle.request_table.specs.declared.served_requests.ServedRequest.{ServedRequest}
 
 -- there is no past yet
-pub recalls-none : (s : Config) (channel : ℕ) → Recalls [] false [] (record channel_none { draining = draining_of s 0 }) s channel [] []
+pub recalls-none : (s : Config) (channel : ℕ) → Recalls [] false [] (record channel_none { draining = draining_of s 0 }) (past_of s channel [] [])
 unfolding queued_requests issued_commands drains_before channel_stats issued_of_kind hits queue_lengths queued queued_max idle refreshing draining
 recalls-none s channel = record {
   past = record { requests = tt; arrived = tt; differ = tt };
@@ -111,7 +111,7 @@ pub start-stands : (c : Channel) (s : Config) (number : ℕ) → c.config ≡ s 
     → CandidatesStandFor c.bank_candidates [] (λ bank. None) → c.ahead ≡ Unknown → c.served ≡ None → StandsFor c s number [] []
 unfolding issued_commands open_row waiting
 start-stands c s number config is cycle queue_is banks refresh stats count bank_candidates ahead served =
-    let R : QueueView → ChannelStats → Type 0 = λ q t. Recalls (waiting_requests q.log) q.drain_decided (marks_in q.log) t s number [] [] in
+    let R : QueueView → ChannelStats → Type 0 = λ q t. Recalls (waiting_requests q.log) q.drain_decided (marks_in q.log) t (past_of s number [] []) in
     let empty : QueueView = record { room = queue_room s; places = places_for (queue_room s); high = s.write_high; low = s.write_low; log = []; drain_decided = false } in
     let base : R empty (record channel_none { draining = draining_of s 0 }) = recalls-none s number in
     let none : length (waiting_requests c.queue.log) ≡ 0 = ap (λ (q : QueueView). length (waiting_requests q.log)) queue_is in

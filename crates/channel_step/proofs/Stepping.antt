@@ -26,7 +26,7 @@ use Rattle.queue.specs.Columns.{bank_number, write_count}
 use Rattle.queue.specs.View.{QueueView, drains_by}
 use Rattle.queue.specs.declared.bank_candidates.all_banks.BankCandidates.{BankCandidates}
 use Rattle.queue.specs.Stands.{bank_count}
-use Rattle.channel_step.specs.Past.{requests_of, IsRequestIn, CarriesRequest}
+use Rattle.channel_step.specs.Past.{requests_of, IsRequestIn, CarriesRequest, past_of}
 use Rattle.channel_step.specs.Fit.{queue_room, IsFit}
 use Rattle.channel_step.specs.Stands.{marks_of}
 use Rattle.channel_step.specs.Queued.{marks_in, with_arrivals}
@@ -104,7 +104,7 @@ pub arrived-stands : (c : Channel) (s : Config) (channel : ℕ) (steps : List (O
     → IsFit s channel steps mail inbox now until → q ≡ with_arrivals c.queue (arriving inbox now)
     → bank_count bank_candidates ≡ bank_count c.bank_candidates → CandidatesStand bank_candidates q.log (issued_commands channel steps)
     → IsAhead s (issued_commands channel steps) q c.cycle ahead
-    → IsInCycle (record c { queue = q; bank_candidates = bank_candidates; ahead = ahead }) s channel steps (mail ++ take (due_count inbox now) inbox)
+    → IsInCycle (record c { queue = q; bank_candidates = bank_candidates; ahead = ahead }) (past_of s channel steps (mail ++ take (due_count inbox now) inbox))
 arrived-stands c s channel steps mail inbox now until q bank_candidates ahead h at l f e count candidates_stand known =
     let history = issued_commands channel steps in
     let new = take (due_count inbox now) inbox in

@@ -11,7 +11,7 @@ use Rattle.queue.specs.View.{QueueView}
 use Rattle.queue.specs.Candidates.{bank_at}
 use Rattle.queue.specs.Stands.{bank_count, StandsFor as CandidatesStandFor}
 use Rattle.fr_fcfs.specs.Requests.{IsInBanks}
-use Rattle.channel_step.specs.Past.{requests_of}
+use Rattle.channel_step.specs.Past.{requests_of, past_of}
 use Rattle.channel_step.specs.Queued.{with_arrivals}
 use Rattle.channel_step.specs.Channels.{IsInCycle}
 use Rattle.channel_step.specs.declared.channel.Channel.{Channel}
@@ -72,7 +72,7 @@ reconsider-requires-clause-ahead c =
     (log-before y (requests_of (take c.due_count-due.result inbox)) c.len-older.result q older c.admit.ensures) (ahead-from _ _ _ _ _ h.foresees)
 
 pub returns-clause-in_cycle : goal.returns-clause-in_cycle
-returns-clause-in_cycle c s channel steps mail until stands at l f =
+returns-clause-in_cycle c s channel steps mail stands until at l f =
     let inbox = c.args.inbox.now in
     let y = c.make_room.new.self in
     let q = c.admit.new.queue in
@@ -90,8 +90,8 @@ returns-clause-in_cycle c s channel steps mail until stands at l f =
     let new = subst (λ l. CandidatesStandFor c.on_arrival.new.self l rows) shown (c.on_arrival.ensures.stands rows old) in
     let high = sym (ap (λ (v : QueueView). v.high) c.admit.ensures ∙ h.made_for.high_is) in
     let known = c.reconsider.ensures.ahead s history y.queue (record { banks_stand = h.banks_stand; candidates_stand = new; high_is = high; earlier_is = before }) (ahead-from _ _ _ _ _ h.foresees) in
-    subst (λ k. IsInCycle c.reconsider.new.self s channel steps (mail ++ take k inbox)) (sym due)
-    (subst (λ (z : Channel). IsInCycle z s channel steps (mail ++ take (due_count inbox c.args.now) inbox)) (sym c.reconsider.ensures.rest)
+    subst (λ k. IsInCycle c.reconsider.new.self (past_of s channel steps (mail ++ take k inbox))) (sym due)
+    (subst (λ (z : Channel). IsInCycle z (past_of s channel steps (mail ++ take (due_count inbox c.args.now) inbox))) (sym c.reconsider.ensures.rest)
     (arrived-stands y s channel steps mail inbox c.args.now until q c.on_arrival.new.self c.reconsider.new.self.ahead h at l f joined c.on_arrival.ensures.banks new known))
 
 pub admit-requires-clause-room : goal.admit-requires-clause-room

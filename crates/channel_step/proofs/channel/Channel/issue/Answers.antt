@@ -7,21 +7,25 @@ use Rattle.channel_step.proofs.Issuing.{issued-before, command-rank, command-owe
 use Rattle.channel_step.proofs.channel.Channel.issue.Goals as goal
 
 pub note-requires-clause-rank : goal.note-requires-clause-rank
-note-requires-clause-rank c = let p = c.requires.ready in command-rank c.args.self.now p.s p.channel p.steps p.mail c.args.command c.args.hit p.is_readied
+note-requires-clause-rank c = let p = c.requires.ready in command-rank c.args.self.now p.past.config p.past.channel p.past.steps p.past.mail c.args.command c.args.hit p.is_readied
 
 pub note_refresh-requires-clause-due : goal.note_refresh-requires-clause-due
-note_refresh-requires-clause-due c = let p = c.requires.ready in command-owed c.args.self.now p.s p.channel p.steps p.mail c.args.command c.args.hit p.is_readied
+note_refresh-requires-clause-due c = let p = c.requires.ready in command-owed c.args.self.now p.past.config p.past.channel p.past.steps p.past.mail c.args.command c.args.hit p.is_readied
 
 pub count-requires-clause-drains : goal.count-requires-clause-drains
-count-requires-clause-drains c = let p = c.requires.ready in readied-drains c.args.self.now p.s p.channel p.steps p.mail c.args.command c.args.hit p.is_readied
+count-requires-clause-drains c = let p = c.requires.ready in readied-drains c.args.self.now p.past.config p.past.channel p.past.steps p.past.mail c.args.command c.args.hit p.is_readied
 
 pub count-requires-clause-fits : goal.count-requires-clause-fits
 count-requires-clause-fits c =
     let p = c.requires.ready in
-    counted-fits c.args.self.now p.s p.channel p.steps p.mail c.args.command c.args.hit c.args.seen p.is_readied p.seen_is c.requires.early
+    counted-fits c.args.self.now p.past.config p.past.channel p.past.steps p.past.mail c.args.command c.args.hit c.args.seen p.is_readied p.seen_is c.requires.early
 
 pub returns-clause-stands : goal.returns-clause-stands
-returns-clause-stands c s channel steps mail h seen =
+returns-clause-stands c past h seen =
+    let s = past.config in
+    let channel = past.channel in
+    let steps = past.steps in
+    let mail = past.mail in
     let x = c.args.self.now in
     let history = issued_commands channel steps in
     let row = row_of channel x.cycle c.args.command in

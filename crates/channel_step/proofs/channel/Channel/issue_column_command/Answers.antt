@@ -5,6 +5,7 @@ use Rattle.sim_base.specs.History.{messages_of}
 use Rattle.sim_base.specs.Scheduling.{column_command}
 use Rattle.queue.specs.declared.request_log.Arrived.{Arrived}
 use Rattle.queue.specs.Log.{absent, LogView}
+use Rattle.channel_step.specs.Past.{past_of}
 use Rattle.channel_step.specs.Queued.{request_at}
 use Rattle.channel_step.specs.Readied.{IsReadied}
 use Rattle.channel_step.proofs.Issuing.{seen-is, has-issued}
@@ -17,14 +18,11 @@ issue-requires-clause-ready c =
     let read : get_or c.log-2.result.now c.args.slot absent ≡ get_or x.queue.log c.args.slot absent =
     ap (λ l. get_or l c.args.slot absent) (c.log-2.ensures.log ∙ ap (λ (v : LogView). v.log) c.log.ensures) in
     record {
-      s = p.s;
-      channel = p.channel;
-      steps = p.steps;
-      mail = p.mail;
+      past = p.past;
       is_readied =
-          subst (λ z. IsReadied c.serve.new.self p.s p.channel p.steps p.mail z c.in_ok-hit.hit) (sym (c.column_command.ensures ∙ ap (λ (a : Arrived). column_command a.request) read))
-          (c.in_ok-hit.ensures {u = tt} p.s p.channel p.steps p.mail p.is_in p.is_chosen);
-      seen_is = c.requires.seen ∙ seen-is x p.s p.channel p.steps p.mail p.is_in;
+          subst (λ z. IsReadied c.serve.new.self p.past z c.in_ok-hit.hit) (sym (c.column_command.ensures ∙ ap (λ (a : Arrived). column_command a.request) read))
+          (c.in_ok-hit.ensures {u = tt} p.past.config p.past.channel p.past.steps p.past.mail p.is_in p.is_chosen);
+      seen_is = c.requires.seen ∙ seen-is x p.past.config p.past.channel p.past.steps p.past.mail p.is_in;
     }
 
 pub returns : goal.returns
@@ -34,8 +32,8 @@ returns c s channel steps mail h chosen =
     let read : get_or c.log-2.result.now c.args.slot absent ≡ get_or x.queue.log c.args.slot absent =
     ap (λ l. get_or l c.args.slot absent) (c.log-2.ensures.log ∙ ap (λ (v : LogView). v.log) c.log.ensures) in
     let is = c.column_command.ensures ∙ ap (λ (a : Arrived). column_command a.request) read in
-    let ready = subst (λ z. IsReadied c.serve.new.self s channel steps mail z c.in_ok-hit.hit) (sym is) (c.in_ok-hit.ensures {u = tt} s channel steps mail h chosen) in
-    let stands = c.issue.ensures.stands s channel steps mail ready (c.requires.seen ∙ seen-is x s channel steps mail h) in
+    let ready = subst (λ z. IsReadied c.serve.new.self (past_of s channel steps mail) z c.in_ok-hit.hit) (sym is) (c.in_ok-hit.ensures {u = tt} s channel steps mail h chosen) in
+    let stands = c.issue.ensures.stands (past_of s channel steps mail) ready (c.requires.seen ∙ seen-is x s channel steps mail h) in
     let before = c.args.messages.now.items in
     on_ok_weaker c.send.result
     (λ told. has-issued c.serve.new.self c.issue.new.self s channel steps mail (column_command r) c.column_command.result c.in_ok-hit.hit c.args.commands.now c.issue.new.commands before c.send.new.messages.items ready is stands
@@ -56,7 +54,7 @@ serve-requires c = c.requires.doing
 pub issue-requires-clause-early : goal.issue-requires-clause-early
 issue-requires-clause-early c =
     let p = c.requires.doing in
-    let ready = c.in_ok-hit.ensures {u = tt} p.s p.channel p.steps p.mail p.is_in p.is_chosen in
+    let ready = c.in_ok-hit.ensures {u = tt} p.past.config p.past.channel p.past.steps p.past.mail p.is_in p.is_chosen in
     omega (arith, ready.cycle_is, p.is_in.cycle_is, c.requires.early)
 
 pub send-requires : goal.send-requires

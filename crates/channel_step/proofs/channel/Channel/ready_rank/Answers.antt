@@ -2,6 +2,7 @@ use Rattle.std.proofs.Common.{◌≡◌, ℕ, false, Option, Some, sym, ap, subs
 use Rattle.sim_base.specs.History.{issued_commands}
 use Rattle.sim_base.specs.Rules.{open_row}
 use Rattle.queue.specs.Candidates.{bank_at}
+use Rattle.channel_step.specs.Past.{past_of}
 use Rattle.channel_step.specs.Readied.{IsReadied}
 use Rattle.channel_step.proofs.Chosen.{refresh-cases}
 use Rattle.channel_step.proofs.Readying.{knows-rows, groups-are, rank-readied, refresh-readied}
@@ -21,8 +22,8 @@ returns-in_default c =
     record {
       command = λ s channel steps mail h. c.refresh_command-command.ensures s (issued_commands channel steps) (knows-rows x s channel steps mail h) (groups-are x s channel steps mail h);
       readied = λ s channel steps mail h chosen.
-          refresh-cases (λ z. command ≡ z → IsReadied x s channel steps mail command false) s (issued_commands channel steps) c.args.rank
+          refresh-cases (λ z. command ≡ z → IsReadied x (past_of s channel steps mail) command false) s (issued_commands channel steps) c.args.rank
           (λ e. absurd (c.in_default.not-Prea c.args.rank e))
-          (λ e. subst (λ z. IsReadied x s channel steps mail z false) (sym e) (refresh-readied x s channel steps mail c.args.rank h (ap Some (sym e) ∙ chosen)))
+          (λ e. subst (λ z. IsReadied x (past_of s channel steps mail) z false) (sym e) (refresh-readied x s channel steps mail c.args.rank h (ap Some (sym e) ∙ chosen)))
           (c.refresh_command-command.ensures s (issued_commands channel steps) (knows-rows x s channel steps mail h) (groups-are x s channel steps mail h));
     }

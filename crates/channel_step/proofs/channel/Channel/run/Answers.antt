@@ -1,6 +1,7 @@
 use Rattle.std.proofs.Common.{◌≡◌, ◌-◌, ◌++◌, length, take, ap, subst, arith}
 use Rattle.std.proofs.lemmas.List.{length-drop, take_rest}
 use Rattle.sim_base.specs.Machine.{channel_run}
+use Rattle.channel_step.specs.Past.{past_of}
 use Rattle.channel_step.specs.Runs.{HasAdvanced}
 use Rattle.channel_step.proofs.Running.{run-length, run-fit, run-ends, run-can_go_on, turned-none, turned-more}
 use Rattle.channel_step.proofs.channel.Channel.run.Goals as goal
@@ -44,7 +45,7 @@ foresee-requires c =
     let p = c.requires.can_run in
     let l = c.loop-now in
     let end : l.now ≡ c.args.cycles.end = omega (arith, l.invariant.2) in
-    let h = subst (λ t. HasAdvanced l.self p.s p.channel p.steps p.mail c.args.inbox.now c.args.cycles.start t c.args.cycles.end l.arrived c.args.commands.now l.commands c.args.messages.now.items l.messages.items) end
+    let h = subst (λ t. HasAdvanced l.self (past_of p.s p.channel p.steps p.mail) c.args.inbox.now c.args.cycles.start t c.args.cycles.end l.arrived c.args.commands.now l.commands c.args.messages.now.items l.messages.items) end
     (l.invariant.3 p.s p.channel p.steps p.mail p.stands p.at p.fit) in
     record {
       s = p.s;
@@ -59,7 +60,7 @@ pub returns : goal.returns
 returns c s channel steps mail stands at f =
     let l = c.loop-now in
     let end : l.now ≡ c.args.cycles.end = omega (arith, l.invariant.2) in
-    let h = subst (λ t. HasAdvanced l.self s channel steps mail c.args.inbox.now c.args.cycles.start t c.args.cycles.end l.arrived c.args.commands.now l.commands c.args.messages.now.items l.messages.items) end
+    let h = subst (λ t. HasAdvanced l.self (past_of s channel steps mail) c.args.inbox.now c.args.cycles.start t c.args.cycles.end l.arrived c.args.commands.now l.commands c.args.messages.now.items l.messages.items) end
     (l.invariant.3 s channel steps mail stands at f) in
     record {
       issued = h.issued;
