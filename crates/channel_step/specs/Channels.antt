@@ -157,7 +157,7 @@ pub record StandsFor (c : Channel) (s : Config) (channel : ℕ) (steps : Steps) 
 abbrev pub HasPast : Channel → Past → Type 0
 HasPast c p = StandsFor c p.config p.channel p.steps p.mail
 
--- this is so of each past that a channel may have
+-- this is so of each past that a channel may have, whose parts are given one by one
 abbrev pub ForPasts : Channel → (Past → Type 0) → Type 0
 ForPasts c fact =
     (s : Config) (channel : ℕ) (steps : Steps) (mail : List Message) → StandsFor c s channel steps mail → fact (past_of s channel steps mail)
@@ -207,8 +207,7 @@ pub record IsInCycle (c : Channel) (p : Past) : Type 0 where
 
 -- this is so of each past after which a channel may be in the next cycle
 abbrev pub ForCycles : Channel → (Past → Type 0) → Type 0
-ForCycles c fact =
-    (s : Config) (channel : ℕ) (steps : Steps) (mail : List Message) → IsInCycle c (past_of s channel steps mail) → fact (past_of s channel steps mail)
+ForCycles c fact = (past : Past) → IsInCycle c past → fact past
 
 -- a channel is still in each cycle that it was in
 abbrev pub StaysInCycle : Channel → Channel → Type 0

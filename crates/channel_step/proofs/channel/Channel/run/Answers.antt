@@ -12,7 +12,7 @@ loop-now-init c = (
   omega arith,
   omega arith,
   λ s channel steps mail h at f.
-      turned-none c.args.self.now s channel steps mail c.args.inbox.now c.args.cycles.start c.args.cycles.end c.args.commands.now c.args.messages.now.items h f,
+      turned-none c.args.self.now (past_of s channel steps mail) c.args.inbox.now c.args.cycles.start c.args.cycles.end c.args.commands.now c.args.messages.now.items h f,
 )
 
 pub advance-requires-clause-can_run : goal.advance-requires-clause-can_run
@@ -20,7 +20,7 @@ advance-requires-clause-can_run c =
     let p = c.requires.can_run in
     let l = c.loop-now in
     let h = l.invariant.3 p.s p.channel p.steps p.mail p.stands p.at p.fit in
-    run-can_go_on l.self p.s p.channel p.steps p.mail c.args.inbox.now c.args.cycles.start l.now c.args.cycles.end l.arrived h.issued h.sent p.at l.invariant.1 h.has_run
+    run-can_go_on l.self (past_of p.s p.channel p.steps p.mail) c.args.inbox.now c.args.cycles.start l.now c.args.cycles.end l.arrived h.issued h.sent p.at l.invariant.1 h.has_run
 
 pub loop-now-preserved : goal.loop-now-preserved
 loop-now-preserved c =
@@ -35,9 +35,9 @@ loop-now-preserved c =
           let h = l.invariant.3 s channel steps mail stands at f in
           let before = channel_run s channel steps (mail ++ inbox) (l.now - c.args.cycles.start) in
           let there = mail ++ take l.arrived inbox in
-          turned-more l.self c.advance.new.self s channel steps mail inbox c.args.cycles.start l.now c.args.cycles.end l.arrived advance.arrived advance.last _ _ _ _ _ _ at l.invariant.1 done.from_now h
+          turned-more l.self c.advance.new.self (past_of s channel steps mail) inbox c.args.cycles.start l.now c.args.cycles.end l.arrived advance.arrived advance.last _ _ _ _ _ _ at l.invariant.1 done.from_now h
           (done.done s channel before there h.has_run.stands (run-length s channel steps (mail ++ inbox) c.args.cycles.start l.now at l.invariant.1)
-          (run-fit l.self s channel steps mail inbox c.args.cycles.start l.now c.args.cycles.end l.arrived h.issued h.sent h.has_run)),
+          (run-fit l.self (past_of s channel steps mail) inbox c.args.cycles.start l.now c.args.cycles.end l.arrived h.issued h.sent h.has_run)),
     )
 
 pub foresee-requires : goal.foresee-requires
@@ -52,7 +52,7 @@ foresee-requires c =
       channel = p.channel;
       steps = channel_run p.s p.channel p.steps (p.mail ++ c.args.inbox.now) (c.args.cycles.end - c.args.cycles.start);
       mail = p.mail ++ c.args.inbox.now;
-      stands = run-ends l.self p.s p.channel p.steps p.mail c.args.inbox.now c.args.cycles.start c.args.cycles.end l.arrived h.issued h.sent h.has_run;
+      stands = run-ends l.self (past_of p.s p.channel p.steps p.mail) c.args.inbox.now c.args.cycles.start c.args.cycles.end l.arrived h.issued h.sent h.has_run;
       at = run-length p.s p.channel p.steps (p.mail ++ c.args.inbox.now) c.args.cycles.start c.args.cycles.end p.at c.requires.span;
     }
 
@@ -67,7 +67,7 @@ returns c s channel steps mail stands at f =
       sent = h.sent;
       stands =
           c.foresee.ensures s channel (channel_run s channel steps (mail ++ c.args.inbox.now) (c.args.cycles.end - c.args.cycles.start)) (mail ++ c.args.inbox.now)
-          (run-ends l.self s channel steps mail c.args.inbox.now c.args.cycles.start c.args.cycles.end l.arrived h.issued h.sent h.has_run)
+          (run-ends l.self (past_of s channel steps mail) c.args.inbox.now c.args.cycles.start c.args.cycles.end l.arrived h.issued h.sent h.has_run)
           (run-length s channel steps (mail ++ c.args.inbox.now) c.args.cycles.start c.args.cycles.end at c.requires.span);
       commands_are = h.has_run.commands_are;
       messages_are = h.has_run.messages_are;
