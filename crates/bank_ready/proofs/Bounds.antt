@@ -10,7 +10,7 @@ use Rattle.sim_base.specs.declared.command.Relation.TheVariants.{SameBank, SameG
 use Rattle.sim_base.specs.Rules.{is_bound, gap}
 use Rattle.timing.specs.Holds.{hold}
 use Rattle.bank_ready.specs.Ready.{held_until}
-use Rattle.bank_ready.specs.Words.{moves_data}
+use Rattle.bank_ready.specs.Words.{is_column_kind}
 
 -- what a rule binds is held back by the gap
 pub held_if_bound : (t : Timing) (cycle : ℕ) (earlier later : Kind) (relation : Relation) → is_bound t earlier later relation ≡ true
@@ -19,76 +19,76 @@ unfolding held_until hold
 held_if_bound t cycle earlier later relation b =
     ap (λ (o : Option ℕ). unwrap_or (option_map (λ g. cycle + g) o) 0) (sym (cond-true (is_bound t earlier later relation) (Some (gap t earlier later relation)) None b))
 
--- commands that move data are bound to one another, wherever their banks lie
-pub data_bound : (t : Timing) (earlier later : Kind) (relation : Relation) → moves_data earlier ≡ true → moves_data later ≡ true → is_bound t earlier later relation ≡ true
+-- column commands are bound to one another, wherever their banks lie
+pub column_bound : (t : Timing) (earlier later : Kind) (relation : Relation) → is_column_kind earlier ≡ true → is_column_kind later ≡ true → is_bound t earlier later relation ≡ true
 unfolding is_bound
-data_bound t Rd Rd SameBank e l = refl
-data_bound t Rd Rd SameGroup e l = refl
-data_bound t Rd Rd OtherGroup e l = refl
-data_bound t Rd Rd OtherRank e l = refl
-data_bound t Rd Wr SameBank e l = refl
-data_bound t Rd Wr SameGroup e l = refl
-data_bound t Rd Wr OtherGroup e l = refl
-data_bound t Rd Wr OtherRank e l = refl
-data_bound t Wr Rd SameBank e l = refl
-data_bound t Wr Rd SameGroup e l = refl
-data_bound t Wr Rd OtherGroup e l = refl
-data_bound t Wr Rd OtherRank e l = refl
-data_bound t Wr Wr SameBank e l = refl
-data_bound t Wr Wr SameGroup e l = refl
-data_bound t Wr Wr OtherGroup e l = refl
-data_bound t Wr Wr OtherRank e l = refl
-data_bound t Act later relation e l = absurd (false≢true e)
-data_bound t Pre later relation e l = absurd (false≢true e)
-data_bound t Prea later relation e l = absurd (false≢true e)
-data_bound t Ref later relation e l = absurd (false≢true e)
-data_bound t Rd Act relation e l = absurd (false≢true l)
-data_bound t Rd Pre relation e l = absurd (false≢true l)
-data_bound t Rd Prea relation e l = absurd (false≢true l)
-data_bound t Rd Ref relation e l = absurd (false≢true l)
-data_bound t Wr Act relation e l = absurd (false≢true l)
-data_bound t Wr Pre relation e l = absurd (false≢true l)
-data_bound t Wr Prea relation e l = absurd (false≢true l)
-data_bound t Wr Ref relation e l = absurd (false≢true l)
+column_bound t Rd Rd SameBank e l = refl
+column_bound t Rd Rd SameGroup e l = refl
+column_bound t Rd Rd OtherGroup e l = refl
+column_bound t Rd Rd OtherRank e l = refl
+column_bound t Rd Wr SameBank e l = refl
+column_bound t Rd Wr SameGroup e l = refl
+column_bound t Rd Wr OtherGroup e l = refl
+column_bound t Rd Wr OtherRank e l = refl
+column_bound t Wr Rd SameBank e l = refl
+column_bound t Wr Rd SameGroup e l = refl
+column_bound t Wr Rd OtherGroup e l = refl
+column_bound t Wr Rd OtherRank e l = refl
+column_bound t Wr Wr SameBank e l = refl
+column_bound t Wr Wr SameGroup e l = refl
+column_bound t Wr Wr OtherGroup e l = refl
+column_bound t Wr Wr OtherRank e l = refl
+column_bound t Act later relation e l = absurd (false≢true e)
+column_bound t Pre later relation e l = absurd (false≢true e)
+column_bound t Prea later relation e l = absurd (false≢true e)
+column_bound t Ref later relation e l = absurd (false≢true e)
+column_bound t Rd Act relation e l = absurd (false≢true l)
+column_bound t Rd Pre relation e l = absurd (false≢true l)
+column_bound t Rd Prea relation e l = absurd (false≢true l)
+column_bound t Rd Ref relation e l = absurd (false≢true l)
+column_bound t Wr Act relation e l = absurd (false≢true l)
+column_bound t Wr Pre relation e l = absurd (false≢true l)
+column_bound t Wr Prea relation e l = absurd (false≢true l)
+column_bound t Wr Ref relation e l = absurd (false≢true l)
 
-pub data_pre_bound : (t : Timing) (earlier : Kind) → moves_data earlier ≡ true → is_bound t earlier Pre SameBank ≡ true
+pub column_pre_bound : (t : Timing) (earlier : Kind) → is_column_kind earlier ≡ true → is_bound t earlier Pre SameBank ≡ true
 unfolding is_bound
-data_pre_bound t Rd m = refl
-data_pre_bound t Wr m = refl
-data_pre_bound t Act m = absurd (false≢true m)
-data_pre_bound t Pre m = absurd (false≢true m)
-data_pre_bound t Prea m = absurd (false≢true m)
-data_pre_bound t Ref m = absurd (false≢true m)
+column_pre_bound t Rd m = refl
+column_pre_bound t Wr m = refl
+column_pre_bound t Act m = absurd (false≢true m)
+column_pre_bound t Pre m = absurd (false≢true m)
+column_pre_bound t Prea m = absurd (false≢true m)
+column_pre_bound t Ref m = absurd (false≢true m)
 
--- a command that moves data holds back another in its bank as in its group
-pub data_same : (t : Timing) (cycle : ℕ) (earlier later : Kind) → moves_data earlier ≡ true → moves_data later ≡ true
+-- a column command holds back another in its bank as in its group
+pub column_same : (t : Timing) (cycle : ℕ) (earlier later : Kind) → is_column_kind earlier ≡ true → is_column_kind later ≡ true
     → held_until t cycle earlier later SameBank ≡ held_until t cycle earlier later SameGroup
 unfolding held_until hold is_bound gap
-data_same t cycle Rd Rd e l = refl
-data_same t cycle Rd Wr e l = refl
-data_same t cycle Wr Rd e l = refl
-data_same t cycle Wr Wr e l = refl
-data_same t cycle Act later e l = absurd (false≢true e)
-data_same t cycle Pre later e l = absurd (false≢true e)
-data_same t cycle Prea later e l = absurd (false≢true e)
-data_same t cycle Ref later e l = absurd (false≢true e)
-data_same t cycle Rd Act e l = absurd (false≢true l)
-data_same t cycle Rd Pre e l = absurd (false≢true l)
-data_same t cycle Rd Prea e l = absurd (false≢true l)
-data_same t cycle Rd Ref e l = absurd (false≢true l)
-data_same t cycle Wr Act e l = absurd (false≢true l)
-data_same t cycle Wr Pre e l = absurd (false≢true l)
-data_same t cycle Wr Prea e l = absurd (false≢true l)
-data_same t cycle Wr Ref e l = absurd (false≢true l)
+column_same t cycle Rd Rd e l = refl
+column_same t cycle Rd Wr e l = refl
+column_same t cycle Wr Rd e l = refl
+column_same t cycle Wr Wr e l = refl
+column_same t cycle Act later e l = absurd (false≢true e)
+column_same t cycle Pre later e l = absurd (false≢true e)
+column_same t cycle Prea later e l = absurd (false≢true e)
+column_same t cycle Ref later e l = absurd (false≢true e)
+column_same t cycle Rd Act e l = absurd (false≢true l)
+column_same t cycle Rd Pre e l = absurd (false≢true l)
+column_same t cycle Rd Prea e l = absurd (false≢true l)
+column_same t cycle Rd Ref e l = absurd (false≢true l)
+column_same t cycle Wr Act e l = absurd (false≢true l)
+column_same t cycle Wr Pre e l = absurd (false≢true l)
+column_same t cycle Wr Prea e l = absurd (false≢true l)
+column_same t cycle Wr Ref e l = absurd (false≢true l)
 
 -- so no relation of their banks holds back less than a least cycle of three
-pub data_least : (t : Timing) (cycle : ℕ) (earlier later : Kind) (least : ℕ) (relation : Relation) → moves_data earlier ≡ true → moves_data later ≡ true
+pub column_least : (t : Timing) (cycle : ℕ) (earlier later : Kind) (least : ℕ) (relation : Relation) → is_column_kind earlier ≡ true → is_column_kind later ≡ true
     → least ≤ held_until t cycle earlier later SameGroup → least ≤ held_until t cycle earlier later OtherGroup → least ≤ held_until t cycle earlier later OtherRank
     → least ≤ held_until t cycle earlier later relation
-data_least t cycle earlier later least SameBank e l group other rank = rw (data_same t cycle earlier later e l) group
-data_least t cycle earlier later least SameGroup e l group other rank = group
-data_least t cycle earlier later least OtherGroup e l group other rank = other
-data_least t cycle earlier later least OtherRank e l group other rank = rank
+column_least t cycle earlier later least SameBank e l group other rank = rw (column_same t cycle earlier later e l) group
+column_least t cycle earlier later least SameGroup e l group other rank = group
+column_least t cycle earlier later least OtherGroup e l group other rank = other
+column_least t cycle earlier later least OtherRank e l group other rank = rank
 
 -- an ACT holds back another in its bank at least as long as in its group, and not in another rank
 pub act_grows : (t : Timing) (cycle : ℕ) → held_until t cycle Act Act SameGroup ≤ held_until t cycle Act Act SameBank
@@ -132,29 +132,29 @@ unfolding held_until hold is_bound gap
 act_to_pre t cycle = record { same_group = refl; other_group = refl; other_rank = refl }
 
 -- a RD and a WR hold back a PRE of their own bank alone, and no ACT
-pub data_to_pre : (t : Timing) (cycle : ℕ) (earlier : Kind) → moves_data earlier ≡ true → IsOwn (held_until t cycle earlier Pre)
+pub column_to_pre : (t : Timing) (cycle : ℕ) (earlier : Kind) → is_column_kind earlier ≡ true → IsOwn (held_until t cycle earlier Pre)
 unfolding held_until hold is_bound gap
-data_to_pre t cycle Rd m = record { same_group = refl; other_group = refl; other_rank = refl }
-data_to_pre t cycle Wr m = record { same_group = refl; other_group = refl; other_rank = refl }
-data_to_pre t cycle Act m = absurd (false≢true m)
-data_to_pre t cycle Pre m = absurd (false≢true m)
-data_to_pre t cycle Prea m = absurd (false≢true m)
-data_to_pre t cycle Ref m = absurd (false≢true m)
+column_to_pre t cycle Rd m = record { same_group = refl; other_group = refl; other_rank = refl }
+column_to_pre t cycle Wr m = record { same_group = refl; other_group = refl; other_rank = refl }
+column_to_pre t cycle Act m = absurd (false≢true m)
+column_to_pre t cycle Pre m = absurd (false≢true m)
+column_to_pre t cycle Prea m = absurd (false≢true m)
+column_to_pre t cycle Ref m = absurd (false≢true m)
 
-pub data_no_act : (t : Timing) (cycle : ℕ) (earlier : Kind) (relation : Relation) → moves_data earlier ≡ true → held_until t cycle earlier Act relation ≡ 0
+pub column_no_act : (t : Timing) (cycle : ℕ) (earlier : Kind) (relation : Relation) → is_column_kind earlier ≡ true → held_until t cycle earlier Act relation ≡ 0
 unfolding held_until hold is_bound gap
-data_no_act t cycle Rd SameBank m = refl
-data_no_act t cycle Rd SameGroup m = refl
-data_no_act t cycle Rd OtherGroup m = refl
-data_no_act t cycle Rd OtherRank m = refl
-data_no_act t cycle Wr SameBank m = refl
-data_no_act t cycle Wr SameGroup m = refl
-data_no_act t cycle Wr OtherGroup m = refl
-data_no_act t cycle Wr OtherRank m = refl
-data_no_act t cycle Act relation m = absurd (false≢true m)
-data_no_act t cycle Pre relation m = absurd (false≢true m)
-data_no_act t cycle Prea relation m = absurd (false≢true m)
-data_no_act t cycle Ref relation m = absurd (false≢true m)
+column_no_act t cycle Rd SameBank m = refl
+column_no_act t cycle Rd SameGroup m = refl
+column_no_act t cycle Rd OtherGroup m = refl
+column_no_act t cycle Rd OtherRank m = refl
+column_no_act t cycle Wr SameBank m = refl
+column_no_act t cycle Wr SameGroup m = refl
+column_no_act t cycle Wr OtherGroup m = refl
+column_no_act t cycle Wr OtherRank m = refl
+column_no_act t cycle Act relation m = absurd (false≢true m)
+column_no_act t cycle Pre relation m = absurd (false≢true m)
+column_no_act t cycle Prea relation m = absurd (false≢true m)
+column_no_act t cycle Ref relation m = absurd (false≢true m)
 
 -- a PRE holds back an ACT of its own bank alone, and no other command of a bank
 pub pre_to_act : (t : Timing) (cycle : ℕ) → IsOwn (held_until t cycle Pre Act)

@@ -18,12 +18,12 @@ use Rattle.sim_base.specs.declared.command.Command.TheVariants.{Act, Rd, Wr, Pre
 use Rattle.sim_base.specs.declared.command.Source.{Source}
 use Rattle.sim_base.specs.Rules.{is_kind, kind_of, rank_of, bank_of}
 use Rattle.bank_ready.specs.Ready.{held_until}
-use Rattle.bank_ready.specs.Words.{bank_at, is_own, relation_from, group_relation_from, moves_data, no_acts, pushed, word_until, rank_raised, rank_state_after, act_pushed}
+use Rattle.bank_ready.specs.Words.{bank_at, is_own, relation_from, group_relation_from, is_column_kind, no_acts, pushed, word_until, rank_raised, rank_state_after, act_pushed}
 use Rattle.bank_ready.specs.Noted.{IsRaised, window_word, IsNoted}
 use Rattle.bank_ready.specs.declared.words.RankState.{RankState}
 use Rattle.bank_ready.specs.declared.banks.Banks.{Banks}
-use Rattle.bank_ready.proofs.Bounds.{IsOwn, rank_alone, data_no_act, data_same}
-use Rattle.bank_ready.proofs.Places.{own_raised, data_joint, group_rank}
+use Rattle.bank_ready.proofs.Bounds.{IsOwn, rank_alone, column_no_act, column_same}
+use Rattle.bank_ready.proofs.Places.{own_raised, column_joint, group_rank}
 
 -- a bank that there is lies in the columns
 pub own_inside : (own : Option ℕ) (n m : ℕ) → IfSome own (λ k. k < n) → n ≤ m → IfSome own (λ k. k < m)
@@ -153,11 +153,11 @@ own-word t cycle command later bank until k names u only =
     ∙ word-bank t cycle command later bank k names
 
 -- a word by the relation of the groups
-pub data-word : (t : Timing) (cycle : ℕ) (command : Command) (earlier later : Kind) (bank : BankId) (k : ℕ) → kind_of command ≡ earlier → bank_of command ≡ Some bank
-    → moves_data earlier ≡ true → moves_data later ≡ true
+pub column-word : (t : Timing) (cycle : ℕ) (command : Command) (earlier later : Kind) (bank : BankId) (k : ℕ) → kind_of command ≡ earlier → bank_of command ≡ Some bank
+    → is_column_kind earlier ≡ true → is_column_kind later ≡ true
     → held_until t cycle earlier later (group_relation_from bank (k / 4)) ≡ word_until t cycle command later k
-data-word t cycle command earlier later bank k of names e l =
-    data_joint (held_until t cycle earlier later) bank k (data_same t cycle earlier later e l)
+column-word t cycle command earlier later bank k of names e l =
+    column_joint (held_until t cycle earlier later) bank k (column_same t cycle earlier later e l)
     ∙ ap (λ (x : Kind). held_until t cycle x later (relation_from bank k)) (sym of)
     ∙ word-bank t cycle command later bank k names
 
@@ -186,16 +186,16 @@ window-of-act banks bank row source k end state inside read is =
     ]
 
 -- a RD and a WR raise no word of an ACT
-pub data-acts : (banks : Banks) (t : Timing) (cycle : ℕ) (command : Command) (k : ℕ) → moves_data (kind_of command) ≡ true
+pub column-acts : (banks : Banks) (t : Timing) (cycle : ℕ) (command : Command) (k : ℕ) → is_column_kind (kind_of command) ≡ true
     → max (word_until t cycle command kind.Act k) (window_word banks command k) ≡ 0
-data-acts banks t cycle (Rd b row column source) k m = let none = data_no_act t cycle kind.Rd (relation_from b k) refl in omega arith
-data-acts banks t cycle (Wr b row column source) k m = let none = data_no_act t cycle kind.Wr (relation_from b k) refl in omega arith
-data-acts banks t cycle (Act b row source) k m = cc
-data-acts banks t cycle (Pre b source) k m = cc
-data-acts banks t cycle (Prea rank) k m = cc
-data-acts banks t cycle (Ref rank) k m = cc
+column-acts banks t cycle (Rd b row column source) k m = let none = column_no_act t cycle kind.Rd (relation_from b k) refl in omega arith
+column-acts banks t cycle (Wr b row column source) k m = let none = column_no_act t cycle kind.Wr (relation_from b k) refl in omega arith
+column-acts banks t cycle (Act b row source) k m = cc
+column-acts banks t cycle (Pre b source) k m = cc
+column-acts banks t cycle (Prea rank) k m = cc
+column-acts banks t cycle (Ref rank) k m = cc
 
-pub no-act : (k : Kind) → moves_data k ≡ true → is_kind k kind.Act ≡ false
+pub no-act : (k : Kind) → is_column_kind k ≡ true → is_kind k kind.Act ≡ false
 no-act kind.Rd m = refl
 no-act kind.Wr m = refl
 no-act kind.Act m = cc

@@ -49,11 +49,11 @@ own_tests f true true false g o r = sym g
 own_tests f true false C g o r = sym o
 own_tests f false B C g o r = sym r
 
-data_tests : (f : Relation → ℕ) (A B : Bool) → cond A (cond B (f SameGroup) (f OtherGroup)) (f OtherRank) ≡ f (group_by_tests A B)
+column_tests : (f : Relation → ℕ) (A B : Bool) → cond A (cond B (f SameGroup) (f OtherGroup)) (f OtherRank) ≡ f (group_by_tests A B)
 unfolding group_by_tests
-data_tests f true true = refl
-data_tests f true false = refl
-data_tests f false B = refl
+column_tests f true true = refl
+column_tests f true false = refl
+column_tests f false B = refl
 
 act_tests : (f : Relation → ℕ) (A B : Bool) (x end : ℕ) → f OtherRank ≡ 0
     → max x (cond A (cond B (max (f SameGroup) end) (max (f OtherGroup) end)) 0) ≡ max x (max (f (group_by_tests A B)) (cond A end 0))
@@ -75,10 +75,10 @@ own_raised f bank k g o r =
     ∙ own_tests f (eqb bank.rank (k / 16)) (eqb bank.group (k / 4 % 4)) (eqb bank.bank (k % 4)) g o r
 
 -- A group's word is raised by the commands of each rank.
-pub data_raised : (f : Relation → ℕ) (bank : BankId) (k x : ℕ)
+pub column_raised : (f : Relation → ℕ) (bank : BankId) (k x : ℕ)
     → max x (cond (eqb bank.rank (k / 4)) (cond (eqb bank.group (k % 4)) (f SameGroup) (f OtherGroup)) (f OtherRank)) ≡ max x (f (group_relation_from bank k))
 unfolding group_by_tests
-data_raised f bank k x = ap (max x) (data_tests f (eqb bank.rank (k / 4)) (eqb bank.group (k % 4)))
+column_raised f bank k x = ap (max x) (column_tests f (eqb bank.rank (k / 4)) (eqb bank.group (k % 4)))
 
 -- A group's word of ACTs is raised by those of the rank, and to the end of a window.
 pub act_raised : (f : Relation → ℕ) (bank : BankId) (k x end : ℕ) → f OtherRank ≡ 0
@@ -91,12 +91,12 @@ act_raised f bank k x end r = act_tests f (eqb bank.rank (k / 4)) (eqb bank.grou
 pub group_rank : (k : ℕ) → k / 4 / 4 ≡ k / 16
 group_rank k = omega arith
 
-data_joint_tests : (f : Relation → ℕ) (A B C : Bool) → f SameBank ≡ f SameGroup → f (group_by_tests A B) ≡ f (by_tests A B C)
+column_joint_tests : (f : Relation → ℕ) (A B C : Bool) → f SameBank ≡ f SameGroup → f (group_by_tests A B) ≡ f (by_tests A B C)
 unfolding by_tests group_by_tests
-data_joint_tests f true true true e = sym e
-data_joint_tests f true true false e = refl
-data_joint_tests f true false C e = refl
-data_joint_tests f false B C e = refl
+column_joint_tests f true true true e = sym e
+column_joint_tests f true true false e = refl
+column_joint_tests f true false C e = refl
+column_joint_tests f false B C e = refl
 
 act_joint_tests : (f : Relation → ℕ) (A B C : Bool) (end : ℕ) → f SameGroup ≤ f SameBank → f OtherRank ≡ 0
     → max (cond ((A && B) && C) (f SameBank) 0) (max (f (group_by_tests A B)) (cond A end 0)) ≡ max (f (by_tests A B C)) (cond A end 0)
@@ -107,11 +107,11 @@ act_joint_tests f true false C end le r = omega arith
 act_joint_tests f false B C end le r = omega arith
 
 -- Where a command holds back its own bank as its group, it holds back each bank as its group.
-pub data_joint : (f : Relation → ℕ) (bank : BankId) (k : ℕ) → f SameBank ≡ f SameGroup → f (group_relation_from bank (k / 4)) ≡ f (relation_from bank k)
+pub column_joint : (f : Relation → ℕ) (bank : BankId) (k : ℕ) → f SameBank ≡ f SameGroup → f (group_relation_from bank (k / 4)) ≡ f (relation_from bank k)
 unfolding by_tests group_by_tests
-data_joint f bank k e =
+column_joint f bank k e =
     ap (λ (r : ℕ). f (group_by_tests (eqb bank.rank r) (eqb bank.group (k / 4 % 4)))) (group_rank k)
-    ∙ data_joint_tests f (eqb bank.rank (k / 16)) (eqb bank.group (k / 4 % 4)) (eqb bank.bank (k % 4)) e
+    ∙ column_joint_tests f (eqb bank.rank (k / 16)) (eqb bank.group (k / 4 % 4)) (eqb bank.bank (k % 4)) e
 
 -- An ACT holds back its own bank longer than its group, and each other bank as its group.
 pub act_joint : (f : Relation → ℕ) (bank : BankId) (k end : ℕ) → f SameGroup ≤ f SameBank → f OtherRank ≡ 0

@@ -3,7 +3,7 @@
 --     AreAllRaised old new until      the same, of the numbers that are those of words
 --     IsSpanRaised old new first count until      some words are raised to a cycle
 --     AreSameBefore old new first, AreSameFrom old new end      the words before a place stay, and those from a place on
---     data_until t cycle earlier later bank k      to which cycle a group's word is raised after a command
+--     group_word_until t cycle earlier later bank k      to which cycle a group's word is raised after a command
 --     act_until t cycle bank end k      to which cycle it is after an ACT
 --     IsRankChanged old new rank change      one rank of all changes
 use Rattle.std.specs.Prelude.{◌≡◌, ℕ, ◌+◌, ◌<◌, ◌≤◌, ◌==◌, max, List, length, slice_index_or, if◌then◌else◌}
@@ -38,13 +38,13 @@ AreSameFrom old new end = (k d : ℕ) → end ≤ k → slice_index_or new k d �
 
 -- from which cycle on a command of a kind, issued to a bank, no longer holds back a later one of a kind in the group
 -- with a number
-abbrev pub data_until : Timing → ℕ → Kind → Kind → BankId → ℕ → ℕ
-data_until t cycle earlier later bank k = held_until t cycle earlier later (group_relation_from bank k)
+abbrev pub group_word_until : Timing → ℕ → Kind → Kind → BankId → ℕ → ℕ
+group_word_until t cycle earlier later bank k = held_until t cycle earlier later (group_relation_from bank k)
 
 -- from which cycle on an ACT to a bank, and in its rank a window of ACTs up to its end, hold back no ACT in the group
 -- with a number
 abbrev pub act_until : Timing → ℕ → BankId → ℕ → ℕ → ℕ
-act_until t cycle bank end k = max (data_until t cycle Act Act bank k) (groups_rank_until bank.rank end k)
+act_until t cycle bank end k = max (group_word_until t cycle Act Act bank k) (groups_rank_until bank.rank end k)
 
 -- of all ranks one changes like this
 abbrev pub IsRankChanged : List RankState → List RankState → ℕ → (RankState → RankState) → Type 0

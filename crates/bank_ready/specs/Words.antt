@@ -5,7 +5,7 @@
 --     groups_rank_until, group_until, ranks_until, all_groups_until      to which cycle that of a group is
 --     relation_from bank k, group_relation_from bank k      how a bank relates to the one with a number, and to the group with a number
 --     act_word banks k, rd_word banks k, wr_word banks k, pre_word banks k      what is kept of the bank with a number
---     names_bank kind, names_rank kind, moves_data kind      a command of this kind names a bank, or a rank alone, or moves data
+--     names_bank kind, names_rank kind, is_column_kind kind      a command of this kind names a bank, or a rank alone, or is a column command
 --     unused_rank      a rank that has had no command
 --     pushed window end      the last four ACTs of a rank after one more
 --     window_from t rank history      the last four ACTs of a rank
@@ -113,14 +113,14 @@ names_rank Rd = false
 names_rank Wr = false
 names_rank Pre = false
 
--- a command of this kind moves data
-abbrev pub moves_data : Kind → Bool
-moves_data Rd = true
-moves_data Wr = true
-moves_data Act = false
-moves_data Pre = false
-moves_data Prea = false
-moves_data Ref = false
+-- a command of this kind is a column command
+abbrev pub is_column_kind : Kind → Bool
+is_column_kind Rd = true
+is_column_kind Wr = true
+is_column_kind Act = false
+is_column_kind Pre = false
+is_column_kind Prea = false
+is_column_kind Ref = false
 
 -- the last four ACTs of a rank that had none, and after one more, which no longer counts for the four-activate window
 -- from `end` on

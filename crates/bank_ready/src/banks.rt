@@ -3,9 +3,9 @@
 ghost use Rattle.std.specs.Prelude.{◌≡◌, ◌+◌, ◌*◌, ◌^◌, ◌<◌, ◌≤◌, length};
 
 use crate::words::{
-    DataCommand, RankState, act_rd_and_wr_words, bound_until, new_words, note_act_in_rank,
-    own_number, raise_acts, raise_data, raise_own, raise_rank, raise_rank_groups, raise_rank_words,
-    unused_ranks,
+    ColumnCommand, RankState, act_rd_and_wr_words, bound_until, new_words, note_act_in_rank,
+    own_number, raise_acts, raise_column_words, raise_own, raise_rank, raise_rank_groups,
+    raise_rank_words, unused_ranks,
 };
 use sim_base::command::{Command, Kind, Relation};
 use sim_base::config::Config;
@@ -49,7 +49,7 @@ impl Banks {
     ghost use Rattle.sim_base.specs.declared.command.IssuedCommand.{IssuedCommand};
     ghost use Rattle.sim_base.specs.declared.command.Source.{Source};
     ghost use Rattle.sim_base.specs.Rules.{kind_of, bank_of, rank_of};
-    ghost use Rattle.bank_ready.specs.Words.{names_bank, names_rank, moves_data, bank_at};
+    ghost use Rattle.bank_ready.specs.Words.{names_bank, names_rank, is_column_kind, bank_at};
     ghost use Rattle.bank_ready.specs.Noted.{HasNoted};
     ghost use Rattle.bank_ready.specs.Stands.{rank_count, IsAllowedFrom, followed_by, StandsFor};
 
@@ -98,10 +98,10 @@ impl Banks {
         }
     }
 
-    /// A cycle before which no command of this kind, which moves data, is allowed in any bank.
+    /// A cycle before which no column command of this kind is allowed in any bank.
     #[inline(always)]
-    pub fn data_floor(&self, kind: Kind) -> Cycle
-        requires kind { IsTrue (moves_data kind) }
+    pub fn column_floor(&self, kind: Kind) -> Cycle
+        requires kind { IsTrue (is_column_kind kind) }
         ensures least { (s : Config) (history : List IssuedCommand) (command : Command) (cycle : ℕ)
             → StandsFor self.now s history → kind_of command ≡ kind
             → IsAllowedFrom s history command cycle → result ≤ cycle }
@@ -156,11 +156,11 @@ impl Banks {
         note_act_in_rank(delays, &mut self.ranks, bank.rank, cycle, last);
     }
 
-    /// Notes a RD or a WR, in its bank, in the words of RDs and WRs of the groups of each rank, in the floors of all
+    /// Notes a column command, in its bank, in the words of RDs and WRs of the groups of each rank, in the floors of all
     /// banks, and in the words of the whole rank.
     #[inline(always)]
-    fn note_data(&mut self, kind: Kind, bank: BankId, cycle: Cycle)
-        requires kind { IsTrue (moves_data kind) }
+    fn note_column_command(&mut self, kind: Kind, bank: BankId, cycle: Cycle)
+        requires kind { IsTrue (is_column_kind kind) }
         requires rank { bank.rank < rank_count self.old }
         requires cycle { cycle < 2 ^ 62 }
         ensures { (command : Command)
@@ -170,9 +170,9 @@ impl Banks {
         let delays = &*self.delays;
         let own = own_number(bank);
         let to_pre = bound_until(delays, cycle, kind, Kind::Pre, Relation::SameBank);
-        let data = DataCommand { kind, bank, cycle };
-        let to_rd = raise_data(delays, &mut self.rd_groups, data, Kind::Rd);
-        let to_wr = raise_data(delays, &mut self.wr_groups, data, Kind::Wr);
+        let command = ColumnCommand { kind, bank, cycle };
+        let to_rd = raise_column_words(delays, &mut self.rd_groups, command, Kind::Rd);
+        let to_wr = raise_column_words(delays, &mut self.wr_groups, command, Kind::Wr);
         self.rd_floor = self.rd_floor.max(to_rd);
         self.wr_floor = self.wr_floor.max(to_wr);
         raise_own(&mut self.pre, own, to_pre);
@@ -187,7 +187,7 @@ impl Banks {
         ensures { (row column : ℕ) (source : Source)
             → HasNoted self.old self.new cycle (Command.Rd bank row column source) }
     {
-        self.note_data(Kind::Rd, bank, cycle);
+        self.note_column_command(Kind::Rd, bank, cycle);
     }
 
     /// Notes a WR.
@@ -198,7 +198,7 @@ impl Banks {
         ensures { (row column : ℕ) (source : Source)
             → HasNoted self.old self.new cycle (Command.Wr bank row column source) }
     {
-        self.note_data(Kind::Wr, bank, cycle);
+        self.note_column_command(Kind::Wr, bank, cycle);
     }
 
     /// Notes a PRE, in its bank and in the words of its rank.

@@ -6,10 +6,10 @@ ghost use Rattle.sim_base.specs.Places.{is_bank};
 ghost use Rattle.sim_base.specs.declared.command.Relation.{Relation};
 ghost use Rattle.sim_base.specs.Rules.{is_bound};
 ghost use Rattle.bank_ready.specs.Ready.{held_until};
-ghost use Rattle.bank_ready.specs.Words.{moves_data, is_own, bank_at, number_of, rank_after_act, rank_raised, own_until, rank_until, unused_rank};
+ghost use Rattle.bank_ready.specs.Words.{is_column_kind, is_own, bank_at, number_of, rank_after_act, rank_raised, own_until, rank_until, unused_rank};
 ghost use Rattle.bank_ready.specs.Words.{groups_rank_until, group_until, ranks_until, all_groups_until};
 ghost use Rattle.bank_ready.specs.Raised.{AreRaised, AreAllRaised, IsSpanRaised, AreSameBefore, AreSameFrom};
-ghost use Rattle.bank_ready.specs.Raised.{data_until, act_until, IsRankChanged};
+ghost use Rattle.bank_ready.specs.Raised.{group_word_until, act_until, IsRankChanged};
 
 use sim_base::command::{Kind, Relation};
 use sim_base::message::Cycle;
@@ -250,34 +250,34 @@ pub(crate) fn raise_all_groups(
     }
 }
 
-/// A command that moves data, which was issued to a bank in a cycle.
+/// A column command that was issued to a bank in a cycle.
 #[derive(Clone, Copy)]
-pub(crate) struct DataCommand {
+pub(crate) struct ColumnCommand {
     pub(crate) kind: Kind,
     pub(crate) bank: BankId,
     pub(crate) cycle: Cycle,
 }
 
-/// Raises the words of the groups for a kind of command that moves data after another one. Gives the least of the
+/// Raises the words of the groups for a kind of column command after another one. Gives the least of the
 /// cycles up to which that one holds them back: in its own group, in another group and in another rank.
 #[inline(always)]
-pub(crate) fn raise_data(
+pub(crate) fn raise_column_words(
     delays: &GapTable,
     words: &mut [Cycle],
-    earlier: DataCommand,
+    earlier: ColumnCommand,
     later: Kind,
 ) -> Cycle
-    requires earlier { IsTrue (moves_data earlier.kind) }
-    requires later { IsTrue (moves_data later) }
+    requires earlier { IsTrue (is_column_kind earlier.kind) }
+    requires later { IsTrue (is_column_kind later) }
     requires cycle { earlier.cycle < 2 ^ 62 }
     requires inside { 4 * earlier.bank.rank + 4 ≤ length words.old }
     requires whole { length words.old % 4 ≡ 0 }
     ensures words { AreAllRaised words.old words.new
-        (data_until delays.now earlier.cycle earlier.kind later earlier.bank) }
+        (group_word_until delays.now earlier.cycle earlier.kind later earlier.bank) }
     ensures least { (relation : Relation)
         → result ≤ held_until delays.now earlier.cycle earlier.kind later relation }
 {
-    let DataCommand { kind, bank, cycle } = earlier;
+    let ColumnCommand { kind, bank, cycle } = earlier;
     let same_group = bound_until(delays, cycle, kind, later, Relation::SameGroup);
     let other_group = bound_until(delays, cycle, kind, later, Relation::OtherGroup);
     let other_rank = bound_until(delays, cycle, kind, later, Relation::OtherRank);

@@ -42,7 +42,7 @@ pub chosen-each : (P : Command → Type 0) (s : Config) (history : List IssuedCo
 chosen-each P s history now draining queue h k =
     between-each P s history now (candidates s draining queue) (candidates-each (λ r. P (needed history r)) s draining queue h) (lowest_due s history now) k
 
--- what a request needs is an ACT, its RD or WR, or a PRE
+-- what a request needs is an ACT, its column command, or a PRE
 needed-cases : (P : Command → Type 0) (r : Request) → ((row : ℕ) → P (Act (bank_in r.place) row (source_of r)))
     → ((row column : ℕ) → P (Rd (bank_in r.place) row column (source_of r))) → ((row column : ℕ) → P (Wr (bank_in r.place) row column (source_of r)))
     → P (Pre (bank_in r.place) (source_of r)) → (o : Option ℕ) → P (needed_at o r)

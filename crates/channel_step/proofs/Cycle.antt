@@ -12,7 +12,7 @@ use Rattle.sim_base.specs.declared.config.Config.{Config}
 use Rattle.sim_base.specs.Access.{is_access}
 use Rattle.sim_base.specs.Counts.{has_refresh_due, queue_length}
 use Rattle.sim_base.specs.History.{issued_commands}
-use Rattle.sim_base.specs.Scheduling.{queued_requests, is_queued, drains_with, drains, lowest_due, candidates, choice_between, choice}
+use Rattle.sim_base.specs.Scheduling.{queued_requests, is_queued, drains_with, drains, lowest_due, candidates, choice_between}
 use Rattle.sim_base.specs.declared.command.Command.{Command}
 use Rattle.sim_base.specs.declared.message.Access.TheVariants as access
 use Rattle.sim_base.specs.declared.message.Message.{Message}
@@ -20,7 +20,7 @@ use Rattle.sim_base.specs.declared.message.Request.{Request}
 use Rattle.statistics.specs.Channels.{channel_cycle_with, channel_cycle}
 use Rattle.statistics.specs.declared.channels.ChannelStats.{ChannelStats}
 use Rattle.statistics.proofs.ChannelMail.{AgreeUpTo-later, channel_stats-later}
-use Rattle.channel_step.specs.Past.{requests_of, CarriesRequest, IsOther, Differ, is_named}
+use Rattle.channel_step.specs.Past.{requests_of, CarriesRequest, IsOther, Differ, is_named, Past, commands_after, choice_after, with_mail}
 use Rattle.channel_step.specs.Fit.{IsUnnamed}
 use Rattle.channel_step.specs.Stands.{Recalls, HasJoined}
 use Rattle.channel_step.proofs.Requests.{ArrivedBefore, requests-arrived, carries-stamped, queued_requests-arrivals}
@@ -28,51 +28,51 @@ use Rattle.channel_step.proofs.Spans.{queue-next, drains-next, choice-next}
 use Rattle.channel_step.proofs.Marks.{unnamed-marks}
 
 -- the requests that arrive in the cycle after these steps, and that no command has named
-pub record Arrives (s : Config) (channel : ℕ) (steps : List (Option Command)) (mail new : List Message) : Type 0 where
-  pub requests : Each (CarriesRequest s channel) new
-  pub now : Each (λ (m : Message). m.arrival ≡ length steps) new
-  pub differ : Differ (requests_of (mail ++ new))
-  pub unnamed : Each (IsUnnamed (issued_commands channel steps)) (requests_of new)
+pub record Arrives (past : Past) (new : List Message) : Type 0 where
+  pub requests : Each (CarriesRequest past.config past.channel) new
+  pub now : Each (λ (m : Message). m.arrival ≡ length past.steps) new
+  pub differ : Differ (requests_of (past.mail ++ new))
+  pub unnamed : Each (IsUnnamed (commands_after past)) (requests_of new)
 
 not_before : (now : ℕ) (new : List Message) → Each (λ (m : Message). m.arrival ≡ now) new → NotBefore now new
 not_before now new h = Each-weaker (λ (m : Message). m.arrival ≡ now) (λ (m : Message). now ≤ m.arrival) (λ m e. omega arith) new h
 
 -- when the requests of a cycle have joined
-pub joined : (queue : List Request) (drained : Bool) (marks : List Bool) (stats : ChannelStats) (s : Config) (channel : ℕ) (steps : List (Option Command)) (mail new : List Message)
-    → Recalls queue drained marks stats s channel steps mail → Arrives s channel steps mail new
-    → HasJoined (queue ++ requests_of new) (drains_with s drained (count_by (λ r. is_access access.Write r.access) (queue ++ requests_of new))) (marks ++ map (λ r. false) (requests_of new)) stats
-    s channel steps (mail ++ new)
-joined queue drained marks stats s channel steps mail new h a =
-    let now = length steps in
-    let history = issued_commands channel steps in
-    let before : Each (ArrivedBefore now) (requests_of mail) = requests-arrived s channel now mail h.past.requests h.past.arrived in
+pub joined : (queue : List Request) (drained : Bool) (marks : List Bool) (stats : ChannelStats) (past : Past) (new : List Message)
+    → Recalls queue drained marks stats past → Arrives past new
+    → HasJoined (queue ++ requests_of new) (drains_with past.config drained (count_by (λ r. is_access access.Write r.access) (queue ++ requests_of new))) (marks ++ map (λ r. false) (requests_of new)) stats
+    (with_mail past new)
+joined queue drained marks stats past new h a =
+    let now = length past.steps in
+    let history = commands_after past in
+    let before : Each (ArrivedBefore now) (requests_of past.mail) = requests-arrived past.config past.channel now past.mail h.past.requests h.past.arrived in
     let soon : Each (λ (m : Message). m.arrival < now + 1) new = Each-weaker (λ (m : Message). m.arrival ≡ now) (λ (m : Message). m.arrival < now + 1) (λ m e. omega arith) new a.now in
-    let stamped = carries-stamped s channel mail h.past.requests in
-    let later = carries-stamped s channel new a.requests in
-    let same : queue ++ requests_of new ≡ queued_requests history (mail ++ new) (now + 1) =
+    let stamped = carries-stamped past.config past.channel past.mail h.past.requests in
+    let later = carries-stamped past.config past.channel new a.requests in
+    let same : queue ++ requests_of new ≡ queued_requests history (past.mail ++ new) (now + 1) =
     ap (λ q. q ++ requests_of new) h.queue_is
-    ∙ sym (queued_requests-arrivals history mail new now before (requests-arrived s channel (now + 1) new a.requests soon) a.unnamed) in
+    ∙ sym (queued_requests-arrivals history past.mail new now before (requests-arrived past.config past.channel (now + 1) new a.requests soon) a.unnamed) in
     record {
-      requests = Each-append (CarriesRequest s channel) mail new h.past.requests a.requests;
-      arrived = Each-append (λ (m : Message). m.arrival < now + 1) mail new (Each-weaker (λ (m : Message). m.arrival < now) (λ (m : Message). m.arrival < now + 1) (λ m l. omega arith) mail h.past.arrived) soon;
+      requests = Each-append (CarriesRequest past.config past.channel) past.mail new h.past.requests a.requests;
+      arrived = Each-append (λ (m : Message). m.arrival < now + 1) past.mail new (Each-weaker (λ (m : Message). m.arrival < now) (λ (m : Message). m.arrival < now + 1) (λ m l. omega arith) past.mail h.past.arrived) soon;
       differ = a.differ;
       queue_is = same;
       drained_is =
-          ap₂ (λ d q. drains_with s d (count_by (λ r. is_access access.Write r.access) q))
-          (h.drained_is ∙ sym (drains-same s channel steps (mail ++ new) mail now (AgreeUpTo-later now mail new stamped later (not_before now new a.now)))) same
-          ∙ sym (drains-next s channel steps (mail ++ new));
+          ap₂ (λ d q. drains_with past.config d (count_by (λ r. is_access access.Write r.access) q))
+          (h.drained_is ∙ sym (drains-same past.config past.channel past.steps (past.mail ++ new) past.mail now (AgreeUpTo-later now past.mail new stamped later (not_before now new a.now)))) same
+          ∙ sym (drains-next past.config past.channel past.steps (past.mail ++ new));
       marks_are =
           ap₂ (λ x y. x ++ y) h.marks_are (sym (unnamed-marks history (requests_of new) a.unnamed))
           ∙ sym (map-append (is_named history) queue (requests_of new));
-      stats_are = h.stats_are ∙ sym (channel_stats-later s channel steps mail new stamped later (not_before now new a.now));
+      stats_are = h.stats_are ∙ sym (channel_stats-later past.config past.channel past.steps past.mail new stamped later (not_before now new a.now));
     }
 
 -- what the channel then chooses
-pub joined-choice : (queue : List Request) (drained : Bool) (marks : List Bool) (stats : ChannelStats) (s : Config) (channel : ℕ) (steps : List (Option Command)) (mail : List Message)
-    → HasJoined queue drained marks stats s channel steps mail
-    → choice s channel steps mail
-    ≡ choice_between s (issued_commands channel steps) (length steps) (candidates s drained queue) (lowest_due s (issued_commands channel steps) (length steps))
-joined-choice queue drained marks stats s channel steps mail h = choice-next s channel steps mail queue drained (sym h.queue_is) (sym h.drained_is)
+pub joined-choice : (queue : List Request) (drained : Bool) (marks : List Bool) (stats : ChannelStats) (past : Past)
+    → HasJoined queue drained marks stats past
+    → choice_after past
+    ≡ choice_between past.config (commands_after past) (length past.steps) (candidates past.config drained queue) (lowest_due past.config (commands_after past) (length past.steps))
+joined-choice queue drained marks stats past h = choice-next past.config past.channel past.steps past.mail queue drained (sym h.queue_is) (sym h.drained_is)
 
 -- whether a refresh is due in the cycle after these steps
 pub has_due-next : (s : Config) (channel : ℕ) (steps : List (Option Command)) → has_refresh_due s channel steps (length steps) ≡ is_some (lowest_due s (issued_commands channel steps) (length steps))
@@ -98,8 +98,8 @@ Differ-filter p (r ∷ rs) d = by (p r) (Differ-filter p rs d.1)
     by false rest = rest
 
 -- the requests that wait are of different entries
-pub joined-differ : (queue : List Request) (drained : Bool) (marks : List Bool) (stats : ChannelStats) (s : Config) (channel : ℕ) (steps : List (Option Command)) (mail : List Message)
-    → HasJoined queue drained marks stats s channel steps mail → Differ queue
+pub joined-differ : (queue : List Request) (drained : Bool) (marks : List Bool) (stats : ChannelStats) (past : Past)
+    → HasJoined queue drained marks stats past → Differ queue
 unfolding queued_requests
-joined-differ queue drained marks stats s channel steps mail h =
-    subst Differ (sym h.queue_is) (Differ-filter (is_queued (issued_commands channel steps) (length steps + 1)) (requests_of mail) h.differ)
+joined-differ queue drained marks stats past h =
+    subst Differ (sym h.queue_is) (Differ-filter (is_queued (commands_after past) (length past.steps + 1)) (requests_of past.mail) h.differ)

@@ -6,6 +6,7 @@ use Rattle.sim_base.specs.declared.command.Command.{Command}
 use Rattle.sim_base.specs.declared.message.Message.{Message}
 use Rattle.statistics.specs.Channels.{draining_of, channel_stats}
 use Rattle.statistics.specs.declared.channels.ChannelStats.{ChannelStats}
+use Rattle.channel_step.specs.Past.{Past}
 use Rattle.channel_step.specs.Channels.{IsInCycle, CountsDrains}
 use Rattle.channel_step.specs.declared.channel.Channel.{Channel}
 
@@ -22,5 +23,5 @@ drains-counted c s channel steps mail is stats =
     ∙ ap (λ (x : Config). nat_lt 0 x.write_high) (sym is)
 
 -- so does one in a cycle
-pub counts-drains : (c : Channel) (s : Config) (channel : ℕ) (steps : List (Option Command)) (mail : List Message) → IsInCycle c s channel steps mail → CountsDrains c
-counts-drains c s channel steps mail h = drains-counted c s channel steps mail h.made_for.config_is h.joined.stats_are
+pub counts-drains : (c : Channel) (past : Past) → IsInCycle c past → CountsDrains c
+counts-drains c past h = drains-counted c past.config past.channel past.steps past.mail h.made_for.config_is h.joined.stats_are

@@ -9,9 +9,8 @@ use Rattle.sim_base.proofs.Arrived.{NotBefore, before_le}
 use Rattle.sim_base.proofs.Each.{Each-all, Each-append, Each-filter}
 use Rattle.sim_base.proofs.Ordered.{Each-weaker}
 use Rattle.sim_base.proofs.Same.{choice-same}
-use Rattle.sim_base.specs.declared.config.Config.{Config}
 use Rattle.sim_base.specs.Counts.{source_in, queue_length}
-use Rattle.sim_base.specs.History.{issued_commands, is_before}
+use Rattle.sim_base.specs.History.{is_before}
 use Rattle.sim_base.specs.Machine.{channel_run}
 use Rattle.sim_base.specs.Scheduling.{is_source, source_of, choice, queued_requests, is_queued}
 use Rattle.sim_base.specs.declared.command.Command.{Command}
@@ -22,8 +21,9 @@ use Rattle.sim_base.specs.declared.message.Request.{Request}
 use Rattle.statistics.proofs.ChannelMail.{AgreeUpTo-later}
 use Rattle.statistics.proofs.ChannelSteps.{issued_now, issued_commands-push}
 use Rattle.statistics.specs.declared.channels.ChannelStats.{ChannelStats}
-use Rattle.channel_step.specs.Past.{requests_of, CarriesRequest, IsOther, Differ}
-use Rattle.channel_step.specs.Fit.{queue_room, is_of, is_named_by, IsUnnamed, ComeByAge, IsFit}
+use Rattle.channel_step.specs.Runs.{steps_on}
+use Rattle.channel_step.specs.Past.{requests_of, CarriesRequest, IsOther, Differ, Past, commands_after, choice_after, with_mail}
+use Rattle.channel_step.specs.Fit.{queue_room, is_of, is_named_by, IsUnnamed, ComeByAge, IsFit, IsFitAfter}
 use Rattle.channel_step.specs.Stands.{HasJoined}
 use Rattle.channel_step.proofs.Requests.{carries-stamped, requests-append}
 use Rattle.channel_step.proofs.Spans.{channel_run-more, channel_run-first}
@@ -82,46 +82,46 @@ split-differ (x ∷ xs) ys d =
     ((here.0, rest.0), (here.1, rest.1))
 
 -- the messages of a fit inbox that arrive in the first cycle of the span, and those that arrive later
-pub fit-arrives : (s : Config) (channel : ℕ) (steps : List (Option Command)) (mail inbox : List Message) (now until : ℕ) → length steps ≡ now
-    → IsFit s channel steps mail inbox now until → Arrives s channel steps mail (take (due_count inbox now) inbox)
-fit-arrives s channel steps mail inbox now until at h =
+pub fit-arrives : (past : Past) (inbox : List Message) (now until : ℕ) → length past.steps ≡ now
+    → IsFitAfter past inbox now until → Arrives past (take (due_count inbox now) inbox)
+fit-arrives past inbox now until at h =
     let n = due_count inbox now in
-    let whole : requests_of (mail ++ inbox) ≡ requests_of (mail ++ take n inbox) ++ requests_of (drop n inbox) =
-    ap requests_of (ap (λ x. mail ++ x) (sym (take-append-drop n inbox)) ∙ sym (append_assoc mail (take n inbox) (drop n inbox))) ∙ requests-append (mail ++ take n inbox) (drop n inbox) in
+    let whole : requests_of (past.mail ++ inbox) ≡ requests_of (past.mail ++ take n inbox) ++ requests_of (drop n inbox) =
+    ap requests_of (ap (λ x. past.mail ++ x) (sym (take-append-drop n inbox)) ∙ sym (append_assoc past.mail (take n inbox) (drop n inbox))) ∙ requests-append (past.mail ++ take n inbox) (drop n inbox) in
     let named : requests_of inbox ≡ requests_of (take n inbox) ++ requests_of (drop n inbox) =
     ap requests_of (sym (take-append-drop n inbox)) ∙ requests-append (take n inbox) (drop n inbox) in
     record {
-      requests = (split-each (CarriesRequest s channel) n inbox h.requests).0;
-      now = Each-weaker (λ (m : Message). m.arrival ≡ now) (λ (m : Message). m.arrival ≡ length steps) (λ m e. omega arith) (take n inbox) (arrived-first now inbox);
-      differ = (split-differ (requests_of (mail ++ take n inbox)) (requests_of (drop n inbox)) (subst Differ whole h.differ)).0;
-      unnamed = (split-append (IsUnnamed (issued_commands channel steps)) (requests_of (take n inbox)) (requests_of (drop n inbox)) (subst (Each (IsUnnamed (issued_commands channel steps))) named h.unnamed)).0;
+      requests = (split-each (CarriesRequest past.config past.channel) n inbox h.requests).0;
+      now = Each-weaker (λ (m : Message). m.arrival ≡ now) (λ (m : Message). m.arrival ≡ length past.steps) (λ m e. omega arith) (take n inbox) (arrived-first now inbox);
+      differ = (split-differ (requests_of (past.mail ++ take n inbox)) (requests_of (drop n inbox)) (subst Differ whole h.differ)).0;
+      unnamed = (split-append (IsUnnamed (commands_after past)) (requests_of (take n inbox)) (requests_of (drop n inbox)) (subst (Each (IsUnnamed (commands_after past))) named h.unnamed)).0;
     }
 
 -- the others arrive later
-pub fit-later : (s : Config) (channel : ℕ) (steps : List (Option Command)) (mail inbox : List Message) (now until : ℕ) → length steps ≡ now → IsFit s channel steps mail inbox now until
-    → Each (CarriesRequest s channel) (drop (due_count inbox now) inbox) × NotBefore (length steps + 1) (drop (due_count inbox now) inbox)
-fit-later s channel steps mail inbox now until at h =
+pub fit-later : (past : Past) (inbox : List Message) (now until : ℕ) → length past.steps ≡ now → IsFitAfter past inbox now until
+    → Each (CarriesRequest past.config past.channel) (drop (due_count inbox now) inbox) × NotBefore (length past.steps + 1) (drop (due_count inbox now) inbox)
+fit-later past inbox now until at h =
     let n = due_count inbox now in (
-      (split-each (CarriesRequest s channel) n inbox h.requests).1,
-      Each-weaker (λ (m : Message). now + 1 ≤ m.arrival) (λ (m : Message). length steps + 1 ≤ m.arrival) (λ m l. omega arith) (drop n inbox)
+      (split-each (CarriesRequest past.config past.channel) n inbox h.requests).1,
+      Each-weaker (λ (m : Message). now + 1 ≤ m.arrival) (λ (m : Message). length past.steps + 1 ≤ m.arrival) (λ m l. omega arith) (drop n inbox)
           (arrive-later now inbox h.by_age (Each-weaker (λ (m : Message). (now ≤ m.arrival) × (m.arrival < until)) (λ (m : Message). now ≤ m.arrival) (λ m k. k.0) inbox h.in_span)),
     )
 
 -- when the first of them are among those that have arrived, the others are as fit for the span
-pub fit-taken : (s : Config) (channel : ℕ) (steps : List (Option Command)) (mail inbox : List Message) (now until n : ℕ) → IsFit s channel steps mail inbox now until
-    → IsFit s channel steps (mail ++ take n inbox) (drop n inbox) now until
-fit-taken s channel steps mail inbox now until n h =
-    let history = issued_commands channel steps in
-    let whole : mail ++ inbox ≡ (mail ++ take n inbox) ++ drop n inbox = ap (λ x. mail ++ x) (sym (take-append-drop n inbox)) ∙ sym (append_assoc mail (take n inbox) (drop n inbox)) in
+pub fit-taken : (past : Past) (inbox : List Message) (now until n : ℕ) → IsFitAfter past inbox now until
+    → IsFit past.config past.channel past.steps (past.mail ++ take n inbox) (drop n inbox) now until
+fit-taken past inbox now until n h =
+    let history = commands_after past in
+    let whole : past.mail ++ inbox ≡ (past.mail ++ take n inbox) ++ drop n inbox = ap (λ x. past.mail ++ x) (sym (take-append-drop n inbox)) ∙ sym (append_assoc past.mail (take n inbox) (drop n inbox)) in
     let named : requests_of inbox ≡ requests_of (take n inbox) ++ requests_of (drop n inbox) =
     ap requests_of (sym (take-append-drop n inbox)) ∙ requests-append (take n inbox) (drop n inbox) in
     record {
-      requests = (split-each (CarriesRequest s channel) n inbox h.requests).1;
+      requests = (split-each (CarriesRequest past.config past.channel) n inbox h.requests).1;
       by_age = split-age n inbox h.by_age;
       in_span = (split-each (λ (m : Message). (now ≤ m.arrival) × (m.arrival < until)) n inbox h.in_span).1;
       differ = subst Differ (ap requests_of whole) h.differ;
       unnamed = (split-append (IsUnnamed history) (requests_of (take n inbox)) (requests_of (drop n inbox)) (subst (Each (IsUnnamed history)) named h.unnamed)).1;
-      room = λ k l. subst (λ m. queue_length channel (channel_run s channel steps m k) m (now + k) ≤ queue_room s) whole (h.room k l);
+      room = λ k l. subst (λ m. queue_length past.channel (channel_run past.config past.channel past.steps m k) m (now + k) ≤ queue_room past.config) whole (h.room k l);
     }
 
 -- none arrives before the first
@@ -151,52 +151,52 @@ unnamed-next history channel now None rest h k = subst (λ x. Each (IsUnnamed x)
 unnamed-next history channel now (Some command) rest h k = unnamed-both history _ rest h (unnamed_by command rest k)
 
 -- what is chosen in a cycle does not stand in the name of what arrives later
-chosen-not_later : (queue : List Request) (drained : Bool) (marks : List Bool) (stats : ChannelStats) (s : Config) (channel : ℕ) (steps : List (Option Command)) (mail : List Message) (rest : List Request)
-    → HasJoined queue drained marks stats s channel steps mail → Each (λ (r : Request). Each (IsOther r) rest) (requests_of mail)
-    → IfSome (choice s channel steps mail) (λ c. IfSome (source_in c) (λ source. Each (λ (r : Request). is_source r source ≡ false) rest))
+chosen-not_later : (queue : List Request) (drained : Bool) (marks : List Bool) (stats : ChannelStats) (past : Past) (rest : List Request)
+    → HasJoined queue drained marks stats past → Each (λ (r : Request). Each (IsOther r) rest) (requests_of past.mail)
+    → IfSome (choice_after past) (λ c. IfSome (source_in c) (λ source. Each (λ (r : Request). is_source r source ≡ false) rest))
 unfolding queued_requests
-chosen-not_later queue drained marks stats s channel steps mail rest h k =
+chosen-not_later queue drained marks stats past rest h k =
     let P = λ (source : Source). Each (λ (r : Request). is_source r source ≡ false) rest in
-    let history = issued_commands channel steps in
+    let history = commands_after past in
     let waits : Each (λ (r : Request). P (source_of r)) queue =
-    subst (Each (λ (r : Request). P (source_of r))) (sym h.queue_is) (Each-filter (λ (r : Request). P (source_of r)) (is_queued history (length steps + 1)) (requests_of mail) k) in
-    subst (λ o. IfSome o (λ c. IfSome (source_in c) P)) (sym (joined-choice queue drained marks stats s channel steps mail h))
-    (chosen-named P s history (length steps) drained queue waits)
+    subst (Each (λ (r : Request). P (source_of r))) (sym h.queue_is) (Each-filter (λ (r : Request). P (source_of r)) (is_queued history (length past.steps + 1)) (requests_of past.mail) k) in
+    subst (λ o. IfSome o (λ c. IfSome (source_in c) P)) (sym (joined-choice queue drained marks stats past h))
+    (chosen-named P past.config history (length past.steps) drained queue waits)
 
 -- after a cycle the messages that arrive later are fit for the rest of the span
-pub fit-rest : (queue : List Request) (drained : Bool) (marks : List Bool) (stats : ChannelStats) (s : Config) (channel : ℕ) (steps : List (Option Command)) (mail inbox : List Message) (now until : ℕ)
-    → length steps ≡ now → IsFit s channel steps mail inbox now until
+pub fit-rest : (queue : List Request) (drained : Bool) (marks : List Bool) (stats : ChannelStats) (past : Past) (inbox : List Message) (now until : ℕ)
+    → length past.steps ≡ now → IsFitAfter past inbox now until
     → let new = take (due_count inbox now) inbox in
     let rest = drop (due_count inbox now) inbox in
-    HasJoined queue drained marks stats s channel steps (mail ++ new)
-    → IsFit s channel (steps ++ choice s channel steps (mail ++ new) ∷ []) (mail ++ new) rest (now + 1) until
-    × (choice s channel steps (mail ++ inbox) ≡ choice s channel steps (mail ++ new))
-fit-rest queue drained marks stats s channel steps mail inbox now until at h j =
+    HasJoined queue drained marks stats (with_mail past new)
+    → IsFit past.config past.channel (past.steps ++ choice past.config past.channel past.steps (past.mail ++ new) ∷ []) (past.mail ++ new) rest (now + 1) until
+    × (choice past.config past.channel past.steps (past.mail ++ inbox) ≡ choice past.config past.channel past.steps (past.mail ++ new))
+fit-rest queue drained marks stats past inbox now until at h j =
     let n = due_count inbox now in
     let new = take n inbox in
     let rest = drop n inbox in
-    let o = choice s channel steps (mail ++ new) in
-    let carries : Each (CarriesRequest s channel) rest = (split-each (CarriesRequest s channel) n inbox h.requests).1 in
+    let o = choice past.config past.channel past.steps (past.mail ++ new) in
+    let carries : Each (CarriesRequest past.config past.channel) rest = (split-each (CarriesRequest past.config past.channel) n inbox h.requests).1 in
     let late : Each (λ (m : Message). now + 1 ≤ m.arrival) rest =
     arrive-later now inbox h.by_age (Each-weaker (λ (m : Message). (now ≤ m.arrival) × (m.arrival < until)) (λ (m : Message). now ≤ m.arrival) (λ m k. k.0) inbox h.in_span) in
-    let whole : mail ++ inbox ≡ (mail ++ new) ++ rest = ap (λ x. mail ++ x) (sym (take-append-drop n inbox)) ∙ sym (append_assoc mail new rest) in
-    let same : choice s channel steps (mail ++ inbox) ≡ o =
-    ap (choice s channel steps) whole
-    ∙ choice-same s channel steps ((mail ++ new) ++ rest) (mail ++ new)
-    (AgreeUpTo-later (length steps + 1) (mail ++ new) rest (carries-stamped s channel (mail ++ new) j.requests) (carries-stamped s channel rest carries)
-    (Each-weaker (λ (m : Message). now + 1 ≤ m.arrival) (λ (m : Message). length steps + 1 ≤ m.arrival) (λ m l. omega arith) rest late)) in
-    let apart = split-differ (requests_of (mail ++ new)) (requests_of rest) (subst Differ (ap requests_of whole ∙ requests-append (mail ++ new) rest) h.differ) in
-    let before : Each (IsUnnamed (issued_commands channel steps)) (requests_of rest) =
-    (split-append (IsUnnamed (issued_commands channel steps)) (requests_of new) (requests_of rest)
-    (subst (Each (IsUnnamed (issued_commands channel steps))) (ap requests_of (sym (take-append-drop n inbox)) ∙ requests-append new rest) h.unnamed)).1 in (
+    let whole : past.mail ++ inbox ≡ (past.mail ++ new) ++ rest = ap (λ x. past.mail ++ x) (sym (take-append-drop n inbox)) ∙ sym (append_assoc past.mail new rest) in
+    let same : choice past.config past.channel past.steps (past.mail ++ inbox) ≡ o =
+    ap (choice past.config past.channel past.steps) whole
+    ∙ choice-same past.config past.channel past.steps ((past.mail ++ new) ++ rest) (past.mail ++ new)
+    (AgreeUpTo-later (length past.steps + 1) (past.mail ++ new) rest (carries-stamped past.config past.channel (past.mail ++ new) j.requests) (carries-stamped past.config past.channel rest carries)
+    (Each-weaker (λ (m : Message). now + 1 ≤ m.arrival) (λ (m : Message). length past.steps + 1 ≤ m.arrival) (λ m l. omega arith) rest late)) in
+    let apart = split-differ (requests_of (past.mail ++ new)) (requests_of rest) (subst Differ (ap requests_of whole ∙ requests-append (past.mail ++ new) rest) h.differ) in
+    let before : Each (IsUnnamed (commands_after past)) (requests_of rest) =
+    (split-append (IsUnnamed (commands_after past)) (requests_of new) (requests_of rest)
+    (subst (Each (IsUnnamed (commands_after past))) (ap requests_of (sym (take-append-drop n inbox)) ∙ requests-append new rest) h.unnamed)).1 in (
       record {
         requests = carries;
         by_age = split-age n inbox h.by_age;
         in_span = both (now + 1) until rest late (Each-weaker (λ (m : Message). (now ≤ m.arrival) × (m.arrival < until)) (λ (m : Message). m.arrival < until) (λ m k. k.1) rest (split-each (λ (m : Message). (now ≤ m.arrival) × (m.arrival < until)) n inbox h.in_span).1);
         differ = subst Differ (ap requests_of whole) h.differ;
-        unnamed = subst (λ x. Each (IsUnnamed x) (requests_of rest)) (sym (issued_commands-push channel steps o))
-            (unnamed-next (issued_commands channel steps) channel (length steps) o (requests_of rest) before
-            (chosen-not_later queue drained marks stats s channel steps (mail ++ new) (requests_of rest) j apart.1));
+        unnamed = subst (λ x. Each (IsUnnamed x) (requests_of rest)) (sym (issued_commands-push past.channel past.steps o))
+            (unnamed-next (commands_after past) past.channel (length past.steps) o (requests_of rest) before
+            (chosen-not_later queue drained marks stats (with_mail past new) (requests_of rest) j apart.1));
         room = λ k l. fits k (h.room (suc k) (omega arith)) whole same;
       },
       same,
@@ -207,20 +207,20 @@ fit-rest queue drained marks stats s channel steps mail inbox now until at h j =
     both low high [] a b = tt
     both low high (m ∷ ms) a b = ((a.0, b.0), both low high ms a.1 b.1)
 
-    fits : (k : ℕ) → queue_length channel (channel_run s channel steps (mail ++ inbox) (suc k)) (mail ++ inbox) (now + suc k) ≤ queue_room s
+    fits : (k : ℕ) → queue_length past.channel (steps_on past inbox (suc k)) (past.mail ++ inbox) (now + suc k) ≤ queue_room past.config
         → let new = take (due_count inbox now) inbox in
         let rest = drop (due_count inbox now) inbox in
-        mail ++ inbox ≡ (mail ++ new) ++ rest → choice s channel steps (mail ++ inbox) ≡ choice s channel steps (mail ++ new)
-        → queue_length channel (channel_run s channel (steps ++ choice s channel steps (mail ++ new) ∷ []) ((mail ++ new) ++ rest) k) ((mail ++ new) ++ rest) (now + 1 + k) ≤ queue_room s
+        past.mail ++ inbox ≡ (past.mail ++ new) ++ rest → choice past.config past.channel past.steps (past.mail ++ inbox) ≡ choice past.config past.channel past.steps (past.mail ++ new)
+        → queue_length past.channel (channel_run past.config past.channel (past.steps ++ choice past.config past.channel past.steps (past.mail ++ new) ∷ []) ((past.mail ++ new) ++ rest) k) ((past.mail ++ new) ++ rest) (now + 1 + k) ≤ queue_room past.config
     fits k l e f =
-        let all = mail ++ inbox in
+        let all = past.mail ++ inbox in
         let g : suc k ≡ 1 + k = omega arith in
         let i : now + suc k ≡ now + 1 + k = omega arith in
-        let later : channel_run s channel steps all (suc k) ≡ channel_run s channel (steps ++ choice s channel steps all ∷ []) all k =
-        ap (channel_run s channel steps all) g ∙ channel_run-more s channel steps all 1 k ∙ ap (λ x. channel_run s channel x all k) (channel_run-first s channel steps all) in
-        let x : queue_length channel (channel_run s channel steps all (suc k)) all (now + suc k)
-        ≡ queue_length channel (channel_run s channel (steps ++ choice s channel steps (mail ++ take (due_count inbox now) inbox) ∷ []) ((mail ++ take (due_count inbox now) inbox) ++ drop (due_count inbox now) inbox) k)
-        ((mail ++ take (due_count inbox now) inbox) ++ drop (due_count inbox now) inbox) (now + 1 + k) =
-        ap₂ (λ r c. queue_length channel r all c) (later ∙ ap (λ c. channel_run s channel (steps ++ c ∷ []) all k) f) i
-        ∙ ap (λ m. queue_length channel (channel_run s channel (steps ++ choice s channel steps (mail ++ take (due_count inbox now) inbox) ∷ []) m k) m (now + 1 + k)) e in
+        let later : channel_run past.config past.channel past.steps all (suc k) ≡ channel_run past.config past.channel (past.steps ++ choice past.config past.channel past.steps all ∷ []) all k =
+        ap (channel_run past.config past.channel past.steps all) g ∙ channel_run-more past.config past.channel past.steps all 1 k ∙ ap (λ x. channel_run past.config past.channel x all k) (channel_run-first past.config past.channel past.steps all) in
+        let x : queue_length past.channel (channel_run past.config past.channel past.steps all (suc k)) all (now + suc k)
+        ≡ queue_length past.channel (channel_run past.config past.channel (past.steps ++ choice past.config past.channel past.steps (past.mail ++ take (due_count inbox now) inbox) ∷ []) ((past.mail ++ take (due_count inbox now) inbox) ++ drop (due_count inbox now) inbox) k)
+        ((past.mail ++ take (due_count inbox now) inbox) ++ drop (due_count inbox now) inbox) (now + 1 + k) =
+        ap₂ (λ r c. queue_length past.channel r all c) (later ∙ ap (λ c. channel_run past.config past.channel (past.steps ++ c ∷ []) all k) f) i
+        ∙ ap (λ m. queue_length past.channel (channel_run past.config past.channel (past.steps ++ choice past.config past.channel past.steps (past.mail ++ take (due_count inbox now) inbox) ∷ []) m k) m (now + 1 + k)) e in
         omega arith

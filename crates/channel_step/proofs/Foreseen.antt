@@ -10,13 +10,12 @@ use Rattle.queue.specs.Log.{waiting_requests, all_requests, waits_at}
 use Rattle.queue.specs.View.{QueueView, is_draining}
 use Rattle.fr_fcfs.specs.Arrivals.{KeepsNext}
 use Rattle.fr_fcfs.specs.Choices.{choice_in, command_of, IsFor}
+use Rattle.channel_step.specs.Past.{Past, commands_after}
 use Rattle.channel_step.specs.Queued.{request_at, drain_decided}
-use Rattle.sim_base.specs.History.{issued_commands}
-use Rattle.sim_base.specs.declared.message.Message.{Message}
 use Rattle.fr_fcfs.specs.Cycles.{IsNext}
 use Rattle.fr_fcfs.specs.declared.choice.Choice.{Choice}
 use Rattle.fr_fcfs.specs.declared.choice.Choice.TheVariants as chosen
-use Rattle.channel_step.specs.Channels.{IsAhead, IsAheadAt, IsForeseen, IsFound, IsInCycle, StandsFor}
+use Rattle.channel_step.specs.Channels.{IsAhead, IsAheadAt, IsForeseen, IsFound, IsInCycle, HasPast}
 use Rattle.channel_step.specs.declared.channel.Channel.{Channel}
 use Rattle.channel_step.specs.declared.ahead.Ahead.{Ahead}
 use Rattle.channel_step.specs.declared.ahead.Ahead.TheVariants.{Unknown, Known}
@@ -64,10 +63,10 @@ found-ahead : (s : Config) (history : List IssuedCommand) (queue : QueueView) (n
 found-ahead s history queue now None h place = h
 found-ahead s history queue now (Some next) h place = record { then_is = h.then_is; none_before = h.none_before; place = place }
 
-pub kept-in_cycle : (c : Channel) (s : Config) (channel : ℕ) (steps : List (Option Command)) (mail : List Message) (now : ℕ) (next : Option (ℕ × Choice)) → IsInCycle c s channel steps mail → now ≡ c.cycle
-    → IsFound c s (issued_commands channel steps) now next → IsInCycle (record c { ahead = Known next }) s channel steps mail
-kept-in_cycle c s channel steps mail now next h at f =
-    let history = issued_commands channel steps in
+pub kept-in_cycle : (c : Channel) (past : Past) (now : ℕ) (next : Option (ℕ × Choice)) → IsInCycle c past → now ≡ c.cycle
+    → IsFound c past.config (commands_after past) now next → IsInCycle (record c { ahead = Known next }) past
+kept-in_cycle c past now next h at f =
+    let history = commands_after past in
     record {
       made_for = record {
         config_is = h.made_for.config_is;
@@ -86,16 +85,16 @@ kept-in_cycle c s channel steps mail now next h at f =
       banks_stand = h.banks_stand;
       refreshes_stand = h.refreshes_stand;
       foresees =
-          foreseen-from s history c.queue c.cycle (Known next)
-          (subst (λ t. IsAhead s history c.queue t (Known next)) at (found-ahead s history c.queue now next f.0 f.1));
+          foreseen-from past.config history c.queue c.cycle (Known next)
+          (subst (λ t. IsAhead past.config history c.queue t (Known next)) at (found-ahead past.config history c.queue now next f.0 f.1));
       keeps_served = h.keeps_served;
     }
 
 -- a channel between two cycles still stands for its past when it keeps the next command that was found
-pub kept-stands : (c : Channel) (s : Config) (channel : ℕ) (steps : List (Option Command)) (mail : List Message) (now : ℕ) (next : Option (ℕ × Choice)) → StandsFor c s channel steps mail → now ≡ c.cycle
-    → IsFound c s (issued_commands channel steps) now next → StandsFor (record c { ahead = Known next }) s channel steps mail
-kept-stands c s channel steps mail now next h at f =
-    let history = issued_commands channel steps in
+pub kept-stands : (c : Channel) (past : Past) (now : ℕ) (next : Option (ℕ × Choice)) → HasPast c past → now ≡ c.cycle
+    → IsFound c past.config (commands_after past) now next → HasPast (record c { ahead = Known next }) past
+kept-stands c past now next h at f =
+    let history = commands_after past in
     record {
       made_for = record {
         config_is = h.made_for.config_is;
@@ -114,8 +113,8 @@ kept-stands c s channel steps mail now next h at f =
       banks_stand = h.banks_stand;
       refreshes_stand = h.refreshes_stand;
       foresees =
-          foreseen-from s history c.queue c.cycle (Known next)
-          (subst (λ t. IsAhead s history c.queue t (Known next)) at (found-ahead s history c.queue now next f.0 f.1));
+          foreseen-from past.config history c.queue c.cycle (Known next)
+          (subst (λ t. IsAhead past.config history c.queue t (Known next)) at (found-ahead past.config history c.queue now next f.0 f.1));
       keeps_served = h.keeps_served;
     }
 

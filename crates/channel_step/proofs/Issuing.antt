@@ -24,7 +24,7 @@ use Rattle.bank_ready.specs.Stands.{rank_count, StandsFor as BanksStandFor}
 use Rattle.bank_ready.specs.declared.banks.Banks.{Banks}
 use Rattle.bank_ready.specs.Refreshes.{RefreshCounts, owed, lowest_owed, StandsFor as RefreshesStandFor}
 use Rattle.bank_ready.proofs.Due.{due_from_owed, lowest_due_from_owed}
-use Rattle.statistics.specs.Channels.{channel_stats, channel_cycle_with, channel_joined, moves_hit, is_late_act, ChannelFits}
+use Rattle.statistics.specs.Channels.{channel_stats, channel_cycle_with, channel_joined, issues_hit, is_late_act, ChannelFits}
 use Rattle.statistics.specs.declared.channels.ChannelStats.{ChannelStats}
 use Rattle.statistics.proofs.ChannelBounds.{channel_stats-fit}
 use Rattle.statistics.proofs.ChannelChoices.{choice-not_late}
@@ -38,6 +38,7 @@ use Rattle.queue.specs.Stands.{bank_count, StandsFor as CandidatesStandFor}
 use Rattle.queue.proofs.Stood.{same_rows}
 use Rattle.fr_fcfs.specs.Requests.{IsInBanks}
 use Rattle.request_table.specs.declared.served_requests.ServedRequest.{ServedRequest}
+use Rattle.channel_step.specs.Past.{Past, commands_after, choice_after}
 use Rattle.channel_step.specs.Fit.{queue_room}
 use Rattle.channel_step.specs.Stands.{marks_of}
 use Rattle.channel_step.specs.Queued.{marks_in}
@@ -60,19 +61,19 @@ use Rattle.channel_step.proofs.Chosen.{chosen-rank, chosen-ref_is_due, RefIsDue,
 use Rattle.channel_step.proofs.Places.{queue-ranks}
 
 -- what a channel is readied by: a log of which one more or none is served, with its marks, and the candidates for it
-pub readied : (c : Channel) (s : Config) (channel : ℕ) (steps : List (Option Command)) (mail : List Message) (command : Command) (hit : Bool) (log : List Arrived) (bank_candidates : BankCandidates) (served : Option (Vec ServedRequest Global))
-    → IsInCycle c s channel steps mail → Some command ≡ choice s channel steps mail → moves_hit (issued_commands channel steps) (Some command) ≡ hit
+pub readied : (c : Channel) (past : Past) (command : Command) (hit : Bool) (log : List Arrived) (bank_candidates : BankCandidates) (served : Option (Vec ServedRequest Global))
+    → IsInCycle c past → Some command ≡ choice_after past → issues_hit (commands_after past) (Some command) ≡ hit
     → all_requests log ≡ all_requests c.queue.log → waiting_requests log ≡ unserved_by command (waiting_requests c.queue.log)
-    → marks_in log ≡ marks_of (issued_commands channel steps ++ row_of channel (length steps) command ∷ []) (waiting_requests log)
+    → marks_in log ≡ marks_of (commands_after past ++ row_of past.channel (length past.steps) command ∷ []) (waiting_requests log)
     → bank_count bank_candidates ≡ bank_count c.bank_candidates
-    → CandidatesStandFor bank_candidates log (λ bank. row_after (bank_at bank) (open_row (bank_at bank) (issued_commands channel steps)) command)
-    → KeepsServed served (issued_commands channel steps ++ row_of channel (length steps) command ∷ []) mail
-    → IsReadied (record c { queue = record c.queue { log = log }; bank_candidates = bank_candidates; served = served }) s channel steps mail command hit
-readied c s channel steps mail command hit log bank_candidates served h chosen hit_is all left marks count stands keeps =
+    → CandidatesStandFor bank_candidates log (λ bank. row_after (bank_at bank) (open_row (bank_at bank) (commands_after past)) command)
+    → KeepsServed served (commands_after past ++ row_of past.channel (length past.steps) command ∷ []) past.mail
+    → IsReadied (record c { queue = record c.queue { log = log }; bank_candidates = bank_candidates; served = served }) past command hit
+readied c past command hit log bank_candidates served h chosen hit_is all left marks count stands keeps =
     let j = h.joined in
-    let history = issued_commands channel steps in
-    let row = row_of channel (length steps) command in
-    let some : length (waiting_requests c.queue.log) ≤ queue_room s = h.made_for.within in
+    let history = commands_after past in
+    let row = row_of past.channel (length past.steps) command in
+    let some : length (waiting_requests c.queue.log) ≤ queue_room past.config = h.made_for.within in
     let fewer : length (waiting_requests log) ≤ length (waiting_requests c.queue.log) = omega (arith, ap length left, length-filter-le (λ r. not (serves r command)) (waiting_requests c.queue.log)) in
     record {
       made_for = record {
@@ -82,7 +83,7 @@ readied c s channel steps mail command hit log bank_candidates served h chosen h
         low_is = h.made_for.low_is;
         room_is = h.made_for.room_is;
         banks_are = count ∙ h.made_for.banks_are;
-        in_banks = subst (All (IsInBanks s.ranks)) (sym all) h.made_for.in_banks;
+        in_banks = subst (All (IsInBanks past.config.ranks)) (sym all) h.made_for.in_banks;
         within = omega arith;
         longest = h.made_for.longest;
       };
@@ -93,7 +94,7 @@ readied c s channel steps mail command hit log bank_candidates served h chosen h
       chosen = chosen;
       hit_is = hit_is;
       within_before = omega (arith, ap length j.queue_is);
-      queue_is = left ∙ ap (unserved_by command) j.queue_is ∙ sym (queued_requests-command history row mail (length steps + 1));
+      queue_is = left ∙ ap (unserved_by command) j.queue_is ∙ sym (queued_requests-command history row past.mail (length past.steps + 1));
       drained_is = j.drained_is;
       marks_are = marks;
       stats_are = j.stats_are;
@@ -107,78 +108,78 @@ readied c s channel steps mail command hit log bank_candidates served h chosen h
     }
 
 -- what is seen of a channel in a cycle is what is seen after its steps
-pub seen-is : (c : Channel) (s : Config) (channel : ℕ) (steps : List (Option Command)) (mail : List Message) → IsInCycle c s channel steps mail → seen_of c c.cycle ≡ seen_after s channel steps mail
-seen-is c s channel steps mail h =
+pub seen-is : (c : Channel) (past : Past) → IsInCycle c past → seen_of c c.cycle ≡ seen_after past
+seen-is c past h =
     let j = h.joined in
-    let history = issued_commands channel steps in
-    let refreshing : is_some (lowest_owed c.refresh c.cycle) ≡ is_some (lowest_due s history (length steps)) =
-    ap is_some (sym (lowest_due_from_owed c.refresh s history c.cycle h.refreshes_stand) ∙ ap (lowest_due s history) h.cycle_is) in
-    let queued : length (waiting_requests c.queue.log) ≡ length (queued_requests history mail (length steps + 1)) = ap length j.queue_is in
-    let draining = drain_decided-drains c s channel steps mail h ∙ j.drained_is in
+    let history = commands_after past in
+    let refreshing : is_some (lowest_owed c.refresh c.cycle) ≡ is_some (lowest_due past.config history (length past.steps)) =
+    ap is_some (sym (lowest_due_from_owed c.refresh past.config history c.cycle h.refreshes_stand) ∙ ap (lowest_due past.config history) h.cycle_is) in
+    let queued : length (waiting_requests c.queue.log) ≡ length (queued_requests history past.mail (length past.steps + 1)) = ap length j.queue_is in
+    let draining = drain_decided-drains c past h ∙ j.drained_is in
     (λ i. record { queued = queued i; refreshing = refreshing i; draining = draining i })
 
 -- what is seen of it, where it is told whether a refresh is due
 abbrev pub seen_with : Channel → Bool → Seen
 seen_with c refreshing = record { queued = length (waiting_requests c.queue.log); refreshing = refreshing; draining = is_draining c.queue }
 
-pub seen-told : (c : Channel) (s : Config) (channel : ℕ) (steps : List (Option Command)) (mail : List Message) (refreshing : Bool) (seen : Seen) → IsInCycle c s channel steps mail → seen ≡ seen_with c refreshing
-    → refreshing ≡ is_some (lowest_owed c.refresh c.cycle) → seen ≡ seen_after s channel steps mail
-seen-told c s channel steps mail refreshing seen h e f = e ∙ ap (seen_with c) f ∙ seen-is c s channel steps mail h
+pub seen-told : (c : Channel) (past : Past) (refreshing : Bool) (seen : Seen) → IsInCycle c past → seen ≡ seen_with c refreshing
+    → refreshing ≡ is_some (lowest_owed c.refresh c.cycle) → seen ≡ seen_after past
+seen-told c past refreshing seen h e f = e ∙ ap (seen_with c) f ∙ seen-is c past h
 
 pub late-none : (s : Config) (channel : ℕ) (steps : List (Option Command)) (mail : List Message) (command : Command) → Some command ≡ choice s channel steps mail → is_late_act (issued_commands channel steps) (Some command) ≡ false
 late-none s channel steps mail command e = subst (λ o. is_late_act (issued_commands channel steps) o ≡ false) (sym e) (choice-not_late s channel steps mail)
 
 -- what is counted of a cycle is what its statistics say
-pub counted-is : (c : Channel) (s : Config) (channel : ℕ) (steps : List (Option Command)) (mail : List Message) (command : Command) (hit : Bool) (seen : Seen) → IsReadied c s channel steps mail command hit
-    → seen ≡ seen_after s channel steps mail
-    → channel_joined c.stats (cycle_with_hit c.config seen.queued seen.refreshing seen.draining (Some command) hit) ≡ channel_stats s channel (steps ++ Some command ∷ []) mail
+pub counted-is : (c : Channel) (past : Past) (command : Command) (hit : Bool) (seen : Seen) → IsReadied c past command hit
+    → seen ≡ seen_after past
+    → channel_joined c.stats (cycle_with_hit c.config seen.queued seen.refreshing seen.draining (Some command) hit) ≡ channel_stats past.config past.channel (past.steps ++ Some command ∷ []) past.mail
 unfolding channel_cycle_with
-counted-is c s channel steps mail command hit seen h e =
+counted-is c past command hit seen h e =
     let o = Some command in
-    let there = seen_after s channel steps mail in
+    let there = seen_after past in
     ap (λ (x : Seen). channel_joined c.stats (cycle_with_hit c.config x.queued x.refreshing x.draining o hit)) e
     ∙ ap₂ (λ x b. channel_joined c.stats (cycle_with_hit x there.queued there.refreshing there.draining o b)) h.made_for.config_is (sym h.hit_is)
-    ∙ ap₂ channel_joined h.stats_are (sym (cycle-with s channel steps mail o))
-    ∙ sym (channel_stats-push s channel steps o mail (late-none s channel steps mail command h.chosen))
+    ∙ ap₂ channel_joined h.stats_are (sym (cycle-with past.config past.channel past.steps past.mail o))
+    ∙ sym (channel_stats-push past.config past.channel past.steps o past.mail (late-none past.config past.channel past.steps past.mail command h.chosen))
 
 -- it fits, since a cycle and the greatest length of the queue do
-pub counted-fits : (c : Channel) (s : Config) (channel : ℕ) (steps : List (Option Command)) (mail : List Message) (command : Command) (hit : Bool) (seen : Seen) → IsReadied c s channel steps mail command hit
-    → seen ≡ seen_after s channel steps mail → c.cycle < 2 ^ 62
+pub counted-fits : (c : Channel) (past : Past) (command : Command) (hit : Bool) (seen : Seen) → IsReadied c past command hit
+    → seen ≡ seen_after past → c.cycle < 2 ^ 62
     → ChannelFits (channel_joined c.stats (cycle_with_hit c.config seen.queued seen.refreshing seen.draining (Some command) hit))
 unfolding channel_stats
-counted-fits c s channel steps mail command hit seen h e early =
-    let is = counted-is c s channel steps mail command hit seen h e in
-    let longest : queued_max channel (steps ++ Some command ∷ []) mail ≡ max c.stats.queued_max seen.queued = ap (λ (x : ChannelStats). x.queued_max) (sym is) in
-    let queued : seen.queued ≡ length (queued_requests (issued_commands channel steps) mail (length steps + 1)) = ap (λ (x : Seen). x.queued) e in
+counted-fits c past command hit seen h e early =
+    let is = counted-is c past command hit seen h e in
+    let longest : queued_max past.channel (past.steps ++ Some command ∷ []) past.mail ≡ max c.stats.queued_max seen.queued = ap (λ (x : ChannelStats). x.queued_max) (sym is) in
+    let queued : seen.queued ≡ length (queued_requests (commands_after past) past.mail (length past.steps + 1)) = ap (λ (x : Seen). x.queued) e in
     let most = h.within_before in
-    let before : c.stats.queued_max ≤ queue_room s = h.made_for.longest in
-    let room : queue_room s ≤ 8192 = s.credits_fit in
-    let at : c.cycle ≡ length steps = h.cycle_is in
+    let before : c.stats.queued_max ≤ queue_room past.config = h.made_for.longest in
+    let room : queue_room past.config ≤ 8192 = past.config.credits_fit in
+    let at : c.cycle ≡ length past.steps = h.cycle_is in
     subst ChannelFits (sym is)
-    (channel_stats-fit s channel (steps ++ Some command ∷ []) mail (omega (arith, length-push_suc steps (Some command))) (omega arith))
+    (channel_stats-fit past.config past.channel (past.steps ++ Some command ∷ []) past.mail (omega (arith, length-push_suc past.steps (Some command))) (omega arith))
 
 -- a channel counts cycles of draining where it ever drains
-pub readied-drains : (c : Channel) (s : Config) (channel : ℕ) (steps : List (Option Command)) (mail : List Message) (command : Command) (hit : Bool) → IsReadied c s channel steps mail command hit → CountsDrains c
-readied-drains c s channel steps mail command hit h = drains-counted c s channel steps mail h.made_for.config_is h.stats_are
+pub readied-drains : (c : Channel) (past : Past) (command : Command) (hit : Bool) → IsReadied c past command hit → CountsDrains c
+readied-drains c past command hit h = drains-counted c past.config past.channel past.steps past.mail h.made_for.config_is h.stats_are
 
 -- what it stands for when the command is noted and counted
-pub issued-stands : (c : Channel) (s : Config) (channel : ℕ) (steps : List (Option Command)) (mail : List Message) (command : Command) (hit : Bool) (seen : Seen) (banks : Banks) (refresh : RefreshCounts)
-    → IsReadied c s channel steps mail command hit → seen ≡ seen_after s channel steps mail
-    → BanksStandFor banks s (issued_commands channel steps ++ row_of channel c.cycle command ∷ [])
-    → RefreshesStandFor refresh s (issued_commands channel steps ++ row_of channel c.cycle command ∷ [])
+pub issued-stands : (c : Channel) (past : Past) (command : Command) (hit : Bool) (seen : Seen) (banks : Banks) (refresh : RefreshCounts)
+    → IsReadied c past command hit → seen ≡ seen_after past
+    → BanksStandFor banks past.config (commands_after past ++ row_of past.channel c.cycle command ∷ [])
+    → RefreshesStandFor refresh past.config (commands_after past ++ row_of past.channel c.cycle command ∷ [])
     → StandsFor (record c { cycle = c.cycle + 1; banks = banks; refresh = refresh; ahead = Unknown; stats = channel_joined c.stats (cycle_with_hit c.config seen.queued seen.refreshing seen.draining (Some command) hit) })
-    s channel (steps ++ Some command ∷ []) mail
-issued-stands c s channel steps mail command hit seen banks refresh h e b r =
+    past.config past.channel (past.steps ++ Some command ∷ []) past.mail
+issued-stands c past command hit seen banks refresh h e b r =
     let o = Some command in
-    let now = length steps in
-    let history = issued_commands channel steps in
-    let row = row_of channel now command in
-    let issued : issued_commands channel (steps ++ o ∷ []) ≡ history ++ row ∷ [] = issued_commands-push channel steps o in
-    let len : length (steps ++ o ∷ []) ≡ suc now = length-push_suc steps o in
+    let now = length past.steps in
+    let history = commands_after past in
+    let row = row_of past.channel now command in
+    let issued : issued_commands past.channel (past.steps ++ o ∷ []) ≡ history ++ row ∷ [] = issued_commands-push past.channel past.steps o in
+    let len : length (past.steps ++ o ∷ []) ≡ suc now = length-push_suc past.steps o in
     let one : now + 1 ≡ suc now = add-one now in
-    let queued : seen.queued ≡ length (queued_requests history mail (now + 1)) = ap (λ (x : Seen). x.queued) e in
+    let queued : seen.queued ≡ length (queued_requests history past.mail (now + 1)) = ap (λ (x : Seen). x.queued) e in
     let most = h.within_before in
-    let before : c.stats.queued_max ≤ queue_room s = h.made_for.longest in
+    let before : c.stats.queued_max ≤ queue_room past.config = h.made_for.longest in
     record {
       made_for = record {
         config_is = h.made_for.config_is;
@@ -195,33 +196,33 @@ issued-stands c s channel steps mail command hit seen banks refresh h e b r =
       recalls = record {
         past = record {
           requests = h.requests;
-          arrived = Each-weaker (λ (m : Message). m.arrival < now + 1) (λ (m : Message). m.arrival < length (steps ++ o ∷ [])) (λ m l. omega arith) mail h.arrived;
+          arrived = Each-weaker (λ (m : Message). m.arrival < now + 1) (λ (m : Message). m.arrival < length (past.steps ++ o ∷ [])) (λ m l. omega arith) past.mail h.arrived;
           differ = h.differ;
         };
-        queue_is = h.queue_is ∙ ap₂ (λ x u. queued_requests x mail u) (sym issued) (one ∙ sym len);
-        drained_is = h.drained_is ∙ sym (drains_before-row s channel steps o mail);
+        queue_is = h.queue_is ∙ ap₂ (λ x u. queued_requests x past.mail u) (sym issued) (one ∙ sym len);
+        drained_is = h.drained_is ∙ sym (drains_before-row past.config past.channel past.steps o past.mail);
         marks_are = h.marks_are ∙ ap (λ x. marks_of x (waiting_requests c.queue.log)) (sym issued);
-        stats_are = counted-is c s channel steps mail command hit seen h e;
+        stats_are = counted-is c past command hit seen h e;
       };
       candidates_stand = subst (CandidatesStand c.bank_candidates c.queue.log) (sym issued) h.candidates_stand;
-      banks_stand = subst (BanksStandFor banks s) (sym issued) (subst (λ k. BanksStandFor banks s (history ++ row_of channel k command ∷ [])) h.cycle_is b);
-      refreshes_stand = subst (RefreshesStandFor refresh s) (sym issued) (subst (λ k. RefreshesStandFor refresh s (history ++ row_of channel k command ∷ [])) h.cycle_is r);
-      foresees = foreseen-unknown s (issued_commands channel (steps ++ o ∷ [])) c.queue (c.cycle + 1);
-      keeps_served = subst (λ x. KeepsServed c.served x mail) (sym issued) h.keeps_served;
+      banks_stand = subst (BanksStandFor banks past.config) (sym issued) (subst (λ k. BanksStandFor banks past.config (history ++ row_of past.channel k command ∷ [])) h.cycle_is b);
+      refreshes_stand = subst (RefreshesStandFor refresh past.config) (sym issued) (subst (λ k. RefreshesStandFor refresh past.config (history ++ row_of past.channel k command ∷ [])) h.cycle_is r);
+      foresees = foreseen-unknown past.config (issued_commands past.channel (past.steps ++ o ∷ [])) c.queue (c.cycle + 1);
+      keeps_served = subst (λ x. KeepsServed c.served x past.mail) (sym issued) h.keeps_served;
     }
 
 -- what is told of it when it has issued the command
-pub has-issued : (c d : Channel) (s : Config) (channel : ℕ) (steps : List (Option Command)) (mail : List Message) (command issued : Command) (hit : Bool) (commands commands_then : Option (List IssuedCommand)) (messages messages_then : List Message)
-    → IsReadied c s channel steps mail issued hit → issued ≡ command → StandsFor d s channel (steps ++ Some issued ∷ []) mail
-    → commands_then ≡ with_more commands (issued_in c.number c.cycle (Some issued)) → messages_then ≡ messages ++ messages_of s channel (length steps) command
-    → HasIssued d s channel steps mail command commands commands_then messages messages_then
-has-issued c d s channel steps mail command issued hit commands commands_then messages messages_then h is stands told sent = record {
-  stands = subst (λ z. StandsFor d s channel (steps ++ Some z ∷ []) mail) is stands;
-  commands_are = told ∙ ap₂ (λ number t. with_more commands (issued_in number t (Some issued))) h.made_for.number_is h.cycle_is ∙ ap (λ z. with_more commands (issued_in channel (length steps) (Some z))) is;
+pub has-issued : (c d : Channel) (past : Past) (command issued : Command) (hit : Bool) (commands commands_then : Option (List IssuedCommand)) (messages messages_then : List Message)
+    → IsReadied c past issued hit → issued ≡ command → StandsFor d past.config past.channel (past.steps ++ Some issued ∷ []) past.mail
+    → commands_then ≡ with_more commands (issued_in c.number c.cycle (Some issued)) → messages_then ≡ messages ++ messages_of past.config past.channel (length past.steps) command
+    → HasIssued d past command commands commands_then messages messages_then
+has-issued c d past command issued hit commands commands_then messages messages_then h is stands told sent = record {
+  stands = subst (λ z. StandsFor d past.config past.channel (past.steps ++ Some z ∷ []) past.mail) is stands;
+  commands_are = told ∙ ap₂ (λ number t. with_more commands (issued_in number t (Some issued))) h.made_for.number_is h.cycle_is ∙ ap (λ z. with_more commands (issued_in past.channel (length past.steps) (Some z))) is;
   messages_are = sent;
 }
 
--- only a command that moves data sends messages
+-- only a column command sends messages
 pub silent-act : (s : Config) (channel cycle : ℕ) (bank : BankId) (row : ℕ) (source : Source) (messages : List Message) → messages ≡ messages ++ messages_of s channel cycle (Act bank row source)
 unfolding messages_of
 silent-act s channel cycle bank row source messages = sym (append-nil messages)
@@ -263,30 +264,30 @@ chosen-is : (s : Config) (channel : ℕ) (steps : List (Option Command)) (mail :
 chosen-is s channel steps mail command e = e ∙ choice-next s channel steps mail _ _ refl refl
 
 -- it speaks of a rank that there is
-pub command-rank : (c : Channel) (s : Config) (channel : ℕ) (steps : List (Option Command)) (mail : List Message) (command : Command) (hit : Bool) → IsReadied c s channel steps mail command hit
+pub command-rank : (c : Channel) (past : Past) (command : Command) (hit : Bool) → IsReadied c past command hit
     → rank_of command < rank_count c.banks
-command-rank c s channel steps mail command hit h =
-    let history = issued_commands channel steps in
-    let queue = queued_requests history mail (length steps + 1) in
-    let below : rank_of command < s.ranks =
-    IfSome-at (λ x. rank_of x < s.ranks) _ command (chosen-is s channel steps mail command h.chosen)
-    (chosen-rank s history (length steps) _ queue (queue-ranks s channel history mail (length steps + 1) queue h.requests refl)) in
+command-rank c past command hit h =
+    let history = commands_after past in
+    let queue = queued_requests history past.mail (length past.steps + 1) in
+    let below : rank_of command < past.config.ranks =
+    IfSome-at (λ x. rank_of x < past.config.ranks) _ command (chosen-is past.config past.channel past.steps past.mail command h.chosen)
+    (chosen-rank past.config history (length past.steps) _ queue (queue-ranks past.config past.channel history past.mail (length past.steps + 1) queue h.requests refl)) in
     omega (arith, h.banks_stand.ranks)
 
 -- and if it is a REF, that is due
-pub command-owed : (c : Channel) (s : Config) (channel : ℕ) (steps : List (Option Command)) (mail : List Message) (command : Command) (hit : Bool) → IsReadied c s channel steps mail command hit
+pub command-owed : (c : Channel) (past : Past) (command : Command) (hit : Bool) → IsReadied c past command hit
     → RefIsOwed c.refresh c.cycle command
-command-owed c s channel steps mail command hit h =
-    let history = issued_commands channel steps in
+command-owed c past command hit h =
+    let history = commands_after past in
     by command
-    (IfSome-at (RefIsDue s history (length steps)) _ command (chosen-is s channel steps mail command h.chosen)
-    (chosen-ref_is_due s history (length steps) _ (queued_requests history mail (length steps + 1))))
+    (IfSome-at (RefIsDue past.config history (length past.steps)) _ command (chosen-is past.config past.channel past.steps past.mail command h.chosen)
+    (chosen-ref_is_due past.config history (length past.steps) _ (queued_requests history past.mail (length past.steps + 1))))
   where
-    by : (x : Command) → RefIsDue s (issued_commands channel steps) (length steps) x → RefIsOwed c.refresh c.cycle x
+    by : (x : Command) → RefIsDue past.config (commands_after past) (length past.steps) x → RefIsOwed c.refresh c.cycle x
     by (Ref rank) k =
-        let ranks : c.refresh.ranks ≡ s.ranks = h.refreshes_stand.ranks_are in
+        let ranks : c.refresh.ranks ≡ past.config.ranks = h.refreshes_stand.ranks_are in
         let below : rank < c.refresh.ranks = omega (arith, k.0) in
-        let same : due s rank (issued_commands channel steps) (length steps) ≡ owed c.refresh rank (length steps) = due_from_owed c.refresh s rank (issued_commands channel steps) (length steps) h.refreshes_stand below in
+        let same : due past.config rank (commands_after past) (length past.steps) ≡ owed c.refresh rank (length past.steps) = due_from_owed c.refresh past.config rank (commands_after past) (length past.steps) h.refreshes_stand below in
         (below, subst (λ t. 0 < owed c.refresh rank t) (sym h.cycle_is) (omega (arith, k.1)))
     by (Act bank row source) k = tt
     by (Rd bank row column source) k = tt

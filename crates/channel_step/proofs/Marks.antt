@@ -7,7 +7,7 @@ use Rattle.std.proofs.Math.Bool.{or-false}
 use Rattle.sim_base.proofs.Ordered.{Each-weaker}
 use Rattle.sim_base.specs.Counts.{is_act_for, is_hit}
 use Rattle.sim_base.specs.Places.{bank_in}
-use Rattle.sim_base.specs.Scheduling.{is_source, source_of, serves, column_command}
+use Rattle.sim_base.specs.Scheduling.{is_source, source_of, serves, column_command, is_column_command}
 use Rattle.sim_base.specs.declared.command.Command.{Command}
 use Rattle.sim_base.specs.declared.command.Command.TheVariants.{Act, Rd, Wr, Pre, Prea, Ref}
 use Rattle.sim_base.specs.declared.command.IssuedCommand.{IssuedCommand}
@@ -86,7 +86,7 @@ pub column_either : (P : Command → Type 0) (r : Request) → P (Rd (bank_in r.
     → P (column_command r)
 column_either P r rd wr = column_both P r.access _ _ _ _ (λ f. rd) (λ f. wr)
 
--- a command that moves the data of a request serves the requests of its entry
+-- the column command of a request serves the requests of its entry
 pub serves-column : (q r : Request) → serves q (column_command r) ≡ is_source q (source_of r)
 serves-column q r = column_either (λ c. serves q c ≡ is_source q (source_of r)) r refl refl
 
@@ -96,16 +96,8 @@ served-remove rs i r d e =
     filter-agree (λ q. not (serves q (column_command r))) (λ q. not (is_source q (source_of r))) rs (Each-all _ (λ q. ap not (serves-column q r)) rs)
     ∙ unserved-remove rs i r d e
 
--- a command that moves no data
-abbrev pub moves_none : Command → Bool
-moves_none (Rd bank row column source) = false
-moves_none (Wr bank row column source) = false
-moves_none (Act bank row source) = true
-moves_none (Pre bank source) = true
-moves_none (Prea rank) = true
-moves_none (Ref rank) = true
-
-serves_none : (r : Request) (command : Command) → moves_none command ≡ true → serves r command ≡ false
+-- any other command serves no request
+serves_none : (r : Request) (command : Command) → is_column_command command ≡ false → serves r command ≡ false
 serves_none r (Rd bank row column source) h = cc
 serves_none r (Wr bank row column source) h = cc
 serves_none r (Act bank row source) h = refl
@@ -113,11 +105,11 @@ serves_none r (Pre bank source) h = refl
 serves_none r (Prea rank) h = refl
 serves_none r (Ref rank) h = refl
 
--- takes none out
-pub served-none : (rs : List Request) (command : Command) → moves_none command ≡ true → unserved_by command rs ≡ rs
+-- so it takes none out
+pub served-none : (rs : List Request) (command : Command) → is_column_command command ≡ false → unserved_by command rs ≡ rs
 served-none rs command h = filter-each (λ q. not (serves q command)) rs (Each-all _ (λ q. ap not (serves_none q command h)) rs)
 
--- data that is moved is a row hit where its request has no mark
+-- a column command is a row hit where its request has no mark
 pub hit-mark : (history : List IssuedCommand) (r : Request) → is_hit history (column_command r) ≡ not (is_named history r)
 hit-mark history r = column_either (λ c. is_hit history c ≡ not (is_named history r)) r refl refl
 

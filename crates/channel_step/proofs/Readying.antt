@@ -14,7 +14,6 @@ use Rattle.sim_base.specs.Scheduling.{choice, source_of, column_command, is_colu
 use Rattle.sim_base.specs.declared.command.Command.{Command}
 use Rattle.sim_base.specs.declared.command.Command.TheVariants.{Pre, Prea, Ref}
 use Rattle.sim_base.specs.declared.command.IssuedCommand.{IssuedCommand}
-use Rattle.sim_base.specs.declared.message.Message.{Message}
 use Rattle.sim_base.specs.declared.message.Request.{Request}
 use Rattle.sim_base.specs.declared.place.BankId.{BankId}
 use Rattle.queue.specs.Log.{absent, waiting_requests, served_at, activated_at, waits_at}
@@ -26,9 +25,9 @@ use Rattle.queue.specs.Stands.{bank_count, IsAmong, with_row, closed_in, StandsF
 use Rattle.queue.proofs.Stood.{same_rows, bank_named}
 use Rattle.queue.proofs.Waits.{request_at as placed_at}
 use Rattle.request_table.specs.declared.served_requests.ServedRequest.{ServedRequest}
-use Rattle.statistics.specs.Channels.{moves_hit}
+use Rattle.statistics.specs.Channels.{issues_hit}
 use Rattle.fr_fcfs.specs.Requests.{IsInBanks, KnowsRows}
-use Rattle.channel_step.specs.Past.{is_named}
+use Rattle.channel_step.specs.Past.{is_named, Past, commands_after, choice_after}
 use Rattle.channel_step.specs.Stands.{marks_of}
 use Rattle.channel_step.specs.Queued.{request_at, served_now}
 use Rattle.channel_step.specs.Runs.{with_more}
@@ -40,70 +39,70 @@ use Rattle.channel_step.proofs.Cycle.{joined-differ}
 use Rattle.channel_step.proofs.Foreseen.{request-needs}
 use Rattle.channel_step.proofs.Issuing.{readied, late-none}
 use Rattle.channel_step.proofs.Leaving.{at-waiting, served-waits, served-marks, mark-at, activated-marks}
-use Rattle.channel_step.proofs.Marks.{column_either, opens_none, moves_none, marks-act, marks-no_act, served-none, hit-mark, column-opens_none}
+use Rattle.channel_step.proofs.Marks.{column_either, opens_none, marks-act, marks-no_act, served-none, hit-mark, column-opens_none}
 use Rattle.channel_step.proofs.Serving.{rows_in, kept-quiet, kept-served}
 
 -- the bank that the request at a place asks for is one that has candidates
-pub placed-among : (c : Channel) (s : Config) (channel : ℕ) (steps : List (Option Command)) (mail : List Message) (slot : ℕ) → IsInCycle c s channel steps mail → slot < length c.queue.log
+pub placed-among : (c : Channel) (past : Past) (slot : ℕ) → IsInCycle c past → slot < length c.queue.log
     → IsAmong c.bank_candidates (bank_in (request_at c.queue.log slot).place)
-placed-among c s channel steps mail slot h l =
-    let placed = placed_at (IsInBanks s.ranks) c.queue.log slot h.made_for.in_banks l in
+placed-among c past slot h l =
+    let placed = placed_at (IsInBanks past.config.ranks) c.queue.log slot h.made_for.in_banks l in
     record { number = omega (arith, placed.rank, placed.group, placed.bank, h.made_for.banks_are); group = placed.group; bank = placed.bank }
 
 -- its candidates know which rows are open
-pub knows-rows : (c : Channel) (s : Config) (channel : ℕ) (steps : List (Option Command)) (mail : List Message) → IsInCycle c s channel steps mail → KnowsRows c.bank_candidates (issued_commands channel steps)
-knows-rows c s channel steps mail h = record { log = c.queue.log; stands = h.candidates_stand }
+pub knows-rows : (c : Channel) (past : Past) → IsInCycle c past → KnowsRows c.bank_candidates (commands_after past)
+knows-rows c past h = record { log = c.queue.log; stands = h.candidates_stand }
 
-pub groups-are : (c : Channel) (s : Config) (channel : ℕ) (steps : List (Option Command)) (mail : List Message) → IsInCycle c s channel steps mail → s.groups ≡ c.config.groups
-groups-are c s channel steps mail h = ap (λ (x : Config). x.groups) (sym h.made_for.config_is)
+pub groups-are : (c : Channel) (past : Past) → IsInCycle c past → past.config.groups ≡ c.config.groups
+groups-are c past h = ap (λ (x : Config). x.groups) (sym h.made_for.config_is)
 
 -- a command that serves none and opens no row leaves the log
-quiet-readied : (c : Channel) (s : Config) (channel : ℕ) (steps : List (Option Command)) (mail : List Message) (command : Command) (bank_candidates : BankCandidates) → IsInCycle c s channel steps mail
-    → Some command ≡ choice s channel steps mail → moves_none command ≡ true → opens_none command ≡ true → is_column_command command ≡ false → is_hit (issued_commands channel steps) command ≡ false
+quiet-readied : (c : Channel) (past : Past) (command : Command) (bank_candidates : BankCandidates) → IsInCycle c past
+    → Some command ≡ choice_after past → opens_none command ≡ true → is_column_command command ≡ false → is_hit (commands_after past) command ≡ false
     → bank_count bank_candidates ≡ bank_count c.bank_candidates
-    → CandidatesStandFor bank_candidates c.queue.log (λ bank. row_after (bank_at bank) (open_row (bank_at bank) (issued_commands channel steps)) command)
-    → IsReadied (record c { bank_candidates = bank_candidates }) s channel steps mail command false
-quiet-readied c s channel steps mail command bank_candidates h chosen none opens quiet no_hit count stands =
-    let history = issued_commands channel steps in
-    let row = row_of channel (length steps) command in
-    readied c s channel steps mail command false c.queue.log bank_candidates c.served h chosen no_hit refl (sym (served-none (waiting_requests c.queue.log) command none))
+    → CandidatesStandFor bank_candidates c.queue.log (λ bank. row_after (bank_at bank) (open_row (bank_at bank) (commands_after past)) command)
+    → IsReadied (record c { bank_candidates = bank_candidates }) past command false
+quiet-readied c past command bank_candidates h chosen opens quiet no_hit count stands =
+    let history = commands_after past in
+    let row = row_of past.channel (length past.steps) command in
+    readied c past command false c.queue.log bank_candidates c.served h chosen no_hit refl (sym (served-none (waiting_requests c.queue.log) command quiet))
     (h.joined.marks_are ∙ sym (marks-no_act history row (waiting_requests c.queue.log) opens)) count stands
-    (kept-quiet c.served history row mail (late-none s channel steps mail command chosen) quiet h.keeps_served)
+    (kept-quiet c.served history row past.mail (late-none past.config past.channel past.steps past.mail command chosen) quiet h.keeps_served)
 
 -- a PRE closes the bank of a request
-pub closed-readied : (c : Channel) (s : Config) (channel : ℕ) (steps : List (Option Command)) (mail : List Message) (slot : ℕ) (bank_candidates : BankCandidates) → IsInCycle c s channel steps mail
+pub closed-readied : (c : Channel) (past : Past) (slot : ℕ) (bank_candidates : BankCandidates) → IsInCycle c past
     → slot < length c.queue.log
     → let r = request_at c.queue.log slot in
-    Some (Pre (bank_in r.place) (source_of r)) ≡ choice s channel steps mail → bank_count bank_candidates ≡ bank_count c.bank_candidates
-    → CandidatesStandFor bank_candidates c.queue.log (with_row (number_of (bank_in r.place)) None (λ bank. open_row (bank_at bank) (issued_commands channel steps)))
-    → IsReadied (record c { bank_candidates = bank_candidates }) s channel steps mail (Pre (bank_in r.place) (source_of r)) false
-closed-readied c s channel steps mail slot bank_candidates h l chosen count stands =
+    Some (Pre (bank_in r.place) (source_of r)) ≡ choice_after past → bank_count bank_candidates ≡ bank_count c.bank_candidates
+    → CandidatesStandFor bank_candidates c.queue.log (with_row (number_of (bank_in r.place)) None (λ bank. open_row (bank_at bank) (commands_after past)))
+    → IsReadied (record c { bank_candidates = bank_candidates }) past (Pre (bank_in r.place) (source_of r)) false
+closed-readied c past slot bank_candidates h l chosen count stands =
     let r = request_at c.queue.log slot in
     let bank = bank_in r.place in
-    let rows : ℕ → Option ℕ = λ n. open_row (bank_at n) (issued_commands channel steps) in
-    let among = placed-among c s channel steps mail slot h l in
-    quiet-readied c s channel steps mail (Pre bank (source_of r)) bank_candidates h chosen refl refl refl refl count
+    let rows : ℕ → Option ℕ = λ n. open_row (bank_at n) (commands_after past) in
+    let among = placed-among c past slot h l in
+    quiet-readied c past (Pre bank (source_of r)) bank_candidates h chosen refl refl refl count
     (same_rows bank_candidates c.queue.log (with_row (number_of bank) None rows) (λ n. row_after (bank_at n) (rows n) (Pre bank (source_of r))) stands
     (λ n there. ap (λ t. cond t None (rows n)) (bank_named n bank among.group among.bank)))
 
 -- an ACT opens a row in it, and marks the request
-pub opened-readied : (c : Channel) (s : Config) (channel : ℕ) (steps : List (Option Command)) (mail : List Message) (slot : ℕ) (bank_candidates : BankCandidates) → IsInCycle c s channel steps mail
+pub opened-readied : (c : Channel) (past : Past) (slot : ℕ) (bank_candidates : BankCandidates) → IsInCycle c past
     → slot < length c.queue.log → waits_at c.queue.log slot ≡ true
     → let r = request_at c.queue.log slot in
-    Some (needed_at None r) ≡ choice s channel steps mail → bank_count bank_candidates ≡ bank_count c.bank_candidates
-    → CandidatesStandFor bank_candidates (activated_at c.queue.log slot) (with_row (number_of (bank_in r.place)) (Some r.place.row) (λ bank. open_row (bank_at bank) (issued_commands channel steps)))
-    → IsReadied (record c { queue = record c.queue { log = activated_at c.queue.log slot }; bank_candidates = bank_candidates }) s channel steps mail (needed_at None r) false
-opened-readied c s channel steps mail slot bank_candidates h l w chosen count stands =
+    Some (needed_at None r) ≡ choice_after past → bank_count bank_candidates ≡ bank_count c.bank_candidates
+    → CandidatesStandFor bank_candidates (activated_at c.queue.log slot) (with_row (number_of (bank_in r.place)) (Some r.place.row) (λ bank. open_row (bank_at bank) (commands_after past)))
+    → IsReadied (record c { queue = record c.queue { log = activated_at c.queue.log slot }; bank_candidates = bank_candidates }) past (needed_at None r) false
+opened-readied c past slot bank_candidates h l w chosen count stands =
     let log = c.queue.log in
     let r = request_at log slot in
     let bank = bank_in r.place in
     let act = needed_at None r in
-    let history = issued_commands channel steps in
-    let row = row_of channel (length steps) act in
+    let history = commands_after past in
+    let row = row_of past.channel (length past.steps) act in
     let rows : ℕ → Option ℕ = λ n. open_row (bank_at n) history in
-    let among = placed-among c s channel steps mail slot h l in
-    let differ = joined-differ _ _ _ _ s channel steps mail h.joined in
-    readied c s channel steps mail act false (activated_at log slot) bank_candidates c.served h chosen refl (all_activated log slot)
+    let among = placed-among c past slot h l in
+    let differ = joined-differ _ _ _ _ past h.joined in
+    readied c past act false (activated_at log slot) bank_candidates c.served h chosen refl (all_activated log slot)
     (waiting_activated log slot ∙ sym (served-none (waiting_requests log) act refl))
     (activated-marks (is_named history) log slot l w differ h.joined.marks_are
     ∙ sym (marks-act history row (waiting_requests log) bank r.place.row (source_of r) refl)
@@ -111,54 +110,54 @@ opened-readied c s channel steps mail slot bank_candidates h l w chosen count st
     count
     (same_rows bank_candidates (activated_at log slot) (with_row (number_of bank) (Some r.place.row) rows) (λ n. row_after (bank_at n) (rows n) act) stands
     (λ n there. ap (λ t. cond t (Some r.place.row) (rows n)) (bank_named n bank among.group among.bank)))
-    (kept-quiet c.served history row mail (late-none s channel steps mail act chosen) refl h.keeps_served)
+    (kept-quiet c.served history row past.mail (late-none past.config past.channel past.steps past.mail act chosen) refl h.keeps_served)
 
 column-rows : (bank : BankId) (row : Option ℕ) (r : Request) → row ≡ row_after bank row (column_command r)
 column-rows bank row r = column_either (λ command. row ≡ row_after bank row command) r refl refl
 
--- an RD or WR serves the request
-pub served-readied : (c : Channel) (s : Config) (channel : ℕ) (steps : List (Option Command)) (mail : List Message) (slot : ℕ) (bank_candidates : BankCandidates) (served : Option (Vec ServedRequest Global))
-    → IsInCycle c s channel steps mail → slot < length c.queue.log → waits_at c.queue.log slot ≡ true
+-- a column command serves the request
+pub served-readied : (c : Channel) (past : Past) (slot : ℕ) (bank_candidates : BankCandidates) (served : Option (Vec ServedRequest Global))
+    → IsInCycle c past → slot < length c.queue.log → waits_at c.queue.log slot ≡ true
     → let r = request_at c.queue.log slot in
     let hit = not (get_or c.queue.log slot absent).activated in
-    Some (column_command r) ≡ choice s channel steps mail → bank_count bank_candidates ≡ bank_count c.bank_candidates
-    → CandidatesStand bank_candidates (served_at c.queue.log slot) (issued_commands channel steps)
+    Some (column_command r) ≡ choice_after past → bank_count bank_candidates ≡ bank_count c.bank_candidates
+    → CandidatesStand bank_candidates (served_at c.queue.log slot) (commands_after past)
     → rows_in served ≡ with_more (rows_in c.served) (served_now c.number c.cycle r hit ∷ [])
-    → IsReadied (record c { queue = record c.queue { log = served_at c.queue.log slot }; bank_candidates = bank_candidates; served = served }) s channel steps mail (column_command r) hit
-served-readied c s channel steps mail slot bank_candidates served h l w chosen count stands more =
+    → IsReadied (record c { queue = record c.queue { log = served_at c.queue.log slot }; bank_candidates = bank_candidates; served = served }) past (column_command r) hit
+served-readied c past slot bank_candidates served h l w chosen count stands more =
     let j = h.joined in
     let log = c.queue.log in
     let r = request_at log slot in
     let command = column_command r in
     let hit = not (get_or log slot absent).activated in
-    let history = issued_commands channel steps in
-    let row = row_of channel (length steps) command in
+    let history = commands_after past in
+    let row = row_of past.channel (length past.steps) command in
     let rows : ℕ → Option ℕ = λ n. open_row (bank_at n) history in
-    let differ = joined-differ _ _ _ _ s channel steps mail j in
+    let differ = joined-differ _ _ _ _ past j in
     let no_act = column-opens_none r in
-    let is_hit : moves_hit history (Some command) ≡ hit = hit-mark history r ∙ ap not (sym (mark-at (is_named history) log slot l w j.marks_are)) in
-    readied c s channel steps mail command hit (served_at log slot) bank_candidates served h chosen is_hit (all_served log slot) (served-waits log slot l w differ)
+    let is_hit : issues_hit history (Some command) ≡ hit = hit-mark history r ∙ ap not (sym (mark-at (is_named history) log slot l w j.marks_are)) in
+    readied c past command hit (served_at log slot) bank_candidates served h chosen is_hit (all_served log slot) (served-waits log slot l w differ)
     (served-marks (is_named history) log slot j.marks_are ∙ sym (marks-no_act history row (waiting_requests (served_at log slot)) no_act))
     count
     (same_rows bank_candidates (served_at log slot) rows (λ n. row_after (bank_at n) (rows n) command) stands (λ n there. column-rows (bank_at n) (rows n) r))
-    (kept-served c.served served history row r hit mail (length steps + 1) refl (late-none s channel steps mail command chosen)
+    (kept-served c.served served history row r hit past.mail (length past.steps + 1) refl (late-none past.config past.channel past.steps past.mail command chosen)
     (λ P each. at-waiting P log slot l w (subst (Each P) (sym j.queue_is) each)) is_hit
     (more ∙ ap₂ (λ number t. with_more (rows_in c.served) (served_now number t r hit ∷ [])) h.made_for.number_is h.cycle_is)
     h.keeps_served)
 
 -- what a rank needs that is to be refreshed closes its banks, or leaves them closed
-pub rank-readied : (c : Channel) (s : Config) (channel : ℕ) (steps : List (Option Command)) (mail : List Message) (rank : ℕ) (bank_candidates : BankCandidates) → IsInCycle c s channel steps mail
-    → Some (Prea rank) ≡ choice s channel steps mail → bank_count bank_candidates ≡ bank_count c.bank_candidates
-    → CandidatesStandFor bank_candidates c.queue.log (closed_in rank (λ bank. open_row (bank_at bank) (issued_commands channel steps)))
-    → IsReadied (record c { bank_candidates = bank_candidates }) s channel steps mail (Prea rank) false
-rank-readied c s channel steps mail rank bank_candidates h chosen count stands =
-    let rows : ℕ → Option ℕ = λ n. open_row (bank_at n) (issued_commands channel steps) in
-    quiet-readied c s channel steps mail (Prea rank) bank_candidates h chosen refl refl refl refl count
+pub rank-readied : (c : Channel) (past : Past) (rank : ℕ) (bank_candidates : BankCandidates) → IsInCycle c past
+    → Some (Prea rank) ≡ choice_after past → bank_count bank_candidates ≡ bank_count c.bank_candidates
+    → CandidatesStandFor bank_candidates c.queue.log (closed_in rank (λ bank. open_row (bank_at bank) (commands_after past)))
+    → IsReadied (record c { bank_candidates = bank_candidates }) past (Prea rank) false
+rank-readied c past rank bank_candidates h chosen count stands =
+    let rows : ℕ → Option ℕ = λ n. open_row (bank_at n) (commands_after past) in
+    quiet-readied c past (Prea rank) bank_candidates h chosen refl refl refl count
     (same_rows bank_candidates c.queue.log (closed_in rank rows) (λ n. row_after (bank_at n) (rows n) (Prea rank)) stands (λ n there. refl))
 
-pub refresh-readied : (c : Channel) (s : Config) (channel : ℕ) (steps : List (Option Command)) (mail : List Message) (rank : ℕ) → IsInCycle c s channel steps mail
-    → Some (Ref rank) ≡ choice s channel steps mail → IsReadied c s channel steps mail (Ref rank) false
-refresh-readied c s channel steps mail rank h chosen = quiet-readied c s channel steps mail (Ref rank) c.bank_candidates h chosen refl refl refl refl refl h.candidates_stand
+pub refresh-readied : (c : Channel) (past : Past) (rank : ℕ) → IsInCycle c past
+    → Some (Ref rank) ≡ choice_after past → IsReadied c past (Ref rank) false
+refresh-readied c past rank h chosen = quiet-readied c past (Ref rank) c.bank_candidates h chosen refl refl refl refl h.candidates_stand
 
 -- what the request at a place needs, where this row of its bank is open, or none is
 pub needed-with : (history : List IssuedCommand) (r : Request) (o : Option ℕ) → o ≡ open_row (bank_in r.place) history → needed history r ≡ needed_at o r
@@ -172,15 +171,12 @@ pub needed-moving : (history : List IssuedCommand) (r : Request) (row : ℕ) →
 needed-moving history r row e same = needed-with history r (Some row) e ∙ cond-true (eqb row r.place.row) (column_command r) (Pre (bank_in r.place) (source_of r)) (eq-eqb row r.place.row same)
 
 -- what was chosen is what the request at a place needs
-pub chosen-needs : (c : Channel) (slot : ℕ) (p : IsChosen c (chosen.Request slot)) → Some (needed (issued_commands p.channel p.steps) (request_at c.queue.log slot)) ≡ choice p.s p.channel p.steps p.mail
-chosen-needs c slot p = sym (request-needs p.s (issued_commands p.channel p.steps) c.queue.log slot p.place.0) ∙ p.needed ∙ p.is_chosen
+pub chosen-needs : (c : Channel) (slot : ℕ) (p : IsChosen c (chosen.Request slot)) → Some (needed (issued_commands p.past.channel p.past.steps) (request_at c.queue.log slot)) ≡ choice p.past.config p.past.channel p.past.steps p.past.mail
+chosen-needs c slot p = sym (request-needs p.past.config (issued_commands p.past.channel p.past.steps) c.queue.log slot p.place.0) ∙ p.needed ∙ p.is_chosen
 
-pub doing : (c : Channel) (slot : ℕ) (command : Command) (p : IsChosen c (chosen.Request slot)) → needed (issued_commands p.channel p.steps) (request_at c.queue.log slot) ≡ command → IsDoing c slot command
+pub doing : (c : Channel) (slot : ℕ) (command : Command) (p : IsChosen c (chosen.Request slot)) → needed (issued_commands p.past.channel p.past.steps) (request_at c.queue.log slot) ≡ command → IsDoing c slot command
 doing c slot command p e = record {
-  s = p.s;
-  channel = p.channel;
-  steps = p.steps;
-  mail = p.mail;
+  past = p.past;
   is_in = p.is_in;
   within = p.place.0;
   waits = p.place.1;

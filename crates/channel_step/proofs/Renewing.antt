@@ -1,17 +1,14 @@
 -- A channel whose log has been renumbered.
-use Rattle.std.proofs.Common.{◌≡◌, ℕ, List, length, map, Option, sym, ap, ◌∙◌, arith}
-use Rattle.sim_base.specs.declared.config.Config.{Config}
-use Rattle.sim_base.specs.History.{issued_commands}
-use Rattle.sim_base.specs.declared.command.Command.{Command}
-use Rattle.sim_base.specs.declared.message.Message.{Message}
+use Rattle.std.proofs.Common.{◌≡◌, List, length, map, sym, ap, ◌∙◌, arith}
 use Rattle.queue.specs.declared.request_log.Arrived.{Arrived}
 use Rattle.queue.specs.Log.{waiting, waiting_requests}
 use Rattle.queue.proofs.Renumbered.{waiting_twice}
 use Rattle.queue.specs.declared.bank_candidates.all_banks.BankCandidates.{BankCandidates}
 use Rattle.queue.specs.Stands.{bank_count}
 use Rattle.fr_fcfs.specs.Requests.{IsInBanks}
+use Rattle.channel_step.specs.Past.{Past, commands_after}
 use Rattle.channel_step.specs.Stands.{marks_of}
-use Rattle.channel_step.specs.Channels.{CandidatesStand, StandsFor}
+use Rattle.channel_step.specs.Channels.{CandidatesStand, HasPast}
 use Rattle.channel_step.specs.declared.ahead.Ahead.TheVariants.{Unknown}
 use Rattle.channel_step.specs.declared.channel.Channel.{Channel}
 use Rattle.channel_step.proofs.Foreseen.{foreseen-unknown}
@@ -22,11 +19,11 @@ pub waiting-same : (log : List Arrived) → waiting_requests (waiting log) ≡ w
 waiting-same log = ap (map (λ (a : Arrived). a.request)) (waiting_twice log)
 
 -- so it stands for the same past
-pub renewed-stands : (c : Channel) (s : Config) (channel : ℕ) (steps : List (Option Command)) (mail : List Message) (bank_candidates : BankCandidates) → StandsFor c s channel steps mail
-    → bank_count bank_candidates ≡ bank_count c.bank_candidates → CandidatesStand bank_candidates (waiting c.queue.log) (issued_commands channel steps)
-    → StandsFor (record c { queue = record c.queue { log = waiting c.queue.log }; bank_candidates = bank_candidates; ahead = Unknown }) s channel steps mail
-renewed-stands c s channel steps mail bank_candidates h count stands =
-    let history = issued_commands channel steps in
+pub renewed-stands : (c : Channel) (past : Past) (bank_candidates : BankCandidates) → HasPast c past
+    → bank_count bank_candidates ≡ bank_count c.bank_candidates → CandidatesStand bank_candidates (waiting c.queue.log) (commands_after past)
+    → HasPast (record c { queue = record c.queue { log = waiting c.queue.log }; bank_candidates = bank_candidates; ahead = Unknown }) past
+renewed-stands c past bank_candidates h count stands =
+    let history = commands_after past in
     let same = waiting-same c.queue.log in
     let few = h.made_for.within in
     record {
@@ -37,7 +34,7 @@ renewed-stands c s channel steps mail bank_candidates h count stands =
         low_is = h.made_for.low_is;
         room_is = h.made_for.room_is;
         banks_are = count ∙ h.made_for.banks_are;
-        in_banks = waits-all (IsInBanks s.ranks) c.queue.log h.made_for.in_banks;
+        in_banks = waits-all (IsInBanks past.config.ranks) c.queue.log h.made_for.in_banks;
         within = omega (arith, ap length same);
         longest = h.made_for.longest;
       };
@@ -52,6 +49,6 @@ renewed-stands c s channel steps mail bank_candidates h count stands =
       candidates_stand = stands;
       banks_stand = h.banks_stand;
       refreshes_stand = h.refreshes_stand;
-      foresees = foreseen-unknown s history (record c.queue { log = waiting c.queue.log }) c.cycle;
+      foresees = foreseen-unknown past.config history (record c.queue { log = waiting c.queue.log }) c.cycle;
       keeps_served = h.keeps_served;
     }

@@ -20,13 +20,13 @@ use Rattle.statistics.proofs.Repeats.{channel_stretch-replicate}
 use Rattle.bank_ready.specs.Stands.{StandsFor as BanksStandFor}
 use Rattle.bank_ready.specs.Refreshes.{RefreshCounts, lowest_owed, StandsFor as RefreshesStandFor}
 use Rattle.bank_ready.proofs.Due.{lowest_due_from_owed}
-use Rattle.channel_step.specs.Past.{requests_of}
+use Rattle.channel_step.specs.Past.{requests_of, past_of, Past, commands_after}
 use Rattle.channel_step.specs.Stands.{marks_of}
 use Rattle.channel_step.specs.Counted.{cycle_with_hit}
 use Rattle.channel_step.specs.Fit.{queue_room}
 use Rattle.channel_step.specs.Queued.{drain_decided}
 use Rattle.queue.specs.Log.{waiting_requests}
-use Rattle.channel_step.specs.Channels.{CandidatesStand, IsForeseen, KeepsServed, StandsFor, IsInCycle, passed}
+use Rattle.channel_step.specs.Channels.{CandidatesStand, IsForeseen, KeepsServed, StandsFor, IsInCycle, passed, HasPast, idle_after}
 use Rattle.channel_step.specs.declared.channel.Channel.{Channel}
 use Rattle.channel_step.proofs.Requests.{ArrivedBefore, requests-arrived, queued_requests-until}
 use Rattle.channel_step.proofs.Spans.{drains_before-row}
@@ -37,11 +37,11 @@ use Rattle.channel_step.proofs.Deciding.{drain_decided-drains}
 use Rattle.channel_step.proofs.Starting.{at-drains}
 
 -- the next cycle, when it is decided whether the channel drains its writes in it
-pub drain_decided-in_cycle : (c : Channel) (s : Config) (channel : ℕ) (steps : List (Option Command)) (mail : List Message) → StandsFor c s channel steps mail
-    → IsInCycle (record c { queue = drain_decided c.queue }) s channel steps mail
-drain_decided-in_cycle c s channel steps mail h =
+pub drain_decided-in_cycle : (c : Channel) (past : Past) → HasPast c past
+    → IsInCycle (record c { queue = drain_decided c.queue }) past
+drain_decided-in_cycle c past h =
     let r = h.recalls in
-    let before : Each (ArrivedBefore (length steps)) (requests_of mail) = requests-arrived s channel (length steps) mail r.past.requests r.past.arrived in
+    let before : Each (ArrivedBefore (length past.steps)) (requests_of past.mail) = requests-arrived past.config past.channel (length past.steps) past.mail r.past.requests r.past.arrived in
     record {
       made_for = record {
         config_is = h.made_for.config_is;
@@ -57,25 +57,25 @@ drain_decided-in_cycle c s channel steps mail h =
       cycle_is = h.cycle_is;
       joined = record {
         requests = r.past.requests;
-        arrived = Each-weaker (λ (m : Message). m.arrival < length steps) (λ (m : Message). m.arrival < length steps + 1) (λ m l. omega arith) mail r.past.arrived;
+        arrived = Each-weaker (λ (m : Message). m.arrival < length past.steps) (λ (m : Message). m.arrival < length past.steps + 1) (λ m l. omega arith) past.mail r.past.arrived;
         differ = r.past.differ;
-        queue_is = r.queue_is ∙ sym (queued_requests-until (issued_commands channel steps) mail (length steps) (length steps + 1) (omega arith) before);
-        drained_is = at-drains c s channel steps mail h;
+        queue_is = r.queue_is ∙ sym (queued_requests-until (commands_after past) past.mail (length past.steps) (length past.steps + 1) (omega arith) before);
+        drained_is = at-drains c past h;
         marks_are = r.marks_are;
         stats_are = r.stats_are;
       };
       candidates_stand = h.candidates_stand;
       banks_stand = h.banks_stand;
       refreshes_stand = h.refreshes_stand;
-      foresees = foreseen-drain_decided s (issued_commands channel steps) c.queue c.cycle c.ahead h.foresees;
+      foresees = foreseen-drain_decided past.config (commands_after past) c.queue c.cycle c.ahead h.foresees;
       keeps_served = h.keeps_served;
     }
 
 -- a channel is in its next cycle, if it is equal to one that was between two cycles and has decided whether it drains
 -- its writes
-pub settled_stands : (c d : Channel) (s : Config) (channel : ℕ) (steps : List (Option Command)) (mail : List Message)
-    → d ≡ record c { queue = drain_decided c.queue } → StandsFor c s channel steps mail → IsInCycle d s channel steps mail
-settled_stands c d s channel steps mail e h = subst (λ x. IsInCycle x s channel steps mail) (sym e) (drain_decided-in_cycle c s channel steps mail h)
+pub settled_stands : (c d : Channel) (past : Past)
+    → d ≡ record c { queue = drain_decided c.queue } → HasPast c past → IsInCycle d past
+settled_stands c d past e h = subst (λ x. IsInCycle x past) (sym e) (drain_decided-in_cycle c past h)
 
 -- the statistics of steps and of idle cycles after them
 idle-stretch : (s : Config) (channel : ℕ) (mail : List Message) (n : ℕ) (steps : List (Option Command))
@@ -120,43 +120,43 @@ idle-stats s channel steps mail n due h alike =
 abbrev pub passed_by : Channel → Config → ℕ → Bool → ChannelStats
 passed_by c s n due = channel_joined c.stats (channel_times n (cycle_with_hit s (length (waiting_requests c.queue.log)) due c.queue.drain_decided None false))
 
-passed-stats : (c : Channel) (s : Config) (channel : ℕ) (steps : List (Option Command)) (mail : List Message) (n : ℕ) (due : Bool) → IsInCycle c s channel steps mail
-    → Each (ArrivedBefore (length steps + 1)) (requests_of mail) → IsDueThroughout s channel steps n due → passed_by c s n due ≡ channel_stats s channel (steps ++ replicate n None) mail
-passed-stats c s channel steps mail n due h before alike =
+passed-stats : (c : Channel) (past : Past) (n : ℕ) (due : Bool) → IsInCycle c past
+    → Each (ArrivedBefore (length past.steps + 1)) (requests_of past.mail) → IsDueThroughout past.config past.channel past.steps n due → passed_by c past.config n due ≡ channel_stats past.config past.channel (past.steps ++ replicate n None) past.mail
+passed-stats c past n due h before alike =
     let j = h.joined in
-    ap₂ (λ q d. channel_joined c.stats (channel_times n (cycle_with_hit s (length q) due d None false))) j.queue_is j.drained_is
-    ∙ ap (λ x. channel_joined x (channel_times n (cycle_with_hit s (length (queued_requests (issued_commands channel steps) mail (length steps + 1))) due (drains s channel steps mail (length steps)) None false))) j.stats_are
-    ∙ sym (idle-stats s channel steps mail n due before alike)
+    ap₂ (λ q d. channel_joined c.stats (channel_times n (cycle_with_hit past.config (length q) due d None false))) j.queue_is j.drained_is
+    ∙ ap (λ x. channel_joined x (channel_times n (cycle_with_hit past.config (length (queued_requests (commands_after past) past.mail (length past.steps + 1))) due (drains past.config past.channel past.steps past.mail (length past.steps)) None false))) j.stats_are
+    ∙ sym (idle-stats past.config past.channel past.steps past.mail n due before alike)
 
 times-longest : (a b m n : ℕ) (none : Bool) → a ≤ m → b ≤ m → max a (cond none 0 b) ≤ m
 times-longest a b m n true h k = omega arith
 times-longest a b m n false h k = omega arith
 
-passed-longest : (c : Channel) (s : Config) (channel : ℕ) (steps : List (Option Command)) (mail : List Message) (n : ℕ) (due : Bool) → IsInCycle c s channel steps mail
-    → (passed_by c s n due).queued_max ≤ queue_room s
-passed-longest c s channel steps mail n due h = times-longest c.stats.queued_max (length (waiting_requests c.queue.log)) (queue_room s) n (eqb n 0) h.made_for.longest h.made_for.within
+passed-longest : (c : Channel) (past : Past) (n : ℕ) (due : Bool) → IsInCycle c past
+    → (passed_by c past.config n due).queued_max ≤ queue_room past.config
+passed-longest c past n due h = times-longest c.stats.queued_max (length (waiting_requests c.queue.log)) (queue_room past.config) n (eqb n 0) h.made_for.longest h.made_for.within
 
 -- the statistics after them fit
-pub passed-fits : (c : Channel) (s : Config) (channel : ℕ) (steps : List (Option Command)) (mail : List Message) (n : ℕ) (due : Bool) → IsInCycle c s channel steps mail
-    → Each (ArrivedBefore (length steps + 1)) (requests_of mail) → IsDueThroughout s channel steps n due → length steps + n ≤ 2 ^ 62 → ChannelFits (passed_by c s n due)
+pub passed-fits : (c : Channel) (past : Past) (n : ℕ) (due : Bool) → IsInCycle c past
+    → Each (ArrivedBefore (length past.steps + 1)) (requests_of past.mail) → IsDueThroughout past.config past.channel past.steps n due → length past.steps + n ≤ 2 ^ 62 → ChannelFits (passed_by c past.config n due)
 unfolding channel_stats
-passed-fits c s channel steps mail n due h before alike early =
-    let more = steps ++ replicate n None in
-    let is : passed_by c s n due ≡ channel_stats s channel more mail = passed-stats c s channel steps mail n due h before alike in
-    let longest : queued_max channel more mail ≡ (passed_by c s n due).queued_max = ap (λ (x : ChannelStats). x.queued_max) (sym is) in
-    let most = passed-longest c s channel steps mail n due h in
-    let room : queue_room s ≤ 8192 = s.credits_fit in
-    subst ChannelFits (sym is) (channel_stats-fit s channel more mail (omega (arith, length-idle steps n)) (omega arith))
+passed-fits c past n due h before alike early =
+    let more = past.steps ++ replicate n None in
+    let is : passed_by c past.config n due ≡ channel_stats past.config past.channel more past.mail = passed-stats c past n due h before alike in
+    let longest : queued_max past.channel more past.mail ≡ (passed_by c past.config n due).queued_max = ap (λ (x : ChannelStats). x.queued_max) (sym is) in
+    let most = passed-longest c past n due h in
+    let room : queue_room past.config ≤ 8192 = past.config.credits_fit in
+    subst ChannelFits (sym is) (channel_stats-fit past.config past.channel more past.mail (omega (arith, length-idle past.steps n)) (omega arith))
 
 -- after them the channel is in a cycle that is as the first
-pub passed-in_cycle : (c : Channel) (s : Config) (channel : ℕ) (steps : List (Option Command)) (mail : List Message) (n : ℕ) (due : Bool) (until : ℕ) → IsInCycle c s channel steps mail
-    → Each (ArrivedBefore (length steps + 1)) (requests_of mail) → IsDueThroughout s channel steps n due → until ≡ length steps + n
-    → IsInCycle (record c { cycle = until; stats = passed_by c s n due }) s channel (steps ++ replicate n None) mail
-passed-in_cycle c s channel steps mail n due until h before alike e =
-    let more = steps ++ replicate n None in
+pub passed-in_cycle : (c : Channel) (past : Past) (n : ℕ) (due : Bool) (until : ℕ) → IsInCycle c past
+    → Each (ArrivedBefore (length past.steps + 1)) (requests_of past.mail) → IsDueThroughout past.config past.channel past.steps n due → until ≡ length past.steps + n
+    → IsInCycle (record c { cycle = until; stats = passed_by c past.config n due }) (past_of past.config past.channel (past.steps ++ replicate n None) past.mail)
+passed-in_cycle c past n due until h before alike e =
+    let more = past.steps ++ replicate n None in
     let j = h.joined in
-    let len = length-idle steps n in
-    let history : issued_commands channel more ≡ issued_commands channel steps = idle-issued channel steps n in
+    let len = length-idle past.steps n in
+    let history : issued_commands past.channel more ≡ commands_after past = idle-issued past.channel past.steps n in
     record {
       made_for = record {
         config_is = h.made_for.config_is;
@@ -167,31 +167,31 @@ passed-in_cycle c s channel steps mail n due until h before alike e =
         banks_are = h.made_for.banks_are;
         in_banks = h.made_for.in_banks;
         within = h.made_for.within;
-        longest = passed-longest c s channel steps mail n due h;
+        longest = passed-longest c past n due h;
       };
       cycle_is = e ∙ sym len;
       joined = record {
         requests = j.requests;
-        arrived = Each-weaker (λ (m : Message). m.arrival < length steps + 1) (λ (m : Message). m.arrival < length more + 1) (λ m l. omega arith) mail j.arrived;
+        arrived = Each-weaker (λ (m : Message). m.arrival < length past.steps + 1) (λ (m : Message). m.arrival < length more + 1) (λ m l. omega arith) past.mail j.arrived;
         differ = j.differ;
         queue_is =
             j.queue_is
-            ∙ sym (idle-queued_requests channel steps mail before n (length more + 1) (omega arith));
-        drained_is = j.drained_is ∙ sym (idle-drains s channel steps mail before n);
+            ∙ sym (idle-queued_requests past.channel past.steps past.mail before n (length more + 1) (omega arith));
+        drained_is = j.drained_is ∙ sym (idle-drains past.config past.channel past.steps past.mail before n);
         marks_are = j.marks_are ∙ ap (λ x. marks_of x (waiting_requests c.queue.log)) (sym history);
-        stats_are = passed-stats c s channel steps mail n due h before alike;
+        stats_are = passed-stats c past n due h before alike;
       };
       candidates_stand = subst (CandidatesStand c.bank_candidates c.queue.log) (sym history) h.candidates_stand;
-      banks_stand = subst (BanksStandFor c.banks s) (sym history) h.banks_stand;
-      refreshes_stand = subst (RefreshesStandFor c.refresh s) (sym history) h.refreshes_stand;
+      banks_stand = subst (BanksStandFor c.banks past.config) (sym history) h.banks_stand;
+      refreshes_stand = subst (RefreshesStandFor c.refresh past.config) (sym history) h.refreshes_stand;
       foresees =
-          subst (λ x. IsForeseen s x c.queue until c.ahead) (sym history)
-          (foreseen-later s (issued_commands channel steps) c.queue c.cycle until c.ahead (omega (arith, h.cycle_is)) h.foresees);
-      keeps_served = subst (λ x. KeepsServed c.served x mail) (sym history) h.keeps_served;
+          subst (λ x. IsForeseen past.config x c.queue until c.ahead) (sym history)
+          (foreseen-later past.config (commands_after past) c.queue c.cycle until c.ahead (omega (arith, h.cycle_is)) h.foresees);
+      keeps_served = subst (λ x. KeepsServed c.served x past.mail) (sym history) h.keeps_served;
     }
 
 -- when at least one cycle was passed it stands after them
-skipped-stands : (c : Channel) (s : Config) (channel : ℕ) (steps : List (Option Command)) (mail : List Message) (n : ℕ) → IsInCycle c s channel (steps ++ replicate n None) mail
+skipped-stands : (c : Channel) (s : Config) (channel : ℕ) (steps : List (Option Command)) (mail : List Message) (n : ℕ) → IsInCycle c (past_of s channel (steps ++ replicate n None) mail)
     → Each (λ (m : Message). m.arrival < length steps + 1) mail → Each (ArrivedBefore (length steps + 1)) (requests_of mail) → 0 < n → StandsFor c s channel (steps ++ replicate n None) mail
 skipped-stands c s channel steps mail zero h arrived before some = absurd (omega arith)
 skipped-stands c s channel steps mail (suc k) h arrived before some =
@@ -231,151 +231,151 @@ abbrev pub IsDueIn : RefreshCounts → ℕ → ℕ → ℕ → Type 0
 IsDueIn counts now until due = (cycle : ℕ) → now ≤ cycle → cycle < until → is_some (lowest_owed counts cycle) ≡ nat_le due cycle
 
 -- either none of the next n cycles is before that, or each is
-alike : (c : Channel) (s : Config) (channel : ℕ) (steps : List (Option Command)) (mail : List Message) (until due n : ℕ) → IsInCycle c s channel steps mail
+alike : (c : Channel) (past : Past) (until due n : ℕ) → IsInCycle c past
     → IsDueIn c.refresh c.cycle until due → c.cycle + n ≤ until → ((k : ℕ) → k < n → nat_le due (c.cycle + k) ≡ nat_le due c.cycle)
-    → IsDueThroughout s channel steps n (is_some (lowest_owed c.refresh c.cycle))
-alike c s channel steps mail until due n h dues l same k m =
-    ap is_some (lowest_due_from_owed c.refresh s (issued_commands channel steps) (length steps + k) h.refreshes_stand)
+    → IsDueThroughout past.config past.channel past.steps n (is_some (lowest_owed c.refresh c.cycle))
+alike c past until due n h dues l same k m =
+    ap is_some (lowest_due_from_owed c.refresh past.config (commands_after past) (length past.steps + k) h.refreshes_stand)
     ∙ ap (λ t. is_some (lowest_owed c.refresh (t + k))) (sym h.cycle_is)
     ∙ dues (c.cycle + k) (omega arith) (omega arith)
     ∙ same k m
     ∙ sym (dues c.cycle (omega arith) (omega arith))
 
 -- what is counted, by what is seen
-passed-is : (c : Channel) (s : Config) (channel : ℕ) (steps : List (Option Command)) (mail : List Message) (until : ℕ) → IsInCycle c s channel steps mail
-    → passed c until ≡ passed_by c s (until - c.cycle) (is_some (lowest_owed c.refresh c.cycle))
-passed-is c s channel steps mail until h =
+passed-is : (c : Channel) (past : Past) (until : ℕ) → IsInCycle c past
+    → passed c until ≡ passed_by c past.config (until - c.cycle) (is_some (lowest_owed c.refresh c.cycle))
+passed-is c past until h =
     ap₂ (λ x d. channel_joined c.stats (channel_times (until - c.cycle) (cycle_with_hit x (length (waiting_requests c.queue.log)) (is_some (lowest_owed c.refresh c.cycle)) d None false)))
-    h.made_for.config_is (drain_decided-drains c s channel steps mail h)
+    h.made_for.config_is (drain_decided-drains c past h)
 
-pass-fits : (c : Channel) (s : Config) (channel : ℕ) (steps : List (Option Command)) (mail : List Message) (until : ℕ) → IsInCycle c s channel steps mail
-    → Each (ArrivedBefore (length steps + 1)) (requests_of mail) → IsDueThroughout s channel steps (until - c.cycle) (is_some (lowest_owed c.refresh c.cycle)) → c.cycle ≤ until → until ≤ 2 ^ 62
+pass-fits : (c : Channel) (past : Past) (until : ℕ) → IsInCycle c past
+    → Each (ArrivedBefore (length past.steps + 1)) (requests_of past.mail) → IsDueThroughout past.config past.channel past.steps (until - c.cycle) (is_some (lowest_owed c.refresh c.cycle)) → c.cycle ≤ until → until ≤ 2 ^ 62
     → ChannelFits (passed c until)
-pass-fits c s channel steps mail until h before due l early =
-    subst ChannelFits (sym (passed-is c s channel steps mail until h))
-    (passed-fits c s channel steps mail (until - c.cycle) _ h before due (omega (arith, h.cycle_is)))
+pass-fits c past until h before due l early =
+    subst ChannelFits (sym (passed-is c past until h))
+    (passed-fits c past (until - c.cycle) _ h before due (omega (arith, h.cycle_is)))
 
-pass-in_cycle : (c : Channel) (s : Config) (channel : ℕ) (steps : List (Option Command)) (mail : List Message) (until : ℕ) → IsInCycle c s channel steps mail
-    → Each (ArrivedBefore (length steps + 1)) (requests_of mail) → IsDueThroughout s channel steps (until - c.cycle) (is_some (lowest_owed c.refresh c.cycle)) → c.cycle ≤ until
-    → IsInCycle (record c { cycle = until; stats = passed c until }) s channel (steps ++ replicate (until - c.cycle) None) mail
-pass-in_cycle c s channel steps mail until h before due l =
-    subst (λ x. IsInCycle (record c { cycle = until; stats = x }) s channel (steps ++ replicate (until - c.cycle) None) mail) (sym (passed-is c s channel steps mail until h))
-    (passed-in_cycle c s channel steps mail (until - c.cycle) _ until h before due (omega (arith, h.cycle_is)))
+pass-in_cycle : (c : Channel) (past : Past) (until : ℕ) → IsInCycle c past
+    → Each (ArrivedBefore (length past.steps + 1)) (requests_of past.mail) → IsDueThroughout past.config past.channel past.steps (until - c.cycle) (is_some (lowest_owed c.refresh c.cycle)) → c.cycle ≤ until
+    → IsInCycle (record c { cycle = until; stats = passed c until }) (idle_after past c.cycle until)
+pass-in_cycle c past until h before due l =
+    subst (λ x. IsInCycle (record c { cycle = until; stats = x }) (idle_after past c.cycle until)) (sym (passed-is c past until h))
+    (passed-in_cycle c past (until - c.cycle) _ until h before due (omega (arith, h.cycle_is)))
 
 -- the channel in the first of the cycles that it skips with a refresh that is due, and at the end of them
 abbrev pub passed_to : Channel → ℕ → Channel
 passed_to c until = record c { cycle = until; stats = passed c until }
 
 -- what is known where a channel passes over cycles
-pub record Skips (c : Channel) (s : Config) (channel : ℕ) (steps : List (Option Command)) (mail : List Message) (until due : ℕ) : Type 0 where
-  pub in_cycle : IsInCycle c s channel steps mail
+pub record Skips (c : Channel) (past : Past) (until due : ℕ) : Type 0 where
+  pub in_cycle : IsInCycle c past
   pub from_now : c.cycle ≤ due
   pub within : due ≤ until
   pub early : until ≤ 2 ^ 62
   pub dues : IsDueIn c.refresh c.cycle until due
 
 -- all requests are there from the first of them on
-pub there-before : (c : Channel) (s : Config) (channel : ℕ) (steps : List (Option Command)) (mail : List Message) → IsInCycle c s channel steps mail → Each (ArrivedBefore (length steps + 1)) (requests_of mail)
-there-before c s channel steps mail h = requests-arrived s channel (length steps + 1) mail h.joined.requests h.joined.arrived
+pub there-before : (c : Channel) (past : Past) → IsInCycle c past → Each (ArrivedBefore (length past.steps + 1)) (requests_of past.mail)
+there-before c past h = requests-arrived past.config past.channel (length past.steps + 1) past.mail h.joined.requests h.joined.arrived
 
-skips-alike : (c : Channel) (s : Config) (channel : ℕ) (steps : List (Option Command)) (mail : List Message) (until due : ℕ) → Skips c s channel steps mail until due
-    → IsDueThroughout s channel steps (due - c.cycle) (is_some (lowest_owed c.refresh c.cycle))
-skips-alike c s channel steps mail until due h =
+skips-alike : (c : Channel) (past : Past) (until due : ℕ) → Skips c past until due
+    → IsDueThroughout past.config past.channel past.steps (due - c.cycle) (is_some (lowest_owed c.refresh c.cycle))
+skips-alike c past until due h =
     let from_now = h.from_now in
     let within = h.within in
-    alike c s channel steps mail until due (due - c.cycle) h.in_cycle h.dues (omega arith)
+    alike c past until due (due - c.cycle) h.in_cycle h.dues (omega arith)
     (λ k l. lt-leb due (c.cycle + k) (omega arith) ∙ sym (lt-leb due c.cycle (omega arith)))
 
-pub skips-first_fits : (c : Channel) (s : Config) (channel : ℕ) (steps : List (Option Command)) (mail : List Message) (until due : ℕ) → Skips c s channel steps mail until due
+pub skips-first_fits : (c : Channel) (past : Past) (until due : ℕ) → Skips c past until due
     → ChannelFits (passed c due)
-skips-first_fits c s channel steps mail until due h =
+skips-first_fits c past until due h =
     let within = h.within in
     let early = h.early in
-    pass-fits c s channel steps mail due h.in_cycle (there-before c s channel steps mail h.in_cycle) (skips-alike c s channel steps mail until due h) h.from_now (omega arith)
+    pass-fits c past due h.in_cycle (there-before c past h.in_cycle) (skips-alike c past until due h) h.from_now (omega arith)
 
-pub skips-second : (c : Channel) (s : Config) (channel : ℕ) (steps : List (Option Command)) (mail : List Message) (until due : ℕ) → Skips c s channel steps mail until due
-    → IsInCycle (passed_to c due) s channel (steps ++ replicate (due - c.cycle) None) mail
-skips-second c s channel steps mail until due h =
-    pass-in_cycle c s channel steps mail due h.in_cycle (there-before c s channel steps mail h.in_cycle) (skips-alike c s channel steps mail until due h) h.from_now
+pub skips-second : (c : Channel) (past : Past) (until due : ℕ) → Skips c past until due
+    → IsInCycle (passed_to c due) (idle_after past c.cycle due)
+skips-second c past until due h =
+    pass-in_cycle c past due h.in_cycle (there-before c past h.in_cycle) (skips-alike c past until due h) h.from_now
 
-skips-alike_second : (c : Channel) (s : Config) (channel : ℕ) (steps : List (Option Command)) (mail : List Message) (until due : ℕ) → Skips c s channel steps mail until due
-    → IsDueThroughout s channel (steps ++ replicate (due - c.cycle) None) (until - due) (is_some (lowest_owed c.refresh due))
-skips-alike_second c s channel steps mail until due h =
+skips-alike_second : (c : Channel) (past : Past) (until due : ℕ) → Skips c past until due
+    → IsDueThroughout past.config past.channel (past.steps ++ replicate (due - c.cycle) None) (until - due) (is_some (lowest_owed c.refresh due))
+skips-alike_second c past until due h =
     let from_now = h.from_now in
     let within = h.within in
-    alike (passed_to c due) s channel (steps ++ replicate (due - c.cycle) None) mail until due (until - due) (skips-second c s channel steps mail until due h)
+    alike (passed_to c due) (idle_after past c.cycle due) until due (until - due) (skips-second c past until due h)
     (λ cycle l m. h.dues cycle (omega arith) m) (omega arith)
     (λ k l. le-leb due (due + k) (omega arith) ∙ sym (le-leb due due (omega arith)))
 
-pub skips-second_fits : (c : Channel) (s : Config) (channel : ℕ) (steps : List (Option Command)) (mail : List Message) (until due : ℕ) → Skips c s channel steps mail until due
+pub skips-second_fits : (c : Channel) (past : Past) (until due : ℕ) → Skips c past until due
     → ChannelFits (passed (passed_to c due) until)
-skips-second_fits c s channel steps mail until due h =
+skips-second_fits c past until due h =
     let d = passed_to c due in
-    let second = skips-second c s channel steps mail until due h in
-    pass-fits d s channel (steps ++ replicate (due - c.cycle) None) mail until second (there-before d s channel (steps ++ replicate (due - c.cycle) None) mail second)
-    (skips-alike_second c s channel steps mail until due h) h.within h.early
+    let second = skips-second c past until due h in
+    pass-fits d (idle_after past c.cycle due) until second (there-before d (idle_after past c.cycle due) second)
+    (skips-alike_second c past until due h) h.within h.early
 
 -- the channel after the cycles that it passes over
-pub skips-in_cycle : (c : Channel) (s : Config) (channel : ℕ) (steps : List (Option Command)) (mail : List Message) (until due : ℕ) → Skips c s channel steps mail until due
-    → IsInCycle (passed_to (passed_to c due) until) s channel (steps ++ replicate (until - length steps) None) mail
-skips-in_cycle c s channel steps mail until due h =
+pub skips-in_cycle : (c : Channel) (past : Past) (until due : ℕ) → Skips c past until due
+    → IsInCycle (passed_to (passed_to c due) until) (idle_after past (length past.steps) until)
+skips-in_cycle c past until due h =
     let d = passed_to (passed_to c due) until in
     let n = due - c.cycle in
     let m = until - due in
     let from_now = h.from_now in
     let within = h.within in
     let is = h.in_cycle.cycle_is in
-    let second = skips-second c s channel steps mail until due h in
-    let whole : (steps ++ replicate n None) ++ replicate m None ≡ steps ++ replicate (until - length steps) None =
-    append_assoc steps (replicate n None) (replicate m None)
-    ∙ ap (λ x. steps ++ x) (replicate-append-replicate {A = Option Command} n m None)
-    ∙ ap (λ k. steps ++ replicate k None) (let e : n + m ≡ until - length steps = omega arith in e) in
-    subst (λ r. IsInCycle d s channel r mail) whole
-    (pass-in_cycle (passed_to c due) s channel (steps ++ replicate n None) mail until second
-    (there-before (passed_to c due) s channel (steps ++ replicate n None) mail second) (skips-alike_second c s channel steps mail until due h) within)
+    let second = skips-second c past until due h in
+    let whole : (past.steps ++ replicate n None) ++ replicate m None ≡ past.steps ++ replicate (until - length past.steps) None =
+    append_assoc past.steps (replicate n None) (replicate m None)
+    ∙ ap (λ x. past.steps ++ x) (replicate-append-replicate {A = Option Command} n m None)
+    ∙ ap (λ k. past.steps ++ replicate k None) (let e : n + m ≡ until - length past.steps = omega arith in e) in
+    subst (λ r. IsInCycle d (past_of past.config past.channel r past.mail)) whole
+    (pass-in_cycle (passed_to c due) (past_of past.config past.channel (past.steps ++ replicate n None) past.mail) until second
+    (there-before (passed_to c due) (past_of past.config past.channel (past.steps ++ replicate n None) past.mail) second) (skips-alike_second c past until due h) within)
 
 -- the channel after the cycles that it passes over, where a refresh is due in none of them
-pub skips-not_due : (c : Channel) (s : Config) (channel : ℕ) (steps : List (Option Command)) (mail : List Message) (until due : ℕ) → Skips c s channel steps mail until due → until ≤ due
-    → IsInCycle (passed_to c due) s channel (steps ++ replicate (until - length steps) None) mail
-skips-not_due c s channel steps mail until due h l =
+pub skips-not_due : (c : Channel) (past : Past) (until due : ℕ) → Skips c past until due → until ≤ due
+    → IsInCycle (passed_to c due) (idle_after past (length past.steps) until)
+skips-not_due c past until due h l =
     let within = h.within in
     let is = h.in_cycle.cycle_is in
-    subst (λ n. IsInCycle (passed_to c due) s channel (steps ++ replicate n None) mail) (let e : due - c.cycle ≡ until - length steps = omega arith in e) (skips-second c s channel steps mail until due h)
+    subst (λ n. IsInCycle (passed_to c due) (past_of past.config past.channel (past.steps ++ replicate n None) past.mail)) (let e : due - c.cycle ≡ until - length past.steps = omega arith in e) (skips-second c past until due h)
 
 -- and where one is due in each
-skips-alike_due : (c : Channel) (s : Config) (channel : ℕ) (steps : List (Option Command)) (mail : List Message) (until due : ℕ) → Skips c s channel steps mail until due → due ≤ c.cycle
-    → IsDueThroughout s channel steps (until - c.cycle) (is_some (lowest_owed c.refresh c.cycle))
-skips-alike_due c s channel steps mail until due h l =
+skips-alike_due : (c : Channel) (past : Past) (until due : ℕ) → Skips c past until due → due ≤ c.cycle
+    → IsDueThroughout past.config past.channel past.steps (until - c.cycle) (is_some (lowest_owed c.refresh c.cycle))
+skips-alike_due c past until due h l =
     let within = h.within in
     let from_now = h.from_now in
-    alike c s channel steps mail until due (until - c.cycle) h.in_cycle h.dues (omega arith)
+    alike c past until due (until - c.cycle) h.in_cycle h.dues (omega arith)
     (λ k m. le-leb due (c.cycle + k) (omega arith) ∙ sym (le-leb due c.cycle (omega arith)))
 
-pub skips-due : (c : Channel) (s : Config) (channel : ℕ) (steps : List (Option Command)) (mail : List Message) (until due : ℕ) → Skips c s channel steps mail until due → due ≤ c.cycle
-    → IsInCycle (passed_to c until) s channel (steps ++ replicate (until - length steps) None) mail
-skips-due c s channel steps mail until due h l =
+pub skips-due : (c : Channel) (past : Past) (until due : ℕ) → Skips c past until due → due ≤ c.cycle
+    → IsInCycle (passed_to c until) (idle_after past (length past.steps) until)
+skips-due c past until due h l =
     let within = h.within in
     let from_now = h.from_now in
     let is = h.in_cycle.cycle_is in
-    subst (λ n. IsInCycle (passed_to c until) s channel (steps ++ replicate n None) mail) (let e : until - c.cycle ≡ until - length steps = omega arith in e)
-    (pass-in_cycle c s channel steps mail until h.in_cycle (there-before c s channel steps mail h.in_cycle) (skips-alike_due c s channel steps mail until due h l) (omega arith))
+    subst (λ n. IsInCycle (passed_to c until) (past_of past.config past.channel (past.steps ++ replicate n None) past.mail)) (let e : until - c.cycle ≡ until - length past.steps = omega arith in e)
+    (pass-in_cycle c past until h.in_cycle (there-before c past h.in_cycle) (skips-alike_due c past until due h l) (omega arith))
 
-pub skips-due_fits : (c : Channel) (s : Config) (channel : ℕ) (steps : List (Option Command)) (mail : List Message) (until due : ℕ) → Skips c s channel steps mail until due → due ≤ c.cycle
+pub skips-due_fits : (c : Channel) (past : Past) (until due : ℕ) → Skips c past until due → due ≤ c.cycle
     → ChannelFits (passed c until)
-skips-due_fits c s channel steps mail until due h l =
+skips-due_fits c past until due h l =
     let within = h.within in
     let from_now = h.from_now in
-    pass-fits c s channel steps mail until h.in_cycle (there-before c s channel steps mail h.in_cycle) (skips-alike_due c s channel steps mail until due h l) (omega arith) h.early
+    pass-fits c past until h.in_cycle (there-before c past h.in_cycle) (skips-alike_due c past until due h l) (omega arith) h.early
 
 -- and where there are none
-pub waited-none : (c : Channel) (s : Config) (channel : ℕ) (steps : List (Option Command)) (mail : List Message) (until : ℕ) → c.cycle ≡ until → IsInCycle c s channel steps mail
-    → IsInCycle c s channel (steps ++ replicate (until - length steps) None) mail
-waited-none c s channel steps mail until at h =
+pub waited-none : (c : Channel) (past : Past) (until : ℕ) → c.cycle ≡ until → IsInCycle c past
+    → IsInCycle c (idle_after past (length past.steps) until)
+waited-none c past until at h =
     let is = h.cycle_is in
-    let none : until - length steps ≡ 0 = omega arith in
-    subst (λ r. IsInCycle c s channel r mail) (sym (ap (λ n. steps ++ replicate n None) none ∙ append-nil steps)) h
+    let none : until - length past.steps ≡ 0 = omega arith in
+    subst (λ r. IsInCycle c (past_of past.config past.channel r past.mail)) (sym (ap (λ n. past.steps ++ replicate n None) none ∙ append-nil past.steps)) h
 
 -- the channel stands after them, where there are some
-pub waited-stands : (c d : Channel) (s : Config) (channel : ℕ) (steps : List (Option Command)) (mail : List Message) (n : ℕ) → IsInCycle c s channel steps mail
-    → IsInCycle d s channel (steps ++ replicate n None) mail → 0 < n → StandsFor d s channel (steps ++ replicate n None) mail
-waited-stands c d s channel steps mail n h k some = skipped-stands d s channel steps mail n k h.joined.arrived (there-before c s channel steps mail h) some
+pub waited-stands : (c d : Channel) (past : Past) (n : ℕ) → IsInCycle c past
+    → IsInCycle d (past_of past.config past.channel (past.steps ++ replicate n None) past.mail) → 0 < n → StandsFor d past.config past.channel (past.steps ++ replicate n None) past.mail
+waited-stands c d past n h k some = skipped-stands d past.config past.channel past.steps past.mail n k h.joined.arrived (there-before c past h) some

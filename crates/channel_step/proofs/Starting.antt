@@ -1,5 +1,5 @@
 -- A channel before its first cycle, and a channel between two cycles.
-use Rattle.std.proofs.Common.{◌≡◌, ℕ, ◌+◌, ◌-◌, ◌*◌, ◌≤◌, Bool, false, List, [], ◌++◌, length, Option, Some, None, refl, sym, ap, ap₂, subst, ◌∙◌, arith}
+use Rattle.std.proofs.Common.{◌≡◌, ℕ, ◌+◌, ◌-◌, ◌*◌, ◌≤◌, Bool, false, [], ◌++◌, length, Option, Some, None, refl, sym, ap, ap₂, subst, ◌∙◌, arith}
 use Rattle.std.specs.Prelude.{is_some, replicate, Vec}
 use Rattle.std.specs.declared.alloc.Global.{Global}
 use Rattle.std.specs.List.{All, AllByRecursion as Each}
@@ -8,8 +8,6 @@ use Rattle.sim_base.specs.declared.config.Config.{Config}
 use Rattle.sim_base.specs.Counts.{issued_of_kind, hits, queue_lengths, queued, queued_max, idle, refreshing, draining}
 use Rattle.sim_base.specs.History.{issued_commands}
 use Rattle.sim_base.specs.Scheduling.{queued_requests, drains_with, drains_before, drains, candidates, choice_between, choice, lowest_due}
-use Rattle.sim_base.specs.declared.command.Command.{Command}
-use Rattle.sim_base.specs.declared.message.Message.{Message}
 use Rattle.bank_ready.specs.Stands.{rank_count, StandsFor as BanksStandFor}
 use Rattle.bank_ready.specs.Refreshes.{StandsFor as RefreshesStandFor}
 use Rattle.statistics.specs.declared.channels.ChannelStats.{ChannelStats}
@@ -25,9 +23,9 @@ use Rattle.queue.specs.View.{QueueView, places_for, is_draining, drains_by}
 use Rattle.fr_fcfs.specs.Requests.{IsInBanks}
 use Rattle.fr_fcfs.specs.Choices.{StandFor, choice_in}
 use Rattle.fr_fcfs.specs.Cycles.{IsFirstCycle}
-use Rattle.channel_step.specs.Past.{requests_of}
+use Rattle.channel_step.specs.Past.{requests_of, past_of, Past, commands_after}
 use Rattle.channel_step.specs.Stands.{Recalls}
-use Rattle.channel_step.specs.Channels.{IsForeseen, KeepsServed, StandsFor}
+use Rattle.channel_step.specs.Channels.{IsForeseen, KeepsServed, StandsFor, HasPast}
 use Rattle.channel_step.specs.Runs.{StandsAt}
 use Rattle.channel_step.specs.declared.ahead.Ahead.TheVariants.{Unknown}
 use Rattle.channel_step.specs.declared.channel.Channel.{Channel}
@@ -40,7 +38,7 @@ use Rattle.channel_step.proofs.Serving.{kept-none}
 use Rattle.request_table.specs.declared.served_requests.ServedRequest.{ServedRequest}
 
 -- there is no past yet
-pub recalls-none : (s : Config) (channel : ℕ) → Recalls [] false [] (record channel_none { draining = draining_of s 0 }) s channel [] []
+pub recalls-none : (s : Config) (channel : ℕ) → Recalls [] false [] (record channel_none { draining = draining_of s 0 }) (past_of s channel [] [])
 unfolding queued_requests issued_commands drains_before channel_stats issued_of_kind hits queue_lengths queued queued_max idle refreshing draining
 recalls-none s channel = record {
   past = record { requests = tt; arrived = tt; differ = tt };
@@ -53,9 +51,9 @@ recalls-none s channel = record {
 pub at-in_banks : (c : Channel) (from : ℕ) → StandsAt c from → All (IsInBanks (rank_count c.banks)) (all_requests c.queue.log)
 at-in_banks c from h = made-in_banks c h.s h.channel (rank_count c.banks) h.stands.made_for h.stands.banks_stand.ranks
 
-pub at-stand : (c : Channel) (s : Config) (channel : ℕ) (steps : List (Option Command)) (mail : List Message) → StandsFor c s channel steps mail
-    → StandFor c.bank_candidates c.banks c.refresh c.queue c.config.groups s (issued_commands channel steps)
-at-stand c s channel steps mail h =
+pub at-stand : (c : Channel) (past : Past) → HasPast c past
+    → StandFor c.bank_candidates c.banks c.refresh c.queue c.config.groups past.config (commands_after past)
+at-stand c past h =
     record {
       candidates_stand = h.candidates_stand;
       banks_stand = h.banks_stand;
@@ -65,30 +63,30 @@ at-stand c s channel steps mail h =
     }
 
 -- whether the channel would drain its writes in the next cycle
-pub at-drains : (c : Channel) (s : Config) (channel : ℕ) (steps : List (Option Command)) (mail : List Message) → StandsFor c s channel steps mail
-    → is_draining c.queue ≡ drains s channel steps mail (length steps)
-at-drains c s channel steps mail h =
+pub at-drains : (c : Channel) (past : Past) → HasPast c past
+    → is_draining c.queue ≡ drains past.config past.channel past.steps past.mail (length past.steps)
+at-drains c past h =
     let r = h.recalls in
-    let before : Each (ArrivedBefore (length steps)) (requests_of mail) = requests-arrived s channel (length steps) mail r.past.requests r.past.arrived in
+    let before : Each (ArrivedBefore (length past.steps)) (requests_of past.mail) = requests-arrived past.config past.channel (length past.steps) past.mail r.past.requests r.past.arrived in
     ap₂ (λ high low. drains_by high low c.queue.drain_decided (write_count (waiting_requests c.queue.log))) h.made_for.high_is h.made_for.low_is
-    ∙ ap₂ (λ d q. drains_with s d (write_count q)) r.drained_is
-    (r.queue_is ∙ sym (queued_requests-until (issued_commands channel steps) mail (length steps) (length steps + 1) (omega arith) before))
-    ∙ sym (drains-next s channel steps mail)
+    ∙ ap₂ (λ d q. drains_with past.config d (write_count q)) r.drained_is
+    (r.queue_is ∙ sym (queued_requests-until (commands_after past) past.mail (length past.steps) (length past.steps + 1) (omega arith) before))
+    ∙ sym (drains-next past.config past.channel past.steps past.mail)
 
 -- what would be chosen in a later cycle, if nothing is issued and nothing arrives before it
-at-choice : (c : Channel) (s : Config) (channel : ℕ) (steps : List (Option Command)) (mail : List Message) (from cycle : ℕ) → StandsFor c s channel steps mail → length steps ≡ from → from ≤ cycle
-    → choice_in s (issued_commands channel steps) c.queue cycle ≡ choice s channel (steps ++ replicate (cycle - from) None) mail
-at-choice c s channel steps mail from cycle h at l =
+at-choice : (c : Channel) (past : Past) (from cycle : ℕ) → HasPast c past → length past.steps ≡ from → from ≤ cycle
+    → choice_in past.config (commands_after past) c.queue cycle ≡ choice past.config past.channel (past.steps ++ replicate (cycle - from) None) past.mail
+at-choice c past from cycle h at l =
     let r = h.recalls in
-    let history = issued_commands channel steps in
-    let before : Each (ArrivedBefore (length steps)) (requests_of mail) = requests-arrived s channel (length steps) mail r.past.requests r.past.arrived in
-    let soon : Each (ArrivedBefore (length steps + 1)) (requests_of mail) =
-    Each-weaker (ArrivedBefore (length steps)) (ArrivedBefore (length steps + 1)) (λ r l. omega arith) (requests_of mail) before in
-    let there : waiting_requests c.queue.log ≡ queued_requests history mail (length steps + 1) = r.queue_is ∙ sym (queued_requests-until history mail (length steps) (length steps + 1) (omega arith) before) in
-    let then : cycle ≡ length steps + (cycle - from) = omega arith in
-    ap (λ t. choice_between s history t (candidates s (is_draining c.queue) (waiting_requests c.queue.log)) (lowest_due s history t)) then
-    ∙ ap₂ (λ d q. choice_between s history (length steps + (cycle - from)) (candidates s d q) (lowest_due s history (length steps + (cycle - from)))) (at-drains c s channel steps mail h) there
-    ∙ sym (idle-choice s channel steps mail soon (cycle - from))
+    let history = commands_after past in
+    let before : Each (ArrivedBefore (length past.steps)) (requests_of past.mail) = requests-arrived past.config past.channel (length past.steps) past.mail r.past.requests r.past.arrived in
+    let soon : Each (ArrivedBefore (length past.steps + 1)) (requests_of past.mail) =
+    Each-weaker (ArrivedBefore (length past.steps)) (ArrivedBefore (length past.steps + 1)) (λ r l. omega arith) (requests_of past.mail) before in
+    let there : waiting_requests c.queue.log ≡ queued_requests history past.mail (length past.steps + 1) = r.queue_is ∙ sym (queued_requests-until history past.mail (length past.steps) (length past.steps + 1) (omega arith) before) in
+    let then : cycle ≡ length past.steps + (cycle - from) = omega arith in
+    ap (λ t. choice_between past.config history t (candidates past.config (is_draining c.queue) (waiting_requests c.queue.log)) (lowest_due past.config history t)) then
+    ∙ ap₂ (λ d q. choice_between past.config history (length past.steps + (cycle - from)) (candidates past.config d q) (lowest_due past.config history (length past.steps + (cycle - from)))) (at-drains c past h) there
+    ∙ sym (idle-choice past.config past.channel past.steps past.mail soon (cycle - from))
 
 first-agree : (p q : ℕ → Bool) (now : ℕ) → ((cycle : ℕ) → now ≤ cycle → p cycle ≡ q cycle) → (o : Option ℕ) → IsFirstCycle p now o → IsFirstCycle q now o
 first-agree p q now same None h = λ cycle l. sym (same cycle l) ∙ h cycle l
@@ -99,11 +97,11 @@ first-agree p q now same (Some first) h =
       not_before = λ cycle l e. sym (same cycle l) ∙ h.not_before cycle l e;
     }
 
-pub at-first : (c : Channel) (s : Config) (channel : ℕ) (steps : List (Option Command)) (mail : List Message) (from : ℕ) (o : Option ℕ) → StandsFor c s channel steps mail → length steps ≡ from
-    → IsFirstCycle (λ cycle. is_some (choice_in s (issued_commands channel steps) c.queue cycle)) from o
-    → IsFirstCycle (λ cycle. is_some (choice s channel (steps ++ replicate (cycle - from) None) mail)) from o
-at-first c s channel steps mail from o h at f =
-    first-agree _ _ from (λ cycle l. ap is_some (at-choice c s channel steps mail from cycle h at l)) o f
+pub at-first : (c : Channel) (past : Past) (from : ℕ) (o : Option ℕ) → HasPast c past → length past.steps ≡ from
+    → IsFirstCycle (λ cycle. is_some (choice_in past.config (commands_after past) c.queue cycle)) from o
+    → IsFirstCycle (λ cycle. is_some (choice past.config past.channel (past.steps ++ replicate (cycle - from) None) past.mail)) from o
+at-first c past from o h at f =
+    first-agree _ _ from (λ cycle l. ap is_some (at-choice c past from cycle h at l)) o f
 
 pub start-stands : (c : Channel) (s : Config) (number : ℕ) → c.config ≡ s → c.number ≡ number → c.cycle ≡ 0
     → c.queue ≡ record { room = queue_room s; places = places_for (queue_room s); high = s.write_high; low = s.write_low; log = []; drain_decided = false }
@@ -111,7 +109,7 @@ pub start-stands : (c : Channel) (s : Config) (number : ℕ) → c.config ≡ s 
     → CandidatesStandFor c.bank_candidates [] (λ bank. None) → c.ahead ≡ Unknown → c.served ≡ None → StandsFor c s number [] []
 unfolding issued_commands open_row waiting
 start-stands c s number config is cycle queue_is banks refresh stats count bank_candidates ahead served =
-    let R : QueueView → ChannelStats → Type 0 = λ q t. Recalls (waiting_requests q.log) q.drain_decided (marks_in q.log) t s number [] [] in
+    let R : QueueView → ChannelStats → Type 0 = λ q t. Recalls (waiting_requests q.log) q.drain_decided (marks_in q.log) t (past_of s number [] []) in
     let empty : QueueView = record { room = queue_room s; places = places_for (queue_room s); high = s.write_high; low = s.write_low; log = []; drain_decided = false } in
     let base : R empty (record channel_none { draining = draining_of s 0 }) = recalls-none s number in
     let none : length (waiting_requests c.queue.log) ≡ 0 = ap (λ (q : QueueView). length (waiting_requests q.log)) queue_is in

@@ -11,10 +11,8 @@ use Rattle.sim_base.proofs.Same.{queue-same}
 use Rattle.sim_base.specs.declared.config.Config.{Config}
 use Rattle.sim_base.specs.Access.{is_access}
 use Rattle.sim_base.specs.Counts.{queue_length}
-use Rattle.sim_base.specs.History.{issued_commands}
 use Rattle.sim_base.specs.Machine.{channel_run}
 use Rattle.sim_base.specs.Scheduling.{request_in, drains_with}
-use Rattle.sim_base.specs.declared.command.Command.{Command}
 use Rattle.sim_base.specs.declared.command.IssuedCommand.{IssuedCommand}
 use Rattle.sim_base.specs.declared.message.Access.TheVariants as access
 use Rattle.sim_base.specs.declared.message.Message.{Message}
@@ -26,11 +24,11 @@ use Rattle.queue.specs.Columns.{bank_number, write_count}
 use Rattle.queue.specs.View.{QueueView, drains_by}
 use Rattle.queue.specs.declared.bank_candidates.all_banks.BankCandidates.{BankCandidates}
 use Rattle.queue.specs.Stands.{bank_count}
-use Rattle.channel_step.specs.Past.{requests_of, IsRequestIn, CarriesRequest}
-use Rattle.channel_step.specs.Fit.{queue_room, IsFit}
+use Rattle.channel_step.specs.Past.{requests_of, IsRequestIn, CarriesRequest, Past, commands_after, with_mail}
+use Rattle.channel_step.specs.Fit.{queue_room, IsFitAfter}
 use Rattle.channel_step.specs.Stands.{marks_of}
 use Rattle.channel_step.specs.Queued.{marks_in, with_arrivals}
-use Rattle.channel_step.specs.Channels.{CandidatesStand, StandsFor, IsAhead, IsAheadFor, IsInCycle}
+use Rattle.channel_step.specs.Channels.{CandidatesStand, IsAhead, IsAheadFor, IsInCycle, HasPast}
 use Rattle.channel_step.specs.declared.ahead.Ahead.{Ahead}
 use Rattle.channel_step.specs.declared.ahead.Ahead.TheVariants.{Unknown, Known}
 use Rattle.channel_step.specs.declared.channel.Channel.{Channel}
@@ -58,21 +56,21 @@ length-requests s channel (m ∷ ms) h = by (request_in m.load) h.0 (length-requ
     by (Some r) i e = ap (λ n. suc n) e
 
 -- the queue of a cycle has room for what arrives in it
-pub arrivals-room : (c : Channel) (s : Config) (channel : ℕ) (steps : List (Option Command)) (mail inbox : List Message) (now until : ℕ) → StandsFor c s channel steps mail → length steps ≡ now → now < until
-    → IsFit s channel steps mail inbox now until → length (waiting_requests c.queue.log ++ requests_of (take (due_count inbox now) inbox)) ≤ queue_room s
+pub arrivals-room : (c : Channel) (past : Past) (inbox : List Message) (now until : ℕ) → HasPast c past → length past.steps ≡ now → now < until
+    → IsFitAfter past inbox now until → length (waiting_requests c.queue.log ++ requests_of (take (due_count inbox now) inbox)) ≤ queue_room past.config
 unfolding queue_length channel_run
-arrivals-room c s channel steps mail inbox now until h at l f =
+arrivals-room c past inbox now until h at l f =
     let new = take (due_count inbox now) inbox in
     let rest = drop (due_count inbox now) inbox in
-    let j = joined _ _ _ _ s channel steps mail new h.recalls (fit-arrives s channel steps mail inbox now until at f) in
-    let later = fit-later s channel steps mail inbox now until at f in
-    let whole : mail ++ inbox ≡ (mail ++ new) ++ rest = ap (λ x. mail ++ x) (sym (take-append-drop (due_count inbox now) inbox)) ∙ sym (append_assoc mail new rest) in
+    let j = joined _ _ _ _ past new h.recalls (fit-arrives past inbox now until at f) in
+    let later = fit-later past inbox now until at f in
+    let whole : past.mail ++ inbox ≡ (past.mail ++ new) ++ rest = ap (λ x. past.mail ++ x) (sym (take-append-drop (due_count inbox now) inbox)) ∙ sym (append_assoc past.mail new rest) in
     let fits = f.room 0 (omega arith) in
-    let is : queue_length channel steps (mail ++ inbox) (now + 0) ≡ length (waiting_requests c.queue.log ++ requests_of new) =
-    ap₂ (λ m k. queue_length channel steps m k) whole (add-zero now ∙ sym at)
-    ∙ ap length (queue-same channel steps ((mail ++ new) ++ rest) (mail ++ new) (length steps)
-    (AgreeUpTo-later (length steps + 1) (mail ++ new) rest (carries-stamped s channel (mail ++ new) j.requests) (carries-stamped s channel rest later.0) later.1)
-    ∙ queue-next channel steps (mail ++ new) ∙ sym j.queue_is) in
+    let is : queue_length past.channel past.steps (past.mail ++ inbox) (now + 0) ≡ length (waiting_requests c.queue.log ++ requests_of new) =
+    ap₂ (λ m k. queue_length past.channel past.steps m k) whole (add-zero now ∙ sym at)
+    ∙ ap length (queue-same past.channel past.steps ((past.mail ++ new) ++ rest) (past.mail ++ new) (length past.steps)
+    (AgreeUpTo-later (length past.steps + 1) (past.mail ++ new) rest (carries-stamped past.config past.channel (past.mail ++ new) j.requests) (carries-stamped past.config past.channel rest later.0) later.1)
+    ∙ queue-next past.channel past.steps (past.mail ++ new) ∙ sym j.queue_is) in
     omega arith
 
 -- the requests that arrive in a cycle
@@ -86,37 +84,37 @@ arriving-in_banks s channel new h =
     (carried s channel (InBanks s) new h (Each-all _ (λ m r i. request-in_banks s channel m r i) new)))
 
 -- all that have arrived then ask for banks that there are
-pub arrived-places : (c : Channel) (s : Config) (channel : ℕ) (steps : List (Option Command)) (mail inbox : List Message) (now until : ℕ) (q : QueueView) → StandsFor c s channel steps mail → length steps ≡ now
-    → IsFit s channel steps mail inbox now until → q ≡ with_arrivals c.queue (arriving inbox now) → All (IsInBanks s.ranks) (all_requests q.log)
-arrived-places c s channel steps mail inbox now until q h at f e =
-    subst (All (IsInBanks s.ranks)) (sym (ap (λ (x : QueueView). all_requests x.log) e ∙ all-with c.queue.log (arriving inbox now)))
-    (All-append (IsInBanks s.ranks) (all_requests c.queue.log) (arriving inbox now) h.made_for.in_banks
-    (arriving-in_banks s channel (take (due_count inbox now) inbox) (fit-arrives s channel steps mail inbox now until at f).requests))
+pub arrived-places : (c : Channel) (past : Past) (inbox : List Message) (now until : ℕ) (q : QueueView) → HasPast c past → length past.steps ≡ now
+    → IsFitAfter past inbox now until → q ≡ with_arrivals c.queue (arriving inbox now) → All (IsInBanks past.config.ranks) (all_requests q.log)
+arrived-places c past inbox now until q h at f e =
+    subst (All (IsInBanks past.config.ranks)) (sym (ap (λ (x : QueueView). all_requests x.log) e ∙ all-with c.queue.log (arriving inbox now)))
+    (All-append (IsInBanks past.config.ranks) (all_requests c.queue.log) (arriving inbox now) h.made_for.in_banks
+    (arriving-in_banks past.config past.channel (take (due_count inbox now) inbox) (fit-arrives past inbox now until at f).requests))
 
 -- the banks that they ask for have candidates
-pub arrived-in_banks : (c : Channel) (s : Config) (channel : ℕ) (steps : List (Option Command)) (mail inbox : List Message) (now until : ℕ) (q : QueueView) → StandsFor c s channel steps mail → length steps ≡ now
-    → IsFit s channel steps mail inbox now until → q ≡ with_arrivals c.queue (arriving inbox now) → All (λ a. bank_number a.request.place < bank_count c.bank_candidates) q.log
-arrived-in_banks c s channel steps mail inbox now until q h at f e =
-    banks-below s.ranks (bank_count c.bank_candidates) q.log h.made_for.banks_are (arrived-places c s channel steps mail inbox now until q h at f e)
+pub arrived-in_banks : (c : Channel) (past : Past) (inbox : List Message) (now until : ℕ) (q : QueueView) → HasPast c past → length past.steps ≡ now
+    → IsFitAfter past inbox now until → q ≡ with_arrivals c.queue (arriving inbox now) → All (λ a. bank_number a.request.place < bank_count c.bank_candidates) q.log
+arrived-in_banks c past inbox now until q h at f e =
+    banks-below past.config.ranks (bank_count c.bank_candidates) q.log h.made_for.banks_are (arrived-places c past inbox now until q h at f e)
 
 -- when they have joined
-pub arrived-stands : (c : Channel) (s : Config) (channel : ℕ) (steps : List (Option Command)) (mail inbox : List Message) (now until : ℕ) (q : QueueView) (bank_candidates : BankCandidates) (ahead : Ahead) → StandsFor c s channel steps mail → length steps ≡ now → now < until
-    → IsFit s channel steps mail inbox now until → q ≡ with_arrivals c.queue (arriving inbox now)
-    → bank_count bank_candidates ≡ bank_count c.bank_candidates → CandidatesStand bank_candidates q.log (issued_commands channel steps)
-    → IsAhead s (issued_commands channel steps) q c.cycle ahead
-    → IsInCycle (record c { queue = q; bank_candidates = bank_candidates; ahead = ahead }) s channel steps (mail ++ take (due_count inbox now) inbox)
-arrived-stands c s channel steps mail inbox now until q bank_candidates ahead h at l f e count candidates_stand known =
-    let history = issued_commands channel steps in
+pub arrived-stands : (c : Channel) (past : Past) (inbox : List Message) (now until : ℕ) (q : QueueView) (bank_candidates : BankCandidates) (ahead : Ahead) → HasPast c past → length past.steps ≡ now → now < until
+    → IsFitAfter past inbox now until → q ≡ with_arrivals c.queue (arriving inbox now)
+    → bank_count bank_candidates ≡ bank_count c.bank_candidates → CandidatesStand bank_candidates q.log (commands_after past)
+    → IsAhead past.config (commands_after past) q c.cycle ahead
+    → IsInCycle (record c { queue = q; bank_candidates = bank_candidates; ahead = ahead }) (with_mail past (take (due_count inbox now) inbox))
+arrived-stands c past inbox now until q bank_candidates ahead h at l f e count candidates_stand known =
+    let history = commands_after past in
     let new = take (due_count inbox now) inbox in
     let requests = arriving inbox now in
     let older = waiting_requests c.queue.log in
-    let j = joined _ _ _ _ s channel steps mail new h.recalls (fit-arrives s channel steps mail inbox now until at f) in
+    let j = joined _ _ _ _ past new h.recalls (fit-arrives past inbox now until at f) in
     let wait : waiting_requests q.log ≡ older ++ requests = ap (λ (x : QueueView). waiting_requests x.log) e ∙ waiting-with c.queue.log requests in
-    let drains : q.drain_decided ≡ drains_with s c.queue.drain_decided (count_by (λ r. is_access access.Write r.access) (older ++ requests)) =
+    let drains : q.drain_decided ≡ drains_with past.config c.queue.drain_decided (count_by (λ r. is_access access.Write r.access) (older ++ requests)) =
     ap (λ (x : QueueView). x.drain_decided) e
     ∙ ap (λ rs. drains_by c.queue.high c.queue.low c.queue.drain_decided (write_count rs)) (waiting-with c.queue.log requests)
     ∙ ap₂ (λ high low. drains_by high low c.queue.drain_decided (write_count (older ++ requests))) h.made_for.high_is h.made_for.low_is in
-    let room = arrivals-room c s channel steps mail inbox now until h at l f in
+    let room = arrivals-room c past inbox now until h at l f in
     let same : length (waiting_requests q.log) ≡ length (older ++ requests) = ap length wait in
     record {
       made_for = record {
@@ -126,7 +124,7 @@ arrived-stands c s channel steps mail inbox now until q bank_candidates ahead h 
         low_is = ap (λ (x : QueueView). x.low) e ∙ h.made_for.low_is;
         room_is = ap (λ (x : QueueView). x.room) e ∙ h.made_for.room_is;
         banks_are = count ∙ h.made_for.banks_are;
-        in_banks = arrived-places c s channel steps mail inbox now until q h at f e;
+        in_banks = arrived-places c past inbox now until q h at f e;
         within = omega arith;
         longest = h.made_for.longest;
       };
@@ -143,19 +141,19 @@ arrived-stands c s channel steps mail inbox now until q bank_candidates ahead h 
       candidates_stand = candidates_stand;
       banks_stand = h.banks_stand;
       refreshes_stand = h.refreshes_stand;
-      foresees = foreseen-from s history q c.cycle ahead known;
-      keeps_served = kept-later c.served history mail new h.keeps_served;
+      foresees = foreseen-from past.config history q c.cycle ahead known;
+      keeps_served = kept-later c.served history past.mail new h.keeps_served;
     }
 
 -- there is room for them
-pub admit-room : (c : Channel) (s : Config) (channel : ℕ) (steps : List (Option Command)) (mail inbox : List Message) (now until n : ℕ) → StandsFor c s channel steps mail → length steps ≡ now → now < until
-    → IsFit s channel steps mail inbox now until → n ≡ due_count inbox now → length (waiting_requests c.queue.log) + n ≤ c.queue.room
-admit-room c s channel steps mail inbox now until n h at l f e =
+pub admit-room : (c : Channel) (past : Past) (inbox : List Message) (now until n : ℕ) → HasPast c past → length past.steps ≡ now → now < until
+    → IsFitAfter past inbox now until → n ≡ due_count inbox now → length (waiting_requests c.queue.log) + n ≤ c.queue.room
+admit-room c past inbox now until n h at l f e =
     let new = take (due_count inbox now) inbox in
-    let each : length (requests_of new) ≡ length new = length-requests s channel new (fit-arrives s channel steps mail inbox now until at f).requests in
-    let room : c.queue.room ≡ queue_room s = h.made_for.room_is in
+    let each : length (requests_of new) ≡ length new = length-requests past.config past.channel new (fit-arrives past inbox now until at f).requests in
+    let room : c.queue.room ≡ queue_room past.config = h.made_for.room_is in
     let many : length new ≡ due_count inbox now = length-prefix_len (λ (m : Message). eqb m.arrival now) inbox in
-    omega (arith, arrivals-room c s channel steps mail inbox now until h at l f, length-append (waiting_requests c.queue.log) (requests_of new))
+    omega (arith, arrivals-room c past inbox now until h at l f, length-append (waiting_requests c.queue.log) (requests_of new))
 
 -- the requests that were there before
 pub log-before : (c : Channel) (new : List Request) (n : ℕ) (q : QueueView) → n ≡ length c.queue.log → q ≡ with_arrivals c.queue new → c.queue.log ≡ take n q.log

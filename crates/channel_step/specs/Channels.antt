@@ -4,19 +4,22 @@
 --     AreServed rows history mail      these are the requests that these commands served, of those that came with these messages
 --     KeepsServed kept history mail      the same of the requests that are kept, if they are
 --     StandsFor c s channel steps mail      all that it keeps is what these steps, and the messages that arrived in them, make of it
---     StandForTheSame old new      a channel stands for all that it stood for
---     StaysInCycle old new      it is in each cycle that it was in
+--     HasPast c p      the same, of a past
+--     ForPasts c fact      a fact of each past that it may have
+--     StandForTheSame old new      a channel has each past that it had
 --     PartsStand c s history      the parts of a channel stand for a configuration and its commands so far
 --     HasMore c s history earlier older      the requests from a place on have joined the queue of a channel since
---     waiting_after channel steps mail      the requests that wait at a channel
---     issues_in s channel steps mail from cycle      whether a channel issues a command in a cycle, if nothing arrives
+--     idle_after p from cycle      a past, and cycles in which nothing is issued and nothing arrives
+--     issues_in p from cycle      whether a channel issues a command in a cycle, if nothing arrives
 --     IsQuiet s history queue from end      nothing is issued before a cycle
 --     IsAhead s history queue from ahead, IsForeseen s history queue from ahead      what is known of the next command from a cycle on is so
 --     Foresees c s history      the same of what a channel knows
 --     IsFound c s history now next      the next command from a cycle on, if there is one
 --     HasRank c rank, HasBank c bank      a channel of a machine with this rank, or with this bank
---     IsInCycle c s channel steps mail      the same in the cycle after these steps, when what arrives in it has joined the queue
---     IsNextBefore s channel steps mail log end next      the next command before a cycle, and when it is issued, if there is one
+--     IsInCycle c p      it has a past in the next cycle, when what arrives in it has joined the queue
+--     ForCycles c fact      a fact of each past after which it may be in the next cycle
+--     StaysInCycle old new      it is in each cycle that it was in
+--     IsNextBefore p log end next      the next command before a cycle, and when it is issued, if there is one
 --     CountsDrains c      cycles of draining are counted where the channel ever drains
 --     seen_with c refreshing, seen_of c now      what is seen of a channel in a cycle
 --     counted c seen command hit      its statistics after a command
@@ -28,12 +31,11 @@ use Rattle.std.specs.List.{AllByRecursion as Each}
 use Rattle.std.specs.declared.alloc.Global.{Global}
 use Rattle.sim_base.specs.declared.config.Config.{Config}
 use Rattle.sim_base.specs.History.{issued_commands}
-use Rattle.sim_base.specs.Scheduling.{choice, queued_requests, source_of}
+use Rattle.sim_base.specs.Scheduling.{source_of}
 use Rattle.sim_base.specs.declared.command.Command.{Command}
 use Rattle.sim_base.specs.declared.command.IssuedCommand.{IssuedCommand}
 use Rattle.sim_base.specs.declared.command.Source.{Source}
 use Rattle.sim_base.specs.declared.message.Message.{Message}
-use Rattle.sim_base.specs.declared.message.Request.{Request}
 use Rattle.sim_base.specs.declared.place.BankId.{BankId}
 use Rattle.bank_ready.specs.Stands.{StandsFor as BanksStandFor}
 use Rattle.bank_ready.specs.Refreshes.{lowest_owed, StandsFor as RefreshesStandFor}
@@ -52,7 +54,7 @@ use Rattle.fr_fcfs.specs.Cycles.{IsNext}
 use Rattle.fr_fcfs.specs.declared.choice.Choice.{Choice}
 use Rattle.request_table.specs.Served.{served_requests}
 use Rattle.request_table.specs.declared.served_requests.ServedRequest.{ServedRequest}
-use Rattle.channel_step.specs.Past.{Steps, requests_of}
+use Rattle.channel_step.specs.Past.{Steps, Past, past_of, commands_after, choice_after, requests_of}
 use Rattle.channel_step.specs.Fit.{queue_room, idle_until, IsIdle}
 use Rattle.channel_step.specs.Queued.{marks_in}
 use Rattle.channel_step.specs.Stands.{Recalls, HasJoined}
@@ -144,25 +146,33 @@ KeepsServed kept history mail = IfSome kept (λ rows. AreServed rows.items histo
 pub record StandsFor (c : Channel) (s : Config) (channel : ℕ) (steps : Steps) (mail : List Message) : Type 0 where
   pub made_for : IsMadeFor c s channel
   pub cycle_is : c.cycle ≡ length steps
-  pub recalls : Recalls (waiting_requests c.queue.log) c.queue.drain_decided (marks_in c.queue.log) c.stats s channel steps mail
+  pub recalls : Recalls (waiting_requests c.queue.log) c.queue.drain_decided (marks_in c.queue.log) c.stats (past_of s channel steps mail)
   pub candidates_stand : CandidatesStand c.bank_candidates c.queue.log (issued_commands channel steps)
   pub banks_stand : BanksStandFor c.banks s (issued_commands channel steps)
   pub refreshes_stand : RefreshesStandFor c.refresh s (issued_commands channel steps)
   pub foresees : Foresees c s (issued_commands channel steps)
   pub keeps_served : KeepsServed c.served (issued_commands channel steps) mail
 
--- whatever a channel stood for, it still does
-abbrev pub StandForTheSame : Channel → Channel → Type 0
-StandForTheSame old new =
-    (s : Config) (channel : ℕ) (steps : Steps) (mail : List Message) → StandsFor old s channel steps mail → StandsFor new s channel steps mail
+-- a channel has a past: it stands for it
+abbrev pub HasPast : Channel → Past → Type 0
+HasPast c p = StandsFor c p.config p.channel p.steps p.mail
 
--- the requests that wait at a channel after these steps
-abbrev pub waiting_after : ℕ → Steps → List Message → List Request
-waiting_after channel steps mail = queued_requests (issued_commands channel steps) mail (length steps)
+-- this is so of each past that a channel may have, whose parts are given one by one
+abbrev pub ForPasts : Channel → (Past → Type 0) → Type 0
+ForPasts c fact =
+    (s : Config) (channel : ℕ) (steps : Steps) (mail : List Message) → StandsFor c s channel steps mail → fact (past_of s channel steps mail)
+
+-- a channel still has each past that it had
+abbrev pub StandForTheSame : Channel → Channel → Type 0
+StandForTheSame old new = ForPasts old (HasPast new)
+
+-- a past, and cycles from one on and before another in which nothing is issued and nothing arrives
+abbrev pub idle_after : Past → ℕ → ℕ → Past
+idle_after p from cycle = record p { steps = idle_until p.steps from cycle }
 
 -- whether a channel issues a command in a cycle, from one on, if it issues none and nothing arrives before that
-abbrev pub issues_in : Config → ℕ → Steps → List Message → ℕ → ℕ → Bool
-issues_in s channel steps mail from = λ cycle. is_some (choice s channel (idle_until steps from cycle) mail)
+abbrev pub issues_in : Past → ℕ → ℕ → Bool
+issues_in p from = λ cycle. is_some (choice_after (idle_after p from cycle))
 
 -- a channel stands for a past of a machine with this rank
 pub record HasRank (c : Channel) (rank : ℕ) : Type 0 where
@@ -184,52 +194,52 @@ pub record HasBank (c : Channel) (bank : BankId) : Type 0 where
   pub group_in : bank.group < s.groups
   pub bank_in : bank.bank < 4
 
--- A channel stands for its past in the cycle after these steps, when what arrives in it has joined the queue.
-pub record IsInCycle (c : Channel) (s : Config) (channel : ℕ) (steps : Steps) (mail : List Message) : Type 0 where
-  pub made_for : IsMadeFor c s channel
-  pub cycle_is : c.cycle ≡ length steps
-  pub joined : HasJoined (waiting_requests c.queue.log) c.queue.drain_decided (marks_in c.queue.log) c.stats s channel steps mail
-  pub candidates_stand : CandidatesStand c.bank_candidates c.queue.log (issued_commands channel steps)
-  pub banks_stand : BanksStandFor c.banks s (issued_commands channel steps)
-  pub refreshes_stand : RefreshesStandFor c.refresh s (issued_commands channel steps)
-  pub foresees : Foresees c s (issued_commands channel steps)
-  pub keeps_served : KeepsServed c.served (issued_commands channel steps) mail
+-- A channel stands for its past in the cycle after its steps, when what arrives in it has joined the queue.
+pub record IsInCycle (c : Channel) (p : Past) : Type 0 where
+  pub made_for : IsMadeFor c p.config p.channel
+  pub cycle_is : c.cycle ≡ length p.steps
+  pub joined : HasJoined (waiting_requests c.queue.log) c.queue.drain_decided (marks_in c.queue.log) c.stats p
+  pub candidates_stand : CandidatesStand c.bank_candidates c.queue.log (commands_after p)
+  pub banks_stand : BanksStandFor c.banks p.config (commands_after p)
+  pub refreshes_stand : RefreshesStandFor c.refresh p.config (commands_after p)
+  pub foresees : Foresees c p.config (commands_after p)
+  pub keeps_served : KeepsServed c.served (commands_after p) p.mail
+
+-- this is so of each past after which a channel may be in the next cycle
+abbrev pub ForCycles : Channel → (Past → Type 0) → Type 0
+ForCycles c fact = (past : Past) → IsInCycle c past → fact past
 
 -- a channel is still in each cycle that it was in
 abbrev pub StaysInCycle : Channel → Channel → Type 0
-StaysInCycle old new =
-    (s : Config) (channel : ℕ) (steps : Steps) (mail : List Message) → IsInCycle old s channel steps mail → IsInCycle new s channel steps mail
+StaysInCycle old new = ForCycles old (IsInCycle new)
 
--- a channel is in a cycle, after some steps
+-- a channel is in a cycle, after some past
 pub record IsInSomeCycle (c : Channel) (now : ℕ) : Type 0 where
-  pub s : Config
-  pub channel : ℕ
-  pub steps : Steps
-  pub mail : List Message
-  pub is_in : IsInCycle c s channel steps mail
-  pub at : length steps ≡ now
+  pub past : Past
+  pub is_in : IsInCycle c past
+  pub at : length past.steps ≡ now
 
--- The next command that is issued after these steps, if nothing arrives any more: it is what the channel does in this
--- cycle, which is before another one, and none is issued in the cycles before it.
-pub record IsNextIn (s : Config) (channel : ℕ) (steps : Steps) (mail : List Message) (end cycle : ℕ) (command : Command) : Type 0 where
-  pub from_now : length steps ≤ cycle
+-- The next command that is issued after a past, if nothing arrives any more: it is what the channel does in this cycle,
+-- which is before another one, and none is issued in the cycles before it.
+pub record IsNextIn (p : Past) (end cycle : ℕ) (command : Command) : Type 0 where
+  pub from_now : length p.steps ≤ cycle
   pub before_end : cycle < end
-  pub idle : IsIdle s channel steps mail (cycle - length steps)
-  pub command_is : Some command ≡ choice s channel (idle_until steps (length steps) cycle) mail
+  pub idle : IsIdle p.config p.channel p.steps p.mail (cycle - length p.steps)
+  pub command_is : Some command ≡ choice_after (idle_after p (length p.steps) cycle)
 
--- the next command that is issued after these steps, if nothing arrives any more, and what needs it: a request of a
--- log, or a rank
-pub record IsNeededIn (s : Config) (channel : ℕ) (steps : Steps) (mail : List Message) (log : List Arrived) (end cycle : ℕ) (chosen : Choice) : Type 0 where
+-- the next command that is issued after a past, if nothing arrives any more, and what needs it: a request of a log, or
+-- a rank
+pub record IsNeededIn (p : Past) (log : List Arrived) (end cycle : ℕ) (chosen : Choice) : Type 0 where
   pub command : Command
-  pub place : IsFor s.ranks log chosen
-  pub needed : command_of s (issued_commands channel steps) log chosen ≡ Some command
-  pub is_next : IsNextIn s channel steps mail end cycle command
+  pub place : IsFor p.config.ranks log chosen
+  pub needed : command_of p.config (commands_after p) log chosen ≡ Some command
+  pub is_next : IsNextIn p end cycle command
 
--- what needs the next command that is issued after these steps and before a cycle, if nothing arrives any more, or none
+-- what needs the next command that is issued after a past and before a cycle, if nothing arrives any more, or none
 -- where none is
-abbrev pub IsNextBefore : Config → ℕ → Steps → List Message → List Arrived → ℕ → Option (ℕ × Choice) → Type 0
-IsNextBefore s channel steps mail log end (Some next) = IsNeededIn s channel steps mail log end next.0 next.1
-IsNextBefore s channel steps mail log end None = IsIdle s channel steps mail (end - length steps)
+abbrev pub IsNextBefore : Past → List Arrived → ℕ → Option (ℕ × Choice) → Type 0
+IsNextBefore p log end (Some next) = IsNeededIn p log end next.0 next.1
+IsNextBefore p log end None = IsIdle p.config p.channel p.steps p.mail (end - length p.steps)
 
 -- cycles of draining are counted if and only if the channel ever drains its writes
 abbrev pub CountsDrains : Channel → Type 0
@@ -243,8 +253,8 @@ seen_with c refreshing = record { queued = length (waiting_requests c.queue.log)
 abbrev pub seen_of : Channel → ℕ → Seen
 seen_of c now = seen_with c (is_some (lowest_owed c.refresh now))
 
--- the statistics of a channel after one more cycle, in which this was seen and it issues this command, which moves
--- data of a row hit or not
+-- the statistics of a channel after one more cycle, in which this was seen and it issues this command, which is a row
+-- hit or not
 abbrev pub counted : Channel → Seen → Command → Bool → ChannelStats
 counted c seen command hit = channel_joined c.stats (cycle_with_hit c.config seen.queued seen.refreshing seen.draining (Some command) hit)
 

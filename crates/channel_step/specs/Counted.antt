@@ -1,4 +1,4 @@
--- The statistics of one cycle, where it is known whether data that is moved is a row hit.
+-- The statistics of one cycle, where it is known whether its command is a row hit.
 --     cycle_with_hit s queued has_due drains o hit      of a cycle in which a channel does this
 use Rattle.std.specs.Prelude.{ℕ, ◌==◌, Bool, Option}
 use Rattle.sim_base.specs.declared.config.Config.{Config}
@@ -9,7 +9,7 @@ use Rattle.statistics.specs.Channels.{issues, draining_of}
 use Rattle.statistics.specs.declared.channels.ChannelStats.{ChannelStats}
 
 -- the statistics of a cycle with a queue of this length, in which a refresh is due or not, the channel drains its
--- writes or not, and does this, which moves data of a row hit or not
+-- writes or not, and does this, which is a row hit or not
 abbrev pub cycle_with_hit : Config → ℕ → Bool → Bool → Option Command → Bool → ChannelStats
 cycle_with_hit s queued has_due drains o hit =
     record {

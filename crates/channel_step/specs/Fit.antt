@@ -1,7 +1,7 @@
 -- What may arrive at a channel that is run alone over a span of cycles, and what lets cycles be skipped.
 --     queue_room s      the places of a channel's queue
 --     is_named_by command r      a command stands in the name of a request
---     IsFit s channel steps mail inbox from until      messages that may arrive in a span
+--     IsFit s channel steps mail inbox from until, IsFitAfter p inbox from until      messages that may arrive in a span
 --     idle_until steps from cycle      these steps, and cycles in which nothing is issued
 --     IsIdle s channel steps mail n      a channel issues nothing in the n cycles after these steps, if nothing arrives in them
 use Rattle.std.specs.Prelude.{◌≡◌, ℕ, ◌+◌, ◌-◌, ◌*◌, ◌<◌, ◌≤◌, Bool, true, false, List, [], ◌∷◌, ◌++◌, replicate, Option, None}
@@ -17,7 +17,7 @@ use Rattle.sim_base.specs.declared.command.Source.{Source}
 use Rattle.sim_base.specs.declared.message.Message.{Message}
 use Rattle.sim_base.specs.declared.message.Request.{Request}
 use Rattle.std.specs.Prelude.{Some}
-use Rattle.channel_step.specs.Past.{Steps, requests_of, CarriesRequest, Differ}
+use Rattle.channel_step.specs.Past.{Steps, Past, requests_of, CarriesRequest, Differ}
 
 -- the places of a channel's queue: as many as there are credits
 abbrev pub queue_room : Config → ℕ
@@ -56,6 +56,10 @@ pub record IsFit (s : Config) (channel : ℕ) (steps : Steps) (mail inbox : List
   pub unnamed : Each (IsUnnamed (issued_commands channel steps)) (requests_of inbox)
   pub room : (n : ℕ) → from + n < until
       → queue_length channel (channel_run s channel steps (mail ++ inbox) n) (mail ++ inbox) (from + n) ≤ queue_room s
+
+-- the same of a past
+abbrev pub IsFitAfter : Past → List Message → ℕ → ℕ → Type 0
+IsFitAfter p inbox from until = IsFit p.config p.channel p.steps p.mail inbox from until
 
 -- these steps, and then nothing in the cycles from one on and before another
 abbrev pub idle_until : Steps → ℕ → ℕ → Steps

@@ -1,25 +1,70 @@
 -- What a channel that is run alone went through, and what it keeps of it.
 --     Steps      what a channel did, cycle by cycle
+--     Past      a channel of a machine, its steps, and the messages that arrived in them
+--     past_of s channel steps mail      such a past
+--     with_step p o, with_mail p more      a past with one step more, or with more messages
+--     commands_after p, stats_after p      the commands of its steps, and their statistics
+--     waiting_after p      the requests that wait after them
+--     choice_after p      the command that the channel issues in the next cycle, if it issues one
 --     requests_of mail      the requests that messages carry
 --     CarriesRequest s channel m      a message carries a request for this channel, as a core of the machine sends it
 --     Differ requests      no two of them are of one entry
 --     is_named history r      an ACT was issued in the name of a request
---     IsPast s channel steps mail      steps of a channel, one a cycle, and the messages that arrived in those cycles
-use Rattle.std.specs.Prelude.{◌≡◌, ℕ, ◌<◌, Bool, false, List, [], ◌∷◌, length, filter_map, Option, Some, None}
+--     IsPast p      the messages are those that may have arrived
+use Rattle.std.specs.Prelude.{◌≡◌, ℕ, ◌<◌, Bool, false, List, [], ◌∷◌, ◌++◌, length, filter_map, Option, Some, None}
 use Rattle.std.specs.List.{list_any, AllByRecursion as Each}
 use Rattle.sim_base.specs.declared.config.Config.{Config}
 use Rattle.sim_base.specs.Config.{request_link}
 use Rattle.sim_base.specs.Counts.{is_act_for}
+use Rattle.sim_base.specs.History.{issued_commands}
 use Rattle.sim_base.specs.Places.{place_of}
-use Rattle.sim_base.specs.Scheduling.{request_in, is_source, source_of}
+use Rattle.sim_base.specs.Scheduling.{request_in, is_source, source_of, queued_requests, choice}
 use Rattle.sim_base.specs.declared.command.Command.{Command}
 use Rattle.sim_base.specs.declared.command.IssuedCommand.{IssuedCommand}
 use Rattle.sim_base.specs.declared.message.Message.{Message}
 use Rattle.sim_base.specs.declared.message.Request.{Request}
+use Rattle.statistics.specs.Channels.{channel_stats}
+use Rattle.statistics.specs.declared.channels.ChannelStats.{ChannelStats}
 
 -- what a channel did, cycle by cycle: its command, or none
 abbrev pub Steps : Type 0
 Steps = List (Option Command)
+
+-- What a channel went through: the configuration of its machine, its number, its steps, one for each cycle so far, and
+-- the messages that arrived in those cycles.
+pub record Past : Type 0 where
+  pub config : Config
+  pub channel : ℕ
+  pub steps : Steps
+  pub mail : List Message
+
+-- such a past
+abbrev pub past_of : Config → ℕ → Steps → List Message → Past
+past_of s channel steps mail = record { config = s; channel = channel; steps = steps; mail = mail }
+
+-- the past with one step more
+abbrev pub with_step : Past → Option Command → Past
+with_step p o = record p { steps = p.steps ++ o ∷ [] }
+
+-- the past with these messages as well
+abbrev pub with_mail : Past → List Message → Past
+with_mail p more = record p { mail = p.mail ++ more }
+
+-- the commands of its steps
+abbrev pub commands_after : Past → List IssuedCommand
+commands_after p = issued_commands p.channel p.steps
+
+-- the requests that wait after them
+abbrev pub waiting_after : Past → List Request
+waiting_after p = queued_requests (commands_after p) p.mail (length p.steps)
+
+-- the statistics of its steps
+abbrev pub stats_after : Past → ChannelStats
+stats_after p = channel_stats p.config p.channel p.steps p.mail
+
+-- the command that the channel issues in the next cycle, if it issues one
+abbrev pub choice_after : Past → Option Command
+choice_after p = choice p.config p.channel p.steps p.mail
 
 -- the requests that messages carry, in their order
 abbrev pub requests_of : List Message → List Request
@@ -57,9 +102,8 @@ Differ (r ∷ rs) = Each (IsOther r) rs × Differ rs
 abbrev pub is_named : List IssuedCommand → Request → Bool
 is_named history r = list_any (λ i. is_act_for (source_of r) i.command) history
 
--- The steps of a channel, one a cycle, and the messages that arrived in those cycles: each carries a request, and no
--- two requests are of one entry.
-pub record IsPast (s : Config) (channel : ℕ) (steps : List (Option Command)) (mail : List Message) : Type 0 where
-  pub requests : Each (CarriesRequest s channel) mail
-  pub arrived : Each (λ (m : Message). m.arrival < length steps) mail
-  pub differ : Differ (requests_of mail)
+-- Each of the messages carries a request and has arrived, and no two requests are of one entry.
+pub record IsPast (p : Past) : Type 0 where
+  pub requests : Each (CarriesRequest p.config p.channel) p.mail
+  pub arrived : Each (λ (m : Message). m.arrival < length p.steps) p.mail
+  pub differ : Differ (requests_of p.mail)

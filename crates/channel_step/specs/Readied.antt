@@ -2,21 +2,19 @@
 --     IsChosen c choice      a channel is in a cycle, and this was chosen for it
 --     IsDoing c slot command      it issues a command in it, and at a place a request waits
 --     request_of c slot      the request at a place of its log
---     data_command c slot      the RD or WR of that request
+--     column_command_at c slot      the column command of that request
 --     opening_command c slot, closing_command c slot      the ACT that it needs, and the PRE
 --     command_needed c history slot      what it needs after these commands
---     rank_command s channel steps rank      what a rank needs that is to be refreshed
+--     rank_command p rank      what a rank needs that is to be refreshed
 --     row_of channel now command      a command of a cycle, as it was issued
---     commands_with channel steps command      the commands up to it
---     IsReadied c s channel steps mail command hit      it is as after a command, which it has still to count
+--     commands_with p command      the commands up to it
+--     IsReadied c p command hit      it is as after a command, which it has still to count
 --     HasReadied old new command hit      it is readied for a command, wherever it issues that
---     seen_after s channel steps mail      what is seen of it in the cycle after these steps
---     IsReady c command hit seen      it is readied, after some steps, and this was seen before
+--     seen_after p      what is seen of it in the next cycle
+--     IsReady c command hit seen      it is readied, after some past, and this was seen before
 use Rattle.std.specs.Prelude.{◌≡◌, ℕ, ◌+◌, ◌<◌, ◌≤◌, Bool, true, List, length, is_some, Some, None}
 use Rattle.std.specs.List.{AllByRecursion as Each}
-use Rattle.sim_base.specs.declared.config.Config.{Config}
-use Rattle.sim_base.specs.History.{issued_commands}
-use Rattle.sim_base.specs.Scheduling.{choice, drains, lowest_due, queued_requests, source_of, column_command, needed_at, needed, refresh_command}
+use Rattle.sim_base.specs.Scheduling.{drains, lowest_due, queued_requests, source_of, column_command, needed_at, needed, refresh_command}
 use Rattle.sim_base.specs.Places.{bank_in}
 use Rattle.sim_base.specs.declared.command.Command.{Command}
 use Rattle.sim_base.specs.declared.command.Command.TheVariants.{Pre}
@@ -26,47 +24,41 @@ use Rattle.sim_base.specs.declared.message.Request.{Request}
 use Rattle.bank_ready.specs.Stands.{followed_by, StandsFor as BanksStandFor}
 use Rattle.bank_ready.specs.Refreshes.{StandsFor as RefreshesStandFor}
 use Rattle.queue.specs.Log.{waiting_requests, waits_at}
-use Rattle.statistics.specs.Channels.{channel_stats, moves_hit}
+use Rattle.statistics.specs.Channels.{issues_hit}
 use Rattle.fr_fcfs.specs.Choices.{command_of, IsFor}
 use Rattle.fr_fcfs.specs.declared.choice.Choice.{Choice}
-use Rattle.channel_step.specs.Past.{Steps, requests_of, CarriesRequest, Differ}
+use Rattle.channel_step.specs.Past.{Past, commands_after, stats_after, choice_after, requests_of, CarriesRequest, Differ}
 use Rattle.channel_step.specs.Fit.{queue_room}
 use Rattle.channel_step.specs.Queued.{marks_in, request_at}
 use Rattle.channel_step.specs.Stands.{marks_of}
-use Rattle.channel_step.specs.Channels.{CandidatesStand, KeepsServed, IsMadeFor, IsInCycle}
+use Rattle.channel_step.specs.Channels.{CandidatesStand, KeepsServed, IsMadeFor, IsInCycle, ForCycles}
 use Rattle.channel_step.specs.declared.channel.Channel.{Channel}
 use Rattle.channel_step.specs.declared.counting.Seen.{Seen}
 
--- a channel is in a cycle, after some steps, and this was chosen for it: it needs the command that the channel issues
+-- a channel is in a cycle, after some past, and this was chosen for it: it needs the command that the channel issues
 pub record IsChosen (c : Channel) (chosen : Choice) : Type 0 where
-  pub s : Config
-  pub channel : ℕ
-  pub steps : Steps
-  pub mail : List Message
+  pub past : Past
   pub command : Command
-  pub is_in : IsInCycle c s channel steps mail
-  pub place : IsFor s.ranks c.queue.log chosen
-  pub needed : command_of s (issued_commands channel steps) c.queue.log chosen ≡ Some command
-  pub is_chosen : Some command ≡ choice s channel steps mail
+  pub is_in : IsInCycle c past
+  pub place : IsFor past.config.ranks c.queue.log chosen
+  pub needed : command_of past.config (commands_after past) c.queue.log chosen ≡ Some command
+  pub is_chosen : Some command ≡ choice_after past
 
--- a channel is in a cycle, after some steps, in which it issues a command, and at a place of its log a request waits
+-- a channel is in a cycle, after some past, in which it issues a command, and at a place of its log a request waits
 pub record IsDoing (c : Channel) (slot : ℕ) (command : Command) : Type 0 where
-  pub s : Config
-  pub channel : ℕ
-  pub steps : Steps
-  pub mail : List Message
-  pub is_in : IsInCycle c s channel steps mail
+  pub past : Past
+  pub is_in : IsInCycle c past
   pub within : slot < length c.queue.log
   pub waits : waits_at c.queue.log slot ≡ true
-  pub is_chosen : Some command ≡ choice s channel steps mail
+  pub is_chosen : Some command ≡ choice_after past
 
 -- the request at a place of the log of a channel
 abbrev pub request_of : Channel → ℕ → Request
 request_of c slot = request_at c.queue.log slot
 
--- its RD or WR
-abbrev pub data_command : Channel → ℕ → Command
-data_command c slot = column_command (request_of c slot)
+-- its column command
+abbrev pub column_command_at : Channel → ℕ → Command
+column_command_at c slot = column_command (request_of c slot)
 
 -- the ACT that it needs where no row of its bank is open
 abbrev pub opening_command : Channel → ℕ → Command
@@ -80,58 +72,53 @@ closing_command c slot = Pre (bank_in (request_of c slot).place) (source_of (req
 abbrev pub command_needed : Channel → List IssuedCommand → ℕ → Command
 command_needed c history slot = needed history (request_of c slot)
 
--- what a rank needs that is to be refreshed, after these steps
-abbrev pub rank_command : Config → ℕ → Steps → ℕ → Command
-rank_command s channel steps rank = refresh_command s (issued_commands channel steps) rank
+-- what a rank needs that is to be refreshed, after a past
+abbrev pub rank_command : Past → ℕ → Command
+rank_command p rank = refresh_command p.config (commands_after p) rank
 
 -- a command of a cycle, as it was issued
 abbrev pub row_of : ℕ → ℕ → Command → IssuedCommand
 row_of channel now command = record { cycle = now; channel = channel; command = command }
 
--- the commands of these steps, and one in the cycle after them
-abbrev pub commands_with : ℕ → Steps → Command → List IssuedCommand
-commands_with channel steps command = followed_by (issued_commands channel steps) channel (length steps) command
+-- the commands of a past, and one in the cycle after it
+abbrev pub commands_with : Past → Command → List IssuedCommand
+commands_with p command = followed_by (commands_after p) p.channel (length p.steps) command
 
--- What a channel is in the cycle after these steps once its queue, its candidates and the requests that it keeps are as
--- after a command that it chose, which may move data of a row hit. Its banks, its refreshes and its statistics have
--- still to take note of it.
-pub record IsReadied (c : Channel) (s : Config) (channel : ℕ) (steps : Steps) (mail : List Message) (command : Command) (hit : Bool) : Type 0 where
-  pub made_for : IsMadeFor c s channel
-  pub cycle_is : c.cycle ≡ length steps
-  pub requests : Each (CarriesRequest s channel) mail
-  pub arrived : Each (λ (m : Message). m.arrival < length steps + 1) mail
-  pub differ : Differ (requests_of mail)
-  pub chosen : Some command ≡ choice s channel steps mail
-  pub hit_is : moves_hit (issued_commands channel steps) (Some command) ≡ hit
-  pub within_before : length (queued_requests (issued_commands channel steps) mail (length steps + 1)) ≤ queue_room s
-  pub queue_is : waiting_requests c.queue.log ≡ queued_requests (commands_with channel steps command) mail (length steps + 1)
-  pub drained_is : c.queue.drain_decided ≡ drains s channel steps mail (length steps)
-  pub marks_are : marks_in c.queue.log ≡ marks_of (commands_with channel steps command) (waiting_requests c.queue.log)
-  pub stats_are : c.stats ≡ channel_stats s channel steps mail
-  pub candidates_stand : CandidatesStand c.bank_candidates c.queue.log (commands_with channel steps command)
-  pub banks_stand : BanksStandFor c.banks s (issued_commands channel steps)
-  pub refreshes_stand : RefreshesStandFor c.refresh s (issued_commands channel steps)
-  pub keeps_served : KeepsServed c.served (commands_with channel steps command) mail
+-- What a channel is in the cycle after a past once its queue, its candidates and the requests that it keeps are as
+-- after a command that it chose, which is a row hit or not. Its banks, its refreshes and its statistics have still to
+-- take note of it.
+pub record IsReadied (c : Channel) (p : Past) (command : Command) (hit : Bool) : Type 0 where
+  pub made_for : IsMadeFor c p.config p.channel
+  pub cycle_is : c.cycle ≡ length p.steps
+  pub requests : Each (CarriesRequest p.config p.channel) p.mail
+  pub arrived : Each (λ (m : Message). m.arrival < length p.steps + 1) p.mail
+  pub differ : Differ (requests_of p.mail)
+  pub chosen : Some command ≡ choice_after p
+  pub hit_is : issues_hit (commands_after p) (Some command) ≡ hit
+  pub within_before : length (queued_requests (commands_after p) p.mail (length p.steps + 1)) ≤ queue_room p.config
+  pub queue_is : waiting_requests c.queue.log ≡ queued_requests (commands_with p command) p.mail (length p.steps + 1)
+  pub drained_is : c.queue.drain_decided ≡ drains p.config p.channel p.steps p.mail (length p.steps)
+  pub marks_are : marks_in c.queue.log ≡ marks_of (commands_with p command) (waiting_requests c.queue.log)
+  pub stats_are : c.stats ≡ stats_after p
+  pub candidates_stand : CandidatesStand c.bank_candidates c.queue.log (commands_with p command)
+  pub banks_stand : BanksStandFor c.banks p.config (commands_after p)
+  pub refreshes_stand : RefreshesStandFor c.refresh p.config (commands_after p)
+  pub keeps_served : KeepsServed c.served (commands_with p command) p.mail
 
--- what is seen in the cycle after these steps, before a command is issued
-abbrev pub seen_after : Config → ℕ → Steps → List Message → Seen
-seen_after s channel steps mail = record {
-  queued = length (queued_requests (issued_commands channel steps) mail (length steps + 1));
-  refreshing = is_some (lowest_due s (issued_commands channel steps) (length steps));
-  draining = drains s channel steps mail (length steps);
+-- what is seen in the cycle after a past, before a command is issued
+abbrev pub seen_after : Past → Seen
+seen_after p = record {
+  queued = length (queued_requests (commands_after p) p.mail (length p.steps + 1));
+  refreshing = is_some (lowest_due p.config (commands_after p) (length p.steps));
+  draining = drains p.config p.channel p.steps p.mail (length p.steps);
 }
 
--- a channel is readied for a command in a cycle, after some steps, and this was seen in it
+-- a channel is readied for a command in a cycle, after some past, and this was seen in it
 pub record IsReady (c : Channel) (command : Command) (hit : Bool) (seen : Seen) : Type 0 where
-  pub s : Config
-  pub channel : ℕ
-  pub steps : Steps
-  pub mail : List Message
-  pub is_readied : IsReadied c s channel steps mail command hit
-  pub seen_is : seen ≡ seen_after s channel steps mail
+  pub past : Past
+  pub is_readied : IsReadied c past command hit
+  pub seen_is : seen ≡ seen_after past
 
 -- In each cycle in which a channel issues this command it has been readied for it.
 abbrev pub HasReadied : Channel → Channel → Command → Bool → Type 0
-HasReadied old new command hit =
-    (s : Config) (channel : ℕ) (steps : Steps) (mail : List Message)
-    → IsInCycle old s channel steps mail → Some command ≡ choice s channel steps mail → IsReadied new s channel steps mail command hit
+HasReadied old new command hit = ForCycles old (λ past. Some command ≡ choice_after past → IsReadied new past command hit)

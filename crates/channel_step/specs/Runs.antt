@@ -3,10 +3,12 @@
 --     first_arrival inbox until      when the first of these messages arrives
 --     with_more kept more      what a list holds with more behind it, if one is kept
 --     with_command kept channel cycle command, IsListed c command old new      the same with the command of a cycle
---     HasIssued c s channel steps mail command commands commands_then messages messages_then      what a command leaves that is issued
---     HasRun c s channel steps mail inbox from now until arrived commands messages      what the cycles so far leave
---     HasAdvanced c s channel steps mail inbox now then until arrived commands commands_then messages messages_then      what one step of the loop leaves
+--     steps_on p inbox n      the steps of a past, and of n cycles more
+--     HasIssued c p command commands commands_then messages messages_then      what a command leaves that is issued
+--     HasRun c p inbox from now until arrived commands messages      what the cycles so far leave
+--     HasAdvanced c p inbox now then until arrived commands commands_then messages messages_then      what one step of the loop leaves
 --     IsDone c s channel steps mail inbox from until commands commands_then messages messages_then      what all cycles of a span leave
+--     IsDoneAfter c p inbox from until commands commands_then messages messages_then      the same, of a past
 --     CanRun c inbox from until      a channel stands for a past after which messages are fit for a span
 --     CanStep c inbox now      they are fit for a span that begins with this cycle
 --     StandsAt c from      a channel stands for some past at a cycle
@@ -18,9 +20,9 @@ use Rattle.sim_base.specs.Machine.{channel_run}
 use Rattle.sim_base.specs.declared.command.Command.{Command}
 use Rattle.sim_base.specs.declared.command.IssuedCommand.{IssuedCommand}
 use Rattle.sim_base.specs.declared.message.Message.{Message}
-use Rattle.channel_step.specs.Past.{Steps}
+use Rattle.channel_step.specs.Past.{Steps, Past, with_step, commands_after}
 use Rattle.channel_step.specs.Fit.{IsFit}
-use Rattle.channel_step.specs.Channels.{StandsFor}
+use Rattle.channel_step.specs.Channels.{StandsFor, HasPast}
 use Rattle.channel_step.specs.declared.channel.Channel.{Channel}
 
 -- the command of a cycle as a list of steps
@@ -45,29 +47,33 @@ abbrev pub first_arrival : List Message → ℕ → ℕ
 first_arrival [] until = until
 first_arrival (m ∷ ms) until = m.arrival
 
--- A channel has issued a command in the cycle after these steps: the command, where commands are kept, and what is sent
+-- the steps of a past, and of n cycles more, in which these messages arrive
+abbrev pub steps_on : Past → List Message → ℕ → Steps
+steps_on p inbox n = channel_run p.config p.channel p.steps (p.mail ++ inbox) n
+
+-- A channel has issued a command in the cycle after a past: the command, where commands are kept, and what is sent
 -- for it were put behind what two lists held.
-pub record HasIssued (c : Channel) (s : Config) (channel : ℕ) (steps : Steps) (mail : List Message) (command : Command) (commands commands_then : Option (List IssuedCommand)) (messages messages_then : List Message) : Type 0 where
-  pub stands : StandsFor c s channel (steps ++ Some command ∷ []) mail
-  pub commands_are : commands_then ≡ with_command commands channel (length steps) command
-  pub messages_are : messages_then ≡ messages ++ messages_at s channel (length steps) (Some command)
+pub record HasIssued (c : Channel) (p : Past) (command : Command) (commands commands_then : Option (List IssuedCommand)) (messages messages_then : List Message) : Type 0 where
+  pub stands : HasPast c (with_step p (Some command))
+  pub commands_are : commands_then ≡ with_command commands p.channel (length p.steps) command
+  pub messages_are : messages_then ≡ messages ++ messages_at p.config p.channel (length p.steps) (Some command)
 
 -- After the cycles from one on and before another a channel stands for the steps of its run and for the messages that
 -- arrived in them; the others are fit for the rest of the span; and these commands and messages are those that were
 -- added.
-pub record HasRun (c : Channel) (s : Config) (channel : ℕ) (steps : Steps) (mail inbox : List Message) (from now until arrived : ℕ) (commands : List IssuedCommand) (messages : List Message) : Type 0 where
-  pub stands : StandsFor c s channel (channel_run s channel steps (mail ++ inbox) (now - from)) (mail ++ take arrived inbox)
-  pub fit : IsFit s channel (channel_run s channel steps (mail ++ inbox) (now - from)) (mail ++ take arrived inbox) (drop arrived inbox) now until
+pub record HasRun (c : Channel) (p : Past) (inbox : List Message) (from now until arrived : ℕ) (commands : List IssuedCommand) (messages : List Message) : Type 0 where
+  pub stands : StandsFor c p.config p.channel (steps_on p inbox (now - from)) (p.mail ++ take arrived inbox)
+  pub fit : IsFit p.config p.channel (steps_on p inbox (now - from)) (p.mail ++ take arrived inbox) (drop arrived inbox) now until
   pub some : arrived ≤ length inbox
-  pub commands_are : issued_commands channel (channel_run s channel steps (mail ++ inbox) (now - from)) ≡ issued_commands channel steps ++ commands
-  pub messages_are : channel_messages s channel (channel_run s channel steps (mail ++ inbox) (now - from)) ≡ channel_messages s channel steps ++ messages
+  pub commands_are : issued_commands p.channel (steps_on p inbox (now - from)) ≡ commands_after p ++ commands
+  pub messages_are : channel_messages p.config p.channel (steps_on p inbox (now - from)) ≡ channel_messages p.config p.channel p.steps ++ messages
 
 -- After some more cycles, from one on and before another, the same holds, and what is new was added to these commands,
 -- where they are kept, and messages.
-pub record HasAdvanced (c : Channel) (s : Config) (channel : ℕ) (steps : Steps) (mail inbox : List Message) (now then until arrived : ℕ) (commands commands_then : Option (List IssuedCommand)) (messages messages_then : List Message) : Type 0 where
+pub record HasAdvanced (c : Channel) (p : Past) (inbox : List Message) (now then until arrived : ℕ) (commands commands_then : Option (List IssuedCommand)) (messages messages_then : List Message) : Type 0 where
   pub issued : List IssuedCommand
   pub sent : List Message
-  pub has_run : HasRun c s channel steps mail inbox now then until arrived issued sent
+  pub has_run : HasRun c p inbox now then until arrived issued sent
   pub commands_are : commands_then ≡ with_more commands issued
   pub messages_are : messages_then ≡ messages ++ sent
 
@@ -82,6 +88,11 @@ pub record IsDone (c : Channel) (s : Config) (channel : ℕ) (steps : Steps) (ma
   pub messages_are : channel_messages s channel (channel_run s channel steps (mail ++ inbox) (until - from)) ≡ channel_messages s channel steps ++ sent
   pub commands_behind : commands_then ≡ with_more commands issued
   pub messages_behind : messages_then ≡ messages ++ sent
+
+-- the same of a past
+abbrev pub IsDoneAfter : Channel → Past → List Message → ℕ → ℕ → Option (List IssuedCommand) → Option (List IssuedCommand) → List Message → List Message → Type 0
+IsDoneAfter c p inbox from until commands commands_then messages messages_then =
+    IsDone c p.config p.channel p.steps p.mail inbox from until commands commands_then messages messages_then
 
 -- a channel stands for some past, after which these messages are fit for a span
 pub record CanRun (c : Channel) (inbox : List Message) (from until : ℕ) : Type 0 where

@@ -1,7 +1,6 @@
 //! A channel that is run alone over a span of cycles.
 
-ghost use Rattle.std.specs.Prelude.{◌≡◌, true, false, ℕ, ◌+◌, ◌-◌, ◌*◌, ◌<◌, ◌≤◌, ◌^◌, ◌==◌, take, take_while, ◌++◌, List, [], ◌∷◌, length, Some, None, is_some, nat_le, IfOk, OnOk};
-ghost use Rattle.sim_base.specs.History.{issued_commands};
+ghost use Rattle.std.specs.Prelude.{◌≡◌, true, false, ℕ, ◌+◌, ◌-◌, ◌*◌, ◌<◌, ◌≤◌, ◌^◌, ◌==◌, take, take_while, List, [], length, Some, None, is_some, nat_le, IfOk, OnOk};
 ghost use Rattle.sim_base.specs.Rules.{open_row};
 ghost use Rattle.sim_base.specs.Scheduling.{choice, due};
 ghost use Rattle.sim_base.specs.declared.config.Config.{Config};
@@ -17,17 +16,17 @@ ghost use Rattle.fr_fcfs.specs.Choices.{HasPlace, command_of};
 ghost use Rattle.fr_fcfs.specs.declared.choice.Choice.TheVariants as chosen;
 ghost use Rattle.fr_fcfs.specs.Requests.{AreInBanks, OfSameBanks};
 ghost use Rattle.fr_fcfs.specs.Cycles.{IsFirstCycle};
-ghost use Rattle.statistics.specs.Channels.{channel_stats, ChannelFits};
+ghost use Rattle.statistics.specs.Channels.{ChannelFits};
 ghost use Rattle.channel_step.specs.declared.ahead.Ahead.TheVariants.{Known};
-ghost use Rattle.channel_step.specs.Past.{Steps};
-ghost use Rattle.channel_step.specs.Channels.{KeepsServed, StandsFor, StandForTheSame, PartsStand, HasMore, waiting_after};
+ghost use Rattle.channel_step.specs.Past.{Past, commands_after, waiting_after, stats_after, choice_after, with_step, with_mail};
+ghost use Rattle.channel_step.specs.Channels.{KeepsServed, StandsFor, HasPast, ForPasts, StandForTheSame, PartsStand, HasMore};
 ghost use Rattle.channel_step.specs.Channels.{IsAhead, IsAheadFor, IsFound, IsQuiet, HasRank, HasBank, issues_in};
-ghost use Rattle.channel_step.specs.Channels.{IsInCycle, IsInSomeCycle, StaysInCycle, IsNextBefore};
+ghost use Rattle.channel_step.specs.Channels.{IsInCycle, ForCycles, IsInSomeCycle, StaysInCycle, IsNextBefore, idle_after};
 ghost use Rattle.channel_step.specs.Channels.{CountsDrains, seen_with, seen_of, counted, after_cycle, passed};
 ghost use Rattle.channel_step.specs.Readied.{IsChosen, IsDoing, IsReadied, IsReady, HasReadied, seen_after};
-ghost use Rattle.channel_step.specs.Readied.{opening_command, closing_command, data_command, command_needed, rank_command};
-ghost use Rattle.channel_step.specs.Fit.{queue_room, idle_until, IsFit};
-ghost use Rattle.channel_step.specs.Runs.{CanStep, CanRun, HasIssued, HasAdvanced, IsDone, StandsAt, first_arrival, IsListed};
+ghost use Rattle.channel_step.specs.Readied.{opening_command, closing_command, column_command_at, command_needed, rank_command};
+ghost use Rattle.channel_step.specs.Fit.{queue_room, IsFitAfter};
+ghost use Rattle.channel_step.specs.Runs.{CanStep, CanRun, HasIssued, HasAdvanced, IsDoneAfter, StandsAt, first_arrival, IsListed};
 
 use crate::ahead::Ahead;
 use crate::arriving::admit;
@@ -111,44 +110,36 @@ impl Channel {
 
     /// The requests that the channel served, in the order of their commands, if they were kept.
     pub fn into_served(self) -> Option<Vec<ServedRequest>>
-        ensures { (s : Config) (channel : ℕ) (steps : Steps) (mail : List Message)
-            → StandsFor self s channel steps mail
-            → KeepsServed result (issued_commands channel steps) mail }
+        ensures { ForPasts self (λ past. KeepsServed result (commands_after past) past.mail) }
     {
         self.served
     }
 
     /// The statistics of the cycles so far.
     pub fn stats(&self) -> ChannelStats
-        ensures { (s : Config) (channel : ℕ) (steps : Steps) (mail : List Message)
-            → StandsFor self.now s channel steps mail
-            → result ≡ channel_stats s channel steps mail }
+        ensures { ForPasts self.now (λ past. result ≡ stats_after past) }
     {
         self.stats
     }
 
     /// The requests that wait, by age.
     pub fn requests(&self, alloc: Global) -> Result<Vec<Request>, AllocError>
-        ensures { (s : Config) (channel : ℕ) (steps : Steps) (mail : List Message)
-            → StandsFor self.now s channel steps mail
-            → IfOk result (λ requests. requests.items ≡ waiting_after channel steps mail) }
+        ensures { ForPasts self.now (λ past.
+            IfOk result (λ requests. requests.items ≡ waiting_after past)) }
     {
         self.queue.waiting(alloc)
     }
 
     /// How many requests wait.
     pub fn waiting(&self) -> usize
-        ensures { (s : Config) (channel : ℕ) (steps : Steps) (mail : List Message)
-            → StandsFor self.now s channel steps mail
-            → result ≡ length (waiting_after channel steps mail) }
+        ensures { ForPasts self.now (λ past. result ≡ length (waiting_after past)) }
     {
         self.queue.len()
     }
 
     /// The cycle where the channel stands: how many cycles are over.
     pub fn now(&self) -> Cycle
-        ensures { (s : Config) (channel : ℕ) (steps : Steps) (mail : List Message)
-            → StandsFor self.now s channel steps mail → result ≡ length steps }
+        ensures { ForPasts self.now (λ past. result ≡ length past.steps) }
     {
         self.cycle
     }
@@ -156,9 +147,8 @@ impl Channel {
     /// How many refreshes of a rank of the machine are due at the cycle where the channel stands.
     pub fn due(&self, rank: u32) -> u64
         requires { HasRank self.now rank }
-        ensures { (s : Config) (channel : ℕ) (steps : Steps) (mail : List Message)
-            → StandsFor self.now s channel steps mail
-            → result ≡ due s rank (issued_commands channel steps) (length steps) }
+        ensures { ForPasts self.now (λ past.
+            result ≡ due past.config rank (commands_after past) (length past.steps)) }
     {
         self.refresh.due(self.cycle, rank)
     }
@@ -166,9 +156,7 @@ impl Channel {
     /// The row that is open in a bank of the machine at the cycle where the channel stands, if one is.
     pub fn open_row(&self, bank: BankId) -> Option<u32>
         requires { HasBank self.now bank }
-        ensures { (s : Config) (channel : ℕ) (steps : Steps) (mail : List Message)
-            → StandsFor self.now s channel steps mail
-            → result ≡ open_row bank (issued_commands channel steps) }
+        ensures { ForPasts self.now (λ past. result ≡ open_row bank (commands_after past)) }
     {
         self.bank_candidates.open_row(bank)
     }
@@ -178,9 +166,8 @@ impl Channel {
     pub fn next_act(&mut self, from: Cycle) -> Option<Cycle>
         requires { StandsAt self.old from }
         ensures same { self.new ≡ self.old }
-        ensures first { (s : Config) (channel : ℕ) (steps : Steps) (mail : List Message)
-            → StandsFor self.old s channel steps mail → length steps ≡ from
-            → IsFirstCycle (issues_in s channel steps mail from) from result }
+        ensures first { ForPasts self.old (λ past. length past.steps ≡ from
+            → IsFirstCycle (issues_in past from) from result) }
     {
         match self.find(from) {
             Some((cycle, _)) => Some(cycle),
@@ -236,9 +223,8 @@ impl Channel {
         requires { IsInSomeCycle self.old now }
         ensures same_queue { self.new.queue ≡ self.old.queue }
         ensures in_cycle { StaysInCycle self.old self.new }
-        ensures next { (s : Config) (channel : ℕ) (steps : Steps) (mail : List Message)
-            → IsInCycle self.old s channel steps mail → length steps ≡ now
-            → IsNextBefore s channel steps mail self.old.queue.log end result }
+        ensures next { ForCycles self.old (λ past. length past.steps ≡ now
+            → IsNextBefore past self.old.queue.log end result) }
     {
         if self.waits_until(end) {
             return None;
@@ -264,8 +250,8 @@ impl Channel {
         }
     }
 
-    /// Counts a cycle in which a command is issued, which may move data of a row hit. The cycle is then over, and what
-    /// comes next is not known.
+    /// Counts a cycle in which a command is issued, which is a row hit or not. The cycle is then over, and what comes
+    /// next is not known.
     #[inline(always)]
     fn count(&mut self, seen: Seen, command: Command, hit: bool)
         requires cycle { self.old.cycle < 2 ^ 62 }
@@ -327,8 +313,7 @@ impl Channel {
 
     /// Decides whether the channel drains its writes in the next cycle, where nothing arrives in it.
     fn decide_drain(&mut self)
-        ensures { (s : Config) (channel : ℕ) (steps : Steps) (mail : List Message)
-            → StandsFor self.old s channel steps mail → IsInCycle self.new s channel steps mail }
+        ensures { ForPasts self.old (IsInCycle self.new) }
     {
         self.queue.decide_drain();
     }
@@ -341,9 +326,8 @@ impl Channel {
         requires span { self.old.cycle ≤ until }
         requires until { until ≤ 2 ^ 62 }
         ensures same_queue { self.new.queue ≡ self.old.queue }
-        ensures in_cycle { (s : Config) (channel : ℕ) (steps : Steps) (mail : List Message)
-            → IsInCycle self.old s channel steps mail
-            → IsInCycle self.new s channel (idle_until steps (length steps) until) mail }
+        ensures in_cycle { ForCycles self.old (λ past.
+            IsInCycle self.new (idle_after past (length past.steps) until)) }
     {
         if self.cycle == until {
             return;
@@ -369,10 +353,8 @@ impl Channel {
     ) -> Result<(), AllocError>
         requires ready { IsReady self.old command hit seen }
         requires early { self.old.cycle < 2 ^ 62 }
-        ensures stands { (s : Config) (channel : ℕ) (steps : Steps) (mail : List Message)
-            → IsReadied self.old s channel steps mail command hit
-            → seen ≡ seen_after s channel steps mail
-            → StandsFor self.new s channel (steps ++ Some command ∷ []) mail }
+        ensures stands { (past : Past) → IsReadied self.old past command hit
+            → seen ≡ seen_after past → HasPast self.new (with_step past (Some command)) }
         ensures commands { IfOk result (λ u. IsListed self.old command commands.old commands.new) }
     {
         let now = self.cycle;
@@ -387,8 +369,7 @@ impl Channel {
     #[inline(always)]
     fn ready_rank(&mut self, rank: u32) -> Command
         requires { IsChosen self.old (chosen.Refresh rank) }
-        ensures command { (s : Config) (channel : ℕ) (steps : Steps) (mail : List Message)
-            → IsInCycle self.old s channel steps mail → result ≡ rank_command s channel steps rank }
+        ensures command { ForCycles self.old (λ past. result ≡ rank_command past rank) }
         ensures readied { HasReadied self.old self.new result false }
     {
         let command = refresh_command(&self.bank_candidates, rank, self.config.groups);
@@ -407,12 +388,10 @@ impl Channel {
     ) -> Result<(), AllocError>
         requires chosen { IsChosen self.old (chosen.Refresh rank) }
         requires early { self.old.cycle < 2 ^ 62 }
-        ensures { (s : Config) (channel : ℕ) (steps : Steps) (mail messages : List Message)
-            → IsInCycle self.old s channel steps mail
-            → Some (rank_command s channel steps rank) ≡ choice s channel steps mail
-            → OnOk result (HasIssued self.new s channel steps mail
-            (rank_command s channel steps rank)
-            commands.old commands.new messages messages) }
+        ensures { ForCycles self.old (λ past. (messages : List Message)
+            → Some (rank_command past rank) ≡ choice_after past
+            → OnOk result (HasIssued self.new past (rank_command past rank)
+            commands.old commands.new messages messages)) }
     {
         let seen = self.seen(self.refreshing());
         let command = self.ready_rank(rank);
@@ -454,15 +433,14 @@ impl Channel {
         }
     }
 
-    /// Readies the channel for the RD or WR of the request at a place, which no longer waits then, and tells whether it
-    /// is a row hit. On an error the request is not added to those that are kept.
+    /// Readies the channel for the column command of the request at a place, which then waits no more, and tells whether
+    /// it is a row hit. On an error the request is not added to those that are kept.
     #[inline(always)]
     fn serve(&mut self, slot: usize) -> Result<bool, AllocError>
-        requires { IsDoing self.old slot (data_command self.old slot) }
-        ensures { (s : Config) (channel : ℕ) (steps : Steps) (mail : List Message)
-            → IsInCycle self.old s channel steps mail
-            → Some (data_command self.old slot) ≡ choice s channel steps mail
-            → IfOk result (IsReadied self.new s channel steps mail (data_command self.old slot)) }
+        requires { IsDoing self.old slot (column_command_at self.old slot) }
+        ensures { ForCycles self.old (λ past.
+            Some (column_command_at self.old slot) ≡ choice_after past
+            → IfOk result (IsReadied self.new past (column_command_at self.old slot))) }
     {
         let unblocked = self.queue.serve(slot);
         self.bank_candidates
@@ -479,23 +457,22 @@ impl Channel {
         Ok(hit)
     }
 
-    /// Moves the data of the request at a place, and sends what follows from it.
+    /// Issues the column command of the request at a place, and sends what follows from it.
     #[inline(always)]
-    fn move_data(
+    fn issue_column_command(
         &mut self,
         slot: usize,
         seen: Seen,
         commands: &mut Option<CommandList>,
         messages: &mut Vec<Message>,
     ) -> Result<(), AllocError>
-        requires doing { IsDoing self.old slot (data_command self.old slot) }
+        requires doing { IsDoing self.old slot (column_command_at self.old slot) }
         requires seen { seen ≡ seen_of self.old self.old.cycle }
         requires early { self.old.cycle < 2 ^ 62 }
-        ensures { (s : Config) (channel : ℕ) (steps : Steps) (mail : List Message)
-            → IsInCycle self.old s channel steps mail
-            → Some (data_command self.old slot) ≡ choice s channel steps mail
-            → OnOk result (HasIssued self.new s channel steps mail (data_command self.old slot)
-            commands.old commands.new messages.old.items messages.new.items) }
+        ensures { ForCycles self.old (λ past.
+            Some (column_command_at self.old slot) ≡ choice_after past
+            → OnOk result (HasIssued self.new past (column_command_at self.old slot)
+            commands.old commands.new messages.old.items messages.new.items)) }
     {
         let now = self.cycle;
         let request = self.queue.log().log()[slot].request;
@@ -505,7 +482,7 @@ impl Channel {
     }
 
     /// Issues what the request at a place needs: an ACT where no row of its bank is open, a PRE where another one is,
-    /// and else its RD or WR. On an error some of it may not be done.
+    /// and else its column command. On an error some of it may not be done.
     #[inline(always)]
     fn issue_for(
         &mut self,
@@ -515,13 +492,11 @@ impl Channel {
     ) -> Result<(), AllocError>
         requires chosen { IsChosen self.old (chosen.Request slot) }
         requires early { self.old.cycle < 2 ^ 62 }
-        ensures { (s : Config) (channel : ℕ) (steps : Steps) (mail : List Message)
-            → IsInCycle self.old s channel steps mail
-            → Some (command_needed self.old (issued_commands channel steps) slot)
-            ≡ choice s channel steps mail
-            → OnOk result (HasIssued self.new s channel steps mail
-            (command_needed self.old (issued_commands channel steps) slot)
-            commands.old commands.new messages.old.items messages.new.items) }
+        ensures { ForCycles self.old (λ past.
+            Some (command_needed self.old (commands_after past) slot) ≡ choice_after past
+            → OnOk result (HasIssued self.new past
+            (command_needed self.old (commands_after past) slot)
+            commands.old commands.new messages.old.items messages.new.items)) }
     {
         let seen = self.seen(self.refreshing());
         let place = self.queue.log().log()[slot].request.place;
@@ -534,7 +509,7 @@ impl Channel {
                 let command = self.close_bank(slot);
                 self.issue(command, false, seen, commands)
             }
-            Some(_) => self.move_data(slot, seen, commands, messages),
+            Some(_) => self.issue_column_command(slot, seen, commands, messages),
         }
     }
 
@@ -548,13 +523,11 @@ impl Channel {
     ) -> Result<(), AllocError>
         requires chosen { IsChosen self.old found }
         requires early { self.old.cycle < 2 ^ 62 }
-        ensures { (s : Config) (channel : ℕ) (steps : Steps) (mail : List Message)
-            (command : Command)
-            → IsInCycle self.old s channel steps mail
-            → command_of s (issued_commands channel steps) self.old.queue.log found ≡ Some command
-            → Some command ≡ choice s channel steps mail
-            → OnOk result (HasIssued self.new s channel steps mail command
-            commands.old commands.new messages.old.items messages.new.items) }
+        ensures { ForCycles self.old (λ past. (command : Command)
+            → command_of past.config (commands_after past) self.old.queue.log found ≡ Some command
+            → Some command ≡ choice_after past
+            → OnOk result (HasIssued self.new past command
+            commands.old commands.new messages.old.items messages.new.items)) }
     {
         match found {
             Choice::Refresh(rank) => self.refresh_rank(rank, commands),
@@ -645,11 +618,9 @@ impl Channel {
     fn arrive(&mut self, inbox: &[Message], now: Cycle) -> usize
         requires { CanStep self.old inbox.now now }
         ensures some { result ≡ length (take_while (λ m. m.arrival == now) inbox.now) }
-        ensures in_cycle { (s : Config) (channel : ℕ) (steps : Steps) (mail : List Message)
-            (until : ℕ)
-            → StandsFor self.old s channel steps mail → length steps ≡ now → now < until
-            → IsFit s channel steps mail inbox.now now until
-            → IsInCycle self.new s channel steps (mail ++ take result inbox.now) }
+        ensures in_cycle { ForPasts self.old (λ past. (until : ℕ)
+            → length past.steps ≡ now → now < until → IsFitAfter past inbox.now now until
+            → IsInCycle self.new (with_mail past (take result inbox.now))) }
     {
         let due = due_count(inbox, now);
         if due == 0 {
@@ -682,12 +653,11 @@ impl Channel {
         ensures some { IfOk result (λ advance. advance.arrived ≤ length inbox.now) }
         ensures from_now { IfOk result (λ advance. cycles.start ≤ advance.last) }
         ensures within { IfOk result (λ advance. advance.last < cycles.end) }
-        ensures done { (s : Config) (channel : ℕ) (steps : Steps) (mail : List Message)
-            → StandsFor self.old s channel steps mail → length steps ≡ cycles.start
-            → IsFit s channel steps mail inbox.now cycles.start cycles.end
-            → IfOk result (λ advance. HasAdvanced self.new s channel steps mail inbox.now
+        ensures done { ForPasts self.old (λ past. length past.steps ≡ cycles.start
+            → IsFitAfter past inbox.now cycles.start cycles.end
+            → IfOk result (λ advance. HasAdvanced self.new past inbox.now
             cycles.start (advance.last + 1) cycles.end advance.arrived
-            commands.old commands.new messages.old.items messages.new.items) }
+            commands.old commands.new messages.old.items messages.new.items)) }
     {
         let now = cycles.start;
         let arrived = self.arrive(inbox, now);
@@ -715,9 +685,7 @@ impl Channel {
     #[inline(never)]
     fn look_ahead(&mut self, from: Cycle)
         requires { StandsAt self.old from }
-        ensures { (s : Config) (channel : ℕ) (steps : Steps) (mail : List Message)
-            → StandsFor self.old s channel steps mail → length steps ≡ from
-            → StandsFor self.new s channel steps mail }
+        ensures { ForPasts self.old (λ past. length past.steps ≡ from → HasPast self.new past) }
     {
         self.ahead = Ahead::Known(self.find(from));
     }
@@ -727,9 +695,7 @@ impl Channel {
     #[inline(always)]
     fn foresee(&mut self, from: Cycle)
         requires { StandsAt self.old from }
-        ensures { (s : Config) (channel : ℕ) (steps : Steps) (mail : List Message)
-            → StandsFor self.old s channel steps mail → length steps ≡ from
-            → StandsFor self.new s channel steps mail }
+        ensures { ForPasts self.old (λ past. length past.steps ≡ from → HasPast self.new past) }
     {
         if let Ahead::Unknown = self.ahead {
             self.look_ahead(from);
@@ -751,11 +717,10 @@ impl Channel {
         requires can_run { CanRun self.old inbox.now cycles.start cycles.end }
         requires span { cycles.start ≤ cycles.end }
         requires until { cycles.end ≤ 2 ^ 62 }
-        ensures { (s : Config) (channel : ℕ) (steps : Steps) (mail : List Message)
-            → StandsFor self.old s channel steps mail → length steps ≡ cycles.start
-            → IsFit s channel steps mail inbox.now cycles.start cycles.end
-            → OnOk result (IsDone self.new s channel steps mail inbox.now cycles.start cycles.end
-            commands.old commands.new messages.old.items messages.new.items) }
+        ensures { ForPasts self.old (λ past. length past.steps ≡ cycles.start
+            → IsFitAfter past inbox.now cycles.start cycles.end
+            → OnOk result (IsDoneAfter self.new past inbox.now cycles.start cycles.end
+            commands.old commands.new messages.old.items messages.new.items)) }
     {
         let mut arrived = 0;
         let mut now = cycles.start;
@@ -771,7 +736,7 @@ impl Channel {
 }
 
 /// How many places a channel's queue has: one for each credit.
-fn room_of(config: &Config) -> usize
+pub fn queue_room(config: &Config) -> usize
     ensures room { result ≡ queue_room config.now }
     ensures most { result ≤ 8192 }
 {
@@ -786,7 +751,7 @@ fn copy_and_queue(alloc: Global, config: &Config) -> Result<(Config, Queue), All
         ≡ empty_queue (queue_room config.now) config.now.write_high config.now.write_low) }
 {
     let copy = config.copy(alloc)?;
-    let room = room_of(config);
+    let room = queue_room(config);
     let queue = Queue::with_room(alloc, room, config.write_high, config.write_low)?;
     Ok((copy, queue))
 }

@@ -29,8 +29,8 @@ pub(crate) fn note_refresh(refresh: &mut Refresh, command: Command, now: Cycle)
     }
 }
 
-/// Adds the request whose data a channel moves in a cycle to those that were served, where these are kept. On an error
-/// it is not added.
+/// Adds the request whose column command a channel issues in a cycle to those that were served, where these are kept.
+/// On an error it is not added.
 #[inline(always)]
 pub(crate) fn keep_served(
     kept: &mut Option<Vec<ServedRequest>>,

@@ -65,8 +65,8 @@ fn credit_for(
     }
 }
 
-/// Sends what follows from the data of a request that a channel moves in a cycle. On an error some of it may be
-/// missing.
+/// Sends what follows from the column command of a request that a channel issues in a cycle. On an error some of it may
+/// be missing.
 #[inline(always)]
 #[tactic(auto, unfolding(sim_base::specs::History::messages_of))]
 pub(crate) fn send(

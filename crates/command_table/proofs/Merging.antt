@@ -1,4 +1,4 @@
--- A table of several lists goes on with the row of the list that begins soonest.
+-- A table of several lists goes on with the row of the list that begins earliest.
 use Rattle.std.proofs.Common.{◌≡◌, ℕ, zero, suc, ◌<◌, ◌≤◌, Bool, true, false, eqb, List, [], ◌∷◌, ◌++◌, length, get_or, set, drop, slice_get, Option, Some, None, IfSome, refl, sym, ap, subst, ◌∙◌, arith}
 use Rattle.std.specs.Prelude.{All}
 use Rattle.std.specs.List.{AllByRecursion as Each}
@@ -11,7 +11,7 @@ use Rattle.command_table.specs.Tables.{IsRising, rows_in, all_rows as all, HaveS
 use Rattle.command_table.specs.Lefts.{first_cycle, IsNext}
 use Rattle.command_table.proofs.Rising.{weaker, Rising, rising-pairs, own-cycle, other-cycle, cons-same, by_cycle-is, by_cycle-rising, by_cycle-same, each-by_cycle}
 
--- a list that begins no sooner than in a cycle
+-- a list that begins no earlier than in a cycle
 abbrev pub From : ℕ → List IssuedCommand → Type 0
 From cycle rows = IfSome (first_cycle rows) (λ first. cycle ≤ first)
 
@@ -45,7 +45,7 @@ pub rising-all : (lists : List (List IssuedCommand)) → Each IsRising lists →
 rising-all [] h = tt
 rising-all (rows ∷ lists) h = (rising-pairs rows h.0, rising-all lists h.1)
 
--- Of some lists, the one at this place begins with this row, and none sooner.
+-- Of some lists, the one at this place begins with this row, and none earlier.
 record Begins (lists : List (List IssuedCommand)) (place : ℕ) (row : IssuedCommand) (rest : List IssuedCommand) : Type 0 where
   within : place < length lists
   is : get_or lists place [] ≡ row ∷ rest

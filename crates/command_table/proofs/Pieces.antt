@@ -144,9 +144,9 @@ pub have-kept : (lists : List (List IssuedCommand)) (i : ℕ) (list : List Issue
 have-kept lists i list None l is h = tt
 have-kept lists i list (Some cycle) l is h = omega (arith, h, length-one-more cycle lists i list l is)
 
-pub have-sooner : (lists : List (List IssuedCommand)) (i : ℕ) (list : List IssuedCommand) (count : ℕ) (row : IssuedCommand) (least : Option ℕ) (new : ℕ) → i < length lists → list ≡ get_or lists i list
+pub have-earlier : (lists : List (List IssuedCommand)) (i : ℕ) (list : List IssuedCommand) (count : ℕ) (row : IssuedCommand) (least : Option ℕ) (new : ℕ) → i < length lists → list ≡ get_or lists i list
     → slice_get list count ≡ Some row → MatchOption least (new ≡ row.cycle) (λ other. new ≡ min row.cycle other) → IfSome least (HaveUpTo (take i lists)) → HaveUpTo (take (i + 1) lists) new
-have-sooner lists i list count row least new l is e m h = by least m h
+have-earlier lists i list count row least new l is e m h = by least m h
   where
     own : new ≡ row.cycle → HaveUpTo (take (i + 1) lists) new
     own same = subst (HaveUpTo (take (i + 1) lists)) (sym same) (omega (arith, own-up-to list count row e, length-one-more row.cycle lists i list l is))

@@ -8,8 +8,8 @@ use crate::table::{CommandTable, Rows};
 use sim_base::message::Cycle;
 use std::alloc::{AllocError, Global};
 
-/// The sooner of two cycles, where there are two.
-fn sooner(cycle: Cycle, other: Option<Cycle>) -> Cycle
+/// The earlier of two cycles, the second of which there may be.
+fn earlier(cycle: Cycle, other: Option<Cycle>) -> Cycle
     ensures { MatchOption other (result ≡ cycle) (λ other. result ≡ min cycle other) }
 {
     match other {
@@ -25,7 +25,7 @@ fn cut_of(lefts: &[Left<'_>], count: usize) -> Option<Cycle>
     let mut least = None;
     for left in lefts {
         if let Some(row) = left.get(count) {
-            least = Some(sooner(row.cycle, least));
+            least = Some(earlier(row.cycle, least));
         }
     }
     least

@@ -8,9 +8,9 @@ use sim_base::command::IssuedCommand;
 use std::alloc::{AllocError, Global};
 use std::marker::Model;
 
-/// How a list is kept.
+/// How a list is stored.
 #[derive(Drop)]
-pub(crate) enum Kept {
+pub(crate) enum Storage {
     /// In few bytes.
     Compact(Vec<Compact>),
     /// As it is.
@@ -21,7 +21,7 @@ pub(crate) enum Kept {
 /// usual machine and trace (`Compact`); once one has a greater number, each takes 56.
 #[derive(Drop)]
 pub struct CommandList {
-    kept: Kept,
+    kept: Storage,
 }
 
 impl Model for CommandList {
@@ -47,7 +47,7 @@ impl CommandList {
         ensures { result ≡ [] }
     {
         CommandList {
-            kept: Kept::Compact(Vec::new(alloc)),
+            kept: Storage::Compact(Vec::new(alloc)),
         }
     }
 
@@ -56,8 +56,8 @@ impl CommandList {
         ensures { result ≡ length self.now }
     {
         match &self.kept {
-            Kept::Compact(rows) => rows.len(),
-            Kept::Whole(rows) => rows.len(),
+            Storage::Compact(rows) => rows.len(),
+            Storage::Whole(rows) => rows.len(),
         }
     }
 
@@ -74,8 +74,8 @@ impl CommandList {
         ensures { result ≡ slice_get self.now place }
     {
         match &self.kept {
-            Kept::Compact(rows) => Some(rows.get(place)?.row()),
-            Kept::Whole(rows) => Some(*rows.get(place)?),
+            Storage::Compact(rows) => Some(rows.get(place)?.row()),
+            Storage::Whole(rows) => Some(*rows.get(place)?),
         }
     }
 
@@ -86,11 +86,11 @@ impl CommandList {
         ensures err { OnErr result (self.new ≡ self.old) }
     {
         match &mut self.kept {
-            Kept::Whole(rows) => Ok(rows.push(row)?),
-            Kept::Compact(rows) => {
+            Storage::Whole(rows) => Ok(rows.push(row)?),
+            Storage::Compact(rows) => {
                 let mut all = whole(*rows.allocator(), rows)?;
                 all.push(row)?;
-                self.kept = Kept::Whole(all);
+                self.kept = Storage::Whole(all);
                 Ok(())
             }
         }
@@ -102,7 +102,7 @@ impl CommandList {
         ensures ok { OnOk result (self.new ≡ self.old ++ row ∷ []) }
         ensures err { OnErr result (self.new ≡ self.old) }
     {
-        if let Kept::Compact(rows) = &mut self.kept
+        if let Storage::Compact(rows) = &mut self.kept
             && let Some(compact) = Compact::of(row)
         {
             return Ok(rows.push(compact)?);
@@ -115,8 +115,8 @@ impl CommandList {
         ensures { IfOk result (λ rows. rows.items ≡ self.now) }
     {
         match &self.kept {
-            Kept::Compact(rows) => whole(alloc, rows),
-            Kept::Whole(rows) => Vec::from_slice(alloc, rows),
+            Storage::Compact(rows) => whole(alloc, rows),
+            Storage::Whole(rows) => Vec::from_slice(alloc, rows),
         }
     }
 }

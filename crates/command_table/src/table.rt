@@ -48,9 +48,9 @@ impl<'a> Model for Rows<'a> {
     ghost invariant = { λ r. All IsRising r.lefts.items };
 }
 
-/// The place of the list that goes on soonest, if one is left; of several in the same cycle, the first.
+/// The place of the list that goes on earliest, if one is left; of several in the same cycle, the first.
 #[inline(always)]
-fn soonest(lefts: &[Left<'_>]) -> Option<usize>
+fn earliest(lefts: &[Left<'_>]) -> Option<usize>
     ensures some { IfSome result (IsNext lefts.now) }
     ensures none { result ≡ None → lefts.now ≡ [] }
 {
@@ -113,7 +113,7 @@ impl<'a> Rows<'a> {
         ensures none { result ≡ None → self.old ≡ [] }
         ensures over { self.old ≡ [] → self.new ≡ [] }
     {
-        let place = soonest(&self.lefts)?;
+        let place = earliest(&self.lefts)?;
         let left = self.lefts[place].copied();
         drop_first(&mut self.lefts, place);
         left.first()

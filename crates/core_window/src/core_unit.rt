@@ -24,7 +24,7 @@ ghost use Rattle.core_window.specs.Counting.{IsCreditedAt};
 use crate::counts::{count_cycle, count_cycles, count_memory};
 use crate::flow::{Flow, WindowNumbers, cycles_within, flow_of};
 use crate::issue::{
-    EntriesAhead, Progress, entry_issued, issue_of, look_ahead, most_issued, next_two,
+    EntriesAhead, TracePosition, entry_issued, issue_of, look_ahead, most_issued, next_two,
 };
 use crate::issue_effects::{Sender, send, spend, wait_for};
 use crate::outstanding::OutstandingReads;
@@ -139,14 +139,14 @@ impl Core {
         let waiting = self.outstanding.as_slice();
         let retired = retire_count(width, waiting, number, self.stats.retired);
         let retired_by_end = self.stats.retired + u64::from(retired);
-        let progress = Progress {
+        let position = TracePosition {
             len,
             number,
             retired_by_end,
         };
-        let near = most_issued(&self.config, progress);
+        let near = most_issued(&self.config, position);
         let lacks = self.found.first_at < near && is_without_credit(&self.credits, &self.found);
-        let issue = issue_of(&self.config, progress, &self.found, lacks);
+        let issue = issue_of(&self.config, position, &self.found, lacks);
         let memory = entry_issued(number, &self.found, issue.count);
         CycleWork {
             core_step: CoreStep {

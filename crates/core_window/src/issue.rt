@@ -138,24 +138,24 @@ pub struct Issue {
 /// How far a core is in its trace: how long that is, the number of the next entry that issues, and how many entries
 /// were retired.
 #[derive(Clone, Copy)]
-pub struct Progress {
+pub struct TracePosition {
     pub len: u64,
     pub number: u64,
     pub retired_by_end: u64,
 }
 
 /// Why no more than this number of entries issue.
-pub fn cause_at(config: &Config, progress: Progress, second_at: u64, count: u16) -> Stop
-    requires { progress.number ≤ 2 ^ 62 }
+pub fn cause_at(config: &Config, position: TracePosition, second_at: u64, count: u16) -> Stop
+    requires { position.number ≤ 2 ^ 62 }
     ensures { result ≡ cause_at config.now.width config.now.window
-        progress.len progress.number progress.retired_by_end second_at count }
+        position.len position.number position.retired_by_end second_at count }
 {
-    let next = progress.number + u64::from(count);
-    if next == progress.len {
+    let next = position.number + u64::from(count);
+    if next == position.len {
         Stop::End
     } else if count == config.width {
         Stop::Width
-    } else if next.saturating_sub(progress.retired_by_end) == u64::from(config.window) {
+    } else if next.saturating_sub(position.retired_by_end) == u64::from(config.window) {
         Stop::Window
     } else if next == second_at {
         Stop::Memory
@@ -165,13 +165,13 @@ pub fn cause_at(config: &Config, progress: Progress, second_at: u64, count: u16)
 }
 
 /// How many entries issue.
-fn count_of(config: &Config, progress: Progress, ahead: &EntriesAhead, lacks: bool) -> u16
+fn count_of(config: &Config, position: TracePosition, ahead: &EntriesAhead, lacks: bool) -> u16
     ensures { result ≡ issue_count config.now.width config.now.window
-        progress.number progress.retired_by_end ahead.now.first_at ahead.now.second_at lacks }
+        position.number position.retired_by_end ahead.now.first_at ahead.now.second_at lacks }
 {
-    let number = progress.number;
+    let number = position.number;
     let room = u64::from(config.window).saturating_sub(number.saturating_sub(
-        progress.retired_by_end,
+        position.retired_by_end,
     ));
     let most = u64::from(config.width)
         .min(room)
@@ -185,28 +185,33 @@ fn count_of(config: &Config, progress: Progress, ahead: &EntriesAhead, lacks: bo
 }
 
 /// The number up to which entries may issue by the width, the window and the end of the trace.
-pub fn most_issued(config: &Config, progress: Progress) -> u64
-    requires { progress.number ≤ 2 ^ 62 }
-    ensures { result ≡ issue_limit config.now progress.number progress.retired_by_end progress.len }
+pub fn most_issued(config: &Config, position: TracePosition) -> u64
+    requires { position.number ≤ 2 ^ 62 }
+    ensures { result ≡ issue_limit config.now position.number position.retired_by_end position.len }
 {
-    let number = progress.number;
+    let number = position.number;
     let room = u64::from(config.window).saturating_sub(number.saturating_sub(
-        progress.retired_by_end,
+        position.retired_by_end,
     ));
-    (number + u64::from(config.width).min(room)).min(progress.len)
+    (number + u64::from(config.width).min(room)).min(position.len)
 }
 
 /// How many entries issue, and why no more: the memory entries ahead are known, and whether the core lacks a credit for
 /// the first of them, if this is near enough to issue.
-pub fn issue_of(config: &Config, progress: Progress, ahead: &EntriesAhead, lacks: bool) -> Issue
-    requires { progress.number ≤ 2 ^ 62 }
+pub fn issue_of(
+    config: &Config,
+    position: TracePosition,
+    ahead: &EntriesAhead,
+    lacks: bool,
+) -> Issue
+    requires { position.number ≤ 2 ^ 62 }
     ensures why { result.why ≡ cause_of config.now
-        progress.len progress.number progress.retired_by_end ahead.now result.count }
+        position.len position.number position.retired_by_end ahead.now result.count }
     ensures count { result.count ≡ issue_count_of config.now
-        progress.number progress.retired_by_end ahead.now lacks }
+        position.number position.retired_by_end ahead.now lacks }
 {
-    let count = count_of(config, progress, ahead, lacks);
-    let why = cause_at(config, progress, ahead.second_at, count);
+    let count = count_of(config, position, ahead, lacks);
+    let why = cause_at(config, position, ahead.second_at, count);
     Issue { count, why }
 }
 

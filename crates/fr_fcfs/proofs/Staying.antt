@@ -288,9 +288,9 @@ needed_there history log slot d command within is =
     cc
 
 -- what a rank needs that is to be refreshed moves no data
-pub refresh_moves_none : (s : Config) (history : List IssuedCommand) (rank : ℕ) (command : Command) → Some (refresh_command s history rank) ≡ Some command → is_column_command command ≡ false
+pub refresh-no_column : (s : Config) (history : List IssuedCommand) (rank : ℕ) (command : Command) → Some (refresh_command s history rank) ≡ Some command → is_column_command command ≡ false
 unfolding refresh_command
-refresh_moves_none s history rank command is =
+refresh-no_column s history rank command is =
     let same : refresh_command s history rank ≡ command = cc in
     ap is_column_command (sym same) ∙ none (has_open_bank s history rank)
   where

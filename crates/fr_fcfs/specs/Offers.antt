@@ -68,7 +68,7 @@ other_access access.Write = access.Read
 abbrev pub all_accesses : Accesses
 all_accesses = record { reads = true; writes = true }
 
--- the command that moves data
+-- the kind of the column command for an access
 abbrev pub column_kind : Access → Kind
 column_kind access.Read = kind.Rd
 column_kind access.Write = kind.Wr

@@ -45,9 +45,9 @@ fn kind_needed(open_row: Option<u32>, row: u32, access: Access) -> Kind
     }
 }
 
-/// Whether commands of a kind move data.
+/// Whether commands of a kind are column commands.
 #[inline(always)]
-fn moves_data(kind: Kind) -> bool
+fn is_column_kind(kind: Kind) -> bool
     ensures { (command : Command) → kind_of command ≡ kind → result ≡ is_column_command command }
 {
     matches!(kind, Kind::Rd | Kind::Wr)
@@ -72,7 +72,7 @@ fn comes_after(
     let open_row = bank_candidates.open_row(request.place.bank_id());
     let kind = kind_needed(open_row, request.place.row, request.access);
     let after = cycle <= ready(banks, bank_number(request.place), kind);
-    after && (hit || !moves_data(kind))
+    after && (hit || !is_column_kind(kind))
 }
 
 /// Whether a request asks for the row that is open in its bank.
@@ -88,9 +88,9 @@ fn is_hit(bank_candidates: &BankCandidates, request: &Request) -> bool
     }
 }
 
-/// Whether what was chosen moves data.
+/// Whether what was chosen needs a column command.
 #[inline(always)]
-fn chosen_moves_data(bank_candidates: &BankCandidates, log: &[Arrived], choice: Choice) -> bool
+fn needs_column_command(bank_candidates: &BankCandidates, log: &[Arrived], choice: Choice) -> bool
     requires places { All (IsOfBank bank_candidates.now) (all_requests log.now) }
     requires within { (slot : ℕ) → choice ≡ chosen.Request slot → slot < length log.now }
     ensures { (s : Config) (history : List IssuedCommand) (command : Command)
@@ -130,7 +130,7 @@ pub fn stays(
     }
     let (cycle, choice) = found;
     let log = queue.log().log();
-    let hit = chosen_moves_data(bank_candidates, log, choice);
+    let hit = needs_column_command(bank_candidates, log, choice);
     for slot in from..log.len() {
         if !comes_after(bank_candidates, banks, &log[slot].request, cycle, hit) {
             return false;

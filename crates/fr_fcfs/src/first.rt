@@ -3,7 +3,7 @@
 ghost use Rattle.std.specs.Prelude.{◌≡◌, ◌<◌, ◌*◌, ◌-◌, ◌^◌, ℕ, Bool, true, ◌&&◌, List, Option, Some, IsTrue, length, is_some, IfSome};
 ghost use Rattle.sim_base.specs.declared.config.Config.{Config};
 ghost use Rattle.sim_base.specs.declared.command.IssuedCommand.{IssuedCommand};
-ghost use Rattle.bank_ready.specs.Words.{names_bank, moves_data};
+ghost use Rattle.bank_ready.specs.Words.{names_bank, is_column_kind};
 ghost use Rattle.bank_ready.specs.Stands.{rank_count, StandsFor as BanksStandFor};
 ghost use Rattle.queue.specs.declared.request_log.Arrived.{Arrived};
 ghost use Rattle.queue.specs.Candidates.{rows_after};
@@ -23,12 +23,12 @@ use queue::bank_candidates::{BankCandidates, BankSet};
 use sim_base::command::Kind;
 use sim_base::message::{Access, Cycle};
 
-/// The command that moves data.
+/// The kind of the column command for an access.
 #[inline(always)]
 fn column_kind(access: Access) -> Kind
     ensures kind { result ≡ column_kind access }
     ensures bank { IsTrue (names_bank result) }
-    ensures data { IsTrue (moves_data result) }
+    ensures column { IsTrue (is_column_kind result) }
 {
     match access {
         Access::Read => Kind::Rd,
@@ -126,9 +126,9 @@ struct RowCommands {
     now: Cycle,
 }
 
-/// What moves data of row hits from a cycle on: a RD, or a WR.
+/// The column commands of row hits from a cycle on: RDs, or WRs.
 #[derive(Clone, Copy)]
-struct DataCommands {
+struct ColumnCommands {
     access: Access,
     now: Cycle,
 }
@@ -169,7 +169,7 @@ fn with_hit(
     bank_candidates: &BankCandidates,
     banks: &Banks,
     bank: usize,
-    commands: DataCommands,
+    commands: ColumnCommands,
 )
     requires bank_candidates { bank < bank_count bank_candidates.now }
     requires banks { bank < 16 * rank_count banks.now }
@@ -260,7 +260,7 @@ fn with_all_hits(
     best: &mut Offer,
     bank_candidates: &BankCandidates,
     banks: &Banks,
-    commands: DataCommands,
+    commands: ColumnCommands,
 )
     requires { OfSameBanks bank_candidates.now banks.now }
     ensures { (s : Config) (history : List IssuedCommand) (log : List Arrived)
@@ -282,7 +282,7 @@ fn with_hits(
     best: &mut Offer,
     bank_candidates: &BankCandidates,
     banks: &Banks,
-    commands: DataCommands,
+    commands: ColumnCommands,
     goes: bool,
 )
     requires { OfSameBanks bank_candidates.now banks.now }
@@ -294,7 +294,7 @@ fn with_hits(
     if !goes {
         return;
     }
-    if best.cycle < banks.data_floor(column_kind(commands.access)) {
+    if best.cycle < banks.column_floor(column_kind(commands.access)) {
         return;
     }
     with_all_hits(best, bank_candidates, banks, commands);
@@ -317,12 +317,12 @@ fn with_banks(
         (all_hits s history log accesses) (all_rows s history log accesses) best.new }
 {
     with_rows(best, bank_candidates, accesses, banks, now);
-    let read = DataCommands {
+    let read = ColumnCommands {
         access: Access::Read,
         now,
     };
     with_hits(best, bank_candidates, banks, read, accesses.reads);
-    let write = DataCommands {
+    let write = ColumnCommands {
         access: Access::Write,
         now,
     };

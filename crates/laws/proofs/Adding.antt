@@ -1,4 +1,4 @@
--- A request is served for each RD and WR, and for no other command.
+-- A request is served for each column command, and for no other command.
 use Rattle.std.proofs.Common.{◌≡◌, ℕ, Bool, List, refl, ◌∙◌}
 use Rattle.sim_base.specs.Access.{is_access}
 use Rattle.sim_base.specs.Counts.{issued_of_kind, is_hit, hits}

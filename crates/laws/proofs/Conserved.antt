@@ -103,7 +103,7 @@ new-requests s traces n core k access =
     (issues-each (λ (m : Message). p m ≡ true → is_request_for k access m.load ≡ true) s traces history core l (λ j e x y v. own-brings s core k access (length history) _ e))) in
     omega arith
 
--- a command moves data for such a request
+-- a command is a column command for such a request
 abbrev serves_for : ℕ → Access → Command → Bool
 serves_for core access (Rd bank row column source) = eqb source.core core && is_access access to.Read
 serves_for core access (Wr bank row column source) = eqb source.core core && is_access access to.Write
@@ -132,7 +132,7 @@ served-kept s traces n k r l h =
     let p = λ (i : IssuedCommand). serves r i.command in
     ap (list_any p) (history_of-more s traces n k l) ∙ list_any-append p (history_of s traces n k) _ ∙ or_left (list_any p (history_of s traces n k)) _ h
 
--- a request whose data is moved is served
+-- a request whose column command is issued is served
 served-now : (s : Config) (traces : List (List Entry)) (n k : ℕ) (r : Request) (command : Command) → k < s.channels → chosen s traces n k ≡ Some command → serves r command ≡ true
     → is_served (history_of s traces (suc n) k) r ≡ true
 unfolding is_served

@@ -160,7 +160,7 @@ queue-queued s traces n k =
     subst (λ x. Each (Queued s traces n k) (queued_requests (issued_commands k x) (inbox s traces (run s traces n) (Channel k)) (length steps + 1))) (sym (take-length steps))
     (subst (λ i. Each (Queued s traces n k) (queued_requests (issued_commands k steps) (inbox s traces (run s traces n) (Channel k)) (i + 1))) (sym long) (queued_requests-queued s traces n k))
 
--- a command moves data for a request of the queue
+-- a command, if it is a column command, is one for a request of the queue
 abbrev pub ServesQueued : Config → List (List Entry) → ℕ → ℕ → Command → Type 0
 ServesQueued s traces n k (Rd bank row column source) = (r : Request) × Queued s traces n k r × (r.access ≡ access.Read) × (source ≡ source_of r)
 ServesQueued s traces n k (Wr bank row column source) = (r : Request) × Queued s traces n k r × (r.access ≡ access.Write) × (source ≡ source_of r)

@@ -5,7 +5,7 @@ ghost use Rattle.sim_base.specs.Counts.{replied_entry, issue_cycle, wait_of, is_
 ghost use Rattle.sim_base.specs.History.{below, retired_before, issued_before};
 ghost use Rattle.statistics.specs.Counts.{one_if};
 ghost use Rattle.statistics.specs.Cores.{is_reply_in, replies_in, waited, core_cycle_with};
-ghost use Rattle.statistics.specs.Channels.{draining_of, issues, moves_hit};
+ghost use Rattle.statistics.specs.Channels.{draining_of, issues, issues_hit};
 ghost use Rattle.one_clock.specs.Steps.{accesses};
 ghost use Rattle.one_clock.specs.Counts.{channel_counts, no_channel_counts};
 
@@ -177,9 +177,9 @@ fn does_issue(kind: Kind, command: Option<Command>) -> bool
     }
 }
 
-/// Whether the channel moves data for a request that no ACT was issued for.
+/// Whether the channel issues a column command for a request that no ACT was issued for.
 fn does_hit(history: &[IssuedCommand], command: Option<Command>) -> bool
-    ensures { result ≡ moves_hit history.now command }
+    ensures { result ≡ issues_hit history.now command }
 {
     match command {
         Some(command) => is_command_hit(history, command),

@@ -99,13 +99,13 @@ fn fifth_act_waits_for_the_window(rt: &impl Abort, banks: &mut Banks)
 fn floors_are_the_least_of_all_banks(rt: &impl Abort, banks: &mut Banks)
     requires { rank_count banks.old ≡ 2 }
 {
-    let at_first = banks.data_floor(Kind::Rd);
+    let at_first = banks.column_floor(Kind::Rd);
     banks.note(act(bank(0, 0, 0)), 2);
-    let opened = banks.data_floor(Kind::Rd);
+    let opened = banks.column_floor(Kind::Rd);
     banks.note(rd(bank(0, 0, 0)), 50);
-    let done = (banks.data_floor(Kind::Rd), banks.data_floor(Kind::Wr));
+    let done = (banks.column_floor(Kind::Rd), banks.column_floor(Kind::Wr));
     banks.note(Command::Ref { rank: 1 }, 52);
-    let refreshed = (banks.data_floor(Kind::Rd), banks.data_floor(Kind::Wr));
+    let refreshed = (banks.column_floor(Kind::Rd), banks.column_floor(Kind::Wr));
     expect(
         rt,
         &(at_first, opened, done, refreshed),

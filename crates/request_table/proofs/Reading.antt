@@ -1,4 +1,4 @@
--- A table of several lists goes on with the request of the list that begins soonest.
+-- A table of several lists goes on with the request of the list that begins earliest.
 use Rattle.std.proofs.Common.{◌≡◌, ℕ, zero, suc, ◌<◌, ◌≤◌, List, [], ◌∷◌, ◌++◌, length, get_or, map, set, drop, slice_get, Some, IfSome, refl, sym, ap, ap₂, subst, ◌∙◌, arith}
 use Rattle.std.specs.Prelude.{All}
 use Rattle.std.specs.List.{AllByRecursion as Each}
@@ -12,7 +12,7 @@ use Rattle.request_table.specs.Tables.{AreServed, served_at, by_cycle, times_of,
 use Rattle.request_table.proofs.Cycles.{flat-none, flat-first}
 use Rattle.request_table.proofs.Cutting.{at, served-rest}
 
--- a list that begins no sooner than in a cycle, or later
+-- a list that begins no earlier than in a cycle, or later
 abbrev From : ℕ → List ServedRequest → Type 0
 From cycle rows = IfSome (first_cycle rows) (λ first. cycle ≤ first)
 
@@ -32,7 +32,7 @@ after-from : (cycle : ℕ) (rows : List ServedRequest) → After cycle rows → 
 after-from cycle [] h = tt
 after-from cycle (row ∷ rows) h = omega (arith, h)
 
--- Of some lists, the one at this place begins with this request, and none sooner.
+-- Of some lists, the one at this place begins with this request, and none earlier.
 record Begins (lists : List (List ServedRequest)) (place : ℕ) (row : ServedRequest) (rest : List ServedRequest) : Type 0 where
   within : place < length lists
   is : get_or lists place [] ≡ row ∷ rest
@@ -88,10 +88,10 @@ first-row cycles lists place row rest h b =
     let each : Each (AreServed 0 cycles) lists = recursion_from_All (AreServed 0 cycles) lists h in
     let own-list : AreServed 0 cycles (row ∷ rest) = subst (AreServed 0 cycles) b.is (h place [] b.within) in
     let change = λ (t : ℕ) (n : row.served ≡ t → ⊥). other t lists place row rest n b.within b.is in
-    let sooner = λ (t : ℕ) (l : t < row.served). earlier t cycles lists place row rest l each b in
+    let begins_later = λ (t : ℕ) (l : t < row.served). earlier t cycles lists place row rest l each b in
     let within : row.served < cycles = own-list.1 in
     flat-first (served_at lists) (served_at (set lists place rest)) row row.served
-    (λ t l. (sooner t l, sym (change t (λ e. omega (arith, l, e))) ∙ sooner t l)) (own cycles lists place row rest each b) (λ t l. change t (λ e. omega (arith, l, e)))
+    (λ t l. (begins_later t l, sym (change t (λ e. omega (arith, l, e))) ∙ begins_later t l)) (own cycles lists place row rest each b) (λ t l. change t (λ e. omega (arith, l, e)))
     0 cycles (omega arith) (omega (arith, within))
 
 -- one list alone is its own table

@@ -2,7 +2,7 @@
 
 ghost use Rattle.std.specs.Prelude.{◌≡◌, [], ◌∷◌, None, All, IfOk, IfSome, MatchOption};
 ghost use Rattle.request_table.specs.Tables.{AreServed, times_by_cycle};
-ghost use Rattle.request_table.specs.Lefts.{IsNext, IsSooner};
+ghost use Rattle.request_table.specs.Lefts.{IsNext, IsEarlier};
 
 use crate::left::{Left, ServedList};
 use crate::times::RequestTimes;
@@ -60,10 +60,11 @@ struct Next {
     cycle: Cycle,
 }
 
-/// The sooner of the list that was found so far and the one behind it, which goes on in this cycle, if it does.
+/// Of the list that was found so far and the one behind it, which goes on in this cycle, if it does, the one that goes
+/// on earlier.
 #[inline(always)]
-fn sooner(found: Option<Next>, place: usize, cycle: Option<Cycle>) -> Option<Next>
-    ensures { IsSooner found place cycle result }
+fn earlier_list(found: Option<Next>, place: usize, cycle: Option<Cycle>) -> Option<Next>
+    ensures { IsEarlier found place cycle result }
 {
     match (found, cycle) {
         (Some(next), Some(cycle)) if cycle < next.cycle => Some(Next { place, cycle }),
@@ -72,14 +73,14 @@ fn sooner(found: Option<Next>, place: usize, cycle: Option<Cycle>) -> Option<Nex
     }
 }
 
-/// The place of the list that goes on soonest, if one is left; of several in the same cycle, the first.
+/// The place of the list that goes on earliest, if one is left; of several in the same cycle, the first.
 #[inline(always)]
-fn soonest(lefts: &[Left<'_>]) -> Option<usize>
+fn earliest(lefts: &[Left<'_>]) -> Option<usize>
     ensures { MatchOption result (All (λ rows. rows ≡ []) lefts.now) (IsNext lefts.now) }
 {
     let mut found = None;
     for place in 0..lefts.len() {
-        found = sooner(found, place, lefts[place].cycle_of(0));
+        found = earlier_list(found, place, lefts[place].cycle_of(0));
     }
     match found {
         Some(next) => Some(next.place),
@@ -129,7 +130,7 @@ impl<'a> Rows<'a> {
         ensures none { result ≡ None → self.old ≡ [] }
         ensures over { self.old ≡ [] → self.new ≡ [] }
     {
-        let place = soonest(&self.lefts)?;
+        let place = earliest(&self.lefts)?;
         let request = self.lefts[place].take_first()?;
         Some(times(self.config, self.cycles, &request))
     }

@@ -103,13 +103,13 @@ pub next-act : (session : Session) (p : Past) → (h : IsSession session p) → 
     → IsNextAct p session.cycle (earlier o (first_arrival session.coming.items))
 next-act session p h o f = by session.coming.items refl o f
   where
-    sooner : (m : Message) (ms : List Message) → session.coming.items ≡ m ∷ ms → (cycle : ℕ) → IsFirst (λ t. is_some (known session p h t)) session.cycle cycle → (b : Bool) → leb m.arrival cycle ≡ b
+    earlier-one : (m : Message) (ms : List Message) → session.coming.items ≡ m ∷ ms → (cycle : ℕ) → IsFirst (λ t. is_some (known session p h t)) session.cycle cycle → (b : Bool) → leb m.arrival cycle ≡ b
         → IsNextAt p session.cycle (min cycle m.arrival)
-    sooner m ms e cycle f true k =
+    earlier-one m ms e cycle f true k =
         let l : m.arrival ≤ cycle = leb-true _ _ k in
         let is : m.arrival ≡ min cycle m.arrival = omega arith in
         subst (IsNextAt p session.cycle) is (arrival-next session p h m ms e (λ t from b. f.not_before t from (omega arith)))
-    sooner m ms e cycle f false k =
+    earlier-one m ms e cycle f false k =
         let l : cycle < m.arrival = leb-false _ _ k in
         let is : cycle ≡ min cycle m.arrival = omega arith in
         subst (IsNextAt p session.cycle) is (command-next session p h m ms e cycle l f)
@@ -119,4 +119,4 @@ next-act session p h o f = by session.coming.items refl o f
     by [] e None f = alone session p h e None f
     by [] e (Some cycle) f = alone session p h e (Some cycle) f
     by (m ∷ ms) e None f = arrival-next session p h m ms e (λ t l b. f t l)
-    by (m ∷ ms) e (Some cycle) f = sooner m ms e cycle f (leb m.arrival cycle) refl
+    by (m ∷ ms) e (Some cycle) f = earlier-one m ms e cycle f (leb m.arrival cycle) refl

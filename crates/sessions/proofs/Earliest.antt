@@ -2,7 +2,7 @@
 use Rattle.std.proofs.Common.{◌≡◌, ℕ, ◌+◌, ◌<◌, ◌≤◌, Bool, true, false, ltb, eqb, Option, Some, None, refl, sym, subst, arith}
 use Rattle.std.specs.Prelude.{IfSome, if◌then◌else◌}
 use Rattle.std.proofs.lemmas.Bool.{ltb-true, ltb-false, eqb-true, eqb-false}
-use Rattle.sessions.specs.Earliest.{sooner, IsEarliestAt, IsEarliest}
+use Rattle.sessions.specs.Earliest.{earlier_numbered, IsEarliestAt, IsEarliest}
 
 -- a number below one more is below, or is that one
 pub below-more : (P : ℕ → Type 0) (n : ℕ) → ((k : ℕ) → k < n → P k) → P n → (k : ℕ) → k < n + 1 → P k
@@ -46,7 +46,7 @@ leads cycles n cycle e h =
     }
 
 -- one more
-pub earliest-more : (cycles : ℕ → Option ℕ) (n : ℕ) (first : Option (ℕ × ℕ)) (cycle : Option ℕ) → IsEarliest cycles n first → cycles n ≡ cycle → IsEarliest cycles (n + 1) (sooner first cycle n)
+pub earliest-more : (cycles : ℕ → Option ℕ) (n : ℕ) (first : Option (ℕ × ℕ)) (cycle : Option ℕ) → IsEarliest cycles n first → cycles n ≡ cycle → IsEarliest cycles (n + 1) (earlier_numbered first cycle n)
 earliest-more cycles n None None h e = none-more cycles n h e
 earliest-more cycles n (Some first) None h e = stays cycles n first.1 first.0 h (if-none (λ c. first.0 ≤ c) (cycles n) e)
 earliest-more cycles n None (Some cycle) h e = leads cycles n cycle e (λ k l. if-none (λ c. cycle < c) (cycles k) (h k l))
@@ -54,6 +54,6 @@ earliest-more cycles n (Some first) (Some cycle) h e = by (ltb cycle first.0) re
   where
     by : (b : Bool) → ltb cycle first.0 ≡ b → IsEarliest cycles (n + 1) (if b then Some (cycle, n) else Some first)
     by true is =
-        let sooner_than : cycle < first.0 = ltb-true _ _ is in
+        let earlier : cycle < first.0 = ltb-true _ _ is in
         leads cycles n cycle e (λ k l. weaker (λ c. first.0 ≤ c) (λ c. cycle < c) (λ c b. omega arith) (cycles k) (h.none_earlier k l))
     by false is = stays cycles n first.1 first.0 h (if-some (λ c. first.0 ≤ c) (cycles n) cycle e (ltb-false _ _ is))

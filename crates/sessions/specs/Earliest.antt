@@ -1,14 +1,14 @@
 -- The earliest of several cycles, each of which there may be, by number.
---     sooner first cycle number      the earlier of two, the first of two that are equal
+--     earlier_numbered first cycle number      the earlier of two, the first of two that are equal
 --     IsEarliestAt cycles count number cycle      the earliest of the cycles below a count
 --     IsEarliest cycles count first      the same, where there may be none
 use Rattle.std.specs.Prelude.{◌≡◌, ℕ, ◌<◌, ◌≤◌, nat_lt, Option, Some, None, IfSome, if◌then◌else◌}
 
 -- the earlier of two cycles with their numbers, the first of two that are equal; each of which there may be
-abbrev pub sooner : Option (ℕ × ℕ) → Option ℕ → ℕ → Option (ℕ × ℕ)
-sooner first None number = first
-sooner None (Some cycle) number = Some (cycle, number)
-sooner (Some first) (Some cycle) number = if nat_lt cycle first.0 then Some (cycle, number) else Some first
+abbrev pub earlier_numbered : Option (ℕ × ℕ) → Option ℕ → ℕ → Option (ℕ × ℕ)
+earlier_numbered first None number = first
+earlier_numbered None (Some cycle) number = Some (cycle, number)
+earlier_numbered (Some first) (Some cycle) number = if nat_lt cycle first.0 then Some (cycle, number) else Some first
 
 -- Of the cycles below a count, none is earlier than the one with a number, and those with lower numbers are later.
 pub record IsEarliestAt (cycles : ℕ → Option ℕ) (count number cycle : ℕ) : Type 0 where

@@ -9,7 +9,6 @@ use Rattle.std.specs.Prelude.{◌≡◌, ℕ, ◌-◌, ◌<◌, ◌≤◌, List,
 use Rattle.sim_base.specs.declared.config.Config.{Config}
 use Rattle.sim_base.specs.History.{messages_of_channel}
 use Rattle.sim_base.specs.Machine.{run, channel_run}
-use Rattle.sim_base.specs.declared.command.Command.{Command}
 use Rattle.sim_base.specs.declared.command.IssuedCommand.{IssuedCommand}
 use Rattle.sim_base.specs.declared.message.Message.{Message}
 use Rattle.sim_base.specs.declared.message.Unit.TheVariants as unit
@@ -17,9 +16,9 @@ use Rattle.sim_base.specs.declared.trace.Entry.{Entry}
 use Rattle.statistics.specs.Channels.{channel_stats}
 use Rattle.statistics.specs.Runs.{stats_of_channel, channel_last, last_of_channel}
 use Rattle.laws.specs.Commands.{channel_steps_of, history_of}
-use Rattle.channel_step.specs.Channels.{StandsFor}
-use Rattle.channel_step.specs.Fit.{IsFit}
-use Rattle.channel_step.specs.Runs.{with_more, IsDone, CanRun}
+use Rattle.channel_step.specs.Channels.{StandsFor, ForPasts}
+use Rattle.channel_step.specs.Fit.{IsFit, IsFitAfter}
+use Rattle.channel_step.specs.Runs.{with_more, IsDoneAfter, CanRun}
 use Rattle.channel_step.specs.declared.channel.Channel.{Channel}
 use Rattle.span_laws.specs.Mail.{mail_before, mail_in}
 
@@ -46,9 +45,7 @@ IsChannelAt s traces channel now c = StandsFor c s channel (channel_steps_of s t
 -- are fit for the span after it
 abbrev pub Gives : Channel → List Message → ℕ → ℕ → Channel → Option (List IssuedCommand) → Option (List IssuedCommand) → List Message → List Message → Type 0
 Gives c inbox from until d commands commands_then messages messages_then =
-    (s : Config) (channel : ℕ) (steps : List (Option Command)) (mail : List Message)
-    → StandsFor c s channel steps mail → length steps ≡ from → IsFit s channel steps mail inbox from until
-    → IsDone d s channel steps mail inbox from until commands commands_then messages messages_then
+    ForPasts c (λ past. length past.steps ≡ from → IsFitAfter past inbox from until → IsDoneAfter d past inbox from until commands commands_then messages messages_then)
 
 -- A channel did what the one with this number did in a span of a run: it stands at the end of the span, and the
 -- commands, where they are kept, and the messages of the run beyond those before the span were put behind what two

@@ -19,7 +19,7 @@ use Rattle.sim_base.specs.declared.command.IssuedCommand.{IssuedCommand}
 use Rattle.sim_base.specs.declared.message.Message.{Message}
 use Rattle.sim_base.specs.declared.message.Request.{Request}
 use Rattle.sim_base.proofs.Accesses.{column_both}
-use Rattle.statistics.specs.Channels.{moves_data_of, is_late_act}
+use Rattle.statistics.specs.Channels.{is_column_command_of, is_late_act}
 
 pub passes : {X : Type 0} (p : X → Bool) (xs : List X) → Each (λ x. p x ≡ true) (filter p xs)
 passes p [] = tt
@@ -43,21 +43,21 @@ queue-unserved channel steps inbox =
     subst (λ x. Each (Unserved (issued_commands channel x)) (queued_requests (issued_commands channel (take (length steps) steps)) inbox (length steps + 1)))
     (take-length steps) (queued_requests-unserved (issued_commands channel (take (length steps) steps)) inbox (length steps + 1))
 
-moves-serves : (r : Request) (command : Command) → moves_data_of (source_of r) command ≡ serves r command
-moves-serves r (Rd bank row column source) = refl
-moves-serves r (Wr bank row column source) = refl
-moves-serves r (Act bank row source) = refl
-moves-serves r (Pre bank source) = refl
-moves-serves r (Prea rank) = refl
-moves-serves r (Ref rank) = refl
+column-serves : (r : Request) (command : Command) → is_column_command_of (source_of r) command ≡ serves r command
+column-serves r (Rd bank row column source) = refl
+column-serves r (Wr bank row column source) = refl
+column-serves r (Act bank row source) = refl
+column-serves r (Pre bank source) = refl
+column-serves r (Prea rank) = refl
+column-serves r (Ref rank) = refl
 
-moved-served : (r : Request) (history : List IssuedCommand) → list_any (λ i. moves_data_of (source_of r) i.command) history ≡ list_any (λ i. serves r i.command) history
-moved-served r [] = refl
-moved-served r (i ∷ history) = ap₂ (λ a b. a || b) (moves-serves r i.command) (moved-served r history)
+column-served : (r : Request) (history : List IssuedCommand) → list_any (λ i. is_column_command_of (source_of r) i.command) history ≡ list_any (λ i. serves r i.command) history
+column-served r [] = refl
+column-served r (i ∷ history) = ap₂ (λ a b. a || b) (column-serves r i.command) (column-served r history)
 
 needed_at-not_late : (history : List IssuedCommand) (r : Request) → Unserved history r → (row : Option ℕ) → is_late_act history (Some (needed_at row r)) ≡ false
 unfolding is_served
-needed_at-not_late history r h None = moved-served r history ∙ h
+needed_at-not_late history r h None = column-served r history ∙ h
 needed_at-not_late history r h (Some row) =
     cond_both (eqb row r.place.row) (column_command r) (Pre (bank_in r.place) (source_of r)) (λ c. is_late_act history (Some c) ≡ false)
     (λ e. column_both (λ c. is_late_act history (Some c) ≡ false) r.access _ _ _ _ (λ f. refl) (λ f. refl))

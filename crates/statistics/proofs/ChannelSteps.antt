@@ -27,7 +27,7 @@ use Rattle.sim_base.specs.declared.message.Access.TheVariants as access
 use Rattle.sim_base.specs.Access.{is_access}
 use Rattle.sim_base.proofs.Added.{length-push_suc}
 use Rattle.statistics.specs.Counts.{one_if}
-use Rattle.statistics.specs.Channels.{draining_of, channel_stats, issues, moves_hit, channel_cycle_with, channel_cycle, channel_joined, is_entry, moves_data_of, is_late_act}
+use Rattle.statistics.specs.Channels.{draining_of, channel_stats, issues, issues_hit, channel_cycle_with, channel_cycle, channel_joined, is_entry, is_column_command_of, is_late_act}
 use Rattle.statistics.specs.Counts.{sum_of_counts}
 use Rattle.statistics.proofs.Lists.{take-push, map_below_more, map_below_same, count_below_more, count_below_same, sum_push}
 
@@ -178,7 +178,7 @@ opens_none command h (Ref rank) = refl
 pub entries_swap : (a b : Source) → is_entry a b ≡ false → is_entry b a ≡ false
 entries_swap a b h = grind (arith, nat_tests)
 
-pub opens_for-act : (bank : BankId) (row : ℕ) (source : Source) (other : Command) → moves_data_of source other ≡ false → opens_for (Act bank row source) other ≡ false
+pub opens_for-act : (bank : BankId) (row : ℕ) (source : Source) (other : Command) → is_column_command_of source other ≡ false → opens_for (Act bank row source) other ≡ false
 opens_for-act bank row source (Rd b r c x) h = entries_swap source x h
 opens_for-act bank row source (Wr b r c x) h = entries_swap source x h
 opens_for-act bank row source (Act b r x) h = refl
@@ -186,11 +186,11 @@ opens_for-act bank row source (Pre b x) h = refl
 opens_for-act bank row source (Prea rank) h = refl
 opens_for-act bank row source (Ref rank) h = refl
 
-pub acts_for_none : (bank : BankId) (row : ℕ) (source : Source) (history : List IssuedCommand) → list_any (λ i. moves_data_of source i.command) history ≡ false
+pub acts_for_none : (bank : BankId) (row : ℕ) (source : Source) (history : List IssuedCommand) → list_any (λ i. is_column_command_of source i.command) history ≡ false
     → Each (λ (i : IssuedCommand). opens_for (Act bank row source) i.command ≡ false) history
 acts_for_none bank row source [] h = tt
 acts_for_none bank row source (i ∷ history) h =
-    let parts = or_parts (moves_data_of source i.command) (list_any (λ i. moves_data_of source i.command) history) h in
+    let parts = or_parts (is_column_command_of source i.command) (list_any (λ i. is_column_command_of source i.command) history) h in
     (opens_for-act bank row source i.command parts.0, acts_for_none bank row source history parts.1)
 
 pub not_late : (history : List IssuedCommand) (command : Command) → is_late_act history (Some command) ≡ false
@@ -219,11 +219,11 @@ hits-one_more history i h =
     ∙ ap₂ (λ n b. n + one_if b) (hits_among history i history (not_late history i.command h)) (is_hit-push history i i.command (opens_for-itself i.command))
 
 pub hits-push : (channel : ℕ) (steps : List (Option Command)) (o : Option Command) → is_late_act (issued_commands channel steps) o ≡ false
-    → hits (issued_commands channel (steps ++ o ∷ [])) ≡ hits (issued_commands channel steps) + one_if (moves_hit (issued_commands channel steps) o)
+    → hits (issued_commands channel (steps ++ o ∷ [])) ≡ hits (issued_commands channel steps) + one_if (issues_hit (issued_commands channel steps) o)
 hits-push channel steps o h = ap hits (issued_commands-push channel steps o) ∙ by o h
   where
     by : (o : Option Command) → is_late_act (issued_commands channel steps) o ≡ false
-        → hits (issued_commands channel steps ++ issued_now channel (length steps) o) ≡ hits (issued_commands channel steps) + one_if (moves_hit (issued_commands channel steps) o)
+        → hits (issued_commands channel steps ++ issued_now channel (length steps) o) ≡ hits (issued_commands channel steps) + one_if (issues_hit (issued_commands channel steps) o)
     by None k = ap hits (append-nil (issued_commands channel steps)) ∙ sym (add-zero _)
     by (Some command) k = hits-one_more (issued_commands channel steps) (record { cycle = length steps; channel = channel; command = command }) k
 

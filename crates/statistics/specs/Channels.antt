@@ -55,10 +55,10 @@ abbrev pub issues : Kind → Option Command → Bool
 issues kind None = false
 issues kind (Some command) = is_kind (kind_of command) kind
 
--- the channel moves data for a request that no ACT was issued for
-abbrev pub moves_hit : List IssuedCommand → Option Command → Bool
-moves_hit history None = false
-moves_hit history (Some command) = is_hit history command
+-- the channel issues a column command for a request that no ACT was issued for
+abbrev pub issues_hit : List IssuedCommand → Option Command → Bool
+issues_hit history None = false
+issues_hit history (Some command) = is_hit history command
 
 -- the statistics of a cycle with a queue of this length, in which a refresh is due or not, the channel drains its
 -- writes or not, and does this
@@ -71,7 +71,7 @@ channel_cycle_with s history queued has_due drains o =
       pre = one_if (issues kind.Pre o);
       prea = one_if (issues kind.Prea o);
       refs = one_if (issues kind.Ref o);
-      hits = one_if (moves_hit history o);
+      hits = one_if (issues_hit history o);
       queued = queued;
       queued_max = queued;
       idle = one_if (queued == 0);
@@ -153,7 +153,7 @@ quiet_cycle drained queued has_due drains =
       draining = option_map (λ count. one_if drains) drained;
     }
 
--- the statistics of a command of this kind, which moves data of a row hit or not, without its cycle
+-- the statistics of a command of this kind, which is a row hit or not, without its cycle
 abbrev pub one_command : Kind → Bool → ChannelStats
 one_command k hit =
     record channel_none {
@@ -191,18 +191,18 @@ channel_stretch s channel steps inbox (o ∷ more) =
 abbrev pub is_entry : Source → Source → Bool
 is_entry a b = (a.core == b.core) && (a.entry == b.entry)
 
--- a command that moves the data of an entry
-abbrev pub moves_data_of : Source → Command → Bool
-moves_data_of source (Rd bank row column other) = is_entry source other
-moves_data_of source (Wr bank row column other) = is_entry source other
-moves_data_of source (Act bank row other) = false
-moves_data_of source (Pre bank other) = false
-moves_data_of source (Prea rank) = false
-moves_data_of source (Ref rank) = false
+-- a column command for an entry
+abbrev pub is_column_command_of : Source → Command → Bool
+is_column_command_of source (Rd bank row column other) = is_entry source other
+is_column_command_of source (Wr bank row column other) = is_entry source other
+is_column_command_of source (Act bank row other) = false
+is_column_command_of source (Pre bank other) = false
+is_column_command_of source (Prea rank) = false
+is_column_command_of source (Ref rank) = false
 
 -- an ACT for an entry whose data was already moved
 abbrev pub is_late_act : List IssuedCommand → Option Command → Bool
-is_late_act history (Some (Act bank row source)) = list_any (λ i. moves_data_of source i.command) history
+is_late_act history (Some (Act bank row source)) = list_any (λ i. is_column_command_of source i.command) history
 is_late_act history (Some (Rd bank row column source)) = false
 is_late_act history (Some (Wr bank row column source)) = false
 is_late_act history (Some (Pre bank source)) = false

@@ -24,7 +24,7 @@ use std::alloc::{AllocError, Global};
 /// What the channels of a machine kept, by number: the commands of each, and the requests that it served, where a
 /// table is asked for.
 #[derive(Drop)]
-struct Kept {
+struct KeptLists {
     commands: Option<Vec<CommandList>>,
     served: Option<Vec<ServedList>>,
 }
@@ -62,7 +62,7 @@ fn list_of(channel: Channel) -> Option<ServedList>
 }
 
 /// Adds what a unit kept to what the units before it kept, if it is a channel. The unit is gone.
-fn add_part(kept: &mut Kept, part: UnitState) -> Result<(), AllocError>
+fn add_part(kept: &mut KeptLists, part: UnitState) -> Result<(), AllocError>
     ensures commands_asked { OnOk result (is_some kept.new.commands ≡ is_some kept.old.commands) }
     ensures served_asked { OnOk result (is_some kept.new.served ≡ is_some kept.old.served) }
     ensures core { (machine : Machine) (core now : ℕ) → IsPart machine (unit.Core core) now part
@@ -92,7 +92,7 @@ fn kept_by_channel(
     now: Cycle,
     parts: Vec<UnitState>,
     tables: Tables,
-) -> Result<Kept, AllocError>
+) -> Result<KeptLists, AllocError>
     requires count { length parts.items ≡ unit_count machine.now.config }
     requires stand { StandAt machine.now now parts.items }
     ensures commands_asked { IfOk result (λ kept. is_some kept.commands ≡ tables.commands) }
@@ -100,7 +100,7 @@ fn kept_by_channel(
     ensures commands { IfOk result (λ kept. AreHeld kept.commands (command_lists machine.now now)) }
     ensures served { IfOk result (λ kept. AreHeld kept.served (served_lists machine.now now)) }
 {
-    let mut kept = Kept {
+    let mut kept = KeptLists {
         commands: lists_if(alloc, tables.commands),
         served: lists_if(alloc, tables.requests),
     };
@@ -155,7 +155,7 @@ pub(crate) fn tables_of(
     ensures requests { IfOk result (λ made. made.1
         ≡ request_table_if tables.requests machine.now now) }
 {
-    let Kept { commands, served } = kept_by_channel(alloc, machine, now, parts, tables)?;
+    let KeptLists { commands, served } = kept_by_channel(alloc, machine, now, parts, tables)?;
     let requests = request_table(alloc, machine, now, served)?;
     Ok((command_table(machine, now, commands), requests))
 }

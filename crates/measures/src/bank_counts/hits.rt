@@ -37,7 +37,7 @@ fn with_acts(alloc: Global, commands: &[IssuedCommand]) -> Result<Entries, Alloc
     Ok(entries)
 }
 
-// Whether a command moves data for a request that has no ACT among these.
+// Whether a command is a column command for a request that has no ACT among these.
 fn is_hit(entries: &Entries, issued: IssuedCommand) -> bool
     ensures { result ≡ is_hit_without (contains same_entry entries.now) issued.command }
 {
@@ -49,7 +49,7 @@ fn is_hit(entries: &Entries, issued: IssuedCommand) -> bool
     }
 }
 
-// How many commands move data for a request that has no ACT among these.
+// How many commands are column commands for a request that has no ACT among these.
 fn count_hits(entries: &Entries, commands: &[IssuedCommand]) -> u64
     ensures { result ≡ count_by (λ i. is_hit_without (contains same_entry entries.now) i.command)
         commands.now }
@@ -60,7 +60,7 @@ fn count_hits(entries: &Entries, commands: &[IssuedCommand]) -> u64
         .count() as u64
 }
 
-/// How many commands move data for a request for which there was no ACT. The only error is out of memory.
+/// How many commands are column commands for a request for which there was no ACT. The only error is out of memory.
 pub(crate) fn hits(alloc: Global, commands: &[IssuedCommand]) -> Result<u64, AllocError>
     ensures { IfOk result (λ count. count ≡ hits commands.now) }
 {

@@ -13,7 +13,7 @@ use crate::channel_session::fault::SessionFault;
 use crate::channel_session::places::address_of;
 use crate::channel_session::requests::{SentRequest, core_of};
 use crate::channel_session::session::Session;
-use crate::memory_session::cycles::sooner;
+use crate::memory_session::cycles::earlier_numbered;
 use sim_base::command::IssuedCommand;
 use sim_base::config::Config;
 use sim_base::message::{ChannelId, Cycle, Message};
@@ -161,7 +161,7 @@ impl MemorySession {
     {
         let mut first = None;
         for (number, session) in self.sessions.iter().enumerate() {
-            first = sooner(first, session.command_cycle(), number);
+            first = earlier_numbered(first, session.command_cycle(), number);
         }
         first
     }
@@ -172,7 +172,7 @@ impl MemorySession {
     {
         let mut first = None;
         for (number, session) in self.sessions.iter().enumerate() {
-            first = sooner(first, session.reply_arrival(), number);
+            first = earlier_numbered(first, session.reply_arrival(), number);
         }
         first
     }

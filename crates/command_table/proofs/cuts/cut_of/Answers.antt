@@ -1,5 +1,5 @@
 use Rattle.std.proofs.Common.{◌+◌, take, sym, subst, ◌∙◌, IfSome}
-use Rattle.command_table.proofs.Pieces.{HaveUpTo, have-kept, have-sooner}
+use Rattle.command_table.proofs.Pieces.{HaveUpTo, have-kept, have-earlier}
 use Rattle.command_table.proofs.cuts.cut_of.Goals as goal
 use Rattle.command_table.proofs.cuts.cut_of.Goals.{in-Some, in_default}
 
@@ -11,6 +11,6 @@ loop-left-preserved c =
     elim c.match-get.branch [
       | in-Some w ↦
           subst (λ least. IfSome least (HaveUpTo (take (i + 1) lists))) (sym w.least-is)
-          (have-sooner lists i list c.args.count w.in-Some.row c.loop-left.least w.sooner.result c.loop-left-test.true c.left-item.is (sym c.get.ensures ∙ w.in-Some.is) w.sooner.ensures c.loop-left.invariant)
+          (have-earlier lists i list c.args.count w.in-Some.row c.loop-left.least w.earlier.result c.loop-left-test.true c.left-item.is (sym c.get.ensures ∙ w.in-Some.is) w.earlier.ensures c.loop-left.invariant)
       | in_default w ↦ subst (λ least. IfSome least (HaveUpTo (take (i + 1) lists))) (sym w.least-is) (have-kept lists i list c.loop-left.least c.loop-left-test.true c.left-item.is c.loop-left.invariant)
     ]

@@ -27,7 +27,7 @@ returns-else-hit c s history other stands knows =
     let kind_is = sym (c.kind_needed-kind.ensures.kind r refl refl ∙ ap (λ o. kind_of (needed_at o r)) row_is) in
     after_ready s history (rank_count c.args.banks.now) r c.kind_needed-kind.result c.ready.result c.args.cycle c.args.hit c.requires.place
     (subst (λ n. IsReadyFrom s history (bank_at n) c.kind_needed-kind.result c.ready.result) c.bank_number.ensures.number (c.ready.ensures s history stands)) kind_is c.if-after.true
-    (λ off. sym (c.moves_data.ensures (needed history r) kind_is) ∙ not_true c.moves_data.result other)
+    (λ off. sym (c.is_column_kind.ensures (needed history r) kind_is) ∙ not_true c.is_column_kind.result other)
   where
     not_true : (b : Bool) → not b ≡ true → b ≡ false
     not_true true is = sym is

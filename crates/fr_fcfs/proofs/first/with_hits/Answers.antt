@@ -14,16 +14,16 @@ returns-then-not-goes c s history log known hits rows so_far =
     so_far_same (length log) c.args.commands.now hits rows (λ cycle. earlier (hits cycle) (first_place (λ r. goes && test cycle r) log)) rows c.args.best.now
     (λ cycle late. none_goes hits goes test log c.if-not-goes.true cycle) (λ cycle late. refl) so_far
 
-pub returns-then-best-data_floor : goal.returns-then-best-data_floor
-returns-then-best-data_floor c s history log known hits rows so_far =
+pub returns-then-best-column_floor : goal.returns-then-best-column_floor
+returns-then-best-column_floor c s history log known hits rows so_far =
     let access = c.args.commands.access in
     let goes = c.args.goes in
-    let floor = c.data_floor.result in
+    let floor = c.column_floor.result in
     let test = hits_now s history (only access) in
     hits_late (length log) c.args.commands.now floor hits rows (λ cycle. first_place (λ r. goes && test cycle r) log) c.args.best.now (omega arith) (omega arith)
     (λ cycle early.
     all_go goes (test cycle) log c.if-not-goes.false
-    ∙ hits_before s history _ log access floor known.in_banks (λ command least bank is at inside allowed. c.data_floor.ensures.least s history command least known.banks_stand (is ∙ sym c.column_kind.ensures.kind) allowed)
+    ∙ hits_before s history _ log access floor known.in_banks (λ command least bank is at inside allowed. c.column_floor.ensures.least s history command least known.banks_stand (is ∙ sym c.column_kind.ensures.kind) allowed)
     cycle early)
     so_far
 

@@ -5,7 +5,7 @@ use Rattle.sim_base.specs.History.{below}
 use Rattle.sim_base.proofs.Added.{length-push_suc}
 use Rattle.units.specs.Kept.{AreHeld, served_of}
 use Rattle.units.specs.Units.{unit_count}
-use Rattle.units.specs.declared.tables.Kept.{Kept}
+use Rattle.units.specs.declared.tables.KeptLists.{KeptLists}
 use Rattle.units.proofs.Keeping.{held-more}
 use Rattle.units.proofs.Standing.{stand-seam, all-yielded}
 use Rattle.units.proofs.tables.kept_by_channel.Goals as goal
@@ -54,10 +54,10 @@ loop-part-preserved c =
       commands_asked = told.commands_asked ∙ at.invariant.commands_asked;
       served_asked = told.served_asked ∙ at.invariant.served_asked;
       commands = subst (λ n. AreHeld new.commands (map (history_of s traces c.args.now) (below (n - s.cores)))) next
-          (held-more machine c.args.now place x (history_of s traces c.args.now) old.commands new.commands stands within (λ core h. ap (λ (k : Kept). k.commands) (told.core machine core c.args.now h))
+          (held-more machine c.args.now place x (history_of s traces c.args.now) old.commands new.commands stands within (λ core h. ap (λ (k : KeptLists). k.commands) (told.core machine core c.args.now h))
           (λ channel rows l h held. told.commands machine channel c.args.now rows h held) at.invariant.commands);
       served = subst (λ n. AreHeld new.served (map (served_of machine c.args.now) (below (n - s.cores)))) next
-          (held-more machine c.args.now place x (served_of machine c.args.now) old.served new.served stands within (λ core h. ap (λ (k : Kept). k.served) (told.core machine core c.args.now h))
+          (held-more machine c.args.now place x (served_of machine c.args.now) old.served new.served stands within (λ core h. ap (λ (k : KeptLists). k.served) (told.core machine core c.args.now h))
           (λ channel rows l h held. told.served machine channel c.args.now rows l h held) at.invariant.served);
     }
 

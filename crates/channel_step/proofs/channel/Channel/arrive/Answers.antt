@@ -11,7 +11,7 @@ use Rattle.queue.specs.View.{QueueView}
 use Rattle.queue.specs.Candidates.{bank_at}
 use Rattle.queue.specs.Stands.{bank_count, StandsFor as CandidatesStandFor}
 use Rattle.fr_fcfs.specs.Requests.{IsInBanks}
-use Rattle.channel_step.specs.Past.{requests_of}
+use Rattle.channel_step.specs.Past.{requests_of, past_of}
 use Rattle.channel_step.specs.Queued.{with_arrivals}
 use Rattle.channel_step.specs.Channels.{IsInCycle}
 use Rattle.channel_step.specs.declared.channel.Channel.{Channel}
@@ -24,7 +24,7 @@ pub make_room-requires : goal.make_room-requires
 make_room-requires c =
     let p = c.requires.can_run in
     let inbox = c.args.inbox.now in
-    admit-room c.args.self.now p.s p.channel p.steps p.mail inbox c.args.now c.requires.until c.due_count-due.result p.stands p.at c.requires.before_end p.fit
+    admit-room c.args.self.now (past_of p.s p.channel p.steps p.mail) inbox c.args.now c.requires.until c.due_count-due.result p.stands p.at c.requires.before_end p.fit
     (c.due_count-due.ensures ∙ due_count-is inbox c.args.now)
 
 pub on_arrival-requires-clause-banks : goal.on_arrival-requires-clause-banks
@@ -37,7 +37,7 @@ on_arrival-requires-clause-banks c =
     let h = c.make_room.ensures.stands p.s p.channel p.steps p.mail p.stands in
     let joined = c.admit.ensures ∙ ap (λ k. with_arrivals y.queue (requests_of (take k inbox))) due in
     subst (All (λ (a : Arrived). bank_number a.request.place < bank_count y.bank_candidates)) (sym (ap (λ (v : LogView). v.log) c.log-2.ensures))
-    (arrived-in_banks y p.s p.channel p.steps p.mail inbox c.args.now c.requires.until q h p.at p.fit joined)
+    (arrived-in_banks y (past_of p.s p.channel p.steps p.mail) inbox c.args.now c.requires.until q h p.at p.fit joined)
 
 pub on_arrival-requires-clause-waits : goal.on_arrival-requires-clause-waits
 on_arrival-requires-clause-waits c =
@@ -58,7 +58,7 @@ reconsider-requires-clause-places c =
     let h = c.make_room.ensures.stands p.s p.channel p.steps p.mail p.stands in
     let joined = c.admit.ensures ∙ ap (λ k. with_arrivals y.queue (requests_of (take k inbox))) due in
     subst (λ n. All (IsInBanks n) (all_requests q.log)) (sym h.banks_stand.ranks)
-    (arrived-places y p.s p.channel p.steps p.mail inbox c.args.now c.requires.until q h p.at p.fit joined)
+    (arrived-places y (past_of p.s p.channel p.steps p.mail) inbox c.args.now c.requires.until q h p.at p.fit joined)
 
 pub reconsider-requires-clause-ahead : goal.reconsider-requires-clause-ahead
 reconsider-requires-clause-ahead c =
@@ -72,7 +72,7 @@ reconsider-requires-clause-ahead c =
     (log-before y (requests_of (take c.due_count-due.result inbox)) c.len-older.result q older c.admit.ensures) (ahead-from _ _ _ _ _ h.foresees)
 
 pub returns-clause-in_cycle : goal.returns-clause-in_cycle
-returns-clause-in_cycle c s channel steps mail until stands at l f =
+returns-clause-in_cycle c s channel steps mail stands until at l f =
     let inbox = c.args.inbox.now in
     let y = c.make_room.new.self in
     let q = c.admit.new.queue in
@@ -90,9 +90,9 @@ returns-clause-in_cycle c s channel steps mail until stands at l f =
     let new = subst (λ l. CandidatesStandFor c.on_arrival.new.self l rows) shown (c.on_arrival.ensures.stands rows old) in
     let high = sym (ap (λ (v : QueueView). v.high) c.admit.ensures ∙ h.made_for.high_is) in
     let known = c.reconsider.ensures.ahead s history y.queue (record { banks_stand = h.banks_stand; candidates_stand = new; high_is = high; earlier_is = before }) (ahead-from _ _ _ _ _ h.foresees) in
-    subst (λ k. IsInCycle c.reconsider.new.self s channel steps (mail ++ take k inbox)) (sym due)
-    (subst (λ (z : Channel). IsInCycle z s channel steps (mail ++ take (due_count inbox c.args.now) inbox)) (sym c.reconsider.ensures.rest)
-    (arrived-stands y s channel steps mail inbox c.args.now until q c.on_arrival.new.self c.reconsider.new.self.ahead h at l f joined c.on_arrival.ensures.banks new known))
+    subst (λ k. IsInCycle c.reconsider.new.self (past_of s channel steps (mail ++ take k inbox))) (sym due)
+    (subst (λ (z : Channel). IsInCycle z (past_of s channel steps (mail ++ take (due_count inbox c.args.now) inbox))) (sym c.reconsider.ensures.rest)
+    (arrived-stands y (past_of s channel steps mail) inbox c.args.now until q c.on_arrival.new.self c.reconsider.new.self.ahead h at l f joined c.on_arrival.ensures.banks new known))
 
 pub admit-requires-clause-room : goal.admit-requires-clause-room
 admit-requires-clause-room c = omega (arith, c.make_room.ensures.room, length-take c.due_count-due.result c.args.inbox.now)

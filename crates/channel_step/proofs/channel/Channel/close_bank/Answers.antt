@@ -1,5 +1,4 @@
 use Rattle.std.proofs.Common.{◌≡◌, ◌<◌, ℕ, false, get_or, Option, Some, None, sym, ap, subst, ◌∙◌}
-use Rattle.sim_base.specs.History.{issued_commands}
 use Rattle.sim_base.specs.Places.{bank_in}
 use Rattle.sim_base.specs.Rules.{open_row}
 use Rattle.sim_base.specs.Scheduling.{source_of}
@@ -10,6 +9,7 @@ use Rattle.queue.specs.declared.request_log.Arrived.{Arrived}
 use Rattle.queue.specs.Log.{absent, LogView}
 use Rattle.queue.specs.Candidates.{bank_at, number_of}
 use Rattle.queue.specs.Stands.{bank_count, with_row, StandsFor as CandidatesStandFor}
+use Rattle.channel_step.specs.Past.{commands_after}
 use Rattle.channel_step.specs.Queued.{request_at}
 use Rattle.channel_step.specs.Readied.{IsReadied}
 use Rattle.channel_step.proofs.Readying.{placed-among, closed-readied}
@@ -22,14 +22,14 @@ closed-requires c =
     let read : get_or c.log-2.result.now c.args.slot absent ≡ get_or x.queue.log c.args.slot absent =
     ap (λ l. get_or l c.args.slot absent) (c.log-2.ensures.log ∙ ap (λ (v : LogView). v.log) c.log.ensures) in
     subst (λ (b : BankId). number_of b < bank_count x.bank_candidates) (sym (c.bank_id-bank.ensures ∙ ap (λ (a : Arrived). bank_in a.request.place) read))
-    (placed-among x p.s p.channel p.steps p.mail c.args.slot p.is_in p.within).number
+    (placed-among x p.past c.args.slot p.is_in p.within).number
 
 pub returns-clause-readied : goal.returns-clause-readied
-returns-clause-readied c s channel steps mail h chosen =
+returns-clause-readied c past h chosen =
     let x = c.args.self.now in
     let slot = c.args.slot in
     let r = request_at x.queue.log slot in
-    let rows : ℕ → Option ℕ = λ n. open_row (bank_at n) (issued_commands channel steps) in
+    let rows : ℕ → Option ℕ = λ n. open_row (bank_at n) (commands_after past) in
     let read : get_or c.log-2.result.now slot absent ≡ get_or x.queue.log slot absent =
     ap (λ l. get_or l slot absent) (c.log-2.ensures.log ∙ ap (λ (v : LogView). v.log) c.log.ensures) in
     let bank : c.bank_id-bank.result ≡ bank_in r.place = c.bank_id-bank.ensures ∙ ap (λ (a : Arrived). bank_in a.request.place) read in
@@ -38,5 +38,5 @@ returns-clause-readied c s channel steps mail h chosen =
     let stands =
     subst (λ (b : BankId). CandidatesStandFor c.closed.new.self x.queue.log (with_row (number_of b) None rows)) bank
     (c.closed.ensures.stands x.queue.log rows h.candidates_stand) in
-    subst (λ (issued : Command). IsReadied (record x { bank_candidates = c.closed.new.self }) s channel steps mail issued false) (sym command)
-    (closed-readied x s channel steps mail slot c.closed.new.self h c.requires.within (ap Some (sym command) ∙ chosen) c.closed.ensures.banks stands)
+    subst (λ (issued : Command). IsReadied (record x { bank_candidates = c.closed.new.self }) past issued false) (sym command)
+    (closed-readied x past slot c.closed.new.self h c.requires.within (ap Some (sym command) ∙ chosen) c.closed.ensures.banks stands)

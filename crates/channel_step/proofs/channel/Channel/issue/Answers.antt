@@ -1,5 +1,5 @@
 use Rattle.std.proofs.Common.{[], ◌∷◌, ◌++◌, Some, refl, sym, subst}
-use Rattle.sim_base.specs.History.{issued_commands}
+use Rattle.channel_step.specs.Past.{commands_after}
 use Rattle.channel_step.specs.Channels.{StandsFor}
 use Rattle.channel_step.specs.Readied.{row_of}
 use Rattle.channel_step.specs.declared.channel.Channel.{Channel}
@@ -7,25 +7,25 @@ use Rattle.channel_step.proofs.Issuing.{issued-before, command-rank, command-owe
 use Rattle.channel_step.proofs.channel.Channel.issue.Goals as goal
 
 pub note-requires-clause-rank : goal.note-requires-clause-rank
-note-requires-clause-rank c = let p = c.requires.ready in command-rank c.args.self.now p.s p.channel p.steps p.mail c.args.command c.args.hit p.is_readied
+note-requires-clause-rank c = let p = c.requires.ready in command-rank c.args.self.now p.past c.args.command c.args.hit p.is_readied
 
 pub note_refresh-requires-clause-due : goal.note_refresh-requires-clause-due
-note_refresh-requires-clause-due c = let p = c.requires.ready in command-owed c.args.self.now p.s p.channel p.steps p.mail c.args.command c.args.hit p.is_readied
+note_refresh-requires-clause-due c = let p = c.requires.ready in command-owed c.args.self.now p.past c.args.command c.args.hit p.is_readied
 
 pub count-requires-clause-drains : goal.count-requires-clause-drains
-count-requires-clause-drains c = let p = c.requires.ready in readied-drains c.args.self.now p.s p.channel p.steps p.mail c.args.command c.args.hit p.is_readied
+count-requires-clause-drains c = let p = c.requires.ready in readied-drains c.args.self.now p.past c.args.command c.args.hit p.is_readied
 
 pub count-requires-clause-fits : goal.count-requires-clause-fits
 count-requires-clause-fits c =
     let p = c.requires.ready in
-    counted-fits c.args.self.now p.s p.channel p.steps p.mail c.args.command c.args.hit c.args.seen p.is_readied p.seen_is c.requires.early
+    counted-fits c.args.self.now p.past c.args.command c.args.hit c.args.seen p.is_readied p.seen_is c.requires.early
 
 pub returns-clause-stands : goal.returns-clause-stands
-returns-clause-stands c s channel steps mail h seen =
+returns-clause-stands c past h seen =
     let x = c.args.self.now in
-    let history = issued_commands channel steps in
-    let row = row_of channel x.cycle c.args.command in
-    subst (λ (z : Channel). StandsFor z s channel (steps ++ Some c.args.command ∷ []) mail) (sym c.count.ensures)
-    (issued-stands x s channel steps mail c.args.command c.args.hit c.args.seen c.note.new.self c.note_refresh.new.refresh h seen
-    (c.note.ensures.stands s history channel h.banks_stand (issued-before channel x.cycle steps (sym h.cycle_is)))
-    (c.note_refresh.ensures s history row refl h.refreshes_stand))
+    let history = commands_after past in
+    let row = row_of past.channel x.cycle c.args.command in
+    subst (λ (z : Channel). StandsFor z past.config past.channel (past.steps ++ Some c.args.command ∷ []) past.mail) (sym c.count.ensures)
+    (issued-stands x past c.args.command c.args.hit c.args.seen c.note.new.self c.note_refresh.new.refresh h seen
+    (c.note.ensures.stands past.config history past.channel h.banks_stand (issued-before past.channel x.cycle past.steps (sym h.cycle_is)))
+    (c.note_refresh.ensures past.config history row refl h.refreshes_stand))

@@ -10,6 +10,7 @@ use Rattle.sim_base.specs.declared.command.Command.TheVariants.{Pre}
 use Rattle.sim_base.specs.declared.place.BankId.{BankId}
 use Rattle.sim_base.specs.declared.place.Place.{Place}
 use Rattle.queue.specs.Log.{absent, LogView}
+use Rattle.channel_step.specs.Past.{commands_after}
 use Rattle.channel_step.specs.Channels.{seen_with}
 use Rattle.channel_step.specs.Queued.{request_at}
 use Rattle.channel_step.specs.Runs.{HasIssued}
@@ -23,7 +24,7 @@ open_bank-command-requires c =
     let slot = c.args.slot in
     let r = request_at x.queue.log slot in
     let p = c.requires.chosen in
-    let history = issued_commands p.channel p.steps in
+    let history = issued_commands p.past.channel p.past.steps in
     let place : (get_or c.log-2.result.now slot absent).request.place ≡ r.place = ap (λ l. (get_or l slot absent).request.place) (c.log-2.ensures.log ∙ ap (λ (v : LogView). v.log) c.log.ensures) in
     let opens : c.open_row.result ≡ open_row (bank_in r.place) history =
     c.open_row.ensures x.queue.log history p.is_in.candidates_stand ∙ ap (λ (b : BankId). open_row b history) (c.bank_id.ensures ∙ ap bank_in place) in
@@ -36,18 +37,15 @@ issue-requires-clause-ready c =
     let slot = c.args.slot in
     let r = request_at x.queue.log slot in
     let p = c.requires.chosen in
-    let history = issued_commands p.channel p.steps in
+    let history = issued_commands p.past.channel p.past.steps in
     let place : (get_or c.log-2.result.now slot absent).request.place ≡ r.place = ap (λ l. (get_or l slot absent).request.place) (c.log-2.ensures.log ∙ ap (λ (v : LogView). v.log) c.log.ensures) in
     let opens : c.open_row.result ≡ open_row (bank_in r.place) history =
     c.open_row.ensures x.queue.log history p.is_in.candidates_stand ∙ ap (λ (b : BankId). open_row b history) (c.bank_id.ensures ∙ ap bank_in place) in
     let is : needed history r ≡ needed_at None r = needed-with history r None (sym c.in-None.is ∙ opens) in
     record {
-      s = p.s;
-      channel = p.channel;
-      steps = p.steps;
-      mail = p.mail;
-      is_readied = c.open_bank-command.ensures.readied p.s p.channel p.steps p.mail p.is_in (ap Some (c.open_bank-command.ensures.command ∙ sym is) ∙ chosen-needs x slot p);
-      seen_is = seen-told x p.s p.channel p.steps p.mail c.refreshing.result c.seen-seen.result p.is_in c.seen-seen.ensures c.refreshing.ensures;
+      past = p.past;
+      is_readied = c.open_bank-command.ensures.readied p.past p.is_in (ap Some (c.open_bank-command.ensures.command ∙ sym is) ∙ chosen-needs x slot p);
+      seen_is = seen-told x p.past c.refreshing.result c.seen-seen.result p.is_in c.seen-seen.ensures c.refreshing.ensures;
     }
 
 pub issue-requires-clause-early : goal.issue-requires-clause-early
@@ -56,12 +54,12 @@ issue-requires-clause-early c =
     let slot = c.args.slot in
     let r = request_at x.queue.log slot in
     let p = c.requires.chosen in
-    let history = issued_commands p.channel p.steps in
+    let history = issued_commands p.past.channel p.past.steps in
     let place : (get_or c.log-2.result.now slot absent).request.place ≡ r.place = ap (λ l. (get_or l slot absent).request.place) (c.log-2.ensures.log ∙ ap (λ (v : LogView). v.log) c.log.ensures) in
     let opens : c.open_row.result ≡ open_row (bank_in r.place) history =
     c.open_row.ensures x.queue.log history p.is_in.candidates_stand ∙ ap (λ (b : BankId). open_row b history) (c.bank_id.ensures ∙ ap bank_in place) in
     let is : needed history r ≡ needed_at None r = needed-with history r None (sym c.in-None.is ∙ opens) in
-    let ready = c.open_bank-command.ensures.readied p.s p.channel p.steps p.mail p.is_in (ap Some (c.open_bank-command.ensures.command ∙ sym is) ∙ chosen-needs x slot p) in
+    let ready = c.open_bank-command.ensures.readied p.past p.is_in (ap Some (c.open_bank-command.ensures.command ∙ sym is) ∙ chosen-needs x slot p) in
     omega (arith, ready.cycle_is, p.is_in.cycle_is, c.requires.early)
 
 pub close_bank-command-requires : goal.close_bank-command-requires
@@ -70,7 +68,7 @@ close_bank-command-requires c =
     let slot = c.args.slot in
     let r = request_at x.queue.log slot in
     let p = c.requires.chosen in
-    let history = issued_commands p.channel p.steps in
+    let history = issued_commands p.past.channel p.past.steps in
     let place : (get_or c.log-2.result.now slot absent).request.place ≡ r.place = ap (λ l. (get_or l slot absent).request.place) (c.log-2.ensures.log ∙ ap (λ (v : LogView). v.log) c.log.ensures) in
     let opens : c.open_row.result ≡ open_row (bank_in r.place) history =
     c.open_row.ensures x.queue.log history p.is_in.candidates_stand ∙ ap (λ (b : BankId). open_row b history) (c.bank_id.ensures ∙ ap bank_in place) in
@@ -83,18 +81,15 @@ issue-requires-in-Some-clause-ready c =
     let slot = c.args.slot in
     let r = request_at x.queue.log slot in
     let p = c.requires.chosen in
-    let history = issued_commands p.channel p.steps in
+    let history = issued_commands p.past.channel p.past.steps in
     let place : (get_or c.log-2.result.now slot absent).request.place ≡ r.place = ap (λ l. (get_or l slot absent).request.place) (c.log-2.ensures.log ∙ ap (λ (v : LogView). v.log) c.log.ensures) in
     let opens : c.open_row.result ≡ open_row (bank_in r.place) history =
     c.open_row.ensures x.queue.log history p.is_in.candidates_stand ∙ ap (λ (b : BankId). open_row b history) (c.bank_id.ensures ∙ ap bank_in place) in
     let is : needed history r ≡ Pre (bank_in r.place) (source_of r) = needed-closing history r c.in-Some.row (sym c.in-Some.is ∙ opens) (λ e. c.if-row-place.true (e ∙ sym (ap (λ (q : Place). q.row) place))) in
     record {
-      s = p.s;
-      channel = p.channel;
-      steps = p.steps;
-      mail = p.mail;
-      is_readied = c.close_bank-command.ensures.readied p.s p.channel p.steps p.mail p.is_in (ap Some (c.close_bank-command.ensures.command ∙ sym is) ∙ chosen-needs x slot p);
-      seen_is = seen-told x p.s p.channel p.steps p.mail c.refreshing.result c.seen-seen.result p.is_in c.seen-seen.ensures c.refreshing.ensures;
+      past = p.past;
+      is_readied = c.close_bank-command.ensures.readied p.past p.is_in (ap Some (c.close_bank-command.ensures.command ∙ sym is) ∙ chosen-needs x slot p);
+      seen_is = seen-told x p.past c.refreshing.result c.seen-seen.result p.is_in c.seen-seen.ensures c.refreshing.ensures;
     }
 
 pub issue-requires-in-Some-clause-early : goal.issue-requires-in-Some-clause-early
@@ -103,21 +98,21 @@ issue-requires-in-Some-clause-early c =
     let slot = c.args.slot in
     let r = request_at x.queue.log slot in
     let p = c.requires.chosen in
-    let history = issued_commands p.channel p.steps in
+    let history = issued_commands p.past.channel p.past.steps in
     let place : (get_or c.log-2.result.now slot absent).request.place ≡ r.place = ap (λ l. (get_or l slot absent).request.place) (c.log-2.ensures.log ∙ ap (λ (v : LogView). v.log) c.log.ensures) in
     let opens : c.open_row.result ≡ open_row (bank_in r.place) history =
     c.open_row.ensures x.queue.log history p.is_in.candidates_stand ∙ ap (λ (b : BankId). open_row b history) (c.bank_id.ensures ∙ ap bank_in place) in
     let is : needed history r ≡ Pre (bank_in r.place) (source_of r) = needed-closing history r c.in-Some.row (sym c.in-Some.is ∙ opens) (λ e. c.if-row-place.true (e ∙ sym (ap (λ (q : Place). q.row) place))) in
-    let ready = c.close_bank-command.ensures.readied p.s p.channel p.steps p.mail p.is_in (ap Some (c.close_bank-command.ensures.command ∙ sym is) ∙ chosen-needs x slot p) in
+    let ready = c.close_bank-command.ensures.readied p.past p.is_in (ap Some (c.close_bank-command.ensures.command ∙ sym is) ∙ chosen-needs x slot p) in
     omega (arith, ready.cycle_is, p.is_in.cycle_is, c.requires.early)
 
-pub move_data-requires-clause-doing : goal.move_data-requires-clause-doing
-move_data-requires-clause-doing c =
+pub issue_column_command-requires-clause-doing : goal.issue_column_command-requires-clause-doing
+issue_column_command-requires-clause-doing c =
     let x = c.args.self.now in
     let slot = c.args.slot in
     let r = request_at x.queue.log slot in
     let p = c.requires.chosen in
-    let history = issued_commands p.channel p.steps in
+    let history = issued_commands p.past.channel p.past.steps in
     let place : (get_or c.log-2.result.now slot absent).request.place ≡ r.place = ap (λ l. (get_or l slot absent).request.place) (c.log-2.ensures.log ∙ ap (λ (v : LogView). v.log) c.log.ensures) in
     let opens : c.open_row.result ≡ open_row (bank_in r.place) history =
     c.open_row.ensures x.queue.log history p.is_in.candidates_stand ∙ ap (λ (b : BankId). open_row b history) (c.bank_id.ensures ∙ ap bank_in place) in
@@ -125,62 +120,62 @@ move_data-requires-clause-doing c =
     doing x slot (column_command r) p is
 
 pub returns-in-None : goal.returns-in-None
-returns-in-None c s channel steps mail h chosen =
+returns-in-None c past h chosen =
     let x = c.args.self.now in
     let slot = c.args.slot in
     let r = request_at x.queue.log slot in
-    let history = issued_commands channel steps in
+    let history = commands_after past in
     let place : (get_or c.log-2.result.now slot absent).request.place ≡ r.place = ap (λ l. (get_or l slot absent).request.place) (c.log-2.ensures.log ∙ ap (λ (v : LogView). v.log) c.log.ensures) in
     let opens : c.open_row.result ≡ open_row (bank_in r.place) history =
     c.open_row.ensures x.queue.log history h.candidates_stand ∙ ap (λ (b : BankId). open_row b history) (c.bank_id.ensures ∙ ap bank_in place) in
     let is : needed history r ≡ needed_at None r = needed-with history r None (sym c.in-None.is ∙ opens) in
-    let ready = c.open_bank-command.ensures.readied s channel steps mail h (ap Some (c.open_bank-command.ensures.command ∙ sym is) ∙ chosen) in
-    let seen = seen-told x s channel steps mail c.refreshing.result c.seen-seen.result h c.seen-seen.ensures c.refreshing.ensures in
+    let ready = c.open_bank-command.ensures.readied past h (ap Some (c.open_bank-command.ensures.command ∙ sym is) ∙ chosen) in
+    let seen = seen-told x past c.refreshing.result c.seen-seen.result h c.seen-seen.ensures c.refreshing.ensures in
     let before = c.args.messages.now.items in
     on_ok_weaker c.issue.result
-    (λ told. has-issued c.open_bank-command.new.self c.issue.new.self s channel steps mail (needed history r) c.open_bank-command.result false c.args.commands.now c.issue.new.commands before before ready
-    (c.open_bank-command.ensures.command ∙ sym is) (c.issue.ensures.stands s channel steps mail ready seen) told
-    (silent-act s channel (length steps) (bank_in r.place) r.place.row (source_of r) before ∙ ap (λ z. before ++ messages_of s channel (length steps) z) (sym is)))
+    (λ told. has-issued c.open_bank-command.new.self c.issue.new.self past (needed history r) c.open_bank-command.result false c.args.commands.now c.issue.new.commands before before ready
+    (c.open_bank-command.ensures.command ∙ sym is) (c.issue.ensures.stands past ready seen) told
+    (silent-act past.config past.channel (length past.steps) (bank_in r.place) r.place.row (source_of r) before ∙ ap (λ z. before ++ messages_of past.config past.channel (length past.steps) z) (sym is)))
     c.issue.ensures.commands
 
 pub returns-in-Some : goal.returns-in-Some
-returns-in-Some c s channel steps mail h chosen =
+returns-in-Some c past h chosen =
     let x = c.args.self.now in
     let slot = c.args.slot in
     let r = request_at x.queue.log slot in
-    let history = issued_commands channel steps in
+    let history = commands_after past in
     let place : (get_or c.log-2.result.now slot absent).request.place ≡ r.place = ap (λ l. (get_or l slot absent).request.place) (c.log-2.ensures.log ∙ ap (λ (v : LogView). v.log) c.log.ensures) in
     let opens : c.open_row.result ≡ open_row (bank_in r.place) history =
     c.open_row.ensures x.queue.log history h.candidates_stand ∙ ap (λ (b : BankId). open_row b history) (c.bank_id.ensures ∙ ap bank_in place) in
     let is : needed history r ≡ Pre (bank_in r.place) (source_of r) = needed-closing history r c.in-Some.row (sym c.in-Some.is ∙ opens) (λ e. c.if-row-place.true (e ∙ sym (ap (λ (q : Place). q.row) place))) in
-    let ready = c.close_bank-command.ensures.readied s channel steps mail h (ap Some (c.close_bank-command.ensures.command ∙ sym is) ∙ chosen) in
-    let seen = seen-told x s channel steps mail c.refreshing.result c.seen-seen.result h c.seen-seen.ensures c.refreshing.ensures in
+    let ready = c.close_bank-command.ensures.readied past h (ap Some (c.close_bank-command.ensures.command ∙ sym is) ∙ chosen) in
+    let seen = seen-told x past c.refreshing.result c.seen-seen.result h c.seen-seen.ensures c.refreshing.ensures in
     let before = c.args.messages.now.items in
     on_ok_weaker c.issue-in-Some.result
-    (λ told. has-issued c.close_bank-command.new.self c.issue-in-Some.new.self s channel steps mail (needed history r) c.close_bank-command.result false c.args.commands.now c.issue-in-Some.new.commands before before ready
-    (c.close_bank-command.ensures.command ∙ sym is) (c.issue-in-Some.ensures.stands s channel steps mail ready seen) told
-    (silent-pre s channel (length steps) (bank_in r.place) (source_of r) before ∙ ap (λ z. before ++ messages_of s channel (length steps) z) (sym is)))
+    (λ told. has-issued c.close_bank-command.new.self c.issue-in-Some.new.self past (needed history r) c.close_bank-command.result false c.args.commands.now c.issue-in-Some.new.commands before before ready
+    (c.close_bank-command.ensures.command ∙ sym is) (c.issue-in-Some.ensures.stands past ready seen) told
+    (silent-pre past.config past.channel (length past.steps) (bank_in r.place) (source_of r) before ∙ ap (λ z. before ++ messages_of past.config past.channel (length past.steps) z) (sym is)))
     c.issue-in-Some.ensures.commands
 
 pub returns-in-Some-2 : goal.returns-in-Some-2
-returns-in-Some-2 c s channel steps mail h chosen =
+returns-in-Some-2 c past h chosen =
     let x = c.args.self.now in
     let slot = c.args.slot in
     let r = request_at x.queue.log slot in
-    let history = issued_commands channel steps in
+    let history = commands_after past in
     let place : (get_or c.log-2.result.now slot absent).request.place ≡ r.place = ap (λ l. (get_or l slot absent).request.place) (c.log-2.ensures.log ∙ ap (λ (v : LogView). v.log) c.log.ensures) in
     let opens : c.open_row.result ≡ open_row (bank_in r.place) history =
     c.open_row.ensures x.queue.log history h.candidates_stand ∙ ap (λ (b : BankId). open_row b history) (c.bank_id.ensures ∙ ap bank_in place) in
     let is : needed history r ≡ column_command r = needed-moving history r c.in-Some.row (sym c.in-Some.is ∙ opens) (c.if-row-place.false ∙ ap (λ (q : Place). q.row) place) in
-    subst (λ (z : Command). OnOk c.move_data.result (HasIssued c.move_data.new.self s channel steps mail z c.args.commands.now c.move_data.new.commands c.args.messages.now.items c.move_data.new.messages.items)) (sym is)
-    (c.move_data.ensures s channel steps mail h (ap Some (sym is) ∙ chosen))
+    subst (λ (z : Command). OnOk c.issue_column_command.result (HasIssued c.issue_column_command.new.self past z c.args.commands.now c.issue_column_command.new.commands c.args.messages.now.items c.issue_column_command.new.messages.items)) (sym is)
+    (c.issue_column_command.ensures past h (ap Some (sym is) ∙ chosen))
 
 pub bounds-log-slot : goal.bounds-log-slot
 bounds-log-slot c =
     subst (λ l. c.args.slot < length l) (sym (c.log-2.ensures.log ∙ ap (λ (v : LogView). v.log) c.log.ensures)) c.requires.chosen.place.0
 
-pub move_data-requires-clause-seen : goal.move_data-requires-clause-seen
-move_data-requires-clause-seen c = c.seen-seen.ensures ∙ ap (seen_with c.args.self.now) c.refreshing.ensures
+pub issue_column_command-requires-clause-seen : goal.issue_column_command-requires-clause-seen
+issue_column_command-requires-clause-seen c = c.seen-seen.ensures ∙ ap (seen_with c.args.self.now) c.refreshing.ensures
 
-pub move_data-requires-clause-early : goal.move_data-requires-clause-early
-move_data-requires-clause-early c = c.requires.early
+pub issue_column_command-requires-clause-early : goal.issue_column_command-requires-clause-early
+issue_column_command-requires-clause-early c = c.requires.early

@@ -1,5 +1,4 @@
 use Rattle.std.proofs.Common.{◌≡◌, ◌<◌, ℕ, false, get_or, Option, Some, None, sym, ap, subst, ◌∙◌}
-use Rattle.sim_base.specs.History.{issued_commands}
 use Rattle.sim_base.specs.Places.{bank_in}
 use Rattle.sim_base.specs.Rules.{open_row}
 use Rattle.sim_base.specs.Scheduling.{source_of, needed_at}
@@ -12,6 +11,7 @@ use Rattle.queue.specs.View.{QueueView}
 use Rattle.queue.specs.Candidates.{bank_at, number_of}
 use Rattle.queue.specs.Stands.{bank_count, with_row, StandsFor as CandidatesStandFor}
 use Rattle.queue.proofs.Stood.{activated_stand}
+use Rattle.channel_step.specs.Past.{commands_after}
 use Rattle.channel_step.specs.Queued.{request_at}
 use Rattle.channel_step.specs.Readied.{IsReadied}
 use Rattle.channel_step.proofs.Readying.{placed-among, opened-readied}
@@ -24,14 +24,14 @@ opened-requires c =
     let read : get_or c.log-2.result.now c.args.slot absent ≡ get_or x.queue.log c.args.slot absent =
     ap (λ l. get_or l c.args.slot absent) (c.log-2.ensures.log ∙ ap (λ (v : LogView). v.log) c.log.ensures) in
     subst (λ (b : BankId). number_of b < bank_count x.bank_candidates) (sym (c.bank_id-bank.ensures ∙ ap (λ (a : Arrived). bank_in a.request.place) read))
-    (placed-among x p.s p.channel p.steps p.mail c.args.slot p.is_in p.within).number
+    (placed-among x p.past c.args.slot p.is_in p.within).number
 
 pub returns-clause-readied : goal.returns-clause-readied
-returns-clause-readied c s channel steps mail h chosen =
+returns-clause-readied c past h chosen =
     let x = c.args.self.now in
     let slot = c.args.slot in
     let r = request_at x.queue.log slot in
-    let rows : ℕ → Option ℕ = λ n. open_row (bank_at n) (issued_commands channel steps) in
+    let rows : ℕ → Option ℕ = λ n. open_row (bank_at n) (commands_after past) in
     let read : get_or c.log-2.result.now slot absent ≡ get_or x.queue.log slot absent =
     ap (λ l. get_or l slot absent) (c.log-2.ensures.log ∙ ap (λ (v : LogView). v.log) c.log.ensures) in
     let bank : c.bank_id-bank.result ≡ bank_in r.place = c.bank_id-bank.ensures ∙ ap (λ (a : Arrived). bank_in a.request.place) read in
@@ -44,6 +44,6 @@ returns-clause-readied c s channel steps mail h chosen =
     let placed =
     subst (λ k. CandidatesStandFor c.opened.new.self (activated_at x.queue.log slot) (with_row (number_of (bank_in r.place)) (Some k) rows)) row
     (subst (λ (b : BankId). CandidatesStandFor c.opened.new.self (activated_at x.queue.log slot) (with_row (number_of b) (Some (get_or c.log-2.result.now slot absent).request.place.row) rows)) bank stands) in
-    subst (λ (issued : Command). IsReadied (record x { queue = c.activate.new.self; bank_candidates = c.opened.new.self }) s channel steps mail issued false) (sym command)
-    (subst (λ (q : QueueView). IsReadied (record x { queue = q; bank_candidates = c.opened.new.self }) s channel steps mail (needed_at None r) false) (sym c.activate.ensures)
-    (opened-readied x s channel steps mail slot c.opened.new.self h c.requires.within c.requires.waits (ap Some (sym command) ∙ chosen) c.opened.ensures.banks placed))
+    subst (λ (issued : Command). IsReadied (record x { queue = c.activate.new.self; bank_candidates = c.opened.new.self }) past issued false) (sym command)
+    (subst (λ (q : QueueView). IsReadied (record x { queue = q; bank_candidates = c.opened.new.self }) past (needed_at None r) false) (sym c.activate.ensures)
+    (opened-readied x past slot c.opened.new.self h c.requires.within c.requires.waits (ap Some (sym command) ∙ chosen) c.opened.ensures.banks placed))

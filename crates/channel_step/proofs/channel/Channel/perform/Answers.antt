@@ -1,8 +1,8 @@
 use Rattle.std.proofs.Common.{◌≡◌, Some, sym, subst, ◌∙◌}
 use Rattle.std.specs.Result.{OnOk}
-use Rattle.sim_base.specs.History.{issued_commands}
 use Rattle.sim_base.specs.Scheduling.{needed}
 use Rattle.fr_fcfs.specs.Choices.{command_of, IsFor}
+use Rattle.channel_step.specs.Past.{commands_after}
 use Rattle.channel_step.specs.Queued.{request_at}
 use Rattle.channel_step.specs.Readied.{IsChosen, rank_command}
 use Rattle.channel_step.specs.Runs.{HasIssued}
@@ -22,21 +22,21 @@ pub issue_for-requires-clause-early : goal.issue_for-requires-clause-early
 issue_for-requires-clause-early c = c.requires.early
 
 pub returns-in-Refresh : goal.returns-in-Refresh
-returns-in-Refresh c s channel steps mail command h needs chosen =
-    let history = issued_commands channel steps in
-    let is : Some (rank_command s channel steps c.in-Refresh.rank) ≡ Some command =
-    subst (λ x. command_of s history c.args.self.now.queue.log x ≡ Some command) c.in-Refresh.is needs in
-    let same : rank_command s channel steps c.in-Refresh.rank ≡ command = cc in
-    subst (λ z. OnOk c.refresh_rank.result (HasIssued c.refresh_rank.new.self s channel steps mail z c.args.commands.now c.refresh_rank.new.commands c.args.messages.now.items c.args.messages.now.items)) same
-    (c.refresh_rank.ensures s channel steps mail c.args.messages.now.items h (is ∙ chosen))
+returns-in-Refresh c past h command needs chosen =
+    let history = commands_after past in
+    let is : Some (rank_command past c.in-Refresh.rank) ≡ Some command =
+    subst (λ x. command_of past.config history c.args.self.now.queue.log x ≡ Some command) c.in-Refresh.is needs in
+    let same : rank_command past c.in-Refresh.rank ≡ command = cc in
+    subst (λ z. OnOk c.refresh_rank.result (HasIssued c.refresh_rank.new.self past z c.args.commands.now c.refresh_rank.new.commands c.args.messages.now.items c.args.messages.now.items)) same
+    (c.refresh_rank.ensures past h c.args.messages.now.items (is ∙ chosen))
 
 pub returns-in-Request : goal.returns-in-Request
-returns-in-Request c s channel steps mail command h needs chosen =
-    let history = issued_commands channel steps in
+returns-in-Request c past h command needs chosen =
+    let history = commands_after past in
     let log = c.args.self.now.queue.log in
-    let place = subst (IsFor c.requires.chosen.s.ranks log) c.in-Request.is c.requires.chosen.place in
+    let place = subst (IsFor c.requires.chosen.past.config.ranks log) c.in-Request.is c.requires.chosen.place in
     let is : Some (needed history (request_at log c.in-Request.slot)) ≡ Some command =
-    sym (request-needs s history log c.in-Request.slot place.0) ∙ subst (λ x. command_of s history log x ≡ Some command) c.in-Request.is needs in
+    sym (request-needs past.config history log c.in-Request.slot place.0) ∙ subst (λ x. command_of past.config history log x ≡ Some command) c.in-Request.is needs in
     let same : needed history (request_at log c.in-Request.slot) ≡ command = cc in
-    subst (λ z. OnOk c.issue_for.result (HasIssued c.issue_for.new.self s channel steps mail z c.args.commands.now c.issue_for.new.commands c.args.messages.now.items c.issue_for.new.messages.items)) same
-    (c.issue_for.ensures s channel steps mail h (is ∙ chosen))
+    subst (λ z. OnOk c.issue_for.result (HasIssued c.issue_for.new.self past z c.args.commands.now c.issue_for.new.commands c.args.messages.now.items c.issue_for.new.messages.items)) same
+    (c.issue_for.ensures past h (is ∙ chosen))

@@ -5,6 +5,7 @@ use Rattle.queue.specs.Log.{waiting, LogView}
 use Rattle.queue.specs.declared.bank_candidates.all_banks.BankCandidates.{BankCandidates}
 use Rattle.queue.specs.Candidates.{bank_at}
 use Rattle.queue.specs.Stands.{bank_count, StandsFor as CandidatesStandFor}
+use Rattle.channel_step.specs.Past.{past_of}
 use Rattle.channel_step.specs.Channels.{StandsFor}
 use Rattle.channel_step.specs.declared.channel.Channel.{Channel}
 use Rattle.channel_step.specs.declared.ahead.Ahead.TheVariants.{Unknown}
@@ -18,4 +19,4 @@ returns-clause-stands c d e s channel steps mail h =
     let old = subst (λ (b : BankCandidates). CandidatesStandFor b d.queue.log rows) (sym (ap (λ (y : Channel). y.bank_candidates) e)) h.candidates_stand in
     let stands = subst (λ l. CandidatesStandFor c.renew.new.self l rows) log (c.renew.ensures.stands d.queue.log rows log old) in
     subst (λ (y : Channel). StandsFor (record y { bank_candidates = c.renew.new.self; ahead = Unknown }) s channel steps mail) (sym e)
-    (renewed-stands d s channel steps mail c.renew.new.self h (c.renew.ensures.banks ∙ ap (λ (y : Channel). bank_count y.bank_candidates) e) stands)
+    (renewed-stands d (past_of s channel steps mail) c.renew.new.self h (c.renew.ensures.banks ∙ ap (λ (y : Channel). bank_count y.bank_candidates) e) stands)

@@ -2,7 +2,6 @@ use Rattle.std.proofs.Common.{◌≡◌, ◌<◌, ℕ, false, [], ◌∷◌, len
 use Rattle.std.specs.List.{All}
 use Rattle.std.specs.Option.{IfSome}
 use Rattle.std.proofs.lemmas.List.{get_or-set_same}
-use Rattle.sim_base.specs.History.{issued_commands}
 use Rattle.sim_base.specs.Rules.{open_row}
 use Rattle.sim_base.specs.Scheduling.{column_command}
 use Rattle.queue.specs.declared.request_log.Arrived.{Arrived}
@@ -13,6 +12,7 @@ use Rattle.queue.specs.View.{QueueView}
 use Rattle.queue.specs.Candidates.{bank_at}
 use Rattle.queue.specs.Stands.{bank_count, StandsFor as CandidatesStandFor}
 use Rattle.fr_fcfs.specs.Requests.{IsInBanks}
+use Rattle.channel_step.specs.Past.{commands_after}
 use Rattle.channel_step.specs.Queued.{request_at, served_now}
 use Rattle.channel_step.specs.Runs.{with_more}
 use Rattle.channel_step.specs.Readied.{IsReadied}
@@ -27,16 +27,16 @@ on_service-requires-clause-banks c =
     let x = c.args.self.now in
     let log : c.log.result.now.log ≡ served_at x.queue.log c.args.slot = ap (λ (v : LogView). v.log) c.log.ensures ∙ ap (λ (q : QueueView). q.log) c.serve-unblocked.ensures.log in
     subst (All (λ (a : Arrived). bank_number a.request.place < bank_count x.bank_candidates)) (sym log)
-    (banks-below p.s.ranks (bank_count x.bank_candidates) (served_at x.queue.log c.args.slot) p.is_in.made_for.banks_are
-    (subst (All (IsInBanks p.s.ranks)) (sym (all_served x.queue.log c.args.slot)) p.is_in.made_for.in_banks))
+    (banks-below p.past.config.ranks (bank_count x.bank_candidates) (served_at x.queue.log c.args.slot) p.is_in.made_for.banks_are
+    (subst (All (IsInBanks p.past.config.ranks)) (sym (all_served x.queue.log c.args.slot)) p.is_in.made_for.in_banks))
 
 pub returns : goal.returns
-returns c s channel steps mail h chosen =
+returns c past h chosen =
     let x = c.args.self.now in
     let slot = c.args.slot in
     let r = request_at x.queue.log slot in
     let hit = not (get_or x.queue.log slot absent).activated in
-    let rows : ℕ → Option ℕ = λ n. open_row (bank_at n) (issued_commands channel steps) in
+    let rows : ℕ → Option ℕ = λ n. open_row (bank_at n) (commands_after past) in
     let log : c.log.result.now.log ≡ served_at x.queue.log slot = ap (λ (v : LogView). v.log) c.log.ensures ∙ ap (λ (q : QueueView). q.log) c.serve-unblocked.ensures.log in
     let marks = ap (λ (v : LogView). eligible_column v.log) c.log.ensures ∙ c.serve-unblocked.ensures.marks in
     let next : IfSome c.serve-unblocked.result (λ k. k < length c.log.result.now.log) =
@@ -48,10 +48,10 @@ returns c s channel steps mail h chosen =
     c.log-3.ensures.log ∙ ap (λ (v : LogView). v.log) c.log-2.ensures ∙ ap (λ (q : QueueView). q.log) c.serve-unblocked.ensures.log in
     let left : get_or c.log-3.result.now slot absent ≡ record (get_or x.queue.log slot absent) { waits = false } =
     ap (λ l. get_or l slot absent) then ∙ get_or-set_same x.queue.log slot (record (get_or x.queue.log slot absent) { waits = false }) absent c.requires.within in
-    subst (λ b. IsReadied (record x { queue = c.serve-unblocked.new.self; bank_candidates = c.on_service.new.self; served = c.keep_served.new.kept }) s channel steps mail (column_command r) b)
+    subst (λ b. IsReadied (record x { queue = c.serve-unblocked.new.self; bank_candidates = c.on_service.new.self; served = c.keep_served.new.kept }) past (column_command r) b)
     (sym (ap (λ (a : Arrived). not a.activated) left))
-    (subst (λ (q : QueueView). IsReadied (record x { queue = q; bank_candidates = c.on_service.new.self; served = c.keep_served.new.kept }) s channel steps mail (column_command r) hit) (sym c.serve-unblocked.ensures.log)
-    (served-readied x s channel steps mail slot c.on_service.new.self c.keep_served.new.kept h c.requires.within c.requires.waits chosen c.on_service.ensures.banks stands
+    (subst (λ (q : QueueView). IsReadied (record x { queue = q; bank_candidates = c.on_service.new.self; served = c.keep_served.new.kept }) past (column_command r) hit) (sym c.serve-unblocked.ensures.log)
+    (served-readied x past slot c.on_service.new.self c.keep_served.new.kept h c.requires.within c.requires.waits chosen c.on_service.ensures.banks stands
     (c.in_ok-keep_served.ensures ∙ ap (λ (a : Arrived). with_more (rows_in x.served) (served_now x.number x.cycle a.request (not a.activated) ∷ [])) left)))
 
 pub serve-unblocked-requires-clause-within : goal.serve-unblocked-requires-clause-within

@@ -1,9 +1,10 @@
-use Rattle.std.proofs.Common.{◌≡◌, ◌<◌, ◌≤◌, ◌++◌, length, ◌-◌, None, sym, ap, subst, ◌∙◌, arith}
+use Rattle.std.proofs.Common.{◌≡◌, ◌<◌, ◌≤◌, length, ◌-◌, sym, ap, subst, ◌∙◌, arith}
 use Rattle.std.proofs.lemmas.Bool.{lt-leb, le-leb}
-use Rattle.std.specs.Prelude.{replicate, is_some}
+use Rattle.std.specs.Prelude.{is_some}
 use Rattle.bank_ready.specs.Refreshes.{lowest_owed}
 use Rattle.statistics.specs.Channels.{ChannelFits}
-use Rattle.channel_step.specs.Channels.{IsInCycle, CountsDrains, passed}
+use Rattle.channel_step.specs.Past.{past_of}
+use Rattle.channel_step.specs.Channels.{IsInCycle, CountsDrains, passed, idle_after}
 use Rattle.channel_step.specs.declared.channel.Channel.{Channel}
 use Rattle.channel_step.proofs.Skipping.{passed_to, skips-first_fits, skips-second, skips-second_fits, skips-in_cycle, skips-not_due, skips-due, skips-due_fits, waited-none}
 use Rattle.channel_step.proofs.Draining.{counts-drains}
@@ -21,7 +22,7 @@ pub pass-requires-clause-fits : goal.pass-requires-clause-fits
 pass-requires-clause-fits c =
     let p = c.requires.in_cycle in
     let due = c.due_from-due.ensures in
-    skips-first_fits c.args.self.now p.s p.channel p.steps p.mail c.args.until c.due_from-due.result
+    skips-first_fits c.args.self.now p.past c.args.until c.due_from-due.result
     (record { in_cycle = p.is_in; from_now = due.from_now; within = due.within; early = c.requires.until; dues = due.due })
 
 pub pass-requires-then-due-until-clause-refreshing : goal.pass-requires-then-due-until-clause-refreshing
@@ -58,16 +59,16 @@ pass-requires-then-due-until-clause-fits c =
     elim c.if-self-due.branch [
       | then-self-due w ↦
           subst (λ (d : Channel). ChannelFits (passed d c.args.until)) (sym (w.self-is ∙ w.pass.ensures))
-          (skips-second_fits c.args.self.now p.s p.channel p.steps p.mail c.args.until c.due_from-due.result
+          (skips-second_fits c.args.self.now p.past c.args.until c.due_from-due.result
           (record { in_cycle = p.is_in; from_now = due.from_now; within = due.within; early = c.requires.until; dues = due.due }))
       | else-self-due w ↦
           subst (λ (d : Channel). ChannelFits (passed d c.args.until)) (sym w.self-is)
-          (skips-due_fits c.args.self.now p.s p.channel p.steps p.mail c.args.until c.due_from-due.result
+          (skips-due_fits c.args.self.now p.past c.args.until c.due_from-due.result
           (record { in_cycle = p.is_in; from_now = due.from_now; within = due.within; early = c.requires.until; dues = due.due }) (omega (arith, w.if-self-due.false)))
     ]
 
 pub pass-requires-clause-drains : goal.pass-requires-clause-drains
-pass-requires-clause-drains c = let p = c.requires.in_cycle in counts-drains c.args.self.now p.s p.channel p.steps p.mail p.is_in
+pass-requires-clause-drains c = let p = c.requires.in_cycle in counts-drains c.args.self.now p.past p.is_in
 
 pub pass-requires-then-due-until-clause-drains : goal.pass-requires-then-due-until-clause-drains
 pass-requires-then-due-until-clause-drains c =
@@ -76,38 +77,38 @@ pass-requires-then-due-until-clause-drains c =
     elim c.if-self-due.branch [
       | then-self-due w ↦
           subst CountsDrains (sym (w.self-is ∙ w.pass.ensures))
-          (counts-drains _ p.s p.channel _ p.mail (skips-second c.args.self.now p.s p.channel p.steps p.mail c.args.until c.due_from-due.result
+          (counts-drains _ (past_of p.past.config p.past.channel _ p.past.mail) (skips-second c.args.self.now p.past c.args.until c.due_from-due.result
           (record { in_cycle = p.is_in; from_now = due.from_now; within = due.within; early = c.requires.until; dues = due.due })))
-      | else-self-due w ↦ subst CountsDrains (sym w.self-is) (counts-drains c.args.self.now p.s p.channel p.steps p.mail p.is_in)
+      | else-self-due w ↦ subst CountsDrains (sym w.self-is) (counts-drains c.args.self.now p.past p.is_in)
     ]
 
 pub returns-then-self-until-clause-in_cycle : goal.returns-then-self-until-clause-in_cycle
-returns-then-self-until-clause-in_cycle c s channel steps mail h = waited-none c.args.self.now s channel steps mail c.args.until c.if-self-until.true h
+returns-then-self-until-clause-in_cycle c past h = waited-none c.args.self.now past c.args.until c.if-self-until.true h
 
 pub returns-then-due-until-clause-in_cycle : goal.returns-then-due-until-clause-in_cycle
-returns-then-due-until-clause-in_cycle c s channel steps mail h =
+returns-then-due-until-clause-in_cycle c past h =
     let due = c.due_from-due.ensures in
-    subst (λ (e : Channel). IsInCycle e s channel (steps ++ replicate (c.args.until - length steps) None) mail) (sym c.pass-then-due-until.ensures)
+    subst (λ (e : Channel). IsInCycle e (idle_after past (length past.steps) c.args.until)) (sym c.pass-then-due-until.ensures)
     (elim c.if-self-due.branch [
       | then-self-due w ↦
-          subst (λ (d : Channel). IsInCycle (passed_to d c.args.until) s channel (steps ++ replicate (c.args.until - length steps) None) mail) (sym (w.self-is ∙ w.pass.ensures))
-          (skips-in_cycle c.args.self.now s channel steps mail c.args.until c.due_from-due.result
+          subst (λ (d : Channel). IsInCycle (passed_to d c.args.until) (idle_after past (length past.steps) c.args.until)) (sym (w.self-is ∙ w.pass.ensures))
+          (skips-in_cycle c.args.self.now past c.args.until c.due_from-due.result
           (record { in_cycle = h; from_now = due.from_now; within = due.within; early = c.requires.until; dues = due.due }))
       | else-self-due w ↦
-          subst (λ (d : Channel). IsInCycle (passed_to d c.args.until) s channel (steps ++ replicate (c.args.until - length steps) None) mail) (sym w.self-is)
-          (skips-due c.args.self.now s channel steps mail c.args.until c.due_from-due.result
+          subst (λ (d : Channel). IsInCycle (passed_to d c.args.until) (idle_after past (length past.steps) c.args.until)) (sym w.self-is)
+          (skips-due c.args.self.now past c.args.until c.due_from-due.result
           (record { in_cycle = h; from_now = due.from_now; within = due.within; early = c.requires.until; dues = due.due }) (omega (arith, w.if-self-due.false)))
     ])
 
 pub returns-else-due-until-clause-in_cycle : goal.returns-else-due-until-clause-in_cycle
-returns-else-due-until-clause-in_cycle c s channel steps mail h =
+returns-else-due-until-clause-in_cycle c past h =
     let due = c.due_from-due.ensures in
     elim c.if-self-due.branch [
       | then-self-due w ↦
-          subst (λ (d : Channel). IsInCycle d s channel (steps ++ replicate (c.args.until - length steps) None) mail) (sym (w.self-is ∙ w.pass.ensures))
-          (skips-not_due c.args.self.now s channel steps mail c.args.until c.due_from-due.result
+          subst (λ (d : Channel). IsInCycle d (idle_after past (length past.steps) c.args.until)) (sym (w.self-is ∙ w.pass.ensures))
+          (skips-not_due c.args.self.now past c.args.until c.due_from-due.result
           (record { in_cycle = h; from_now = due.from_now; within = due.within; early = c.requires.until; dues = due.due }) (omega (arith, c.if-due-until.false)))
       | else-self-due w ↦
-          subst (λ (d : Channel). IsInCycle d s channel (steps ++ replicate (c.args.until - length steps) None) mail) (sym w.self-is)
-          (waited-none c.args.self.now s channel steps mail c.args.until (omega (arith, c.if-due-until.false, w.if-self-due.false, c.requires.span)) h)
+          subst (λ (d : Channel). IsInCycle d (idle_after past (length past.steps) c.args.until)) (sym w.self-is)
+          (waited-none c.args.self.now past c.args.until (omega (arith, c.if-due-until.false, w.if-self-due.false, c.requires.span)) h)
     ]

@@ -18,7 +18,7 @@ loop-number-preserved c pasts h =
     let is : session ≡ get_or m.sessions.items number session = c.session-item.is ∙ ap (λ l. get_or l number session) lent in
     let channel = channel-at m pasts number session session h inside is in
     let cycle = c.command_cycle.ensures (pasts.past number) channel.is_session ∙ ap (λ n. option_map (λ (x : IssuedCommand). x.cycle) (next_command_of (pasts.past number) n)) channel.cycle_is in
-    subst (IsEarliest (command_cycles pasts m.cycle) (number + 1)) (sym c.sooner-first.ensures)
+    subst (IsEarliest (command_cycles pasts m.cycle) (number + 1)) (sym c.earlier_numbered-first.ensures)
     (earliest-more (command_cycles pasts m.cycle) number c.loop-number.first c.command_cycle.result (c.loop-number.invariant pasts h) (sym cycle))
 
 pub returns : goal.returns

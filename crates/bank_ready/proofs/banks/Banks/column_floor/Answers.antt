@@ -3,7 +3,7 @@ use Rattle.std.proofs.Common.{refl, ◌∙◌}
 use Rattle.sim_base.specs.declared.command.Kind.TheVariants as kind
 use Rattle.sim_base.specs.Rules.{rank_of, bank_of}
 use Rattle.bank_ready.proofs.Allowed.{no-sooner}
-use Rattle.bank_ready.proofs.banks.Banks.data_floor.Goals as goal
+use Rattle.bank_ready.proofs.banks.Banks.column_floor.Goals as goal
 
 pub returns-in-Rd : goal.returns-in-Rd
 returns-in-Rd c = record {

@@ -8,7 +8,7 @@ use Rattle.queue.specs.Log.{absent, LogView}
 use Rattle.channel_step.specs.Queued.{request_at}
 use Rattle.channel_step.specs.Readied.{IsReadied}
 use Rattle.channel_step.proofs.Issuing.{seen-is, has-issued}
-use Rattle.channel_step.proofs.channel.Channel.move_data.Goals as goal
+use Rattle.channel_step.proofs.channel.Channel.issue_column_command.Goals as goal
 
 pub issue-requires-clause-ready : goal.issue-requires-clause-ready
 issue-requires-clause-ready c =
@@ -17,33 +17,30 @@ issue-requires-clause-ready c =
     let read : get_or c.log-2.result.now c.args.slot absent ≡ get_or x.queue.log c.args.slot absent =
     ap (λ l. get_or l c.args.slot absent) (c.log-2.ensures.log ∙ ap (λ (v : LogView). v.log) c.log.ensures) in
     record {
-      s = p.s;
-      channel = p.channel;
-      steps = p.steps;
-      mail = p.mail;
+      past = p.past;
       is_readied =
-          subst (λ z. IsReadied c.serve.new.self p.s p.channel p.steps p.mail z c.in_ok-hit.hit) (sym (c.column_command.ensures ∙ ap (λ (a : Arrived). column_command a.request) read))
-          (c.in_ok-hit.ensures {u = tt} p.s p.channel p.steps p.mail p.is_in p.is_chosen);
-      seen_is = c.requires.seen ∙ seen-is x p.s p.channel p.steps p.mail p.is_in;
+          subst (λ z. IsReadied c.serve.new.self p.past z c.in_ok-hit.hit) (sym (c.column_command.ensures ∙ ap (λ (a : Arrived). column_command a.request) read))
+          (c.in_ok-hit.ensures {u = tt} p.past p.is_in p.is_chosen);
+      seen_is = c.requires.seen ∙ seen-is x p.past p.is_in;
     }
 
 pub returns : goal.returns
-returns c s channel steps mail h chosen =
+returns c past h chosen =
     let x = c.args.self.now in
     let r = request_at x.queue.log c.args.slot in
     let read : get_or c.log-2.result.now c.args.slot absent ≡ get_or x.queue.log c.args.slot absent =
     ap (λ l. get_or l c.args.slot absent) (c.log-2.ensures.log ∙ ap (λ (v : LogView). v.log) c.log.ensures) in
     let is = c.column_command.ensures ∙ ap (λ (a : Arrived). column_command a.request) read in
-    let ready = subst (λ z. IsReadied c.serve.new.self s channel steps mail z c.in_ok-hit.hit) (sym is) (c.in_ok-hit.ensures {u = tt} s channel steps mail h chosen) in
-    let stands = c.issue.ensures.stands s channel steps mail ready (c.requires.seen ∙ seen-is x s channel steps mail h) in
+    let ready = subst (λ z. IsReadied c.serve.new.self past z c.in_ok-hit.hit) (sym is) (c.in_ok-hit.ensures {u = tt} past h chosen) in
+    let stands = c.issue.ensures.stands past ready (c.requires.seen ∙ seen-is x past h) in
     let before = c.args.messages.now.items in
     on_ok_weaker c.send.result
-    (λ told. has-issued c.serve.new.self c.issue.new.self s channel steps mail (column_command r) c.column_command.result c.in_ok-hit.hit c.args.commands.now c.issue.new.commands before c.send.new.messages.items ready is stands
+    (λ told. has-issued c.serve.new.self c.issue.new.self past (column_command r) c.column_command.result c.in_ok-hit.hit c.args.commands.now c.issue.new.commands before c.send.new.messages.items ready is stands
     (c.in_ok-issue.ensures {u = tt}).commands
     (told
     ∙ ap (λ (a : Arrived). before ++ messages_of c.issue.new.self.config c.issue.new.self.number x.cycle (column_command a.request)) read
     ∙ ap (λ (z : Config). before ++ messages_of z c.issue.new.self.number x.cycle (column_command r)) stands.made_for.config_is
-    ∙ ap₂ (λ number t. before ++ messages_of s number t (column_command r)) stands.made_for.number_is h.cycle_is))
+    ∙ ap₂ (λ number t. before ++ messages_of past.config number t (column_command r)) stands.made_for.number_is h.cycle_is))
     c.send.ensures
 
 pub bounds-log-slot : goal.bounds-log-slot
@@ -56,7 +53,7 @@ serve-requires c = c.requires.doing
 pub issue-requires-clause-early : goal.issue-requires-clause-early
 issue-requires-clause-early c =
     let p = c.requires.doing in
-    let ready = c.in_ok-hit.ensures {u = tt} p.s p.channel p.steps p.mail p.is_in p.is_chosen in
+    let ready = c.in_ok-hit.ensures {u = tt} p.past p.is_in p.is_chosen in
     omega (arith, ready.cycle_is, p.is_in.cycle_is, c.requires.early)
 
 pub send-requires : goal.send-requires

@@ -6,8 +6,8 @@ use Rattle.queue.specs.Log.{absent}
 use Rattle.queue.specs.Stands.{IsAmong}
 use Rattle.queue.proofs.Waits.{request_at}
 use Rattle.fr_fcfs.specs.Choices.{command_of}
-use Rattle.fr_fcfs.proofs.Staying.{needed_there, refresh_moves_none}
-use Rattle.fr_fcfs.proofs.arrivals.chosen_moves_data.Goals as goal
+use Rattle.fr_fcfs.proofs.Staying.{needed_there, refresh-no_column}
+use Rattle.fr_fcfs.proofs.arrivals.needs_column_command.Goals as goal
 
 pub is_hit-requires : goal.is_hit-requires
 is_hit-requires c = request_at (λ r. IsAmong c.args.bank_candidates.now (bank_in r.place)) c.args.log.now c.in-Request.slot c.requires.places (c.requires.within c.in-Request.slot c.in-Request.is)
@@ -22,4 +22,4 @@ returns-in-Request c s history command knows is =
 pub returns-in-Refresh : goal.returns-in-Refresh
 returns-in-Refresh c s history command knows is =
     let rank = c.in-Refresh.field-0 in
-    sym (refresh_moves_none s history rank command (ap (command_of s history c.args.log.now) (sym c.in-Refresh.is) ∙ is))
+    sym (refresh-no_column s history rank command (ap (command_of s history c.args.log.now) (sym c.in-Refresh.is) ∙ is))

@@ -1,7 +1,7 @@
 use Rattle.std.proofs.Common.{◌≡◌, [], length, ◌∙◌, sym, subst, arith}
 use Rattle.std.proofs.lemmas.List.{get_or_default}
 use Rattle.request_table.specs.Lefts.{IsNextAmong, IsNextOf}
-use Rattle.request_table.proofs.table.soonest.Goals as goal
+use Rattle.request_table.proofs.table.earliest.Goals as goal
 
 pub returns-in-None : goal.returns-in-None
 returns-in-None c =
