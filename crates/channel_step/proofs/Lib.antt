@@ -22,4 +22,3 @@ pub mod Dues
 pub mod Skipping
 pub mod Going
 pub mod Draining
-pub mod Links

@@ -1,4 +1,5 @@
 pub mod Past
+pub mod Latencies
 pub mod Fit
 pub mod Stands
 pub mod Queued

@@ -27,12 +27,13 @@ ghost use Rattle.channel_step.specs.Readied.{IsChosen, IsDoing, IsReadied, IsRea
 ghost use Rattle.channel_step.specs.Readied.{opening_command, closing_command, column_command_at, command_needed, rank_command};
 ghost use Rattle.channel_step.specs.Fit.{queue_room, IsFitAfter};
 ghost use Rattle.channel_step.specs.Runs.{CanStep, CanRun, HasIssued, HasAdvanced, IsDoneAfter, StandsAt, first_arrival, IsListed};
+ghost use Rattle.channel_step.specs.Latencies.{answer_latencies};
 
 use crate::ahead::Ahead;
 use crate::arriving::admit;
 use crate::counting::{Seen, drained};
 use crate::noting::{keep_served, note_refresh};
-use crate::sending::{keep, send};
+use crate::sending::{AnswerLatencies, Sender, answer_latencies, keep, send};
 use bank_ready::banks::Banks;
 use bank_ready::refresh::Refresh;
 use command_table::list::CommandList;
@@ -55,6 +56,8 @@ use std::ops::Range;
 pub struct Channel {
     config: Config,
     number: ChannelId,
+    /// How long what it sends travels to each core.
+    latencies: Vec<AnswerLatencies>,
     /// The cycle that it stands at: this many are over.
     cycle: Cycle,
     queue: Queue,
@@ -66,6 +69,7 @@ pub struct Channel {
     ahead: Ahead,
     /// The requests that it served, if they are kept.
     served: Option<Vec<ServedRequest>>,
+    ghost travel: { latencies.items ≡ answer_latencies config number },
 }
 
 /// What a channel did up to the last cycle that is over: how many messages arrived.
@@ -80,6 +84,7 @@ impl Channel {
     pub fn start(alloc: Global, config: &Config, number: ChannelId) -> Result<Channel, AllocError>
         ensures { IfOk result (λ channel. StandsFor channel config.now number [] []) }
     {
+        let latencies = answer_latencies(alloc, config, number)?;
         let (own, queue) = copy_and_queue(alloc, config)?;
         let (banks, bank_candidates) = banks_and_candidates(alloc, config)?;
         let mut stats = ChannelStats::new();
@@ -87,6 +92,7 @@ impl Channel {
         Ok(Channel {
             config: own,
             number,
+            latencies,
             cycle: 0,
             queue,
             banks,
@@ -478,7 +484,13 @@ impl Channel {
         let request = self.queue.log().log()[slot].request;
         let hit = self.serve(slot)?;
         self.issue(request.column_command(), hit, seen, commands)?;
-        send(&self.config, self.number, now, &request, messages)
+        let sender = Sender {
+            config: &self.config,
+            latencies: &self.latencies,
+            channel: self.number,
+            cycle: now,
+        };
+        send(&sender, &request, messages)
     }
 
     /// Issues what the request at a place needs: an ACT where no row of its bank is open, a PRE where another one is,

@@ -1,63 +1,101 @@
 //! What a channel sends.
 
-ghost use Rattle.std.specs.Prelude.{◌≡◌, ◌<◌, ◌≤◌, ◌^◌, ◌++◌, IfOk};
-ghost use Rattle.sim_base.specs.Config.{usual_latency, latency};
+ghost use Rattle.std.specs.Prelude.{◌≡◌, ◌<◌, ◌^◌, ◌++◌, IfOk};
 ghost use Rattle.sim_base.specs.History.{reply, credit, messages_of};
 ghost use Rattle.sim_base.specs.Scheduling.{column_command};
+ghost use Rattle.channel_step.specs.Latencies.{latencies_to, answer_latencies, KnowsLatencies};
 ghost use Rattle.channel_step.specs.Runs.{with_command};
 
 use command_table::list::CommandList;
 use sim_base::command::{Command, IssuedCommand, Source};
 use sim_base::config::Config;
-use sim_base::message::{Access, ChannelId, Cycle, LinkId, Load, Message, Request};
-use std::alloc::AllocError;
+use sim_base::message::{Access, ChannelId, CoreId, Cycle, Load, Message, Request};
+use std::alloc::{AllocError, Global};
 
-/// How long a message travels on a link, which is the usual time of its kind where no link has a latency of its own.
-#[inline(always)]
-#[tactic(auto, unfolding(sim_base::specs::Config::latency))]
-fn latency_of(config: &Config, link: LinkId, usual: u32) -> u32
-    requires { usual ≡ usual_latency config.now link }
-    ensures value { result ≡ latency config.now link }
-    ensures range { result ≤ 1000000 }
+/// How many cycles a reply travels to a core, and how many a credit does.
+#[derive(Clone, Copy)]
+pub(crate) struct AnswerLatencies {
+    pub reply: u32,
+    pub credit: u32,
+}
+
+/// A channel that sends, in a cycle, with the latencies of its links to each core, by number.
+#[derive(Clone, Copy)]
+pub(crate) struct Sender<'a> {
+    pub config: &'a Config,
+    pub latencies: &'a [AnswerLatencies],
+    pub channel: ChannelId,
+    pub cycle: Cycle,
+}
+
+/// The latencies of a channel's links to a core.
+fn latencies_to(config: &Config, channel: ChannelId, core: CoreId) -> AnswerLatencies
+    ensures { result ≡ latencies_to config.now channel core }
 {
-    if config.overrides.as_slice().is_empty() {
-        usual
+    AnswerLatencies {
+        reply: config.latency(config.reply_link(core, channel)),
+        credit: config.latency(config.credit_link(core, channel)),
+    }
+}
+
+/// The latencies of a channel's links to each core, by number.
+pub(crate) fn answer_latencies(
+    alloc: Global,
+    config: &Config,
+    channel: ChannelId,
+) -> Result<Vec<AnswerLatencies>, AllocError>
+    ensures { IfOk result (λ v. v.items ≡ answer_latencies config.now channel) }
+{
+    (0..config.cores)
+        .map(move |core| latencies_to(config, channel, core))
+        .collect(alloc)
+}
+
+/// The latencies of the channel's links to a core, also to one that the machine does not have.
+#[inline(always)]
+fn travel_to(sender: &Sender<'_>, core: CoreId) -> AnswerLatencies
+    requires latencies { KnowsLatencies sender.now }
+    ensures { result ≡ latencies_to sender.now.config.now sender.now.channel core }
+{
+    if usize::from(core) < sender.latencies.len() {
+        sender.latencies[usize::from(core)]
     } else {
-        config.latency(link)
+        latencies_to(sender.config, sender.channel, core)
     }
 }
 
 #[inline(always)]
-#[tactic(auto, unfolding(sim_base::specs::History::reply), using(crate::proofs::Links::usual_reply))]
-fn reply_to(config: &Config, channel: ChannelId, now: Cycle, source: Source) -> Message
-    requires { now < 2 ^ 62 }
-    ensures { result ≡ reply config.now channel now source }
+#[tactic(auto, unfolding(sim_base::specs::History::reply))]
+fn reply_to(sender: &Sender<'_>, source: Source, travel: AnswerLatencies) -> Message
+    requires early { sender.now.cycle < 2 ^ 62 }
+    requires travel { travel ≡ latencies_to sender.now.config.now sender.now.channel source.core }
+    ensures { result ≡ reply sender.now.config.now sender.now.channel sender.now.cycle source }
 {
-    let link = config.reply_link(source.core, channel);
-    let data = now + u64::from(config.timing.n_cl) + 4;
+    let config = sender.config;
+    let data = sender.cycle + u64::from(config.timing.n_cl) + 4;
     Message {
-        link,
-        arrival: data + u64::from(latency_of(config, link, config.reply_latency)),
+        link: config.reply_link(source.core, sender.channel),
+        arrival: data + u64::from(travel.reply),
         load: Load::Reply(source.entry),
     }
 }
 
 #[inline(always)]
-#[tactic(auto, unfolding(sim_base::specs::History::credit), using(crate::proofs::Links::usual_credit))]
+#[tactic(auto, unfolding(sim_base::specs::History::credit))]
 fn credit_for(
-    config: &Config,
-    channel: ChannelId,
-    now: Cycle,
+    sender: &Sender<'_>,
     access: Access,
     source: Source,
+    travel: AnswerLatencies,
 ) -> Message
-    requires { now < 2 ^ 62 }
-    ensures { result ≡ credit config.now channel now access source }
+    requires early { sender.now.cycle < 2 ^ 62 }
+    requires travel { travel ≡ latencies_to sender.now.config.now sender.now.channel source.core }
+    ensures { result ≡ credit sender.now.config.now sender.now.channel sender.now.cycle
+        access source }
 {
-    let link = config.credit_link(source.core, channel);
     Message {
-        link,
-        arrival: now + u64::from(latency_of(config, link, config.credit_latency)),
+        link: sender.config.credit_link(source.core, sender.channel),
+        arrival: sender.cycle + u64::from(travel.credit),
         load: Load::Credit {
             access,
             entry: source.entry,
@@ -70,23 +108,24 @@ fn credit_for(
 #[inline(always)]
 #[tactic(auto, unfolding(sim_base::specs::History::messages_of))]
 pub(crate) fn send(
-    config: &Config,
-    channel: ChannelId,
-    now: Cycle,
+    sender: &Sender<'_>,
     request: &Request,
     messages: &mut Vec<Message>,
 ) -> Result<(), AllocError>
-    requires { now < 2 ^ 62 }
-    ensures { IfOk result (λ u. messages.new.items
-        ≡ messages.old.items ++ messages_of config.now channel now (column_command request.now)) }
+    requires early { sender.now.cycle < 2 ^ 62 }
+    requires latencies { KnowsLatencies sender.now }
+    ensures { IfOk result (λ u. messages.new.items ≡ messages.old.items
+        ++ messages_of sender.now.config.now sender.now.channel sender.now.cycle
+        (column_command request.now)) }
 {
     let source = request.source();
+    let travel = travel_to(sender, source.core);
     match request.access {
         Access::Read => {
-            messages.push(reply_to(config, channel, now, source))?;
-            messages.push(credit_for(config, channel, now, Access::Read, source))?;
+            messages.push(reply_to(sender, source, travel))?;
+            messages.push(credit_for(sender, Access::Read, source, travel))?;
         }
-        Access::Write => messages.push(credit_for(config, channel, now, Access::Write, source))?,
+        Access::Write => messages.push(credit_for(sender, Access::Write, source, travel))?,
     }
     Ok(())
 }

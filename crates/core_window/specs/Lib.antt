@@ -1,5 +1,6 @@
 pub mod Views
 pub mod Outstanding
+pub mod Latencies
 pub mod Stands
 pub mod Fit
 pub mod Inside

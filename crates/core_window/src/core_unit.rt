@@ -19,6 +19,7 @@ ghost use Rattle.core_window.specs.Steady.{steady_view, IsSteady};
 ghost use Rattle.core_window.specs.Replies.{MayTakeReply, AnswersRead};
 ghost use Rattle.core_window.specs.Outstanding.{IsByNumber};
 ghost use Rattle.core_window.specs.Waiting.{waiting};
+ghost use Rattle.core_window.specs.Latencies.{request_latencies};
 ghost use Rattle.core_window.specs.Counting.{IsCreditedAt};
 
 use crate::counts::{count_cycle, count_cycles, count_memory};
@@ -26,7 +27,7 @@ use crate::flow::{Flow, WindowNumbers, cycles_within, flow_of};
 use crate::issue::{
     EntriesAhead, TracePosition, entry_issued, issue_of, look_ahead, most_issued, next_two,
 };
-use crate::issue_effects::{Sender, send, spend, wait_for};
+use crate::issue_effects::{Sender, request_latencies, send, spend, wait_for};
 use crate::outstanding::OutstandingReads;
 use crate::receive::{add_credit_at, channel_of, count_reply};
 use crate::retire::{cause_where_full, is_next_done, is_stuck, retire_count};
@@ -52,10 +53,13 @@ pub struct Core {
     cycle: Cycle,
     outstanding: OutstandingReads,
     credits: Vec<Credits>,
+    /// How long a request travels to each channel, in cycles.
+    latencies: Vec<u32>,
     stats: CoreStats,
     /// The next two memory entries that it issues.
     found: EntriesAhead,
     ghost in_order: { IsDigits config digits },
+    ghost travel: { latencies.items ≡ request_latencies config id },
     ghost seen: { IsSeen trace stats.issued found.first_at found.second_at found.entry },
     ghost known: { IsKnown config trace found },
 }
@@ -175,6 +179,7 @@ impl Core {
         spend(&mut self.credits, &self.found.place, cycle_work.memory);
         let sender = Sender {
             config: &self.config,
+            latencies: &self.latencies,
             core: self.id,
             cycle: self.cycle,
         };
@@ -420,6 +425,7 @@ impl Core {
         let found = next_two(&digits, &trace, 0, 0);
         let outstanding = OutstandingReads::with_room(alloc, config.window as usize)?;
         let credits = all_credits(alloc, config)?;
+        let latencies = request_latencies(alloc, config, id)?;
         Ok(Core {
             config: config.copy(alloc)?,
             digits,
@@ -428,6 +434,7 @@ impl Core {
             cycle: 0,
             outstanding,
             credits,
+            latencies,
             stats: CoreStats::new(),
             found,
         })

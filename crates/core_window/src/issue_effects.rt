@@ -1,12 +1,13 @@
 //! What an entry that issues changes.
 
-ghost use Rattle.std.specs.Prelude.{◌≡◌, ℕ, ◌%◌, ◌^◌, ◌<◌, ◌==◌, length, slice_get, Some, OnOk, if◌then◌else◌};
+ghost use Rattle.std.specs.Prelude.{◌≡◌, ℕ, ◌^◌, ◌<◌, ◌==◌, length, slice_get, Some, IfOk, OnOk, if◌then◌else◌};
 ghost use Rattle.sim_base.specs.History.{request};
 ghost use Rattle.std.specs.Option.{IfSome};
-ghost use Rattle.sim_base.specs.Config.{latency};
+ghost use Rattle.sim_base.specs.Config.{latency, request_link};
 ghost use Rattle.sim_base.specs.Places.{place_of};
 ghost use Rattle.sim_base.specs.declared.config.Config.{Config};
 ghost use Rattle.core_window.specs.Ahead.{IsPlaced};
+ghost use Rattle.core_window.specs.Latencies.{request_latencies, KnowsLatencies};
 ghost use Rattle.core_window.specs.Counting.{SendsFor};
 ghost use Rattle.core_window.specs.OneCycle.{credit_after, less_credit};
 ghost use Rattle.core_window.specs.Waiting.{WaitsFor};
@@ -16,11 +17,11 @@ use crate::outstanding::{OutstandingRead, OutstandingReads};
 use crate::receive::take_credit;
 use cpu_trace::entries::MemoryEntry;
 use sim_base::config::Config;
-use sim_base::message::{Access, CoreId, Cycle, LinkId, Load, Message, Request};
+use sim_base::message::{Access, ChannelId, CoreId, Cycle, Load, Message, Request};
 use sim_base::place::Place;
 use sim_base::trace::Entry;
 use statistics::final_state::Credits;
-use std::alloc::AllocError;
+use std::alloc::{AllocError, Global};
 
 /// A Read that issues waits from now on.
 pub fn wait_for(
@@ -66,24 +67,43 @@ pub fn spend(credits: &mut [Credits], place: &Place, memory: Option<MemoryEntry>
     }
 }
 
-/// How many cycles a message travels on a link for requests.
-#[tactic(auto, unfolding(sim_base::specs::Config::latency))]
-fn request_latency(config: &Config, link: LinkId) -> u32
-    requires { link % 3 ≡ 0 }
-    ensures { result ≡ latency config.now link }
+/// How many cycles a request travels from a core to a channel.
+fn latency_to(config: &Config, core: CoreId, channel: ChannelId) -> u32
+    ensures { result ≡ latency config.now (request_link config.now core channel) }
 {
-    match config.overrides.as_slice() {
-        [] => config.request_latency,
-        _ => config.latency(link),
-    }
+    config.latency(config.request_link(core, channel))
 }
 
-/// A core that sends, in a cycle.
+/// How many cycles a request travels from a core to each channel, by number.
+pub fn request_latencies(
+    alloc: Global,
+    config: &Config,
+    core: CoreId,
+) -> Result<Vec<u32>, AllocError>
+    ensures { IfOk result (λ v. v.items ≡ request_latencies config.now core) }
+{
+    (0..u32::from(config.channels))
+        .map(move |channel| latency_to(config, core, channel))
+        .collect(alloc)
+}
+
+/// A core that sends, in a cycle, with the latencies of its links for requests.
 #[derive(Clone, Copy)]
 pub struct Sender<'a> {
     pub config: &'a Config,
+    pub latencies: &'a [u32],
     pub core: CoreId,
     pub cycle: Cycle,
+}
+
+/// How many cycles a request travels to a channel.
+fn travel_to(sender: &Sender<'_>, channel: ChannelId) -> u32
+    requires exists { channel < sender.now.config.now.channels }
+    requires latencies { KnowsLatencies sender.now }
+    ensures { result ≡ latency sender.now.config.now
+        (request_link sender.now.config.now sender.now.core channel) }
+{
+    sender.latencies[channel as usize]
 }
 
 #[tactic(auto, unfolding(sim_base::specs::History::request))]
@@ -96,13 +116,15 @@ fn request_of_address(
 ) -> Message
     requires early { sender.now.cycle < 2 ^ 62 }
     requires placed { place ≡ place_of sender.now.config.now address }
+    requires exists { place.channel < sender.now.config.now.channels }
+    requires latencies { KnowsLatencies sender.now }
     ensures { result ≡ request sender.now.config.now sender.now.core sender.now.cycle
         entry access address }
 {
     let config = sender.config;
     let core = sender.core;
     let link = config.request_link(core, place.channel);
-    let arrival = sender.cycle + u64::from(request_latency(config, link));
+    let arrival = sender.cycle + u64::from(travel_to(sender, place.channel));
     Message {
         link,
         arrival,
@@ -127,6 +149,7 @@ pub fn send(
 ) -> Result<(), AllocError>
     requires early { sender.now.cycle < 2 ^ 62 }
     requires placed { IfSome memory (λ e. IsPlaced sender.now.config.now e.entry place.now) }
+    requires latencies { KnowsLatencies sender.now }
     ensures { OnOk result (SendsFor memory sender.now.config.now sender.now.core sender.now.cycle
         sent.old.items sent.new.items) }
 {
