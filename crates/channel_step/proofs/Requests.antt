@@ -48,11 +48,11 @@ carries-stamped s channel mail h = Each-weaker (CarriesRequest s channel) Stampe
     by m None i = absurd i
     by m (Some r) i = i.arrival
 
--- the requests of which no data was moved
+-- the requests that were not served
 abbrev pub unserved : List IssuedCommand → List Request → List Request
 unserved history rs = filter (λ r. not (is_served history r)) rs
 
--- where all requests have arrived, those wait of which no data was moved
+-- where all requests have arrived, those wait that were not served
 pub queued_requests-unserved : (history : List IssuedCommand) (mail : List Message) (until : ℕ) → Each (ArrivedBefore until) (requests_of mail)
     → queued_requests history mail until ≡ unserved history (requests_of mail)
 unfolding queued_requests

@@ -35,7 +35,7 @@ served-before arrivals history i [] h = refl
 served-before arrivals history i (j ∷ some) h =
     ap₂ (λ hit rest. cons_option (served_by arrivals hit j.channel j.cycle j.command) rest) (is_hit-push history i j.command h.0) (served-before arrivals history i some h.1)
 
--- one command more, which is no ACT for an entry whose data was moved
+-- one command more, which is no ACT for an entry that was served
 served_requests-push : (arrivals : Source → ℕ) (history : List IssuedCommand) (i : IssuedCommand) → is_late_act history (Some i.command) ≡ false
     → served_requests arrivals (history ++ i ∷ []) ≡ served_requests arrivals history ++ cons_option (served_in arrivals history i) []
 unfolding served_requests

@@ -24,7 +24,7 @@ use Rattle.laws.specs.Requests.{serves_entry, serves_entry_in, IsServedAt, Reque
 use Rattle.laws.proofs.Legal.{chosen, length-channel_steps_of, channel_steps_of-at}
 use Rattle.laws.proofs.Traced.{Queued, ServesQueued, chosen-serves}
 
--- a channel moves the data of an entry in a cycle
+-- a channel serves an entry in a cycle
 abbrev pub ServesAt : Config → List (List Entry) → ℕ → ℕ → ℕ → ℕ → Type 0
 ServesAt s traces core entry k t = serves_entry_in core entry (chosen s traces t k) ≡ true
 

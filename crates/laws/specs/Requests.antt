@@ -1,12 +1,12 @@
 -- What becomes of the requests of a run.
---     serves_entry core entry command      a command moves the data of an entry of a core
---     IsServedAt s traces n core entry channel cycle      a channel moves the data of an entry in a cycle
---     RequestsAreServedOnce s traces n      the data of an entry is moved by at most one command
+--     serves_entry core entry command      a command is a column command for an entry of a core
+--     IsServedAt s traces n core entry channel cycle      a channel serves an entry in a cycle
+--     RequestsAreServedOnce s traces n      an entry is served by at most one command
 --     AnswersRead trace steps m      a reply is that of a Read that the core issued before the reply arrives
 --     RepliesAnswerReads s traces n      each reply is that of such a Read
 --     ReadsAreAnsweredOnce s traces n      no two replies are those of one entry
 --     CommandsNameTheQueue s traces n      a command is issued only on behalf of an entry whose request is in the queue
-use Rattle.std.specs.Prelude.{◌≡◌, ℕ, ◌<◌, ◌≤◌, ◌==◌, Bool, false, ◌&&◌, IsTrue, List, take, slice_get, slice_index_or, count_by, All, Contains, IfSome, Option, Some, None}
+use Rattle.std.specs.Prelude.{◌≡◌, ℕ, ◌<◌, ◌≤◌, Bool, false, IsTrue, List, take, slice_get, slice_index_or, count_by, All, Contains, IfSome, Option, Some, None}
 use Rattle.sim_base.specs.declared.config.Config.{Config}
 use Rattle.sim_base.specs.History.{trace_of, steps_of_core, issued_before, inbox}
 use Rattle.sim_base.specs.Counts.{source_in}
@@ -15,7 +15,6 @@ use Rattle.sim_base.specs.Machine.{run}
 use Rattle.sim_base.specs.Windows.{is_reply_to}
 use Rattle.sim_base.specs.declared.history.CoreStep.{CoreStep}
 use Rattle.sim_base.specs.declared.command.Command.{Command}
-use Rattle.sim_base.specs.declared.command.Command.TheVariants.{Act, Rd, Wr, Pre, Prea, Ref}
 use Rattle.sim_base.specs.declared.message.Load.{Load}
 use Rattle.sim_base.specs.declared.message.Load.TheVariants as load
 use Rattle.sim_base.specs.declared.message.Message.{Message}
@@ -23,27 +22,23 @@ use Rattle.sim_base.specs.declared.message.Request.{Request}
 use Rattle.sim_base.specs.declared.message.Unit.TheVariants.{Core, Channel}
 use Rattle.sim_base.specs.declared.trace.Entry.{Entry}
 use Rattle.sim_base.specs.declared.trace.Entry.TheVariants.{Read}
+use Rattle.statistics.specs.Channels.{is_column_command_of}
 use Rattle.laws.specs.Commands.{channel_steps_of}
 
--- a command moves the data of an entry of a core
+-- a command is a column command for an entry of a core
 abbrev pub serves_entry : ℕ → ℕ → Command → Bool
-serves_entry core entry (Rd bank row column source) = (core == source.core) && (entry == source.entry)
-serves_entry core entry (Wr bank row column source) = (core == source.core) && (entry == source.entry)
-serves_entry core entry (Act bank row source) = false
-serves_entry core entry (Pre bank source) = false
-serves_entry core entry (Prea rank) = false
-serves_entry core entry (Ref rank) = false
+serves_entry core entry = is_column_command_of (record { core = core; entry = entry })
 
 -- whether a command, if there is one, serves this entry of this core
 abbrev pub serves_entry_in : ℕ → ℕ → Option Command → Bool
 serves_entry_in core entry None = false
 serves_entry_in core entry (Some command) = serves_entry core entry command
 
--- a channel moves the data of an entry of a core in a cycle
+-- a channel serves an entry of a core in a cycle, by a column command
 abbrev pub IsServedAt : Config → List (List Entry) → ℕ → ℕ → ℕ → ℕ → ℕ → Type 0
 IsServedAt s traces n core entry channel cycle = IsTrue (serves_entry_in core entry (slice_index_or (channel_steps_of s traces n channel) cycle None))
 
--- the data of an entry of a core is moved by at most one channel, and in at most one cycle
+-- an entry of a core is served by at most one channel, and in at most one cycle
 abbrev pub RequestsAreServedOnce : Config → List (List Entry) → ℕ → Type 0
 RequestsAreServedOnce s traces n =
     (core entry channel other cycle later : ℕ) → channel < s.channels → other < s.channels →

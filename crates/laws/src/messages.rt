@@ -25,7 +25,7 @@ pub fn commands_name_the_queue()
     ensures { (s : Config) (traces : List (List Entry)) (n : ℕ) → CommandsNameTheQueue s traces n }
 {}
 
-/// The data of an entry is moved by at most one command, of one channel.
+/// An entry is served by at most one column command, of one channel.
 pub fn requests_are_served_once()
     ensures { (s : Config) (traces : List (List Entry)) (n : ℕ) → RequestsAreServedOnce s traces n }
 {}

@@ -1,5 +1,5 @@
 -- The requests that a channel served, one for each RD and WR of its commands.
---     served_by arrivals hit channel cycle command      the request whose data a command moves, if it moves any
+--     served_by arrivals hit channel cycle command      the request that a command serves, if it is a column command
 --     served_in arrivals history i      the same of one of these commands
 --     served_requests arrivals history      those of all of them, in their order
 use Rattle.std.specs.Prelude.{ℕ, Bool, List, filter_map, Option, Some, None}
@@ -17,7 +17,7 @@ abbrev pub served_of : (Source → ℕ) → Bool → ℕ → ℕ → Access → 
 served_of arrivals hit channel cycle access source =
     record { entry = source.entry; arrived = arrivals source; served = cycle; channel = channel; core = source.core; access = access; hit = hit }
 
--- the request whose data a command moves, if it moves any
+-- the request that a command serves, if it is a column command
 abbrev pub served_by : (Source → ℕ) → Bool → ℕ → ℕ → Command → Option ServedRequest
 served_by arrivals hit channel cycle (Rd bank row column source) = Some (served_of arrivals hit channel cycle Read source)
 served_by arrivals hit channel cycle (Wr bank row column source) = Some (served_of arrivals hit channel cycle Write source)
@@ -26,8 +26,8 @@ served_by arrivals hit channel cycle (Pre bank source) = None
 served_by arrivals hit channel cycle (Prea rank) = None
 served_by arrivals hit channel cycle (Ref rank) = None
 
--- the request whose data one of these commands moves, if it moves any: it is a hit where none of them is an ACT in its
--- name
+-- the request that one of these commands serves, if it is a column command: it is a hit where none of them is an ACT
+-- in its name
 abbrev pub served_in : (Source → ℕ) → List IssuedCommand → IssuedCommand → Option ServedRequest
 served_in arrivals history i = served_by arrivals (is_hit history i.command) i.channel i.cycle i.command
 

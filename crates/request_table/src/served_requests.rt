@@ -3,8 +3,8 @@
 use sim_base::message::{Access, ChannelId, CoreId, Cycle};
 use std::mem::size_of;
 
-/// A request that a channel served: whose it is, when it came to the channel, and when and how its data was moved. It
-/// takes 32 bytes.
+/// A request that a channel served: whose it is, when it came to the channel, and when and how it was served. It takes
+/// 32 bytes.
 #[derive(Clone, Copy)]
 pub struct ServedRequest {
     /// The entry of its core's trace.

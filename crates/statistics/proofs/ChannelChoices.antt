@@ -1,4 +1,4 @@
--- A channel issues no ACT for a request whose data was moved: what it chooses is for a request that waits.
+-- A channel issues no ACT for a request that was served: what it chooses is for a request that waits.
 use Rattle.std.proofs.Common.{◌≡◌, ℕ, ◌+◌, Bool, true, false, eqb, ◌||◌, List, [], ◌∷◌, length, take, Option, Some, None, refl, ap₂, subst, ◌∙◌}
 use Rattle.std.specs.Prelude.{filter, filter_map, option_map}
 use Rattle.std.specs.List.{AllByRecursion as Each, list_any}
@@ -25,7 +25,7 @@ pub passes : {X : Type 0} (p : X → Bool) (xs : List X) → Each (λ x. p x ≡
 passes p [] = tt
 passes p (x ∷ xs) = cond_both (p x) (x ∷ filter p xs) (filter p xs) (Each (λ y. p y ≡ true)) (λ e. (e, passes p xs)) (λ e. passes p xs)
 
--- the data of a request was not moved
+-- a request was not served
 abbrev pub Unserved : List IssuedCommand → Request → Type 0
 Unserved history r = is_served history r ≡ false
 
@@ -78,7 +78,7 @@ between-not_late s history now requests h (Some rank) =
     (λ e. cond_both (has_open_bank s history rank) _ _ (λ c. is_late_act history (Some c) ≡ false) (λ f. refl) (λ f. refl))
     (λ e. refl)
 
--- what a channel chooses is no ACT for an entry whose data was moved
+-- what a channel chooses is no ACT for an entry that was served
 pub choice-not_late : (s : Config) (channel : ℕ) (steps : List (Option Command)) (inbox : List Message)
     → is_late_act (issued_commands channel steps) (choice s channel steps inbox) ≡ false
 unfolding choice

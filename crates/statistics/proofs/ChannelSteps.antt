@@ -210,7 +210,7 @@ hits_among history i (j ∷ some) h =
     ∙ ap₂ (λ b n. one_if b + n) (is_hit-push history i j.command h.0) (hits_among history i some h.1)
     ∙ sym (sum_by-cons (λ x. one_if (is_hit history x.command)) j some)
 
--- one command more, which is no ACT for an entry whose data was moved
+-- one command more, which is no ACT for an entry that was served
 pub hits-one_more : (history : List IssuedCommand) (i : IssuedCommand) → is_late_act history (Some i.command) ≡ false
     → hits (history ++ i ∷ []) ≡ hits history + one_if (is_hit history i.command)
 unfolding hits

@@ -140,46 +140,46 @@ inbox-issued s traces history unit =
     (Each-flat_map_below (CarriesIssued history) (messages_of_core s traces history) s.cores (λ core l. of_core-issued s traces history core))
     (Each-flat_map_below (CarriesIssued history) (messages_of_channel s history) s.channels (λ channel l. of_channel-issued s history channel l))))
 
--- the entry whose data a channel moves in a cycle, if it moves any
-abbrev pub moved_in : Option Command → Option Source
-moved_in (Some (Rd bank row column source)) = Some source
-moved_in (Some (Wr bank row column source)) = Some source
-moved_in (Some (Act bank row source)) = None
-moved_in (Some (Pre bank source)) = None
-moved_in (Some (Prea rank)) = None
-moved_in (Some (Ref rank)) = None
-moved_in None = None
+-- the entry for which a channel issues a column command in a cycle, if it issues one
+abbrev pub column_source : Option Command → Option Source
+column_source (Some (Rd bank row column source)) = Some source
+column_source (Some (Wr bank row column source)) = Some source
+column_source (Some (Act bank row source)) = None
+column_source (Some (Pre bank source)) = None
+column_source (Some (Prea rank)) = None
+column_source (Some (Ref rank)) = None
+column_source None = None
 
 -- what holds of the entries of all requests holds of the one that is served
-needed_at-moves : (P : Source → Type 0) (r : Request) → P (source_of r) → (row : Option ℕ) → IfSome (moved_in (Some (needed_at row r))) P
-needed_at-moves P r h None = tt
-needed_at-moves P r h (Some row) =
-    cond_both (eqb row r.place.row) (column_command r) (Pre (bank_in r.place) (source_of r)) (λ c. IfSome (moved_in (Some c)) P)
-    (λ e. column_both (λ c. IfSome (moved_in (Some c)) P) r.access _ _ _ _ (λ f. h) (λ f. h))
+needed_at-column : (P : Source → Type 0) (r : Request) → P (source_of r) → (row : Option ℕ) → IfSome (column_source (Some (needed_at row r))) P
+needed_at-column P r h None = tt
+needed_at-column P r h (Some row) =
+    cond_both (eqb row r.place.row) (column_command r) (Pre (bank_in r.place) (source_of r)) (λ c. IfSome (column_source (Some c)) P)
+    (λ e. column_both (λ c. IfSome (column_source (Some c)) P) r.access _ _ _ _ (λ f. h) (λ f. h))
     (λ e. tt)
 
-needed-moves : (P : Source → Type 0) (history : List IssuedCommand) (o : Option Request) → IfSome o (λ r. P (source_of r)) → IfSome (moved_in (option_map (needed history) o)) P
+needed-column : (P : Source → Type 0) (history : List IssuedCommand) (o : Option Request) → IfSome o (λ r. P (source_of r)) → IfSome (column_source (option_map (needed history) o)) P
 unfolding needed
-needed-moves P history None h = tt
-needed-moves P history (Some r) h = needed_at-moves P r h (open_row (bank_in r.place) history)
+needed-column P history None h = tt
+needed-column P history (Some r) h = needed_at-column P r h (open_row (bank_in r.place) history)
 
-between-moves : (P : Source → Type 0) (s : Config) (history : List IssuedCommand) (now : ℕ) (requests : List Request) → Each (λ (r : Request). P (source_of r)) requests
-    → (due : Option ℕ) → IfSome (moved_in (choice_between s history now requests due)) P
+between-column : (P : Source → Type 0) (s : Config) (history : List IssuedCommand) (now : ℕ) (requests : List Request) → Each (λ (r : Request). P (source_of r)) requests
+    → (due : Option ℕ) → IfSome (column_source (choice_between s history now requests due)) P
 unfolding choice_between first_ready if_legal refresh_command
-between-moves P s history now requests h None =
-    needed-moves P history _
+between-column P s history now requests h None =
+    needed-column P history _
     (or_else-each (λ r. P (source_of r)) _ _ (IfSome-find _ (ready_hit s history now) requests h) (IfSome-find _ (ready_row s history now requests) requests h))
-between-moves P s history now requests h (Some rank) =
-    cond_both (is_legal s history now (refresh_command s history rank)) _ _ (λ o. IfSome (moved_in o) P)
-    (λ e. cond_both (has_open_bank s history rank) _ _ (λ c. IfSome (moved_in (Some c)) P) (λ f. tt) (λ f. tt))
+between-column P s history now requests h (Some rank) =
+    cond_both (is_legal s history now (refresh_command s history rank)) _ _ (λ o. IfSome (column_source o) P)
+    (λ e. cond_both (has_open_bank s history rank) _ _ (λ c. IfSome (column_source (Some c)) P) (λ f. tt) (λ f. tt))
     (λ e. tt)
 
-pub choice-moves : (P : Source → Type 0) (s : Config) (channel : ℕ) (steps : List (Option Command)) (inbox : List Message)
-    → Each (λ (r : Request). P (source_of r)) (queue_in channel steps inbox (length steps)) → IfSome (moved_in (choice s channel steps inbox)) P
+pub choice-column : (P : Source → Type 0) (s : Config) (channel : ℕ) (steps : List (Option Command)) (inbox : List Message)
+    → Each (λ (r : Request). P (source_of r)) (queue_in channel steps inbox (length steps)) → IfSome (column_source (choice s channel steps inbox)) P
 unfolding choice
-choice-moves P s channel steps inbox h =
+choice-column P s channel steps inbox h =
     let history = issued_commands channel steps in
-    between-moves P s history (length steps) _
+    between-column P s history (length steps) _
     (candidates-each (λ r. P (source_of r)) s (drains s channel steps inbox (length steps)) (queue_in channel steps inbox (length steps)) h)
     (lowest_due s history (length steps))
 
@@ -202,9 +202,9 @@ queued_requests-issued s traces history channel steps e =
         issued_before-take-later (steps_of_core r.core history) r.arrival (length history) (omega arith) in
         omega arith
 
--- each entry whose data a channel moved was issued in an earlier cycle
-abbrev pub MovesIssued : List MachineStep → ℕ → Type 0
-MovesIssued history channel = (cycle : ℕ) → cycle < length history → IfSome (moved_in (get_or (steps_of_channel channel history) cycle None)) (IssuedBefore history cycle)
+-- each entry for which a channel issued a column command was issued in an earlier cycle
+abbrev pub ServesIssued : List MachineStep → ℕ → Type 0
+ServesIssued history channel = (cycle : ℕ) → cycle < length history → IfSome (column_source (get_or (steps_of_channel channel history) cycle None)) (IssuedBefore history cycle)
 
 pub length-steps_of_core : (core : ℕ) (history : List MachineStep) → length (steps_of_core core history) ≡ length history
 unfolding steps_of_core
@@ -231,32 +231,32 @@ IssuedBefore-push history machine_step cycle l source h =
     ∙ ap issued_before (take-push (steps_of_core source.core history) (step_of_core source.core machine_step) cycle (omega arith)) in
     omega arith
 
-moves-next : (s : Config) (traces : List (List Entry)) (history : List MachineStep) (channel : ℕ) → channel < s.channels → MovesIssued history channel
-    → MovesIssued (history ++ next_step s traces history ∷ []) channel
-moves-next s traces history channel l h cycle b =
+serves-next : (s : Config) (traces : List (List Entry)) (history : List MachineStep) (channel : ℕ) → channel < s.channels → ServesIssued history channel
+    → ServesIssued (history ++ next_step s traces history ∷ []) channel
+serves-next s traces history channel l h cycle b =
     let machine_step = next_step s traces history in
     let steps = steps_of_channel channel history in
     let len : length steps ≡ length history = length-steps_of_channel channel history in
     let more : length (history ++ machine_step ∷ []) ≡ suc (length history) = length-push_suc history machine_step in
     ⊎_elim
     (λ (earlier : cycle < length history).
-    subst (λ o. IfSome (moved_in o) (IssuedBefore (history ++ machine_step ∷ []) cycle))
+    subst (λ o. IfSome (column_source o) (IssuedBefore (history ++ machine_step ∷ []) cycle))
     (sym (ap (λ x. get_or x cycle None) (steps_of_channel-push channel history machine_step) ∙ get_or-append steps (step_of_channel channel machine_step ∷ []) None cycle (omega arith)))
     (IfSome_then _ (h cycle earlier) (IssuedBefore-push history machine_step cycle (omega arith))))
     (λ (last : length history ≤ cycle).
     let now : cycle ≡ length steps = omega arith in
-    subst (λ o. IfSome (moved_in o) (IssuedBefore (history ++ machine_step ∷ []) cycle))
+    subst (λ o. IfSome (column_source o) (IssuedBefore (history ++ machine_step ∷ []) cycle))
     (sym (ap₂ (λ x i. get_or x i None) (steps_of_channel-push channel history machine_step) now
     ∙ get_or-append_seam steps (step_of_channel channel machine_step) [] None ∙ step_of_channel-next s traces history channel l))
-    (IfSome_then (moved_in (choice s channel steps (inbox s traces history (Channel channel))))
-    (choice-moves (IssuedBefore history (length history)) s channel steps (inbox s traces history (Channel channel)) (queued_requests-issued s traces history channel steps len))
+    (IfSome_then (column_source (choice s channel steps (inbox s traces history (Channel channel))))
+    (choice-column (IssuedBefore history (length history)) s channel steps (inbox s traces history (Channel channel)) (queued_requests-issued s traces history channel steps len))
     (λ source k. subst (λ i. IssuedBefore (history ++ machine_step ∷ []) i source) (sym (now ∙ len)) (IssuedBefore-push history machine_step (length history) (omega arith) source k))))
     (cases_lt cycle (length history))
 
-pub moves-run : (s : Config) (traces : List (List Entry)) (n channel : ℕ) → channel < s.channels → MovesIssued (run s traces n) channel
+pub serves-run : (s : Config) (traces : List (List Entry)) (n channel : ℕ) → channel < s.channels → ServesIssued (run s traces n) channel
 unfolding run
-moves-run s traces zero channel l = λ cycle b. absurd (omega arith)
-moves-run s traces (suc n) channel l = moves-next s traces (run s traces n) channel l (moves-run s traces n channel l)
+serves-run s traces zero channel l = λ cycle b. absurd (omega arith)
+serves-run s traces (suc n) channel l = serves-next s traces (run s traces n) channel l (serves-run s traces n channel l)
 
 -- the entry of a reply was issued before it came to the core at the end of its link
 abbrev pub AnswersIssued : Config → List MachineStep → Message → Type 0
@@ -275,7 +275,7 @@ reply-answers s history channel cycle l source h =
     issued_before-take-later (steps_of_core source.core history) cycle arrival (omega arith) in
     subst (λ c. source.entry < issued_before (take arrival (steps_of_core c history))) (sym e) (omega arith)
 
-messages_at-answer : (s : Config) (history : List MachineStep) (channel cycle : ℕ) → channel < s.channels → (o : Option Command) → IfSome (moved_in o) (IssuedBefore history cycle)
+messages_at-answer : (s : Config) (history : List MachineStep) (channel cycle : ℕ) → channel < s.channels → (o : Option Command) → IfSome (column_source o) (IssuedBefore history cycle)
     → Each (AnswersIssued s history) (messages_at s channel cycle o)
 unfolding messages_of credit
 messages_at-answer s history channel cycle l None h = tt
@@ -286,7 +286,7 @@ messages_at-answer s history channel cycle l (Some (Pre bank source)) h = tt
 messages_at-answer s history channel cycle l (Some (Prea rank)) h = tt
 messages_at-answer s history channel cycle l (Some (Ref rank)) h = tt
 
-of_channel-answer : (s : Config) (history : List MachineStep) (channel : ℕ) → channel < s.channels → MovesIssued history channel
+of_channel-answer : (s : Config) (history : List MachineStep) (channel : ℕ) → channel < s.channels → ServesIssued history channel
     → Each (AnswersIssued s history) (messages_of_channel s history channel)
 unfolding messages_of_channel channel_messages messages_in
 of_channel-answer s history channel l h =
@@ -306,7 +306,7 @@ messages-answer s traces n =
     let history = run s traces n in
     Each-append (AnswersIssued s history) (flat_map (messages_of_core s traces history) (below s.cores)) _
     (Each-flat_map_below (AnswersIssued s history) (messages_of_core s traces history) s.cores (λ core l. of_core-answer s traces history core l))
-    (Each-flat_map_below (AnswersIssued s history) (messages_of_channel s history) s.channels (λ channel l. of_channel-answer s history channel l (moves-run s traces n channel l)))
+    (Each-flat_map_below (AnswersIssued s history) (messages_of_channel s history) s.channels (λ channel l. of_channel-answer s history channel l (serves-run s traces n channel l)))
 
 core_of_link : (s : Config) (core : ℕ) (m : Message) → is_to s (Core core) m ≡ true → m.link / 3 / s.channels ≡ core
 core_of_link s core m h = by (eqb (m.link % 3) 0) h

@@ -113,7 +113,7 @@ stats_of_channel-next s traces n channel l =
     ∙ channel_stats-same s channel (steps ++ choice s channel steps mail ∷ []) then mail agree
     ∙ channel_stats-choice s channel steps mail
 
--- in a run no ACT is issued for an entry whose data was moved
+-- in a run no ACT is issued for an entry that was served
 pub ActsComeFirst-push : (channel : ℕ) (steps : List (Option Command)) (o : Option Command) → ActsComeFirst channel steps → is_late_act (issued_commands channel steps) o ≡ false
     → ActsComeFirst channel (steps ++ o ∷ [])
 ActsComeFirst-push channel steps o h k cycle l =

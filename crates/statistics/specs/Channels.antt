@@ -8,7 +8,7 @@
 --     quiet_cycle drained queued has_due drains      of a cycle in which nothing is issued
 --     one_command k hit      of a command alone
 --     ChannelFits a      each count fits
---     ActsComeFirst channel steps      no ACT is issued for an entry whose data was moved before
+--     ActsComeFirst channel steps      no ACT is issued for an entry that was served before
 use Rattle.std.specs.Prelude.{◌≡◌, ℕ, ◌+◌, ◌*◌, ◌^◌, ◌<◌, ◌==◌, nat_lt, max, Bool, false, ◌&&◌, List, [], ◌∷◌, ◌++◌, length, take, slice_index_or, option_map, Option, Some, None, if◌then◌else◌}
 use Rattle.std.specs.List.{list_any}
 use Rattle.std.specs.Option.{IfSome}
@@ -200,7 +200,7 @@ is_column_command_of source (Pre bank other) = false
 is_column_command_of source (Prea rank) = false
 is_column_command_of source (Ref rank) = false
 
--- an ACT for an entry whose data was already moved
+-- an ACT for an entry that was served before, by a column command
 abbrev pub is_late_act : List IssuedCommand → Option Command → Bool
 is_late_act history (Some (Act bank row source)) = list_any (λ i. is_column_command_of source i.command) history
 is_late_act history (Some (Rd bank row column source)) = false
@@ -210,7 +210,7 @@ is_late_act history (Some (Prea rank)) = false
 is_late_act history (Some (Ref rank)) = false
 is_late_act history None = false
 
--- no ACT is issued for an entry whose data was moved in an earlier cycle
+-- no ACT is issued for an entry that was served in an earlier cycle
 abbrev pub ActsComeFirst : ℕ → List (Option Command) → Type 0
 ActsComeFirst channel steps =
     (cycle : ℕ) → cycle < length steps → is_late_act (issued_commands channel (take cycle steps)) (slice_index_or steps cycle None) ≡ false

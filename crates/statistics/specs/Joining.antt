@@ -50,8 +50,8 @@ CoreStepsJoin s core trace inbox =
     (steps more : List CoreStep) → RepliesFollowReads (steps ++ more) inbox →
     core_stats s core trace (steps ++ more) inbox ≡ core_joined (core_stats s core trace steps inbox) (core_stretch s core trace steps inbox more)
 
--- the statistics of one channel over some steps and more steps, where no ACT is issued for an entry whose data was
--- already moved
+-- the statistics of one channel over some steps and more steps, where no ACT is issued for an entry that was served
+-- before
 abbrev pub ChannelStepsJoin : Config → ℕ → List Message → Type 0
 ChannelStepsJoin s channel inbox =
     (steps more : List (Option Command)) → ActsComeFirst channel (steps ++ more) →

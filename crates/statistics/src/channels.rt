@@ -140,7 +140,7 @@ impl ChannelStats {
         }
     }
 
-    /// Adds a command of this kind, and a row hit if it moves the data of one. Its cycle is counted separately.
+    /// Adds a command of this kind, and a row hit if it is one. Its cycle is counted separately.
     #[inline(always)]
     pub fn add_command(&mut self, kind: Kind, hit: bool)
         requires { ChannelFits (channel_joined self.old (one_command kind hit)) }
