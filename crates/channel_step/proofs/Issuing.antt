@@ -81,6 +81,7 @@ readied c past command hit log bank_candidates served h chosen hit_is all left m
         number_is = h.made_for.number_is;
         high_is = h.made_for.high_is;
         low_is = h.made_for.low_is;
+        latencies_are = h.made_for.latencies_are;
         room_is = h.made_for.room_is;
         banks_are = count ∙ h.made_for.banks_are;
         in_banks = subst (All (IsInBanks past.config.ranks)) (sym all) h.made_for.in_banks;
@@ -186,6 +187,7 @@ issued-stands c past command hit seen banks refresh h e b r =
         number_is = h.made_for.number_is;
         high_is = h.made_for.high_is;
         low_is = h.made_for.low_is;
+        latencies_are = h.made_for.latencies_are;
         room_is = h.made_for.room_is;
         banks_are = h.made_for.banks_are;
         in_banks = h.made_for.in_banks;

@@ -32,6 +32,7 @@ renewed-stands c past bank_candidates h count stands =
         number_is = h.made_for.number_is;
         high_is = h.made_for.high_is;
         low_is = h.made_for.low_is;
+        latencies_are = h.made_for.latencies_are;
         room_is = h.made_for.room_is;
         banks_are = count ∙ h.made_for.banks_are;
         in_banks = waits-all (IsInBanks past.config.ranks) c.queue.log h.made_for.in_banks;

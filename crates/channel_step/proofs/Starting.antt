@@ -12,6 +12,7 @@ use Rattle.bank_ready.specs.Stands.{rank_count, StandsFor as BanksStandFor}
 use Rattle.bank_ready.specs.Refreshes.{StandsFor as RefreshesStandFor}
 use Rattle.statistics.specs.declared.channels.ChannelStats.{ChannelStats}
 use Rattle.channel_step.specs.Fit.{queue_room}
+use Rattle.channel_step.specs.Latencies.{answer_latencies}
 use Rattle.channel_step.specs.Queued.{marks_in}
 use Rattle.statistics.specs.Channels.{channel_none, channel_stats, draining_of}
 use Rattle.sim_base.specs.Rules.{open_row}
@@ -103,12 +104,12 @@ pub at-first : (c : Channel) (past : Past) (from : ℕ) (o : Option ℕ) → Has
 at-first c past from o h at f =
     first-agree _ _ from (λ cycle l. ap is_some (at-choice c past from cycle h at l)) o f
 
-pub start-stands : (c : Channel) (s : Config) (number : ℕ) → c.config ≡ s → c.number ≡ number → c.cycle ≡ 0
+pub start-stands : (c : Channel) (s : Config) (number : ℕ) → c.config ≡ s → c.number ≡ number → c.latencies.items ≡ answer_latencies s number → c.cycle ≡ 0
     → c.queue ≡ record { room = queue_room s; places = places_for (queue_room s); high = s.write_high; low = s.write_low; log = []; drain_decided = false }
     → BanksStandFor c.banks s [] → RefreshesStandFor c.refresh s [] → c.stats ≡ record channel_none { draining = draining_of s 0 } → bank_count c.bank_candidates ≡ 16 * s.ranks
     → CandidatesStandFor c.bank_candidates [] (λ bank. None) → c.ahead ≡ Unknown → c.served ≡ None → StandsFor c s number [] []
 unfolding issued_commands open_row waiting
-start-stands c s number config is cycle queue_is banks refresh stats count bank_candidates ahead served =
+start-stands c s number config is latencies cycle queue_is banks refresh stats count bank_candidates ahead served =
     let R : QueueView → ChannelStats → Type 0 = λ q t. Recalls (waiting_requests q.log) q.drain_decided (marks_in q.log) t (past_of s number [] []) in
     let empty : QueueView = record { room = queue_room s; places = places_for (queue_room s); high = s.write_high; low = s.write_low; log = []; drain_decided = false } in
     let base : R empty (record channel_none { draining = draining_of s 0 }) = recalls-none s number in
@@ -120,6 +121,7 @@ start-stands c s number config is cycle queue_is banks refresh stats count bank_
         number_is = is;
         high_is = ap (λ (q : QueueView). q.high) queue_is;
         low_is = ap (λ (q : QueueView). q.low) queue_is;
+        latencies_are = latencies;
         room_is = ap (λ (q : QueueView). q.room) queue_is;
         banks_are = count;
         in_banks = subst (λ (q : QueueView). All (IsInBanks s.ranks) (all_requests q.log)) (sym queue_is) (All-from_recursion (IsInBanks s.ranks) [] tt);
@@ -145,6 +147,7 @@ keeping-stands c s number rows none h =
         number_is = h.made_for.number_is;
         high_is = h.made_for.high_is;
         low_is = h.made_for.low_is;
+        latencies_are = h.made_for.latencies_are;
         room_is = h.made_for.room_is;
         banks_are = h.made_for.banks_are;
         in_banks = h.made_for.in_banks;

@@ -122,6 +122,7 @@ arrived-stands c past inbox now until q bank_candidates ahead h at l f e count c
         number_is = h.made_for.number_is;
         high_is = ap (λ (x : QueueView). x.high) e ∙ h.made_for.high_is;
         low_is = ap (λ (x : QueueView). x.low) e ∙ h.made_for.low_is;
+        latencies_are = h.made_for.latencies_are;
         room_is = ap (λ (x : QueueView). x.room) e ∙ h.made_for.room_is;
         banks_are = count ∙ h.made_for.banks_are;
         in_banks = arrived-places c past inbox now until q h at f e;

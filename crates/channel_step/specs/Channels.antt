@@ -56,6 +56,7 @@ use Rattle.request_table.specs.Served.{served_requests}
 use Rattle.request_table.specs.declared.served_requests.ServedRequest.{ServedRequest}
 use Rattle.channel_step.specs.Past.{Steps, Past, past_of, commands_after, choice_after, requests_of}
 use Rattle.channel_step.specs.Fit.{queue_room, idle_until, IsIdle}
+use Rattle.channel_step.specs.Latencies.{answer_latencies}
 use Rattle.channel_step.specs.Queued.{marks_in}
 use Rattle.channel_step.specs.Stands.{Recalls, HasJoined}
 use Rattle.channel_step.specs.declared.ahead.Ahead.{Ahead}
@@ -67,13 +68,15 @@ use Rattle.channel_step.specs.declared.counting.Seen.{Seen}
 abbrev pub CandidatesStand : BankCandidates → List Arrived → List IssuedCommand → Type 0
 CandidatesStand bank_candidates log history = CandidatesStandFor bank_candidates log (rows_after history)
 
--- The channel with a number, of a machine with a configuration, has room in its queue for a request for each credit and
--- candidates for each bank, and never had more requests in it; each request that has arrived asks for one of the banks.
+-- The channel with a number, of a machine with a configuration, knows the latencies of its links to the cores, has room
+-- in its queue for a request for each credit and candidates for each bank, and never had more requests in it; each
+-- request that has arrived asks for one of the banks.
 pub record IsMadeFor (c : Channel) (s : Config) (channel : ℕ) : Type 0 where
   pub config_is : c.config ≡ s
   pub number_is : c.number ≡ channel
   pub high_is : c.queue.high ≡ s.write_high
   pub low_is : c.queue.low ≡ s.write_low
+  pub latencies_are : c.latencies.items ≡ answer_latencies s channel
   pub room_is : c.queue.room ≡ queue_room s
   pub banks_are : bank_count c.bank_candidates ≡ 16 * s.ranks
   pub in_banks : All (IsInBanks s.ranks) (all_requests c.queue.log)

@@ -27,7 +27,6 @@ ghost use Rattle.channel_step.specs.Readied.{IsChosen, IsDoing, IsReadied, IsRea
 ghost use Rattle.channel_step.specs.Readied.{opening_command, closing_command, column_command_at, command_needed, rank_command};
 ghost use Rattle.channel_step.specs.Fit.{queue_room, IsFitAfter};
 ghost use Rattle.channel_step.specs.Runs.{CanStep, CanRun, HasIssued, HasAdvanced, IsDoneAfter, StandsAt, first_arrival, IsListed};
-ghost use Rattle.channel_step.specs.Latencies.{answer_latencies};
 
 use crate::ahead::Ahead;
 use crate::arriving::admit;
@@ -69,7 +68,6 @@ pub struct Channel {
     ahead: Ahead,
     /// The requests that it served, if they are kept.
     served: Option<Vec<ServedRequest>>,
-    ghost travel: { latencies.items ≡ answer_latencies config number },
 }
 
 /// What a channel did up to the last cycle that is over: how many messages arrived.

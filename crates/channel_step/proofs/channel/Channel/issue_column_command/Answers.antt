@@ -5,6 +5,7 @@ use Rattle.sim_base.specs.History.{messages_of}
 use Rattle.sim_base.specs.Scheduling.{column_command}
 use Rattle.queue.specs.declared.request_log.Arrived.{Arrived}
 use Rattle.queue.specs.Log.{absent, LogView}
+use Rattle.channel_step.specs.Latencies.{answer_latencies}
 use Rattle.channel_step.specs.Queued.{request_at}
 use Rattle.channel_step.specs.Readied.{IsReadied}
 use Rattle.channel_step.proofs.Issuing.{seen-is, has-issued}
@@ -56,5 +57,18 @@ issue-requires-clause-early c =
     let ready = c.in_ok-hit.ensures {u = tt} p.past p.is_in p.is_chosen in
     omega (arith, ready.cycle_is, p.is_in.cycle_is, c.requires.early)
 
-pub send-requires : goal.send-requires
-send-requires c = c.requires.early
+pub send-requires-clause-early : goal.send-requires-clause-early
+send-requires-clause-early c = c.requires.early
+
+pub send-requires-clause-latencies : goal.send-requires-clause-latencies
+send-requires-clause-latencies c =
+    let x = c.args.self.now in
+    let p = c.requires.doing in
+    let read : get_or c.log-2.result.now c.args.slot absent ≡ get_or x.queue.log c.args.slot absent =
+    ap (λ l. get_or l c.args.slot absent) (c.log-2.ensures.log ∙ ap (λ (v : LogView). v.log) c.log.ensures) in
+    let is = c.column_command.ensures ∙ ap (λ (a : Arrived). column_command a.request) read in
+    let ready = subst (λ z. IsReadied c.serve.new.self p.past z c.in_ok-hit.hit) (sym is) (c.in_ok-hit.ensures {u = tt} p.past p.is_in p.is_chosen) in
+    let stands = c.issue.ensures.stands p.past ready (c.requires.seen ∙ seen-is x p.past p.is_in) in
+    c.deref.ensures.value
+    ∙ stands.made_for.latencies_are
+    ∙ ap₂ answer_latencies (sym stands.made_for.config_is) (sym stands.made_for.number_is)
