@@ -4,10 +4,10 @@
 mod lines;
 pub mod words;
 
-ghost use Rattle.std.specs.Prelude.{◌≡◌, ◌^◌, ◌+◌, ◌-◌, ◌<◌, ◌≤◌, length, vec_capacity};
+ghost use Rattle.std.specs.Prelude.{◌≡◌, ◌^◌, ◌+◌, ◌-◌, ◌<◌, ◌≤◌, length, slice_set, vec_capacity};
 ghost use Rattle.queue.specs.Columns.{bank_number, tag_word, slot_of_row, waiting_items};
 
-use crate::request_log::lines::{counters, next_for_line};
+use crate::request_log::lines::{counters, is_for, next_for_line};
 use crate::request_log::words::{LEFT, bank_number, line_slot, row_slot, tag_word};
 use sim_base::message::{Access, Request};
 use sim_base::place::Place;
@@ -27,6 +27,9 @@ pub struct Arrived {
 /// There are counters of rows for no more requests than these, so that those of a large queue take little memory.
 const ROOM_OF_ROWS: usize = 2048;
 
+/// For so many lines the place of the request that arrived last is kept.
+const RECENT: usize = 1024;
+
 /// The counter of a request among those of rows, which go up to `mask`.
 #[inline(always)]
 fn row_slot_of(request: Request, mask: usize) -> usize
@@ -43,6 +46,18 @@ fn tag_of(eligible: bool, request: Request) -> u8
     ensures { result ≡ tag_word eligible request.access (bank_number request.place) }
 {
     tag_word(eligible, request.access, bank_number(request.place) as u64)
+}
+
+/// Keeps at a number the place of the request that arrived last.
+#[inline(always)]
+fn set_recent(recent: &mut [u16], number: usize, slot: usize)
+    requires { slot < 2 ^ 16 }
+    ensures { number < length recent.old
+        → recent.new ≡ slice_set recent.old number slot }
+{
+    if number < recent.len() {
+        recent[number] = slot as u16;
+    }
 }
 
 /// Moves the tags of the requests that wait to the front, in their order.
@@ -77,6 +92,9 @@ pub struct RequestLog {
     lines: Vec<u16>,
     /// The highest of these counters.
     mask: usize,
+    /// For some counters, by their number modulo `RECENT`, the place of the request that arrived last for a line of
+    /// theirs, where no request has moved since.
+    recent: Vec<u16>,
     /// How many requests that wait are for the rows of each counter, to write or to read.
     rows: Vec<u16>,
     /// The highest of these.
@@ -109,6 +127,7 @@ impl RequestLog {
         ensures { IfOk result (λ log. log ≡ record { places = places; log = [] }) }
     {
         let (lines, mask) = counters(alloc, room)?;
+        let recent = vec![in alloc; 0; RECENT]?;
         let (rows, row_mask) = counters(alloc, room.min(ROOM_OF_ROWS))?;
         Ok(RequestLog {
             places,
@@ -117,6 +136,7 @@ impl RequestLog {
             blocked: 0,
             lines,
             mask,
+            recent,
             rows,
             row_mask,
         })
@@ -178,13 +198,33 @@ impl RequestLog {
                 || self.may_ask(bank, Access::Write, place.row))
     }
 
-    /// Whether a request that waits asks for the line of a place. The oldest that does may be served.
+    /// Whether the request that arrived last for the counter of a line waits, and for this line: true only where a
+    /// request does.
+    #[inline(always)]
+    fn is_recent(&self, place: Place) -> bool
+        ensures { result ≡ true → asks_for_line place (waiting_requests self.now.log) ≡ true }
+    {
+        let Some(slot) = self.recent.get(line_slot(place, self.mask) % RECENT) else {
+            return false;
+        };
+        let slot = usize::from(*slot);
+        slot < self.log.len() && is_for(place, self.log[slot])
+    }
+
+    /// Whether a request that waits asks for the line of a place, by a search. The oldest that does may be served.
+    #[inline(always)]
+    fn is_line_found(&self, place: Place) -> bool
+        ensures { result ≡ asks_for_line place (waiting_requests self.now.log) }
+    {
+        next_for_line(true, place, 0, &self.log, &self.tags).is_some()
+    }
+
+    /// Whether a request that waits asks for the line of a place.
     #[inline(always)]
     fn is_line_asked(&self, place: Place) -> bool
         ensures { result ≡ asks_for_line place (waiting_requests self.now.log) }
     {
-        self.may_ask_for_line(place)
-            && next_for_line(true, place, 0, &self.log, &self.tags).is_some()
+        self.may_ask_for_line(place) && (self.is_recent(place) || self.is_line_found(place))
     }
 
     /// How many places are left.
@@ -201,6 +241,7 @@ impl RequestLog {
         requires { length self.old.log < self.old.places }
         ensures { self.new ≡ record self.old { log = with_arrival self.old.log request } }
     {
+        let slot = self.log.len();
         let asked = self.is_line_asked(request.place);
         let line = line_slot(request.place, self.mask);
         let alike = self.lines[line];
@@ -211,6 +252,7 @@ impl RequestLog {
             activated: false,
         });
         self.lines[line] = alike + 1;
+        set_recent(&mut self.recent, line % RECENT, slot);
         let row = row_slot_of(request, self.row_mask);
         let others = self.rows[row];
         self.rows[row] = others + 1;

@@ -15,7 +15,7 @@ use std::alloc::{AllocError, Global};
 
 /// Whether a request waits for the line of a place.
 #[inline(always)]
-fn is_for(place: Place, arrived: Arrived) -> bool
+pub(crate) fn is_for(place: Place, arrived: Arrived) -> bool
     ensures { result ≡ is_for place arrived }
 {
     arrived.waits && arrived.request.place.is_line(place)
