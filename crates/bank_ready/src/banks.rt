@@ -156,8 +156,8 @@ impl Banks {
         note_act_in_rank(delays, &mut self.ranks, bank.rank, cycle, last);
     }
 
-    /// Notes a column command, in its bank, in the words of RDs and WRs of the groups of each rank, in the floors of all
-    /// banks, and in the words of the whole rank.
+    /// Notes a column command, in its bank, in the words of column commands of the groups of each rank, in the floors
+    /// of all banks, and in the words of the whole rank.
     #[inline(always)]
     fn note_column_command(&mut self, kind: Kind, bank: BankId, cycle: Cycle)
         requires kind { IsTrue (is_column_kind kind) }

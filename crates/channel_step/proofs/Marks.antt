@@ -81,7 +81,7 @@ marks-act history i rs bank row source e =
     map-agree (is_named (history ++ i ∷ [])) (λ r. is_named history r || is_source r source) rs
     (Each-all _ (λ r. named-command history i r ∙ ap (λ c. is_named history r || is_act_for (source_of r) c) e) rs)
 
--- what holds of its RD and of its WR holds of the command that moves the data of a request
+-- what holds of its RD and of its WR holds of the column command of a request
 pub column_either : (P : Command → Type 0) (r : Request) → P (Rd (bank_in r.place) r.place.row r.place.column (source_of r)) → P (Wr (bank_in r.place) r.place.row r.place.column (source_of r))
     → P (column_command r)
 column_either P r rd wr = column_both P r.access _ _ _ _ (λ f. rd) (λ f. wr)

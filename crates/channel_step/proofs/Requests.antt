@@ -99,7 +99,7 @@ queued_requests-arrivals history mail new now h k u =
     (filter-each (λ r. not (is_served history r)) (requests_of new)
     (Each-weaker (IsUnnamed history) _ (λ r i. ap not (unnamed-unserved history r i)) (requests_of new) u))
 
--- a command more, which may move the data of a request
+-- a command more, which may be the column command of a request
 abbrev pub unserved_by : Command → List Request → List Request
 unserved_by command rs = filter (λ r. not (serves r command)) rs
 

@@ -48,7 +48,7 @@ served_requests-push arrivals history i h =
 abbrev TellsOf : (Source → ℕ) → Request → Type 0
 TellsOf arrivals r = r.arrival ≡ arrivals (source_of r)
 
--- a command that moves no data serves no request
+-- a command that is no column command serves no request
 served-none : (arrivals : Source → ℕ) (hit : Bool) (channel cycle : ℕ) (command : Command) → is_column_command command ≡ false → served_by arrivals hit channel cycle command ≡ None
 served-none arrivals hit channel cycle (Act bank row source) h = refl
 served-none arrivals hit channel cycle (Rd bank row column source) h = absurd (true≢false h)
@@ -62,7 +62,7 @@ abbrev kept_as : ℕ → ℕ → Bool → Access → ℕ → Request → ServedR
 kept_as channel cycle hit access arrived r =
     record { entry = r.entry; arrived = arrived; served = cycle; channel = channel; core = r.core; access = access; hit = hit }
 
--- the one that moves the data of a request serves it
+-- the column command of a request serves it
 served-one : (arrivals : Source → ℕ) (hit : Bool) (channel cycle : ℕ) (r : Request) → TellsOf arrivals r
     → served_by arrivals hit channel cycle (column_command r) ≡ Some (kept_as channel cycle hit r.access r.arrival r)
 served-one arrivals hit channel cycle r h = by r.access
@@ -99,7 +99,7 @@ kept-more (Some was) (Some rows) history i new mail e more h = λ arrivals each.
     let same : rows.items ≡ was.items ++ new = cc in
     same ∙ ap (λ x. x ++ new) (h arrivals each) ∙ sym (more arrivals each)
 
--- a command that moves no data adds none
+-- a command that is no column command adds none
 pub kept-quiet : (kept : Option (Vec ServedRequest Global)) (history : List IssuedCommand) (i : IssuedCommand) (mail : List Message) → is_late_act history (Some i.command) ≡ false
     → is_column_command i.command ≡ false → KeepsServed kept history mail → KeepsServed kept (history ++ i ∷ []) mail
 kept-quiet None history i mail late quiet h = tt
@@ -109,7 +109,7 @@ kept-quiet (Some rows) history i mail late quiet h = λ arrivals each.
     ∙ ap (λ o. served_requests arrivals history ++ cons_option o []) (served-none arrivals (is_hit history i.command) i.channel i.cycle i.command quiet)
     ∙ append-nil (served_requests arrivals history))
 
--- one that moves the data of a request that waits adds that
+-- the column command of a request that waits adds that
 pub kept-served : (kept then : Option (Vec ServedRequest Global)) (history : List IssuedCommand) (i : IssuedCommand) (r : Request) (hit : Bool) (mail : List Message) (until : ℕ)
     → i.command ≡ column_command r → is_late_act history (Some i.command) ≡ false → ((P : Request → Type 0) → Each P (queued_requests history mail until) → P r) → is_hit history i.command ≡ hit
     → rows_in then ≡ with_more (rows_in kept) (served_now i.channel i.cycle r hit ∷ [])

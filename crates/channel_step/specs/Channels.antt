@@ -160,7 +160,7 @@ pub record StandsFor (c : Channel) (s : Config) (channel : ℕ) (steps : Steps) 
 abbrev pub HasPast : Channel → Past → Type 0
 HasPast c p = StandsFor c p.config p.channel p.steps p.mail
 
--- this is so of each past that a channel may have, whose parts are given one by one
+-- this is so of each past that a channel may have; it is given by its parts, which the laws of runs name one by one
 abbrev pub ForPasts : Channel → (Past → Type 0) → Type 0
 ForPasts c fact =
     (s : Config) (channel : ℕ) (steps : Steps) (mail : List Message) → StandsFor c s channel steps mail → fact (past_of s channel steps mail)

@@ -437,8 +437,8 @@ impl Channel {
         }
     }
 
-    /// Readies the channel for the column command of the request at a place, which then waits no more, and tells whether
-    /// it is a row hit. On an error the request is not added to those that are kept.
+    /// Readies the channel for the column command of the request at a place, which then waits no more, and tells
+    /// whether it is a row hit. On an error the request is not added to those that are kept.
     #[inline(always)]
     fn serve(&mut self, slot: usize) -> Result<bool, AllocError>
         requires { IsDoing self.old slot (column_command_at self.old slot) }

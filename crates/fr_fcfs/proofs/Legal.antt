@@ -20,7 +20,7 @@ use Rattle.bank_ready.specs.Stands.{IsAllowedFrom}
 use Rattle.fr_fcfs.specs.Requests.{IsLegalFrom, is_hit}
 use Rattle.fr_fcfs.proofs.Booleans.{any_never}
 
--- the command that moves the data of a request, if it is of this access
+-- the column command of a request, if it is of this access
 abbrev column_of : Access → Request → Command
 column_of access r = column_command_to access (bank_in r.place) r.place.row r.place.column (source_of r)
 

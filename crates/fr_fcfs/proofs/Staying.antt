@@ -287,7 +287,7 @@ needed_there history log slot d command within is =
     let same : Some (needed history (slice_index_or log slot d).request) ≡ Some command = sym (ap (option_map (needed history)) there) ∙ is in
     cc
 
--- what a rank needs that is to be refreshed moves no data
+-- what a rank needs that is to be refreshed is no column command
 pub refresh-no_column : (s : Config) (history : List IssuedCommand) (rank : ℕ) (command : Command) → Some (refresh_command s history rank) ≡ Some command → is_column_command command ≡ false
 unfolding refresh_command
 refresh-no_column s history rank command is =

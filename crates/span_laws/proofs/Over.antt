@@ -162,7 +162,7 @@ none-waits s traces n channel u l h m =
 abbrev IsSilent : Config → ℕ → ℕ → Command → Type 0
 IsSilent s channel cycle command = messages_of s channel cycle command ≡ []
 
--- so it moves no data
+-- so it is no column command
 chosen-silent : (s : Config) (traces : List (List Entry)) (n channel cycle : ℕ) → channel < s.channels → Over s traces n → IfSome (chosen s traces n channel) (IsSilent s channel cycle)
 unfolding messages_of
 chosen-silent s traces n channel cycle l h =

@@ -20,8 +20,8 @@ RestsAlone s traces from until (Core core) = Rests s core (trace_of traces core)
 RestsAlone s traces from until (Channel channel) = IsIdle s channel (channel_steps_of s traces from channel) (mail_before s traces from (Channel channel) from) (until - from)
 
 -- Alone, from what it did before a cycle and what arrived at it, a unit would send nothing before another, if nothing
--- arrived. It may retire and issue, or issue commands that move no data: a unit that rests is silent, but not the
--- other way round.
+-- arrived. It may retire and issue, or issue commands other than column commands: a unit that rests is silent, but not
+-- the other way round.
 abbrev pub IsSilent : Config → List (List Entry) → ℕ → ℕ → MachineUnit → Type 0
 IsSilent s traces from until (Core core) =
     (n : ℕ) → from + n ≤ until

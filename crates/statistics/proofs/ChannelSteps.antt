@@ -135,7 +135,7 @@ draining-push s channel steps o inbox =
     (count_below_same after (drains s channel steps inbox) (length steps) (λ k l. drains_before-push s channel steps o inbox (k + 1) (omega arith)))
     (drains_before-push s channel steps o inbox (length steps + 1) (omega arith))
 
--- a command is an ACT for the entry whose data another moves
+-- a command is an ACT for the entry of another, a column command
 abbrev pub opens_for : Command → Command → Bool
 opens_for command (Rd bank row column source) = is_act_for source command
 opens_for command (Wr bank row column source) = is_act_for source command
