@@ -2,7 +2,7 @@
 
 ghost use Rattle.std.specs.Prelude.{◌≡◌, ◌+◌, ◌^◌, ◌<◌, length, IfOk};
 
-use measures::number::{Form, Number};
+use measures::number::{Number, NumberForm};
 use sim_base::config::Config;
 use statistics::channels::ChannelStats;
 use statistics::cores::CoreStats;
@@ -106,7 +106,7 @@ fn data_rate(cycles: u64, channel: &ChannelStats, khz: u64) -> Number {
     Number::quotient(
         moves(channel).saturating_mul(u128::from(khz)),
         MOVES_OF_A_GIGABYTE * u128::from(cycles),
-        Form::Mean,
+        NumberForm::Mean,
     )
 }
 
@@ -115,7 +115,7 @@ pub(crate) fn nanoseconds(cycles: u128, divisor: u64, khz: u64) -> Number {
     Number::quotient(
         cycles.saturating_mul(1_000_000),
         u128::from(divisor).saturating_mul(u128::from(khz)),
-        Form::Mean,
+        NumberForm::Mean,
     )
 }
 
@@ -240,7 +240,7 @@ pub(crate) fn core_rows(
 // lower of the two in the middle.
 fn summary_of(alloc: Global, rows: &[Row], column: usize) -> Result<[Number; 3], AllocError> {
     let mut known = Vec::new(alloc);
-    let mut form = Form::Count;
+    let mut form = NumberForm::Count;
     for row in rows {
         if let Some(number) = row.get(column)
             && let Some(halves) = number.halves

@@ -1,5 +1,5 @@
 use Rattle.text_builder.proofs.Texts.{grows_on}
-use Rattle.show.proofs.table.Table.put_headings.Goals as goal
+use Rattle.show.proofs.table.TableLayout.put_headings.Goals as goal
 
 pub loop-heading-init : goal.loop-heading-init
 loop-heading-init c = c.put_cell.ensures
