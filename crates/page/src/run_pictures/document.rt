@@ -1,7 +1,7 @@
 //! A run as one HTML document.
 
-use crate::run_pictures::activity::{Activity, Channel, Span};
-use crate::run_pictures::cells::Measures;
+use crate::run_pictures::activity::{Activity, Channel, TimelineSpan};
+use crate::run_pictures::cells::RunScale;
 use crate::run_pictures::overview::put_overview;
 use crate::run_pictures::settings::put_settings;
 use crate::run_pictures::stops::put_stops;
@@ -79,22 +79,22 @@ fn put_time(cycles: u64, khz: Option<u64>, out: &mut Markup) {
 }
 
 // The cores: where there are many, a summary with all else folded.
-fn put_all_cores(alloc: Global, measures: Measures, cores: &[CoreStats], out: &mut Markup) {
+fn put_all_cores(alloc: Global, scale: RunScale, cores: &[CoreStats], out: &mut Markup) {
     out.push_str("<h2 id=\"cores\">Cores</h2>\n");
     if cores.len() <= MOST_CORES {
-        put_cores(measures, cores, out);
-        put_stops(measures.cycles, cores, out);
+        put_cores(scale, cores, out);
+        put_stops(scale.cycles, cores, out);
         return;
     }
-    put_core_summary(alloc, measures, cores, out);
+    put_core_summary(alloc, scale, cores, out);
     out.push_str("<details><summary>each core</summary>\n");
-    put_cores(measures, cores, out);
-    put_stops(measures.cycles, cores, out);
+    put_cores(scale, cores, out);
+    put_stops(scale.cycles, cores, out);
     out.push_str("</details>\n");
 }
 
 // The begin of the timeline of a window, or that the run has no cycle there.
-fn put_window_head(span: Span, out: &mut Markup) {
+fn put_window_head(span: TimelineSpan, out: &mut Markup) {
     let first = Piece::Grouped(span.from);
     if span.end <= span.from {
         out.fill(
@@ -111,7 +111,7 @@ fn put_window_head(span: Span, out: &mut Markup) {
 }
 
 // What the channels did in the window.
-fn put_window(span: Span, refresh: u64, channels: &mut [Channel], out: &mut Markup) {
+fn put_window(span: TimelineSpan, refresh: u64, channels: &mut [Channel], out: &mut Markup) {
     put_window_head(span, out);
     if span.from < span.end {
         for (id, channel) in channels.iter_mut().enumerate() {
@@ -121,14 +121,14 @@ fn put_window(span: Span, refresh: u64, channels: &mut [Channel], out: &mut Mark
 }
 
 // What the channels of a run did.
-fn activity_of(alloc: Global, run: &Run<'_>, span: Span) -> Result<Activity, AllocError> {
+fn activity_of(alloc: Global, run: &Run<'_>, span: TimelineSpan) -> Result<Activity, AllocError> {
     let mut activity = Activity::idle(alloc, run.stats)?;
     activity.add_run(run.commands, span)?;
     Ok(activity)
 }
 
 // What the channels did over the whole run and in the window, with REFs of `refresh` cycles.
-fn put_activity(alloc: Global, run: &Run<'_>, span: Span, refresh: u64, out: &mut Markup) {
+fn put_activity(alloc: Global, run: &Run<'_>, span: TimelineSpan, refresh: u64, out: &mut Markup) {
     match activity_of(alloc, run, span) {
         Ok(mut activity) => {
             put_overview(&activity, out);
@@ -169,18 +169,18 @@ fn put_run(alloc: Global, run: &Run<'_>, out: &mut Markup) {
         Some(config) => Some(u64::from(config.timing.n_rfc)),
         None => None,
     };
-    let span = Span {
+    let span = TimelineSpan {
         from: run.from,
         end: run.end,
     };
     out.push_str(contents_of(run));
-    let measures = Measures {
+    let scale = RunScale {
         cycles: stats.cycles,
         refresh,
         khz: run.khz,
     };
-    put_channels(measures, &stats.channels, out);
-    put_all_cores(alloc, measures, &stats.cores, out);
+    put_channels(scale, &stats.channels, out);
+    put_all_cores(alloc, scale, &stats.cores, out);
     put_latency(alloc, run, out);
     if run.commands.is_empty() {
         out.push_str("<p>No command was issued.</p>\n");

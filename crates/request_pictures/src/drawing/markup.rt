@@ -1,6 +1,7 @@
 //! Text of a page, put together from pieces.
 
-ghost use Rattle.text_builder.specs.Texts.{KeepsRefusal};
+ghost use Rattle.text_builder.specs.Texts.{Grows, PutsWords};
+ghost use Rattle.request_pictures.specs.Pieces.{hundredths, IsPieceText};
 
 use text_builder::TextBuilder;
 use text_builder::forms::Append;
@@ -31,7 +32,7 @@ const GROUPS: [u64; 6] = [
 ];
 
 fn put_grouped(number: u64, out: &mut TextBuilder)
-    ensures { KeepsRefusal out.old out.new }
+    ensures { Grows out.old out.new }
 {
     if number < 1_000 {
         return write!(out, "{number}");
@@ -47,14 +48,24 @@ fn put_grouped(number: u64, out: &mut TextBuilder)
     write!(out, "{:03}", number % 1_000);
 }
 
+// A number of hundredths.
+fn put_hundredths(number: u64, out: &mut TextBuilder)
+    ensures { PutsWords (hundredths number) out.old out.new }
+{
+    let (tenths, last) = (number / 10, number % 10);
+    write!(out, "{}.{}{last}", tenths / 10, tenths % 10);
+}
+
 impl Append for Piece {
+    ghost appends = { IsPieceText };
+
     fn append_to(self, out: &mut TextBuilder) {
         match self {
             Piece::Text(text) => out.push_str(text),
             Piece::Number(number) => write!(out, "{number}"),
             Piece::Grouped(number) => put_grouped(number, out),
             Piece::Tenths(number) => write!(out, "{}.{}", number / 10, number % 10),
-            Piece::Hundredths(number) => write!(out, "{}.{:02}", number / 100, number % 100),
+            Piece::Hundredths(number) => put_hundredths(number, out),
         }
     }
 }
@@ -67,7 +78,7 @@ pub struct LegendEntry {
 }
 
 fn put_entry(entry: &LegendEntry, out: &mut TextBuilder)
-    ensures { KeepsRefusal out.old out.new }
+    ensures { Grows out.old out.new }
 {
     out.fill(
         "<li><svg class=\"patch\" viewBox=\"0 0 10 10\"><rect class=\"{}\" width=\"10\" height=\"10\"/></svg>{}</li>",
@@ -77,7 +88,7 @@ fn put_entry(entry: &LegendEntry, out: &mut TextBuilder)
 
 /// Appends a legend as a list.
 pub(crate) fn put_legend(entries: &[LegendEntry], out: &mut TextBuilder)
-    ensures { KeepsRefusal out.old out.new }
+    ensures { Grows out.old out.new }
 {
     out.push_str("<ul class=\"legend\">");
     for entry in entries {
