@@ -1,5 +1,8 @@
 //! A run as one HTML document.
 
+ghost use Rattle.std.specs.Prelude.{OnOk};
+ghost use Rattle.page.specs.Document.{WritesDocument};
+
 use crate::run_pictures::activity::{Activity, Channel, TimelineSpan};
 use crate::run_pictures::cells::RunScale;
 use crate::run_pictures::overview::put_overview;
@@ -52,10 +55,9 @@ fn put_count(form: &'static str, count: u64, out: &mut Markup) {
     );
 }
 
-// The head, with what was run: how many cycles, cores, channels and commands.
+// The style sheet, and what was run: how many cycles, cores, channels and commands.
 fn put_head(run: &Run<'_>, out: &mut Markup) {
     let stats = run.stats;
-    out.push_str(HEAD);
     out.push_str(STYLE);
     out.push_str(BODY);
     put_count("<b>{}</b> cycle{}", stats.cycles, out);
@@ -139,13 +141,13 @@ fn put_activity(alloc: Global, run: &Run<'_>, span: TimelineSpan, refresh: u64, 
 }
 
 // Where a page with commands leads to.
-fn contents_of(run: &Run<'_>) -> &'static str {
+fn links_of(run: &Run<'_>) -> &'static str {
     if run.commands.is_empty() {
         ""
     } else if run.requests.is_some() {
-        CONTENTS_WITH_LATENCY
+        LINKS_WITH_LATENCY
     } else {
-        CONTENTS
+        LINKS
     }
 }
 
@@ -173,7 +175,7 @@ fn put_run(alloc: Global, run: &Run<'_>, out: &mut Markup) {
         from: run.from,
         end: run.end,
     };
-    out.push_str(contents_of(run));
+    out.push_str(links_of(run));
     let scale = RunScale {
         cycles: stats.cycles,
         refresh,
@@ -197,8 +199,8 @@ fn put_config(config: Option<&Config>, out: &mut Markup) {
     }
 }
 
-// All of the document.
-fn put_document(alloc: Global, run: &Run<'_>, out: &mut Markup) {
+// All that stands in the document.
+fn put_contents(alloc: Global, run: &Run<'_>, out: &mut Markup) {
     let stats = run.stats;
     put_head(run, out);
     put_time(stats.cycles, run.khz, out);
@@ -209,7 +211,12 @@ fn put_document(alloc: Global, run: &Run<'_>, out: &mut Markup) {
     } else {
         put_run(alloc, run, out);
     }
-    out.push_str(TAIL);
+}
+
+fn contents_of(alloc: Global, run: &Run<'_>) -> Result<String, AllocError> {
+    let mut page = Markup::new(alloc);
+    put_contents(alloc, run, &mut page);
+    page.finish()
 }
 
 /// Writes a run as one HTML document: its statistics, how long its reads took if its requests are given, what its
@@ -217,12 +224,14 @@ fn put_document(alloc: Global, run: &Run<'_>, out: &mut Markup) {
 ///
 /// # Errors
 ///
-/// An error of `OutOfMemory` where memory is refused, and the writer's error where it fails.
-pub fn write_document<W: Write>(alloc: Global, run: &Run<'_>, writer: &mut W) -> io::Result<()> {
-    let mut page = Markup::new(alloc);
-    put_document(alloc, run, &mut page);
-    let text = page.finish()?;
-    writer.write_all(text.as_bytes())
+/// An error of `OutOfMemory` where memory is refused; nothing is then written. The writer's error where it fails.
+pub fn write_document<W: Write>(alloc: Global, run: &Run<'_>, writer: &mut W) -> io::Result<()>
+    ensures { OnOk result (WritesDocument (W.contents writer.old) (W.contents writer.new)) }
+{
+    let contents = contents_of(alloc, run)?;
+    writer.write_all(HEAD.as_bytes())?;
+    writer.write_all(contents.as_bytes())?;
+    writer.write_all(TAIL.as_bytes())
 }
 
 const HEAD: &str = r#"<!DOCTYPE html>
@@ -241,11 +250,11 @@ const BODY: &str = r#"</style>
 <h1>dramsim run</h1>
 <p class="run">"#;
 
-const CONTENTS: &str =
+const LINKS: &str =
     r##"<nav><a href="#channels">Channels</a><a href="#cores">Cores</a><a href="#steps">Whole run</a><a href="#timeline">Timeline</a></nav>
 "##;
 
-const CONTENTS_WITH_LATENCY: &str =
+const LINKS_WITH_LATENCY: &str =
     r##"<nav><a href="#channels">Channels</a><a href="#cores">Cores</a><a href="#latency">Read latency</a><a href="#steps">Whole run</a><a href="#timeline">Timeline</a></nav>
 "##;
 
