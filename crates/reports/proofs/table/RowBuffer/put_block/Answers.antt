@@ -5,7 +5,7 @@ use Rattle.csv.specs.Writing.{writer_setup}
 use Rattle.csv.specs.declared.writer.QuoteStyle.TheVariants as style
 use Rattle.reports.specs.Rows.{ended}
 use Rattle.reports.proofs.BlockLemmas.{row_text-ended}
-use Rattle.reports.proofs.table.Table.put_block.Goals as goal
+use Rattle.reports.proofs.table.RowBuffer.put_block.Goals as goal
 
 pub returns-clause-waiting : goal.returns-clause-waiting
 returns-clause-waiting c =

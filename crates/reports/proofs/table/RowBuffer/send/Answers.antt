@@ -2,7 +2,7 @@ use Rattle.std.proofs.Common.{◌≡◌, [], ◌++◌, refl}
 use Rattle.csv.specs.Writing.{writer_under, writer_pending}
 use Rattle.reports.specs.Tables.{waiting}
 use Rattle.reports.proofs.RowLemmas.{emptied, held-out, held-none}
-use Rattle.reports.proofs.table.Table.send.Goals as goal
+use Rattle.reports.proofs.table.RowBuffer.send.Goals as goal
 
 pub returns-clause-written : goal.returns-clause-written
 returns-clause-written g c =

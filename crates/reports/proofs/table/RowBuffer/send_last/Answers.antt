@@ -2,7 +2,7 @@ use Rattle.std.proofs.Common.{◌++◌}
 use Rattle.csv.specs.Writing.{writer_under, writer_pending}
 use Rattle.reports.specs.Tables.{waiting}
 use Rattle.reports.proofs.RowLemmas.{emptied, held-out, whole-sent}
-use Rattle.reports.proofs.table.Table.send_last.Goals as goal
+use Rattle.reports.proofs.table.RowBuffer.send_last.Goals as goal
 
 pub returns : goal.returns
 returns g c =

@@ -1,7 +1,7 @@
 use Rattle.std.proofs.Common.{◌++◌, drop, codes}
 use Rattle.csv.specs.Writing.{writer_under, writer_pending}
 use Rattle.reports.proofs.RowLemmas.{row-added}
-use Rattle.reports.proofs.table.Table.write_row.Goals as goal
+use Rattle.reports.proofs.table.RowBuffer.write_row.Goals as goal
 
 pub returns : goal.returns
 returns g c =
