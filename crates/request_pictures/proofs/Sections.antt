@@ -1,6 +1,6 @@
 -- The section of a page on requests, from its parts.
 use Rattle.std.specs.Prelude.{Some}
-use Rattle.std.proofs.Common.{◌≡◌, ◌≢◌, ℕ, List, [], ◌++◌, ap, ap₂, subst, sym, ◌∙◌, inr, append_assoc, rules}
+use Rattle.std.proofs.Common.{◌≢◌, List, [], ◌++◌, ap, ap₂, subst, sym, ◌∙◌, inr, append_assoc, rules}
 use Rattle.std.specs.List.{Contains}
 use Rattle.measures.specs.Latency.{AreLatenciesOf, read_latencies}
 use Rattle.measures.specs.declared.request_measures.latency.Latencies.{Latencies}

@@ -1,7 +1,7 @@
 //! Text of a page, put together from pieces.
 
-ghost use Rattle.text_builder.specs.Texts.{Grows, PutsWords};
-ghost use Rattle.request_pictures.specs.Pieces.{hundredths, IsPieceText};
+ghost use Rattle.text_builder.specs.Texts.{Grows, Puts, PutsWords};
+ghost use Rattle.request_pictures.specs.Pieces.{IsGrouped, IsPieceText, group_text, hundredths};
 
 use text_builder::TextBuilder;
 use text_builder::forms::Append;
@@ -21,31 +21,22 @@ pub enum Piece {
     Hundredths(u64),
 }
 
-/// What each group of three digits counts, except for the last group.
-const GROUPS: [u64; 6] = [
-    1_000_000_000_000_000_000,
-    1_000_000_000_000_000,
-    1_000_000_000_000,
-    1_000_000_000,
-    1_000_000,
-    1_000,
-];
+// A comma, and the three digits of a group.
+fn put_group(group: u64, out: &mut TextBuilder)
+    ensures { PutsWords (group_text group) out.old out.new }
+{
+    write!(out, ",{}{}{}", group / 100, group / 10 % 10, group % 10);
+}
 
+// A number in groups of three digits.
 fn put_grouped(number: u64, out: &mut TextBuilder)
-    ensures { Grows out.old out.new }
+    ensures { Puts (IsGrouped number) out.old out.new }
 {
     if number < 1_000 {
         return write!(out, "{number}");
     }
-    for size in GROUPS {
-        let group = number / size;
-        if group >= 1_000 {
-            write!(out, "{:03},", group % 1_000);
-        } else if group > 0 {
-            write!(out, "{group},");
-        }
-    }
-    write!(out, "{:03}", number % 1_000);
+    put_grouped(number / 1_000, out);
+    put_group(number % 1_000, out);
 }
 
 // A number of hundredths.
