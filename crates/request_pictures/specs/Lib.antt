@@ -1,2 +1,3 @@
+pub mod Legends
 pub mod Pieces
 pub mod Section

@@ -8,16 +8,20 @@ use crate::drawing::scales::share_of;
 use request_table::times::RequestTimes;
 use std::alloc::{AllocError, Global};
 
+const THERE: LegendEntry = LegendEntry {
+    class: "end",
+    text: "the way there: from the issue to the arrival at the channel",
+};
+
+const QUEUE: LegendEntry = LegendEntry {
+    class: "window",
+    text: "in the queue: up to the RD",
+};
+
 /// What each part of a bar stands for, where nCL is known.
 static LEGEND: [LegendEntry; 4] = [
-    LegendEntry {
-        class: "end",
-        text: "the way there: from the issue to the arrival at the channel",
-    },
-    LegendEntry {
-        class: "window",
-        text: "in the queue: up to the RD",
-    },
+    THERE,
+    QUEUE,
     LegendEntry {
         class: "width",
         text: "from the RD to the end of the data: nCL + 4",
@@ -30,14 +34,8 @@ static LEGEND: [LegendEntry; 4] = [
 
 /// What each part of a bar stands for, where nCL is not known.
 static SHORT_LEGEND: [LegendEntry; 3] = [
-    LegendEntry {
-        class: "end",
-        text: "the way there: from the issue to the arrival at the channel",
-    },
-    LegendEntry {
-        class: "window",
-        text: "in the queue: up to the RD",
-    },
+    THERE,
+    QUEUE,
     LegendEntry {
         class: "credit",
         text: "from the RD to the reply at the core",

@@ -219,6 +219,15 @@ fn contents_of(alloc: Global, run: &Run<'_>) -> Result<String, AllocError> {
     page.finish()
 }
 
+// Writes the contents between the begin and the end of a document.
+fn write_framed<W: Write>(contents: &str, writer: &mut W) -> io::Result<()>
+    ensures { OnOk result (WritesDocument (W.contents writer.old) (W.contents writer.new)) }
+{
+    writer.write_all(HEAD.as_bytes())?;
+    writer.write_all(contents.as_bytes())?;
+    writer.write_all(TAIL.as_bytes())
+}
+
 /// Writes a run as one HTML document: its statistics, how long its reads took if its requests are given, what its
 /// channels did over the whole run, and what they did in the window, one command after the other.
 ///
@@ -229,9 +238,7 @@ pub fn write_document<W: Write>(alloc: Global, run: &Run<'_>, writer: &mut W) ->
     ensures { OnOk result (WritesDocument (W.contents writer.old) (W.contents writer.new)) }
 {
     let contents = contents_of(alloc, run)?;
-    writer.write_all(HEAD.as_bytes())?;
-    writer.write_all(contents.as_bytes())?;
-    writer.write_all(TAIL.as_bytes())
+    write_framed(contents.as_str(), writer)
 }
 
 const HEAD: &str = r#"<!DOCTYPE html>

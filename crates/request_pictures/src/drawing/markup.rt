@@ -1,6 +1,7 @@
 //! Text of a page, put together from pieces.
 
-ghost use Rattle.text_builder.specs.Texts.{Grows, Puts, PutsWords};
+ghost use Rattle.text_builder.specs.Texts.{Puts, PutsWords};
+ghost use Rattle.request_pictures.specs.Legends.{entry_text, legend_text};
 ghost use Rattle.request_pictures.specs.Pieces.{IsGrouped, IsPieceText, group_text, hundredths};
 
 use text_builder::TextBuilder;
@@ -69,17 +70,18 @@ pub struct LegendEntry {
 }
 
 fn put_entry(entry: &LegendEntry, out: &mut TextBuilder)
-    ensures { Grows out.old out.new }
+    ensures { PutsWords (entry_text entry.now) out.old out.new }
 {
-    out.fill(
-        "<li><svg class=\"patch\" viewBox=\"0 0 10 10\"><rect class=\"{}\" width=\"10\" height=\"10\"/></svg>{}</li>",
-        &[Piece::Text(entry.class), Piece::Text(entry.text)],
-    );
+    out.push_str("<li><svg class=\"patch\" viewBox=\"0 0 10 10\"><rect class=\"");
+    out.push_str(entry.class);
+    out.push_str("\" width=\"10\" height=\"10\"/></svg>");
+    out.push_str(entry.text);
+    out.push_str("</li>");
 }
 
 /// Appends a legend as a list.
 pub(crate) fn put_legend(entries: &[LegendEntry], out: &mut TextBuilder)
-    ensures { Grows out.old out.new }
+    ensures { PutsWords (legend_text entries.now) out.old out.new }
 {
     out.push_str("<ul class=\"legend\">");
     for entry in entries {

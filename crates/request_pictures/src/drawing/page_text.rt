@@ -3,6 +3,7 @@
 ghost use Rattle.std.specs.Prelude.{◌≡◌, true, false, [], IfOk, string_bytes};
 ghost use Rattle.text_builder.specs.Filled.{IsFilled};
 ghost use Rattle.text_builder.specs.Texts.{Grows, Puts, PutsWords};
+ghost use Rattle.request_pictures.specs.Legends.{legend_text};
 ghost use Rattle.request_pictures.specs.Pieces.{IsPieceText};
 
 use crate::drawing::axes::{Quantity, put_cycle_ticks, put_value_ticks};
@@ -50,7 +51,7 @@ impl Markup {
 
     /// Appends a legend as a list.
     pub fn put_legend(&mut self, entries: &[LegendEntry])
-        ensures { Grows self.old.text self.new.text }
+        ensures { PutsWords (legend_text entries.now) self.old.text self.new.text }
     {
         put_legend(entries, &mut self.text);
     }

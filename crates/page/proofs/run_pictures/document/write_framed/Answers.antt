@@ -1,6 +1,6 @@
 -- The head, the contents and the end.
 use Rattle.page.proofs.Documents.{written_whole}
-use Rattle.page.proofs.run_pictures.document.write_document.Goals as goal
+use Rattle.page.proofs.run_pictures.document.write_framed.Goals as goal
 
 pub returns : goal.returns
 returns g c =
