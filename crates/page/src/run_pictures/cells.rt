@@ -1,6 +1,8 @@
 //! The numbers of tables: what is counted of a core and of a channel.
 
 use crate::run_pictures::activity::BURST;
+use measures::rates;
+use measures::rates::Quotient;
 use request_pictures::drawing::markup::Piece;
 use request_pictures::drawing::scales::share_of;
 use statistics::channels::ChannelStats;
@@ -47,7 +49,7 @@ fn percent(part: u64, whole: u64) -> Cell {
     quotient(CellForm::Tenths, u128::from(part), whole, 1_000)
 }
 
-// A quotient in hundredths, if there is something to divide by.
+// A quotient, if there is something to divide by; one has `units` of the last digit.
 fn quotient(form: CellForm, part: u128, whole: u64, units: u64) -> Cell {
     if whole == 0 {
         return (form, None);
@@ -63,17 +65,17 @@ fn drain_of(cycles: u64, channel: &ChannelStats) -> Cell {
     }
 }
 
-/// A RD or WR moves 64 bytes, and a kHz is 1,000 cycles a second: a GB/s is so many of them in as many cycles as the
-/// clock has kHz.
-const MOVES_OF_A_GIGABYTE: u64 = 15_625;
+// A rate or a time, if there is something to divide by.
+fn rate_cell(form: CellForm, rate: Quotient, units: u64) -> Cell {
+    let whole = u64::try_from(rate.divisor).unwrap_or(u64::MAX);
+    quotient(form, rate.dividend, whole, units)
+}
 
 /// The data that a channel moved in a run of `cycles` cycles, in GB/s.
 pub(crate) fn data_rate(cycles: u64, channel: &ChannelStats, khz: u64) -> Cell {
-    let column_commands = u128::from(channel.rd.saturating_add(channel.wr));
-    quotient(
+    rate_cell(
         CellForm::Hundredths,
-        column_commands.saturating_mul(u128::from(khz)),
-        MOVES_OF_A_GIGABYTE.saturating_mul(cycles),
+        rates::data_rate(cycles, channel, khz),
         100,
     )
 }
@@ -107,10 +109,9 @@ fn rate_to_finish(core: &CoreStats) -> Cell {
 
 // A quotient of cycles, in tenths of a ns.
 fn nanoseconds(cycles: u128, divisor: u64, khz: u64) -> Cell {
-    quotient(
+    rate_cell(
         CellForm::Tenths,
-        cycles.saturating_mul(1_000_000),
-        divisor.saturating_mul(khz),
+        rates::nanoseconds(cycles, divisor, khz),
         10,
     )
 }
