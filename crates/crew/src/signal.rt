@@ -47,20 +47,31 @@ impl Signal {
         }
     }
 
-    /// Waits until it was raised since its count was `seen`.
-    pub(crate) fn wait_past<R: Wait>(&self, rt: &R, limits: WaitLimits, seen: u64) {
-        for _ in 0..limits.spins {
+    // Looks this often whether it was raised since its count was `seen`, with a pause behind each look. Gives whether it
+    // was.
+    fn spin_past(&self, looks: u32, seen: u64) -> bool {
+        for _ in 0..looks {
             if self.count() != seen {
-                return;
+                return true;
             }
             hint::spin_loop();
         }
-        for _ in 0..limits.yields {
+        false
+    }
+
+    // The same, but leaves the processor to another thread behind each look.
+    fn yield_past(&self, looks: u32, seen: u64) -> bool {
+        for _ in 0..looks {
             if self.count() != seen {
-                return;
+                return true;
             }
             thread::yield_now();
         }
+        false
+    }
+
+    // Sleeps until it was raised since its count was `seen`.
+    fn sleep_past<R: Wait>(&self, rt: &R, seen: u64) {
         self.sleepers.fetch_add(1, Ordering::SeqCst);
         for _ in rt.forever() {
             if self.count() != seen {
@@ -69,5 +80,13 @@ impl Signal {
             self.count.park(rt, (seen % (1 << 32)) as u32);
         }
         self.sleepers.fetch_sub(1, Ordering::SeqCst);
+    }
+
+    /// Waits until it was raised since its count was `seen`.
+    pub(crate) fn wait_past<R: Wait>(&self, rt: &R, limits: WaitLimits, seen: u64) {
+        if self.spin_past(limits.spins, seen) || self.yield_past(limits.yields, seen) {
+            return;
+        }
+        self.sleep_past(rt, seen);
     }
 }

@@ -7,7 +7,7 @@ use std::alloc::{AllocError, Global};
 
 /// How a number is shown.
 #[derive(Clone, Copy)]
-pub enum Form {
+pub enum NumberForm {
     /// With up to three decimals: `0.456`, `4.56`, `45.6`, `456`, `4567`, `45.7k`.
     Mean,
     /// With one decimal: `0.5`, `45.6`, `100.0`.
@@ -16,20 +16,20 @@ pub enum Form {
     Count,
 }
 
-impl Form {
+impl NumberForm {
     fn most_decimals(self) -> u8 {
         match self {
-            Form::Mean => 3,
-            Form::Percent => 1,
-            Form::Count => 0,
+            NumberForm::Mean => 3,
+            NumberForm::Percent => 1,
+            NumberForm::Count => 0,
         }
     }
 
     /// With one decimal, the digits of a number of this form are below this one.
     fn limit_of_tenths(self) -> u128 {
         match self {
-            Form::Percent => 10_000,
-            Form::Mean | Form::Count => 1_000,
+            NumberForm::Percent => 10_000,
+            NumberForm::Mean | NumberForm::Count => 1_000,
         }
     }
 }
@@ -40,7 +40,7 @@ pub struct Number {
     /// The number in halves of a thousandth, rounded down; none where there is nothing to divide by. Rounding it to
     /// thousandths or coarser therefore gives the same as rounding the exact number.
     pub halves: Option<u128>,
-    pub form: Form,
+    pub form: NumberForm,
 }
 
 /// A greater sum counts as this one.
@@ -104,7 +104,7 @@ impl Scale {
 }
 
 // The first scale that fits a number and has no more decimals than its form.
-fn scale_of(form: Form, halves: u128) -> Scale {
+fn scale_of(form: NumberForm, halves: u128) -> Scale {
     let scales = [
         Scale::new(1, 3, 1_000, ""),
         Scale::new(10, 2, 1_000, ""),
@@ -145,16 +145,16 @@ fn coarse_scale(halves: u128) -> Scale {
 impl Number {
     /// A count.
     pub fn count(count: u64) -> Number
-        ensures { result ≡ record { halves = Some (2000 * count); form = Form.Count } }
+        ensures { result ≡ record { halves = Some (2000 * count); form = NumberForm.Count } }
     {
         Number {
             halves: Some(2_000 * u128::from(count)),
-            form: Form::Count,
+            form: NumberForm::Count,
         }
     }
 
     /// A quotient; none where the divisor is 0. A dividend above 2^70 counts as 2^70.
-    pub fn quotient(dividend: u128, divisor: u128, form: Form) -> Number
+    pub fn quotient(dividend: u128, divisor: u128, form: NumberForm) -> Number
         ensures { result ≡ record { halves = halves_of dividend divisor; form = form } }
     {
         let halves = 2_000 * dividend.min(GREATEST_SUM);
@@ -166,17 +166,17 @@ impl Number {
 
     /// The mean of a sum over a count; none for a count of 0. A sum above 2^70 counts as 2^70.
     pub fn mean(sum: u128, count: u64) -> Number
-        ensures { result ≡ record { halves = halves_of sum count; form = Form.Mean } }
+        ensures { result ≡ record { halves = halves_of sum count; form = NumberForm.Mean } }
     {
-        Number::quotient(sum, u128::from(count), Form::Mean)
+        Number::quotient(sum, u128::from(count), NumberForm::Mean)
     }
 
     /// What percentage of the whole a part is; none for a whole of 0.
     pub fn percent(part: u128, whole: u128) -> Number
         requires { part < 2 ^ 80 }
-        ensures { result ≡ record { halves = halves_of (100 * part) whole; form = Form.Percent } }
+        ensures { result ≡ record { halves = halves_of (100 * part) whole; form = NumberForm.Percent } }
     {
-        Number::quotient(100 * part, whole, Form::Percent)
+        Number::quotient(100 * part, whole, NumberForm::Percent)
     }
 
     /// A number that is not there.
@@ -185,7 +185,7 @@ impl Number {
     {
         Number {
             halves: None,
-            form: Form::Count,
+            form: NumberForm::Count,
         }
     }
 

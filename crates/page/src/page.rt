@@ -1,6 +1,7 @@
 //! The page of a run.
 
 ghost use Rattle.std.specs.Prelude.{ℕ, OnOk, IfErr};
+ghost use Rattle.page.specs.Document.{WritesDocument};
 ghost use Rattle.page.specs.Rows.{IsOfRunAt, IsReason};
 
 use crate::fault::PageFault;
@@ -32,6 +33,8 @@ pub fn write_page<'a, W: Write>(
     view: View,
     writer: &mut W,
 ) -> Result<(), PageFault>
+    ensures written { OnOk result
+        (WritesDocument (W.contents writer.old) (W.contents writer.new)) }
     ensures all_of_run { OnOk result ((place : ℕ)
         → IsOfRunAt run.now.stats.now run.now.commands.now place) }
     ensures refused { IfErr result (IsReason run.now.stats.now run.now.commands.now) }

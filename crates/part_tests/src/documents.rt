@@ -96,9 +96,8 @@ static CASES: [Case<'static>; 3] = [
     },
 ];
 
-/// Asserts all that a machine has.
-fn assert_machine(rt: &impl Abort, config: &Config, case: &Case<'_>) {
-    let counts = [config.cores, config.channels, config.width];
+/// Asserts the numbers of a machine.
+fn assert_numbers(rt: &impl Abort, config: &Config, case: &Case<'_>) {
     let numbers = [
         config.ranks,
         config.groups,
@@ -115,27 +114,16 @@ fn assert_machine(rt: &impl Abort, config: &Config, case: &Case<'_>) {
         config.latency(1),
         config.latency(2),
     ];
+    let (ranks, latency) = (case.ranks, case.latency);
+    let want = [ranks, 2, 128, 65536, 8, 4, 4, 2, 2, 2, 0, 0, 2, latency];
+    expect(rt, &numbers, &want);
+}
+
+/// Asserts all that a machine has.
+fn assert_machine(rt: &impl Abort, config: &Config, case: &Case<'_>) {
+    let counts = [config.cores, config.channels, config.width];
     expect(rt, &counts, &[1, 1, 2]);
-    expect(
-        rt,
-        &numbers,
-        &[
-            case.ranks,
-            2,
-            128,
-            65536,
-            8,
-            4,
-            4,
-            2,
-            2,
-            2,
-            0,
-            0,
-            2,
-            case.latency,
-        ],
-    );
+    assert_numbers(rt, config, case);
     let overrides = config.overrides.as_slice().len();
     expect(
         rt,

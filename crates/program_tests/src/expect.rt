@@ -1,6 +1,7 @@
 //! Assertions as calls, which cost the proof of a test far less than what the macros write in its place.
 
-ghost use Rattle.std.specs.Prelude.{◌≡◌, true};
+ghost use Rattle.std.specs.Prelude.{◌≡◌, ◌↔◌, true};
+ghost use Rattle.std.specs.Str.Iter.{HasSubslice};
 
 use std::fmt::Debug;
 use std::process::Abort;
@@ -19,12 +20,20 @@ pub fn expect_at<T: PartialEq + Debug, N: Debug>(rt: &impl Abort, case: &N, foun
     assert_eq!(rt; found, want, "at {case:?}");
 }
 
-/// Ends the test where one of some parts of a text, with a blank line between two, is not there, or is where none is
-/// wanted.
+/// Ends the test where a part of a text is there and is not wanted, or is wanted and not there.
+#[tactic(auto, using(std::proofs::lemmas::Str::Pattern::contains_text))]
+fn expect_part(rt: &impl Abort, text: &str, part: &str, is_there: bool)
+    ensures { is_there ≡ true ↔ HasSubslice text.now part.now }
+{
+    expect_at(rt, &part, &text.contains(part), &is_there);
+}
+
+/// Does so for each of some parts of a text, with a blank line between two of them. Which parts these are is std's
+/// (`split`), and in no contract here.
 pub fn expect_parts(rt: &impl Abort, text: &str, parts: &str, are_there: bool) {
     for part in parts.split("\n\n") {
         if !part.is_empty() {
-            expect_at(rt, &part, &text.contains(part), &are_there);
+            expect_part(rt, text, part, are_there);
         }
     }
 }

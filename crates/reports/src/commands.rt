@@ -9,7 +9,7 @@ ghost use Rattle.reports.specs.Commands.{header, kind_word, request_operands, op
 use crate::hundreds::Hundred;
 use crate::line::{Line, put, put_byte, put_last_long, put_last_word, put_rank, put_word};
 use crate::pieces::{MANY, MOST, TableLines, TableThreads, write_pieces, write_whole};
-use crate::table::{Loss, Table};
+use crate::table::{Loss, RowBuffer};
 use command_table::table::{CommandTable, Rows};
 use sim_base::command::{Command, IssuedCommand, Source};
 use sim_base::fault::Fault;
@@ -145,7 +145,7 @@ fn put_command(line: &mut Line, hundred: &mut Hundred, ranks: u32, row: &IssuedC
 }
 
 fn write_command<W: Write>(
-    table: &mut Table,
+    table: &mut RowBuffer,
     hundred: &mut Hundred,
     ranks: u32,
     row: &IssuedCommand,
@@ -159,7 +159,7 @@ fn write_command<W: Write>(
 }
 
 // Each command that is left.
-fn write_each<W: Write>(table: &mut Table, ranks: u32, mut rows: Rows<'_>, writer: &mut W)
+fn write_each<W: Write>(table: &mut RowBuffer, ranks: u32, mut rows: Rows<'_>, writer: &mut W)
     ensures { AddsRows W.contents writer.old table.old writer.new table.new
         (lines_text ranks rows.entry) }
 {
@@ -192,7 +192,7 @@ impl<'a> TableLines<Rows<'a>> for CommandLines {
         &self,
         alloc: Global,
         piece: &Rows<'a>,
-        table: &mut Table,
+        table: &mut RowBuffer,
         writer: &mut W,
     )
         ensures { AddsRows W.contents writer.old table.old writer.new table.new

@@ -6,7 +6,7 @@ ghost use Rattle.reports.specs.Final.{final_header, final_fields, core_numbers, 
 ghost use Rattle.reports.specs.Tables.{AddsRows};
 
 use crate::line::{Line, put, put_last, put_rank, put_word};
-use crate::table::Table;
+use crate::table::RowBuffer;
 use sim_base::fault::Fault;
 use sim_base::message::{Access, LinkId, Load, Message, Request};
 use statistics::final_state::{ChannelState, CoreState, Credits, FinalState, OpenRow};
@@ -67,7 +67,7 @@ fn put_numbers(line: &mut Line, ranks: u32, item: &[u8], numbers: &Numbers) -> u
 }
 
 fn write_numbers<W: Write>(
-    table: &mut Table,
+    table: &mut RowBuffer,
     ranks: u32,
     item: &[u8],
     numbers: &Numbers,
@@ -93,7 +93,7 @@ fn numbers_of_core(core: u64, channel: Option<u64>, count: u64) -> Numbers
 }
 
 fn write_progress<W: Write>(
-    table: &mut Table,
+    table: &mut RowBuffer,
     ranks: u32,
     core: u64,
     state: &CoreState,
@@ -109,7 +109,7 @@ fn write_progress<W: Write>(
 }
 
 fn write_progress_of_all<W: Write>(
-    table: &mut Table,
+    table: &mut RowBuffer,
     ranks: u32,
     cores: &[CoreState],
     writer: &mut W,
@@ -130,7 +130,7 @@ struct Pair {
 }
 
 fn write_credits<W: Write>(
-    table: &mut Table,
+    table: &mut RowBuffer,
     ranks: u32,
     pair: Pair,
     credits: Credits,
@@ -146,7 +146,7 @@ fn write_credits<W: Write>(
 }
 
 fn write_credits_of_core<W: Write>(
-    table: &mut Table,
+    table: &mut RowBuffer,
     ranks: u32,
     core: u64,
     credits: &[Credits],
@@ -162,7 +162,7 @@ fn write_credits_of_core<W: Write>(
 }
 
 fn write_credits_of_all<W: Write>(
-    table: &mut Table,
+    table: &mut RowBuffer,
     ranks: u32,
     cores: &[CoreState],
     writer: &mut W,
@@ -175,7 +175,7 @@ fn write_credits_of_all<W: Write>(
     }
 }
 
-fn write_due<W: Write>(table: &mut Table, ranks: u32, channel: u64, due: &[u64], writer: &mut W)
+fn write_due<W: Write>(table: &mut RowBuffer, ranks: u32, channel: u64, due: &[u64], writer: &mut W)
     ensures { AddsRows W.contents writer.old table.old writer.new table.new
         (rows_text (numbered (due_rows ranks channel) due.now)) }
 {
@@ -204,7 +204,7 @@ fn numbers_of_open(channel: u64, opened: OpenRow) -> Numbers
 }
 
 fn write_open_rows<W: Write>(
-    table: &mut Table,
+    table: &mut RowBuffer,
     ranks: u32,
     channel: u64,
     open_rows: &[OpenRow],
@@ -250,7 +250,7 @@ fn numbers_of_queued(channel: u64, request: Request) -> Numbers
 }
 
 fn write_queue<W: Write>(
-    table: &mut Table,
+    table: &mut RowBuffer,
     ranks: u32,
     channel: u64,
     queue: &[Request],
@@ -272,7 +272,7 @@ fn write_queue<W: Write>(
 }
 
 fn write_channel<W: Write>(
-    table: &mut Table,
+    table: &mut RowBuffer,
     ranks: u32,
     channel: u64,
     state: &ChannelState,
@@ -287,7 +287,7 @@ fn write_channel<W: Write>(
 }
 
 fn write_channels<W: Write>(
-    table: &mut Table,
+    table: &mut RowBuffer,
     ranks: u32,
     channels: &[ChannelState],
     writer: &mut W,
@@ -361,7 +361,7 @@ fn numbers_of_flight(channels: u64, message: Message) -> Numbers
 }
 
 fn write_in_flight<W: Write>(
-    table: &mut Table,
+    table: &mut RowBuffer,
     ranks: u32,
     channels: u64,
     in_flight: &[Message],
@@ -383,7 +383,7 @@ fn write_in_flight<W: Write>(
 }
 
 // The header, and then each core, each channel and each message in flight.
-fn write_rows<W: Write>(table: &mut Table, state: &FinalState, ranks: u32, writer: &mut W)
+fn write_rows<W: Write>(table: &mut RowBuffer, state: &FinalState, ranks: u32, writer: &mut W)
     ensures { AddsRows W.contents writer.old table.old writer.new table.new
         (final_text ranks state.now) }
 {
@@ -416,7 +416,7 @@ pub fn write_final<W: Write>(
         (final_text ranks state.now) }
     ensures refused { IfErr result (λ e. IsReportFault e) }
 {
-    let mut table = Table::new(alloc);
+    let mut table = RowBuffer::new(alloc);
     write_rows(&mut table, state, ranks, writer);
     table.finish(writer)
 }

@@ -5,7 +5,7 @@ ghost use Rattle.reports.specs.Rows.{all_of, IsTextOf, IsReportFault, WritesOnOk
 ghost use Rattle.reports.specs.Tables.{AddsRows};
 ghost use Rattle.std.specs.Io.KnownBytes.{Appends};
 
-use crate::table::Table;
+use crate::table::RowBuffer;
 use rayon::prelude::*;
 use sim_base::fault::Fault;
 use std::alloc::Global;
@@ -33,7 +33,7 @@ pub(crate) trait TableLines<P> {
         ensures short { length result.now ≤ 256 };
 
     /// Writes the rows of a piece.
-    fn write_lines<W: Write>(&self, alloc: Global, piece: &P, table: &mut Table, writer: &mut W)
+    fn write_lines<W: Write>(&self, alloc: Global, piece: &P, table: &mut RowBuffer, writer: &mut W)
         ensures { AddsRows W.contents writer.old table.old writer.new table.new
             (lines self.now piece.now) };
 }
@@ -47,7 +47,7 @@ fn write_header<P, T: TableLines<P>, W: Write>(
     ensures written { WritesOnOk result W.contents writer.old writer.new (T.header_line of.now) }
     ensures refused { IfErr result (λ e. IsReportFault e) }
 {
-    let mut table = Table::new(alloc);
+    let mut table = RowBuffer::new(alloc);
     table.write_text(of.columns(), writer);
     table.finish(writer)
 }
@@ -63,7 +63,7 @@ fn write_piece<P, T: TableLines<P>, W: Write>(
         (T.lines of.now piece.now) }
     ensures refused { IfErr result (λ e. IsReportFault e) }
 {
-    let mut table = Table::new(alloc);
+    let mut table = RowBuffer::new(alloc);
     of.write_lines(alloc, piece, &mut table, writer);
     table.finish(writer)
 }
@@ -79,7 +79,7 @@ pub(crate) fn write_whole<P, T: TableLines<P>, W: Write>(
         (T.header_line of.now ++ T.lines of.now rows.now) }
     ensures refused { IfErr result (λ e. IsReportFault e) }
 {
-    let mut table = Table::new(alloc);
+    let mut table = RowBuffer::new(alloc);
     table.write_text(of.columns(), writer);
     of.write_lines(alloc, rows, &mut table, writer);
     table.finish(writer)

@@ -7,7 +7,7 @@ ghost use Rattle.reports.specs.Requests.{request_header, access_word, time_field
 
 use crate::line::{Line, put, put_last, put_word};
 use crate::pieces::{MANY, MOST, TableLines, TableThreads, write_pieces, write_whole};
-use crate::table::{Loss, Table};
+use crate::table::{Loss, RowBuffer};
 use request_table::table::{RequestTable, Rows};
 use request_table::times::RequestTimes;
 use sim_base::fault::Fault;
@@ -57,7 +57,7 @@ fn put_request(line: &mut Line, row: &RequestTimes) -> usize
     put(line, start, Some(u64::from(row.core)))
 }
 
-fn write_request<W: Write>(table: &mut Table, row: &RequestTimes, writer: &mut W)
+fn write_request<W: Write>(table: &mut RowBuffer, row: &RequestTimes, writer: &mut W)
     ensures { AddsRows W.contents writer.old table.old writer.new table.new
         (row_text (request_fields row.now)) }
 {
@@ -66,7 +66,7 @@ fn write_request<W: Write>(table: &mut Table, row: &RequestTimes, writer: &mut W
 }
 
 // Each request that is left.
-fn write_each<W: Write>(table: &mut Table, mut rows: Rows<'_>, writer: &mut W)
+fn write_each<W: Write>(table: &mut RowBuffer, mut rows: Rows<'_>, writer: &mut W)
     ensures { AddsRows W.contents writer.old table.old writer.new table.new
         (request_lines rows.entry) }
 {
@@ -96,7 +96,7 @@ impl<'a> TableLines<Rows<'a>> for RequestLines {
         &self,
         alloc: Global,
         piece: &Rows<'a>,
-        table: &mut Table,
+        table: &mut RowBuffer,
         writer: &mut W,
     )
         ensures { AddsRows W.contents writer.old table.old writer.new table.new

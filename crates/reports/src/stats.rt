@@ -9,7 +9,7 @@ mod named;
 
 use self::named::{NamedCount, named};
 use crate::line::{Line, put, put_last_wide, put_word};
-use crate::table::Table;
+use crate::table::RowBuffer;
 use sim_base::fault::Fault;
 use statistics::channels::ChannelStats;
 use statistics::cores::CoreStats;
@@ -85,7 +85,7 @@ fn put_count(line: &mut Line, scope: &[u8], id: u64, count: NamedCount) -> usize
 }
 
 fn write_count<W: Write>(
-    table: &mut Table,
+    table: &mut RowBuffer,
     scope: &[u8],
     id: u64,
     count: NamedCount,
@@ -100,7 +100,7 @@ fn write_count<W: Write>(
 }
 
 fn write_counts<W: Write>(
-    table: &mut Table,
+    table: &mut RowBuffer,
     scope: &[u8],
     id: u64,
     counts: &[NamedCount],
@@ -115,7 +115,7 @@ fn write_counts<W: Write>(
     }
 }
 
-fn write_cores<W: Write>(table: &mut Table, cores: &[CoreStats], writer: &mut W)
+fn write_cores<W: Write>(table: &mut RowBuffer, cores: &[CoreStats], writer: &mut W)
     ensures { AddsRows W.contents writer.old table.old writer.new table.new
         (rows_text (numbered core_rows cores.now)) }
 {
@@ -124,7 +124,7 @@ fn write_cores<W: Write>(table: &mut Table, cores: &[CoreStats], writer: &mut W)
     }
 }
 
-fn write_channel<W: Write>(table: &mut Table, id: u64, channel: &ChannelStats, writer: &mut W)
+fn write_channel<W: Write>(table: &mut RowBuffer, id: u64, channel: &ChannelStats, writer: &mut W)
     ensures { AddsRows W.contents writer.old table.old writer.new table.new
         (rows_text (channel_rows id channel.now)) }
 {
@@ -136,7 +136,7 @@ fn write_channel<W: Write>(table: &mut Table, id: u64, channel: &ChannelStats, w
     write_count(table, b"channel", id, draining, writer);
 }
 
-fn write_channels<W: Write>(table: &mut Table, channels: &[ChannelStats], writer: &mut W)
+fn write_channels<W: Write>(table: &mut RowBuffer, channels: &[ChannelStats], writer: &mut W)
     ensures { AddsRows W.contents writer.old table.old writer.new table.new
         (rows_text (numbered channel_rows channels.now)) }
 {
@@ -146,7 +146,7 @@ fn write_channels<W: Write>(table: &mut Table, channels: &[ChannelStats], writer
 }
 
 // The header, how many cycles there were, and then each core and each channel.
-fn write_rows<W: Write>(table: &mut Table, stats: &Stats, writer: &mut W)
+fn write_rows<W: Write>(table: &mut RowBuffer, stats: &Stats, writer: &mut W)
     ensures { AddsRows W.contents writer.old table.old writer.new table.new
         (stats_text stats.now) }
 {
@@ -171,7 +171,7 @@ pub fn write_stats<W: Write>(alloc: Global, stats: &Stats, writer: &mut W) -> Re
     ensures written { WritesOnOk result W.contents writer.old writer.new (stats_text stats.now) }
     ensures refused { IfErr result (λ e. IsReportFault e) }
 {
-    let mut table = Table::new(alloc);
+    let mut table = RowBuffer::new(alloc);
     write_rows(&mut table, stats, writer);
     table.finish(writer)
 }

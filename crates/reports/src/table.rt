@@ -87,10 +87,10 @@ fn write_out<W: Write>(
 
 /// Rows that wait for a writer, at most 256 KB of them, and the row that is being put together. They go out together.
 /// The last of them wait in a block, which `csv` gets as one text. The list in which rows went out is kept for later
-/// ones, so that it need not grow again. Once rows are lost, the table keeps why, and takes no further rows out;
+/// ones, so that it need not grow again. Once rows are lost, the buffer keeps why, and takes no further rows out;
 /// `finish` then refuses.
 #[derive(Drop)]
-pub(crate) struct Table {
+pub(crate) struct RowBuffer {
     pub(crate) line: Line,
     block: Block,
     alloc: Global,
@@ -103,14 +103,14 @@ pub(crate) struct Table {
     ghost no_byte: { has_written rows ≡ false },
 }
 
-impl Table {
+impl RowBuffer {
     ghost use Rattle.reports.specs.Tables.{waiting, IsWhole, AddsRows, KeepsRows, KeepsOnOk, SendsOnOk};
 
     /// No row.
-    pub(crate) fn new(alloc: Global) -> Table
+    pub(crate) fn new(alloc: Global) -> RowBuffer
         ensures { waiting result ≡ [] }
     {
-        Table {
+        RowBuffer {
             line: [0; ROOM],
             block: Block::new(),
             alloc,
@@ -242,7 +242,7 @@ impl Table {
         ensures { SendsOnOk result W.contents writer.old self writer.new }
     {
         self.close()?;
-        let Table {
+        let RowBuffer {
             rows,
             mut spare,
             ..
@@ -250,7 +250,7 @@ impl Table {
         write_out(rows, writer, &mut spare)
     }
 
-    /// Hands the rows that still wait to the writer, and tells whether any were lost. A table that is not finished
+    /// Hands the rows that still wait to the writer, and tells whether any were lost. A buffer that is not finished
     /// loses them.
     pub(crate) fn finish<W: Write>(self, writer: &mut W) -> Result<(), Fault>
         ensures written { SendsOnOk result W.contents writer.old self writer.new }

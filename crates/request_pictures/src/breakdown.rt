@@ -1,21 +1,27 @@
 //! Where the time of the reads of each channel went, as bars. A bar's unit is a hundredth of a cycle.
 
+ghost use Rattle.text_builder.specs.Texts.{Grows};
+
 use crate::drawing::markup::{LegendEntry, Piece};
 use crate::drawing::page_text::Markup;
 use crate::drawing::scales::share_of;
 use request_table::times::RequestTimes;
 use std::alloc::{AllocError, Global};
 
+const THERE: LegendEntry = LegendEntry {
+    class: "end",
+    text: "the way there: from the issue to the arrival at the channel",
+};
+
+const QUEUE: LegendEntry = LegendEntry {
+    class: "window",
+    text: "in the queue: up to the RD",
+};
+
 /// What each part of a bar stands for, where nCL is known.
 static LEGEND: [LegendEntry; 4] = [
-    LegendEntry {
-        class: "end",
-        text: "the way there: from the issue to the arrival at the channel",
-    },
-    LegendEntry {
-        class: "window",
-        text: "in the queue: up to the RD",
-    },
+    THERE,
+    QUEUE,
     LegendEntry {
         class: "width",
         text: "from the RD to the end of the data: nCL + 4",
@@ -28,14 +34,8 @@ static LEGEND: [LegendEntry; 4] = [
 
 /// What each part of a bar stands for, where nCL is not known.
 static SHORT_LEGEND: [LegendEntry; 3] = [
-    LegendEntry {
-        class: "end",
-        text: "the way there: from the issue to the arrival at the channel",
-    },
-    LegendEntry {
-        class: "window",
-        text: "in the queue: up to the RD",
-    },
+    THERE,
+    QUEUE,
     LegendEntry {
         class: "credit",
         text: "from the RD to the reply at the core",
@@ -128,7 +128,9 @@ fn all_parts(
 }
 
 // A part of a bar, after those before it.
-fn put_part(class: &'static str, before: u64, hundredths: u64, out: &mut Markup) {
+fn put_part(class: &'static str, before: u64, hundredths: u64, out: &mut Markup)
+    ensures { Grows out.old.text out.new.text }
+{
     if hundredths > 0 {
         out.fill(
             "<rect class=\"{}\" x=\"{}\" width=\"{}\" height=\"1\"><title>{} cycles</title></rect>",
@@ -143,7 +145,9 @@ fn put_part(class: &'static str, before: u64, hundredths: u64, out: &mut Markup)
 }
 
 // The bar of a channel, in a picture of so many hundredths of a cycle.
-fn put_bar(channel: u64, parts: Parts, width: u64, out: &mut Markup) {
+fn put_bar(channel: u64, parts: Parts, width: u64, out: &mut Markup)
+    ensures { Grows out.old.text out.new.text }
+{
     let id = Piece::Number(channel);
     out.fill(
         "<div class=\"bar\"><b>channel {}</b><svg preserveAspectRatio=\"none\" role=\"img\" aria-label=\"where the time of a read of channel {} went: {} cycles\" viewBox=\"0 0 {} 1\">",
@@ -159,7 +163,9 @@ fn put_bar(channel: u64, parts: Parts, width: u64, out: &mut Markup) {
 }
 
 // The parts of a bar, each after those before it.
-fn put_parts(parts: Parts, out: &mut Markup) {
+fn put_parts(parts: Parts, out: &mut Markup)
+    ensures { Grows out.old.text out.new.text }
+{
     let served = parts.there.saturating_add(parts.queue);
     let moved = served.saturating_add(parts.data);
     put_part("end", 0, parts.there, out);
@@ -169,7 +175,9 @@ fn put_parts(parts: Parts, out: &mut Markup) {
 }
 
 // The scale below the bars: five labels, so many cycles apart.
-fn put_scale(apart: u64, out: &mut Markup) {
+fn put_scale(apart: u64, out: &mut Markup)
+    ensures { Grows out.old.text out.new.text }
+{
     out.push_str("<div class=\"bar scale\"><b>cycles</b><p>");
     for place in 0..5u64 {
         out.fill("<i>{}</i>", &[Piece::Grouped(apart.saturating_mul(place))]);
@@ -178,7 +186,9 @@ fn put_scale(apart: u64, out: &mut Markup) {
 }
 
 // The bars, all on one scale, whose end is a multiple of four cycles.
-fn put_bars(all: &[Parts], out: &mut Markup) {
+fn put_bars(all: &[Parts], out: &mut Markup)
+    ensures { Grows out.old.text out.new.text }
+{
     let apart = greatest_of(all).div_ceil(400).max(1);
     let width = apart.saturating_mul(400);
     out.push_str("<div class=\"bars\">\n");
@@ -205,7 +215,9 @@ pub(crate) fn put_breakdown(
     data: Option<u64>,
     requests: &[RequestTimes],
     out: &mut Markup,
-) {
+)
+    ensures { Grows out.old.text out.new.text }
+{
     out.push_str(
         "<h3>Where the time of a read goes</h3><p>The mean over the reads of a channel whose reply came, in cycles.</p>",
     );

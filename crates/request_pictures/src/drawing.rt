@@ -4,3 +4,4 @@ pub mod axes;
 pub mod markup;
 pub mod page_text;
 pub mod scales;
+pub mod steps;

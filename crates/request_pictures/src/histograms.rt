@@ -1,5 +1,8 @@
 //! A histogram of the read latency of each core, all on the same axes.
 
+ghost use Rattle.text_builder.specs.Texts.{Grows, Puts};
+ghost use Rattle.request_pictures.specs.Section.{Begins, histograms_head};
+
 use crate::drawing::axes::Quantity;
 use crate::drawing::markup::{LegendEntry, Piece};
 use crate::drawing::page_text::Markup;
@@ -147,7 +150,9 @@ fn pictures_of(
 }
 
 // A line at a latency.
-fn put_mark(class: &'static str, latency: u64, top: u64, out: &mut Markup) {
+fn put_mark(class: &'static str, latency: u64, top: u64, out: &mut Markup)
+    ensures { Grows out.old.text out.new.text }
+{
     out.fill(
         "<path class=\"line {}\" d=\"M{} 0V{}\"/>",
         &[
@@ -159,7 +164,9 @@ fn put_mark(class: &'static str, latency: u64, top: u64, out: &mut Markup) {
 }
 
 // The lines at the percentiles.
-fn put_marks(found: Option<Latencies>, top: u64, out: &mut Markup) {
+fn put_marks(found: Option<Latencies>, top: u64, out: &mut Markup)
+    ensures { Grows out.old.text out.new.text }
+{
     if let Some(found) = found {
         put_mark("open", found.median, top, out);
         put_mark("tail", found.p95, top, out);
@@ -168,7 +175,9 @@ fn put_marks(found: Option<Latencies>, top: u64, out: &mut Markup) {
 }
 
 // The counts, as steps.
-fn put_bins(axes: Axes, bins: &[u64], out: &mut Markup) {
+fn put_bins(axes: Axes, bins: &[u64], out: &mut Markup)
+    ensures { Grows out.old.text out.new.text }
+{
     let top = Piece::Number(axes.top);
     out.fill("<path class=\"bus pale\" d=\"M0 {}", &[top]);
     for (place, count) in bins.iter().enumerate() {
@@ -181,7 +190,9 @@ fn put_bins(axes: Axes, bins: &[u64], out: &mut Markup) {
 }
 
 // How many reads were answered, and their percentiles.
-fn put_percentiles(found: Latencies, out: &mut Markup) {
+fn put_percentiles(found: Latencies, out: &mut Markup)
+    ensures { Grows out.old.text out.new.text }
+{
     out.fill(
         "replies {}; p50 {}, p95 {}, p99 {}, greatest {} cycles",
         &[
@@ -195,7 +206,9 @@ fn put_percentiles(found: Latencies, out: &mut Markup) {
 }
 
 // What stands above the picture of a core.
-fn put_caption(core: u64, found: Option<Latencies>, out: &mut Markup) {
+fn put_caption(core: u64, found: Option<Latencies>, out: &mut Markup)
+    ensures { Grows out.old.text out.new.text }
+{
     out.fill(
         "<figure><figcaption><b>core {}</b> ",
         &[Piece::Number(core)],
@@ -208,7 +221,9 @@ fn put_caption(core: u64, found: Option<Latencies>, out: &mut Markup) {
 }
 
 // The picture of a core.
-fn put_histogram(core: u64, axes: Axes, histogram: &Histogram, out: &mut Markup) {
+fn put_histogram(core: u64, axes: Axes, histogram: &Histogram, out: &mut Markup)
+    ensures { Grows out.old.text out.new.text }
+{
     put_caption(core, histogram.found, out);
     out.fill(
         "<div class=\"plot\"><svg preserveAspectRatio=\"none\" role=\"img\" aria-label=\"read latency of core {}\" viewBox=\"0 0 {} {}\">",
@@ -227,7 +242,9 @@ fn put_histogram(core: u64, axes: Axes, histogram: &Histogram, out: &mut Markup)
 }
 
 // The pictures of all cores.
-fn put_each(pictures: &Pictures, out: &mut Markup) {
+fn put_each(pictures: &Pictures, out: &mut Markup)
+    ensures { Grows out.old.text out.new.text }
+{
     out.push_str("<div class=\"grid\">\n");
     for (core, histogram) in pictures.histograms.iter().enumerate() {
         put_histogram(core as u64, pictures.axes, histogram, out);
@@ -235,9 +252,10 @@ fn put_each(pictures: &Pictures, out: &mut Markup) {
     out.push_str("</div>\n");
 }
 
-// The pictures of all cores with a head and a legend, folded where there are many.
-fn put_pictures(all: Latencies, pictures: &Pictures, out: &mut Markup) {
-    out.push_str(HEAD);
+// The percentiles of all cores, a legend, and the pictures of each, folded where there are many.
+fn put_below(all: Latencies, pictures: &Pictures, out: &mut Markup)
+    ensures { Grows out.old.text out.new.text }
+{
     put_percentiles(all, out);
     out.push_str(".</p>\n");
     out.put_legend(&LEGEND);
@@ -249,6 +267,14 @@ fn put_pictures(all: Latencies, pictures: &Pictures, out: &mut Markup) {
     out.push_str("</details>\n");
 }
 
+// The pictures of all cores, below what they show.
+fn put_pictures(all: Latencies, pictures: &Pictures, out: &mut Markup)
+    ensures { Puts (Begins histograms_head) out.old.text out.new.text }
+{
+    out.push_str(HEAD);
+    put_below(all, pictures, out);
+}
+
 /// Appends the histograms of so many cores, whose percentiles together are `all`; those of many are folded.
 pub(crate) fn put_histograms(
     alloc: Global,
@@ -256,7 +282,9 @@ pub(crate) fn put_histograms(
     all: Latencies,
     requests: &[RequestTimes],
     out: &mut Markup,
-) {
+)
+    ensures { Puts (Begins histograms_head) out.old.text out.new.text }
+{
     match pictures_of(alloc, cores, requests) {
         Ok(pictures) => put_pictures(all, &pictures, out),
         Err(AllocError) => out.refuse(),

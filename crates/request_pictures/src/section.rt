@@ -1,5 +1,8 @@
 //! What a page shows of requests.
 
+ghost use Rattle.text_builder.specs.Texts.{Puts};
+ghost use Rattle.request_pictures.specs.Section.{IsSection};
+
 use crate::breakdown::put_breakdown;
 use crate::drawing::page_text::Markup;
 use crate::histograms::put_histograms;
@@ -29,7 +32,9 @@ pub fn put_requests(
     n_cl: Option<u32>,
     requests: &[RequestTimes],
     out: &mut Markup,
-) {
+)
+    ensures { Puts (IsSection requests.now) out.old.text out.new.text }
+{
     out.push_str("<h2 id=\"latency\">Read latency</h2>\n");
     let all = match latency_percentiles(alloc, requests) {
         Ok(Some(all)) => all,

@@ -1,16 +1,16 @@
 //! The median and the 99th percentile of read latency over the run, in steps of equal length, the last of which may be
 //! shorter.
 
+ghost use Rattle.text_builder.specs.Texts.{Grows};
+
 use crate::drawing::axes::Quantity;
 use crate::drawing::markup::{LegendEntry, Piece};
 use crate::drawing::page_text::Markup;
 use crate::drawing::scales::axis_end;
+use crate::drawing::steps::{STEPS, StepAxes, put_step};
 use measures::percentiles::SortedValues;
 use request_table::times::RequestTimes;
 use std::alloc::{AllocError, Global};
-
-/// A run is divided into at most this many steps.
-const STEPS: u64 = 200;
 
 static LEGEND: [LegendEntry; 2] = [
     LegendEntry {
@@ -53,14 +53,6 @@ impl Step {
             Line::Tail => self.p99,
         }
     }
-}
-
-/// The axes: the cycles of the run and of a step, and the latency at the upper end, above 0.
-#[derive(Clone, Copy)]
-struct Axes {
-    cycles: u64,
-    step: u64,
-    top: u64,
 }
 
 // No latency for each step.
@@ -117,19 +109,10 @@ fn greatest_of(steps: &[Step]) -> u64 {
     greatest
 }
 
-// The value of a step, after that of the step before it or, where that has none, from a new beginning.
-fn put_step(axes: Axes, place: u64, value: u64, joined: bool, out: &mut Markup) {
-    let start = axes.step.saturating_mul(place);
-    let end = start.saturating_add(axes.step).min(axes.cycles);
-    let y = axes.top.saturating_sub(value);
-    if !joined {
-        out.fill("M{} {}", &[Piece::Number(start), Piece::Number(y)]);
-    }
-    out.fill("V{}H{}", &[Piece::Number(y), Piece::Number(end)]);
-}
-
 // A line through the values of the steps, with a gap at a step without one.
-fn put_line(axes: Axes, line: Line, steps: &[Step], out: &mut Markup) {
+fn put_line(axes: StepAxes, line: Line, steps: &[Step], out: &mut Markup)
+    ensures { Grows out.old.text out.new.text }
+{
     out.fill("<path class=\"line {}\" d=\"", &[Piece::Text(line.class())]);
     let mut joined = false;
     for (place, step) in steps.iter().enumerate() {
@@ -143,7 +126,9 @@ fn put_line(axes: Axes, line: Line, steps: &[Step], out: &mut Markup) {
 }
 
 // The plot.
-fn put_plot(axes: Axes, steps: &[Step], out: &mut Markup) {
+fn put_plot(axes: StepAxes, steps: &[Step], out: &mut Markup)
+    ensures { Grows out.old.text out.new.text }
+{
     out.fill(
         "<div class=\"grid\">\n<figure><figcaption><b>all cores</b> read latency (cycles)</figcaption><div class=\"plot\"><svg preserveAspectRatio=\"none\" role=\"img\" aria-label=\"median and p99 of read latency over the run\" viewBox=\"0 0 {} {}\">",
         &[Piece::Number(axes.cycles), Piece::Number(axes.top)],
@@ -157,18 +142,22 @@ fn put_plot(axes: Axes, steps: &[Step], out: &mut Markup) {
 }
 
 // What there is to say of these steps of so many cycles, and their plot.
-fn put_steps(cycles: u64, step: u64, steps: &[Step], out: &mut Markup) {
+fn put_steps(cycles: u64, step: u64, steps: &[Step], out: &mut Markup)
+    ensures { Grows out.old.text out.new.text }
+{
     let top = axis_end(greatest_of(steps), 5).max(1);
     out.fill(
         "<h3>Over the run</h3><p>Of the reads whose reply came in a step of {} cycles. Where none came the lines have a gap.</p>",
         &[Piece::Grouped(step)],
     );
     out.put_legend(&LEGEND);
-    put_plot(Axes { cycles, step, top }, steps, out);
+    put_plot(StepAxes { cycles, step, top }, steps, out);
 }
 
 /// Appends the median and the 99th percentile over a run of so many cycles.
-pub(crate) fn put_trend(alloc: Global, cycles: u64, requests: &[RequestTimes], out: &mut Markup) {
+pub(crate) fn put_trend(alloc: Global, cycles: u64, requests: &[RequestTimes], out: &mut Markup)
+    ensures { Grows out.old.text out.new.text }
+{
     let step = cycles.div_ceil(STEPS);
     match trend_of(alloc, step, requests) {
         Ok(steps) => put_steps(cycles, step, &steps, out),

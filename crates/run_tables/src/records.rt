@@ -90,11 +90,11 @@ impl<'t> Records<'t> {
 
 /// All records of a table; the header has number 0.
 #[derive(Drop)]
-pub(crate) struct Table {
+pub(crate) struct RecordList {
     records: Vec<ByteRecord>,
 }
 
-impl Model for Table {
+impl Model for RecordList {
     ghost use Rattle.std.specs.Prelude.{ℕ, List, map};
     ghost use Rattle.csv.specs.Records.{fields_of};
 
@@ -124,24 +124,24 @@ fn add_left(left: &mut Records<'_>, records: &mut Vec<ByteRecord>) -> Result<(),
     Ok(())
 }
 
-impl Table {
+impl RecordList {
     // Takes the records that are left. The only error is out of memory.
-    fn of_left(alloc: Global, left: &mut Records<'_>) -> Result<Table, Fault>
+    fn of_left(alloc: Global, left: &mut Records<'_>) -> Result<RecordList, Fault>
         ensures all { IfOk result (λ t. t ≡ left.old.records) }
         ensures fault { IfErr result (λ e. e ≡ Fault.Memory) }
     {
         let mut records = Vec::new(alloc);
         add_left(left, &mut records)?;
-        Ok(Table { records })
+        Ok(RecordList { records })
     }
 
     /// Reads a table. The only error is out of memory.
-    pub(crate) fn read(alloc: Global, table: &[u8]) -> Result<Table, Fault>
+    pub(crate) fn read(alloc: Global, table: &[u8]) -> Result<RecordList, Fault>
         ensures all { IfOk result (λ t. t ≡ records_of table.now) }
         ensures fault { IfErr result (λ e. e ≡ Fault.Memory) }
     {
         let mut left = Records::of(alloc, table)?;
-        Table::of_left(alloc, &mut left)
+        RecordList::of_left(alloc, &mut left)
     }
 
     /// How many records it has.

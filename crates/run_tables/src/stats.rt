@@ -14,7 +14,7 @@ ghost use Rattle.run_tables.specs.Units.{entries_at, stops_at, core_at, draining
 
 use crate::fields::is_at;
 use crate::numbers::number_in;
-use crate::records::Table;
+use crate::records::RecordList;
 use csv::ByteRecord;
 use rule_check::fields::text_at;
 use sim_base::fault::Fault;
@@ -41,7 +41,7 @@ fn is_header(fields: &ByteRecord) -> bool
         && is_at(fields, 3, b"value")
 }
 
-fn has_header(table: &Table) -> bool
+fn has_header(table: &RecordList) -> bool
     ensures { result ≡ is_header_row (slice_get table.now 0) }
 {
     match table.get(0) {
@@ -104,7 +104,7 @@ fn line_value(fields: &ByteRecord, unit: Unit, name: &[u8]) -> Option<Option<u12
 
 // The value of the line of a count, which must be the record of a row.
 #[tactic(auto, unfolding(crate::specs::Lines::value_in))]
-fn value_at(table: &Table, row: usize, unit: Unit, name: &[u8]) -> Result<Option<u128>, Fault>
+fn value_at(table: &RecordList, row: usize, unit: Unit, name: &[u8]) -> Result<Option<u128>, Fault>
     ensures { result ≡ value_in row unit.scope.now unit.id name.now (slice_get table.now row) }
 {
     let fault = Fault::CheckRow(row as u64);
@@ -119,7 +119,7 @@ fn value_at(table: &Table, row: usize, unit: Unit, name: &[u8]) -> Result<Option
 
 // A sum.
 #[tactic(auto, unfolding(crate::specs::Lines::sum_in))]
-fn sum_at(table: &Table, row: usize, unit: Unit, name: &[u8]) -> Result<u128, Fault>
+fn sum_at(table: &RecordList, row: usize, unit: Unit, name: &[u8]) -> Result<u128, Fault>
     ensures { result ≡ sum_in row unit.scope.now unit.id name.now (slice_get table.now row) }
 {
     match value_at(table, row, unit, name)? {
@@ -140,7 +140,7 @@ fn narrow(row: usize, number: u128) -> Result<u64, Fault>
 
 // A count.
 #[tactic(auto, unfolding(crate::specs::Lines::count_in))]
-fn count_at(table: &Table, row: usize, unit: Unit, name: &[u8]) -> Result<u64, Fault>
+fn count_at(table: &RecordList, row: usize, unit: Unit, name: &[u8]) -> Result<u64, Fault>
     ensures { result ≡ count_in row unit.scope.now unit.id name.now (slice_get table.now row) }
 {
     narrow(row, sum_at(table, row, unit, name)?)
@@ -148,7 +148,7 @@ fn count_at(table: &Table, row: usize, unit: Unit, name: &[u8]) -> Result<u64, F
 
 // A cycle that may be missing.
 #[tactic(auto, unfolding(crate::specs::Lines::cycle_in))]
-fn cycle_at(table: &Table, row: usize, unit: Unit, name: &[u8]) -> Result<Option<Cycle>, Fault>
+fn cycle_at(table: &RecordList, row: usize, unit: Unit, name: &[u8]) -> Result<Option<Cycle>, Fault>
     ensures { result ≡ cycle_in row unit.scope.now unit.id name.now (slice_get table.now row) }
 {
     match value_at(table, row, unit, name)? {
@@ -159,7 +159,11 @@ fn cycle_at(table: &Table, row: usize, unit: Unit, name: &[u8]) -> Result<Option
 
 // The counts of a core's entries.
 #[tactic(auto, unfolding(crate::specs::Units::entries_at))]
-fn entries_at(table: &Table, row: usize, id: u64) -> Result<(u64, u64, u64, u64, u64, u128), Fault>
+fn entries_at(
+    table: &RecordList,
+    row: usize,
+    id: u64,
+) -> Result<(u64, u64, u64, u64, u64, u128), Fault>
     requires { row + 6 < 2 ^ 64 }
     ensures { result ≡ entries_at table.now row id }
 {
@@ -176,7 +180,7 @@ fn entries_at(table: &Table, row: usize, id: u64) -> Result<(u64, u64, u64, u64,
 // The counts of why it stopped, and when it finished.
 #[tactic(auto, unfolding(crate::specs::Units::stops_at))]
 fn stops_at(
-    table: &Table,
+    table: &RecordList,
     row: usize,
     id: u64,
 ) -> Result<(u64, u64, u64, u64, u64, Option<Cycle>), Fault>
@@ -202,7 +206,7 @@ fn stops_at(
 
 // The counts of a core, from a row on.
 #[tactic(auto, unfolding(crate::specs::Units::core_at))]
-fn core_at(table: &Table, row: usize, id: u64) -> Result<CoreStats, Fault>
+fn core_at(table: &RecordList, row: usize, id: u64) -> Result<CoreStats, Fault>
     requires { row ≤ length table.now }
     ensures value { result ≡ core_at table.now row id }
     ensures few { row + 12 < 2 ^ 64 }
@@ -232,7 +236,7 @@ fn core_at(table: &Table, row: usize, id: u64) -> Result<CoreStats, Fault>
 }
 
 // Whether a field of the record of a row is this text.
-fn has_text(table: &Table, row: usize, k: usize, text: &[u8]) -> bool
+fn has_text(table: &RecordList, row: usize, k: usize, text: &[u8]) -> bool
     ensures { result ≡ has_text k text.now (slice_get table.now row) }
 {
     match table.get(row) {
@@ -242,14 +246,14 @@ fn has_text(table: &Table, row: usize, k: usize, text: &[u8]) -> bool
 }
 
 // Whether the counts of a core must follow, after those of this many cores. There is at least one.
-fn has_core(count: usize, table: &Table, row: usize) -> bool
+fn has_core(count: usize, table: &RecordList, row: usize) -> bool
     ensures { result ≡ has_core count table.now row }
 {
     count == 0 || has_text(table, row, 0, b"core")
 }
 
 // The counts of each core, from the third record on. There is at least one.
-fn read_cores(alloc: Global, table: &Table) -> Result<Vec<CoreStats>, Fault>
+fn read_cores(alloc: Global, table: &RecordList) -> Result<Vec<CoreStats>, Fault>
     requires { 2 ≤ length table.now }
     ensures read { IfOk result (λ cores.
         CoresAre table.now cores.items (2 + 12 * length cores.items)) }
@@ -267,7 +271,7 @@ fn read_cores(alloc: Global, table: &Table) -> Result<Vec<CoreStats>, Fault>
 
 // The count of cycles in which a channel drained its writes, if the record of a row is that.
 #[tactic(auto, unfolding(crate::specs::Units::draining_in))]
-fn draining_at(table: &Table, row: usize, id: u64) -> Result<Option<u64>, Fault>
+fn draining_at(table: &RecordList, row: usize, id: u64) -> Result<Option<u64>, Fault>
     ensures { result ≡ draining_at table.now row id }
 {
     if has_text(table, row, 2, b"draining") {
@@ -283,7 +287,11 @@ fn draining_at(table: &Table, row: usize, id: u64) -> Result<Option<u64>, Fault>
 
 // The counts of a channel's commands.
 #[tactic(auto, unfolding(crate::specs::Units::commands_at))]
-fn commands_at(table: &Table, row: usize, id: u64) -> Result<(u64, u64, u64, u64, u64, u64), Fault>
+fn commands_at(
+    table: &RecordList,
+    row: usize,
+    id: u64,
+) -> Result<(u64, u64, u64, u64, u64, u64), Fault>
     requires { row + 6 < 2 ^ 64 }
     ensures { result ≡ commands_at table.now row id }
 {
@@ -303,7 +311,7 @@ fn commands_at(table: &Table, row: usize, id: u64) -> Result<(u64, u64, u64, u64
 // The counts of its requests and cycles.
 #[tactic(auto, unfolding(crate::specs::Units::queue_at))]
 fn queue_at(
-    table: &Table,
+    table: &RecordList,
     row: usize,
     id: u64,
 ) -> Result<(u64, u128, u64, u64, u64, Option<u64>), Fault>
@@ -325,7 +333,7 @@ fn queue_at(
 
 // The counts of a channel, from a row on.
 #[tactic(auto, unfolding(crate::specs::Units::channel_at))]
-fn channel_at(table: &Table, row: usize, id: u64) -> Result<ChannelStats, Fault>
+fn channel_at(table: &RecordList, row: usize, id: u64) -> Result<ChannelStats, Fault>
     requires { row ≤ length table.now }
     ensures value { result ≡ channel_at table.now row id }
     ensures few { row + 12 < 2 ^ 64 }
@@ -362,14 +370,18 @@ fn channel_size(channel: &ChannelStats) -> usize
 
 // Whether the counts of a channel must follow, after those of this many channels: they end the table, and there is at
 // least one.
-fn has_channel(count: usize, table: &Table, row: usize) -> bool
+fn has_channel(count: usize, table: &RecordList, row: usize) -> bool
     ensures { result ≡ has_channel count table.now row }
 {
     count == 0 || row < table.len()
 }
 
 // The counts of each channel, from a row on to the end of the table. There is at least one.
-fn read_channels(alloc: Global, table: &Table, start: usize) -> Result<Vec<ChannelStats>, Fault>
+fn read_channels(
+    alloc: Global,
+    table: &RecordList,
+    start: usize,
+) -> Result<Vec<ChannelStats>, Fault>
     requires { start ≤ length table.now }
     ensures read { IfOk result (λ channels. ChannelsAre table.now start channels.items) }
     ensures refused { IfErr result (λ e. (e ≡ Fault.Memory) ⊎ ChannelsStop table.now start e) }
@@ -385,7 +397,7 @@ fn read_channels(alloc: Global, table: &Table, start: usize) -> Result<Vec<Chann
 }
 
 // The statistics of a table.
-fn read_table(alloc: Global, table: &Table) -> Result<Stats, Fault>
+fn read_table(alloc: Global, table: &RecordList) -> Result<Stats, Fault>
     ensures read { IfOk result (λ stats. IsRead table.now stats) }
     ensures refused { IfErr result (IsRefusedFor HoldsStats table.now) }
 {
@@ -425,6 +437,6 @@ pub fn read_stats(alloc: Global, table: &[u8]) -> Result<Stats, Fault>
         → MatchResult result (λ found. found ≡ stats) (λ e. e ≡ Fault.Memory) }
     ensures fault { IfErr result IsTableFault }
 {
-    let records = Table::read(alloc, table)?;
+    let records = RecordList::read(alloc, table)?;
     read_table(alloc, &records)
 }

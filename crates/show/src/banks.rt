@@ -7,7 +7,7 @@ ghost use Rattle.text_builder.specs.Texts.{Puts, Grows};
 
 use crate::options::Options;
 use crate::screen::put_screen;
-use crate::table::Table;
+use crate::table::TableLayout;
 use command_table::list::CommandList;
 use measures::bank_counts::channel_counts;
 use measures::bank_counts::counts::BankCounts;
@@ -22,8 +22,8 @@ use text_builder::TextBuilder;
 static BANK_HEADINGS: [&str; 6] = ["act", "rd", "wr", "pre", "hits %", "conflicts"];
 
 // The table of the banks, each of which has a line, however many there are.
-fn table_of_banks() -> Table<'static> {
-    Table {
+fn table_of_banks() -> TableLayout<'static> {
+    TableLayout {
         label: "bank",
         headings: &BANK_HEADINGS[..],
         all: true,

@@ -8,7 +8,7 @@ ghost use Rattle.text_builder.specs.Texts.{Puts};
 
 use crate::options::Options;
 use crate::rows::{COLUMNS, Row, nanoseconds};
-use crate::table::Table;
+use crate::table::TableLayout;
 use measures::number::Number;
 use measures::request_measures::latency::{
     Latencies, core_latency_percentiles, latency_percentiles,
@@ -161,7 +161,7 @@ fn put_latencies(
         out,
         "\nRead latency ({replies} replies): cycles from issue to reply, by the nearest rank\n"
     );
-    let table = Table {
+    let table = TableLayout {
         label: "core",
         headings: shown(&LATENCY_HEADINGS, options.khz, 5),
         all: options.all,
@@ -204,7 +204,7 @@ fn put_waits(
         out,
         "\nQueues ({count} requests): mean cycles from arrival to RD or WR\n"
     );
-    let table = Table {
+    let table = TableLayout {
         label: "channel",
         headings: shown(&WAIT_HEADINGS, options.khz, 6),
         all: options.all,

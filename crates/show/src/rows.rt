@@ -2,7 +2,9 @@
 
 ghost use Rattle.std.specs.Prelude.{◌≡◌, ◌+◌, ◌^◌, ◌<◌, length, IfOk};
 
-use measures::number::{Form, Number};
+use measures::number::{Number, NumberForm};
+use measures::rates;
+use measures::rates::Quotient;
 use sim_base::config::Config;
 use statistics::channels::ChannelStats;
 use statistics::cores::CoreStats;
@@ -97,26 +99,13 @@ fn refreshes(cycles: u64, channel: &ChannelStats, config: Option<&Config>) -> Nu
 /// A greater part counts as this one.
 const GREATEST_PART: u128 = 1 << 79;
 
-// A kHz is 1,000 cycles a second, and a RD or WR moves 64 bytes: a GB/s is 15,625 of them in so many cycles as a kHz
-// counts.
-const MOVES_OF_A_GIGABYTE: u128 = 15_625;
-
-// The data that a channel moved, in GB/s.
-fn data_rate(cycles: u64, channel: &ChannelStats, khz: u64) -> Number {
-    Number::quotient(
-        moves(channel).saturating_mul(u128::from(khz)),
-        MOVES_OF_A_GIGABYTE * u128::from(cycles),
-        Form::Mean,
-    )
+fn number_of(quotient: Quotient) -> Number {
+    Number::quotient(quotient.dividend, quotient.divisor, NumberForm::Mean)
 }
 
 /// A quotient of cycles, in ns.
 pub(crate) fn nanoseconds(cycles: u128, divisor: u64, khz: u64) -> Number {
-    Number::quotient(
-        cycles.saturating_mul(1_000_000),
-        u128::from(divisor).saturating_mul(u128::from(khz)),
-        Form::Mean,
-    )
+    number_of(rates::nanoseconds(cycles, divisor, khz))
 }
 
 // The numbers that are shown with a configuration and with a clock, one behind the other.
@@ -127,7 +116,7 @@ fn more_of_channel(
     khz: Option<u64>,
 ) -> (Number, Number) {
     let rate = match khz {
-        Some(khz) => data_rate(cycles, channel, khz),
+        Some(khz) => number_of(rates::data_rate(cycles, channel, khz)),
         None => Number::absent(),
     };
     match config {
@@ -240,7 +229,7 @@ pub(crate) fn core_rows(
 // lower of the two in the middle.
 fn summary_of(alloc: Global, rows: &[Row], column: usize) -> Result<[Number; 3], AllocError> {
     let mut known = Vec::new(alloc);
-    let mut form = Form::Count;
+    let mut form = NumberForm::Count;
     for row in rows {
         if let Some(number) = row.get(column)
             && let Some(halves) = number.halves

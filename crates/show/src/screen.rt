@@ -8,7 +8,7 @@ use crate::options::Options;
 use crate::rows::{
     CHANNEL_HEADINGS, CLOCKED_CHANNEL_HEADINGS, CORE_HEADINGS, channel_rows, core_rows, nanoseconds,
 };
-use crate::table::Table;
+use crate::table::TableLayout;
 use sim_base::config::Config;
 use statistics::stats::Stats;
 use std::alloc::{AllocError, Global};
@@ -47,7 +47,7 @@ fn put_channels(
         out,
         "cycles {cycles}\n\nChannels ({channels}): row hits in % of rd and wr, all else in % of the cycles\n"
     );
-    let table = Table {
+    let table = TableLayout {
         label: "channel",
         headings: channel_headings(config, options.khz),
         all: options.all,
@@ -65,7 +65,7 @@ fn put_cores(alloc: Global, stats: &Stats, options: Options, out: &mut TextBuild
         out,
         "\nCores ({cores}): finish and latency in cycles, why no more was issued in % of the cycles\n"
     );
-    let table = Table {
+    let table = TableLayout {
         label: "core",
         headings: core_headings(options.khz),
         all: options.all,

@@ -57,13 +57,13 @@ fn put_made(text: Result<String, AllocError>, width: usize, out: &mut TextBuilde
 /// The headings of a table, `label` that of its first column, which says what each line is about; and whether each row
 /// has a line, however many there are.
 #[derive(Clone, Copy)]
-pub(crate) struct Table<'a> {
+pub(crate) struct TableLayout<'a> {
     pub(crate) label: &'a str,
     pub(crate) headings: &'a [&'a str],
     pub(crate) all: bool,
 }
 
-impl Table<'_> {
+impl TableLayout<'_> {
     /// Appends the line of headings.
     pub(crate) fn put_headings(&self, out: &mut TextBuilder)
         ensures { Grows out.old out.new }

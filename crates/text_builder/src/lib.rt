@@ -3,7 +3,7 @@
 
 pub mod forms;
 
-ghost use Rattle.std.specs.Prelude.{◌≡◌, ◌==◌, ◌||◌, not, List, ℕ, true, false, [], IfOk, string_bytes, string_len};
+ghost use Rattle.std.specs.Prelude.{◌≡◌, ◌==◌, ◌||◌, not, List, ℕ, true, false, [], IfOk, string_bytes, string_len, encode_utf8};
 ghost use Rattle.text_builder.specs.Texts.{PutsWords, PutsOutput, KeepsRefusal};
 
 use std::alloc::{AllocError, Global};
@@ -57,6 +57,13 @@ impl TextBuilder {
         ensures { PutsWords words.now self.old self.new }
     {
         self.was_refused |= self.text.push_str(words).is_err();
+    }
+
+    /// Appends a character.
+    pub fn push_char(&mut self, character: char)
+        ensures { PutsWords (encode_utf8 character) self.old self.new }
+    {
+        self.was_refused |= self.text.push(character).is_err();
     }
 
     /// Appends what `write!` is given.

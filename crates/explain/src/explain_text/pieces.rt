@@ -1,6 +1,7 @@
 //! Texts, put together of pieces.
 
-ghost use Rattle.text_builder.specs.Texts.{KeepsRefusal};
+ghost use Rattle.explain.specs.Pieces.{IsPieceText};
+ghost use Rattle.text_builder.specs.Texts.{Grows};
 
 use sim_base::key::Key;
 use std::alloc::AllocError;
@@ -29,6 +30,8 @@ pub(crate) enum Piece<'a> {
 }
 
 impl Append for Piece<'_> {
+    ghost appends = { IsPieceText };
+
     fn append_to(self, out: &mut TextBuilder) {
         match self {
             Piece::Words(words) => out.push_str(words),
@@ -42,7 +45,7 @@ impl Append for Piece<'_> {
 }
 
 fn put_entry(key: Key, value: &Value, out: &mut TextBuilder)
-    ensures { KeepsRefusal out.old out.new }
+    ensures { Grows out.old out.new }
 {
     match value {
         Value::Table(_) => write!(out, "{key} is a table"),
@@ -54,7 +57,7 @@ fn put_entry(key: Key, value: &Value, out: &mut TextBuilder)
 }
 
 fn put_foreign(bytes: &[u8], out: &mut TextBuilder)
-    ensures { KeepsRefusal out.old out.new }
+    ensures { Grows out.old out.new }
 {
     let head = bytes.get(..HEAD).unwrap_or(bytes);
     match String::from_utf8_lossy(out.alloc(), head) {
@@ -64,7 +67,7 @@ fn put_foreign(bytes: &[u8], out: &mut TextBuilder)
 }
 
 fn put_shown(readable: &str, out: &mut TextBuilder)
-    ensures { KeepsRefusal out.old out.new }
+    ensures { Grows out.old out.new }
 {
     for (place, character) in readable.chars().enumerate() {
         if place == MOST {
@@ -75,7 +78,7 @@ fn put_shown(readable: &str, out: &mut TextBuilder)
 }
 
 fn put_character(character: char, out: &mut TextBuilder)
-    ensures { KeepsRefusal out.old out.new }
+    ensures { Grows out.old out.new }
 {
     match character {
         '"' => out.push_str("\""),
@@ -83,6 +86,15 @@ fn put_character(character: char, out: &mut TextBuilder)
         '\\' => out.push_str("\\"),
         '\t' => out.push_str(" "),
         char::REPLACEMENT_CHARACTER => out.push_str("?"),
-        _ => write!(out, "{}", character.escape_debug()),
+        _ => put_escaped(character, out),
+    }
+}
+
+// A character as it stands, or its escape if a terminal does not print it.
+fn put_escaped(character: char, out: &mut TextBuilder)
+    ensures { Grows out.old out.new }
+{
+    for shown in character.escape_debug() {
+        out.push_char(shown);
     }
 }

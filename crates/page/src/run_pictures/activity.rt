@@ -6,20 +6,18 @@ ghost use Rattle.std.specs.Prelude.{◌<◌};
 use crate::run_pictures::lanes::Lane;
 use command_table::list::CommandList;
 use request_pictures::drawing::scales::share_of;
+use request_pictures::drawing::steps::STEPS;
 use sim_base::command::{Command, IssuedCommand, Kind};
 use sim_base::place::BankId;
 use statistics::stats::Stats;
 use std::alloc::{AllocError, Global};
-
-/// A run is divided into at most this many steps.
-const STEPS: u64 = 200;
 
 /// Cycles that the data of a RD or a WR take on the data bus.
 pub(crate) const BURST: u64 = 4;
 
 /// The cycles of the timeline, from one up to, but not including, another.
 #[derive(Clone, Copy)]
-pub struct Span {
+pub struct TimelineSpan {
     pub from: u64,
     pub end: u64,
 }
@@ -75,14 +73,14 @@ impl Step {
 
     /// A value of the step, if it has one: without a RD or a WR there is no share of hits.
     pub(crate) fn value(&self, value: Value) -> Option<u64> {
-        let accesses = self.stacked[1];
+        let column_commands = self.stacked[1];
         match value {
             Value::BusUse => {
-                let cycles = BURST.saturating_mul(accesses);
+                let cycles = BURST.saturating_mul(column_commands);
                 Some(share_of(u128::from(cycles), self.cycles, 1000))
             }
-            Value::Hits if accesses == 0 => None,
-            Value::Hits => Some(share_of(u128::from(self.hits), accesses, 1000)),
+            Value::Hits if column_commands == 0 => None,
+            Value::Hits => Some(share_of(u128::from(self.hits), column_commands, 1000)),
             Value::Stacked(place) => {
                 let commands = self.stacked.get(place).copied().unwrap_or(0);
                 Some(share_of(u128::from(commands), self.cycles, 1000))
@@ -169,7 +167,12 @@ impl Channel {
     }
 
     // Adds a command to its step, and to the window if it lies there.
-    fn add(&mut self, step: usize, row: &IssuedCommand, span: Span) -> Result<(), AllocError> {
+    fn add(
+        &mut self,
+        step: usize,
+        row: &IssuedCommand,
+        span: TimelineSpan,
+    ) -> Result<(), AllocError> {
         let hit = self.is_hit(row.command)?;
         let open = self.follow(row, span.from);
         if let Some(step) = self.steps.get_mut(step) {
@@ -219,7 +222,7 @@ impl Activity {
     }
 
     // Adds each command to its channel.
-    fn add_all(&mut self, commands: &CommandList, span: Span) -> Result<(), AllocError> {
+    fn add_all(&mut self, commands: &CommandList, span: TimelineSpan) -> Result<(), AllocError> {
         for place in 0..commands.len() {
             if let Some(row) = commands.get(place)
                 && let Some(channel) = self.channels.get_mut(row.channel as usize)
@@ -232,7 +235,11 @@ impl Activity {
     }
 
     /// Adds the commands of the run.
-    pub(crate) fn add_run(&mut self, commands: &CommandList, span: Span) -> Result<(), AllocError> {
+    pub(crate) fn add_run(
+        &mut self,
+        commands: &CommandList,
+        span: TimelineSpan,
+    ) -> Result<(), AllocError> {
         self.add_all(commands, span)?;
         for channel in self.channels.iter_mut() {
             channel.finish()?;

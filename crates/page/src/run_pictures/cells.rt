@@ -1,6 +1,8 @@
 //! The numbers of tables: what is counted of a core and of a channel.
 
 use crate::run_pictures::activity::BURST;
+use measures::rates;
+use measures::rates::Quotient;
 use request_pictures::drawing::markup::Piece;
 use request_pictures::drawing::scales::share_of;
 use statistics::channels::ChannelStats;
@@ -8,47 +10,47 @@ use statistics::cores::CoreStats;
 
 /// How a number is written.
 #[derive(Clone, Copy)]
-pub(crate) enum Form {
+pub(crate) enum CellForm {
     Count,
     Tenths,
     Hundredths,
 }
 
-impl Form {
+impl CellForm {
     /// A number of this form, or a dash where there is none.
     pub(crate) fn piece_of(self, number: Option<u64>) -> Piece {
         match (self, number) {
             (_, None) => Piece::Text("–"),
-            (Form::Count, Some(number)) => Piece::Grouped(number),
-            (Form::Tenths, Some(number)) => Piece::Tenths(number),
-            (Form::Hundredths, Some(number)) => Piece::Hundredths(number),
+            (CellForm::Count, Some(number)) => Piece::Grouped(number),
+            (CellForm::Tenths, Some(number)) => Piece::Tenths(number),
+            (CellForm::Hundredths, Some(number)) => Piece::Hundredths(number),
         }
     }
 }
 
-/// What the numbers of a run are measured by: its cycles, the cycles that a REF takes, if that is known, and the clock
+/// What the numbers of a run are divided by: its cycles, the cycles that a REF takes, if that is known, and the clock
 /// in kHz, if it is given.
 #[derive(Clone, Copy)]
-pub(crate) struct Measures {
+pub(crate) struct RunScale {
     pub(crate) cycles: u64,
     pub(crate) refresh: Option<u64>,
     pub(crate) khz: Option<u64>,
 }
 
 /// A number of a table, with the form of its column.
-pub(crate) type Cell = (Form, Option<u64>);
+pub(crate) type Cell = (CellForm, Option<u64>);
 
 fn count(number: u64) -> Cell {
-    (Form::Count, Some(number))
+    (CellForm::Count, Some(number))
 }
 
 // A quotient, if there is something to divide by: of each hundred, in tenths.
 fn percent(part: u64, whole: u64) -> Cell {
-    quotient(Form::Tenths, u128::from(part), whole, 1_000)
+    quotient(CellForm::Tenths, u128::from(part), whole, 1_000)
 }
 
-// A quotient in hundredths, if there is something to divide by.
-fn quotient(form: Form, part: u128, whole: u64, units: u64) -> Cell {
+// A quotient, if there is something to divide by; one has `units` of the last digit.
+fn quotient(form: CellForm, part: u128, whole: u64, units: u64) -> Cell {
     if whole == 0 {
         return (form, None);
     }
@@ -59,21 +61,21 @@ fn quotient(form: Form, part: u128, whole: u64, units: u64) -> Cell {
 fn drain_of(cycles: u64, channel: &ChannelStats) -> Cell {
     match channel.draining {
         Some(drained) => percent(drained, cycles),
-        None => (Form::Tenths, None),
+        None => (CellForm::Tenths, None),
     }
 }
 
-/// A RD or WR moves 64 bytes, and a kHz is 1,000 cycles a second: a GB/s is so many of them in as many cycles as the
-/// clock has kHz.
-const MOVES_OF_A_GIGABYTE: u64 = 15_625;
+// A rate or a time, if there is something to divide by.
+fn rate_cell(form: CellForm, rate: Quotient, units: u64) -> Cell {
+    let whole = u64::try_from(rate.divisor).unwrap_or(u64::MAX);
+    quotient(form, rate.dividend, whole, units)
+}
 
 /// The data that a channel moved in a run of `cycles` cycles, in GB/s.
 pub(crate) fn data_rate(cycles: u64, channel: &ChannelStats, khz: u64) -> Cell {
-    let accesses = u128::from(channel.rd.saturating_add(channel.wr));
-    quotient(
-        Form::Hundredths,
-        accesses.saturating_mul(u128::from(khz)),
-        MOVES_OF_A_GIGABYTE.saturating_mul(cycles),
+    rate_cell(
+        CellForm::Hundredths,
+        rates::data_rate(cycles, channel, khz),
         100,
     )
 }
@@ -81,13 +83,13 @@ pub(crate) fn data_rate(cycles: u64, channel: &ChannelStats, khz: u64) -> Cell {
 /// The numbers of a channel in a run of `cycles` cycles, in the order of their columns. The last is the share of the
 /// cycles that its REFs take, `refresh` of them each.
 pub(crate) fn channel_cells(cycles: u64, channel: &ChannelStats, refresh: u64) -> [Cell; 10] {
-    let accesses = channel.rd.saturating_add(channel.wr);
+    let column_commands = channel.rd.saturating_add(channel.wr);
     [
         count(channel.rd),
         count(channel.wr),
-        percent(channel.hits, accesses),
-        percent(BURST.saturating_mul(accesses), cycles),
-        quotient(Form::Hundredths, channel.queued, cycles, 100),
+        percent(channel.hits, column_commands),
+        percent(BURST.saturating_mul(column_commands), cycles),
+        quotient(CellForm::Hundredths, channel.queued, cycles, 100),
         count(channel.queued_max),
         percent(channel.idle, cycles),
         percent(channel.refreshing, cycles),
@@ -102,15 +104,14 @@ fn rate_to_finish(core: &CoreStats) -> Cell {
         Some(cycle) => cycle.saturating_add(1),
         None => 0,
     };
-    quotient(Form::Hundredths, u128::from(core.retired), cycles, 100)
+    quotient(CellForm::Hundredths, u128::from(core.retired), cycles, 100)
 }
 
 // A quotient of cycles, in tenths of a ns.
 fn nanoseconds(cycles: u128, divisor: u64, khz: u64) -> Cell {
-    quotient(
-        Form::Tenths,
-        cycles.saturating_mul(1_000_000),
-        divisor.saturating_mul(khz),
+    rate_cell(
+        CellForm::Tenths,
+        rates::nanoseconds(cycles, divisor, khz),
         10,
     )
 }
@@ -119,7 +120,7 @@ fn nanoseconds(cycles: u128, divisor: u64, khz: u64) -> Cell {
 pub(crate) fn core_times(core: &CoreStats, khz: u64) -> [Cell; 2] {
     let finish = match core.finish {
         Some(cycle) => nanoseconds(u128::from(cycle), 1, khz),
-        None => (Form::Tenths, None),
+        None => (CellForm::Tenths, None),
     };
     [finish, nanoseconds(core.read_latency, core.replies, khz)]
 }
@@ -128,11 +129,11 @@ pub(crate) fn core_times(core: &CoreStats, khz: u64) -> [Cell; 2] {
 pub(crate) fn core_cells(cycles: u64, core: &CoreStats) -> [Cell; 11] {
     [
         count(core.retired),
-        quotient(Form::Hundredths, u128::from(core.retired), cycles, 100),
-        (Form::Count, core.finish),
+        quotient(CellForm::Hundredths, u128::from(core.retired), cycles, 100),
+        (CellForm::Count, core.finish),
         rate_to_finish(core),
         count(core.reads),
-        quotient(Form::Tenths, core.read_latency, core.replies, 10),
+        quotient(CellForm::Tenths, core.read_latency, core.replies, 10),
         percent(core.stop_end, cycles),
         percent(core.stop_width, cycles),
         percent(core.stop_window, cycles),

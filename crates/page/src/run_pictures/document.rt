@@ -1,7 +1,10 @@
 //! A run as one HTML document.
 
-use crate::run_pictures::activity::{Activity, Channel, Span};
-use crate::run_pictures::cells::Measures;
+ghost use Rattle.std.specs.Prelude.{OnOk};
+ghost use Rattle.page.specs.Document.{WritesDocument};
+
+use crate::run_pictures::activity::{Activity, Channel, TimelineSpan};
+use crate::run_pictures::cells::RunScale;
 use crate::run_pictures::overview::put_overview;
 use crate::run_pictures::settings::put_settings;
 use crate::run_pictures::stops::put_stops;
@@ -52,10 +55,9 @@ fn put_count(form: &'static str, count: u64, out: &mut Markup) {
     );
 }
 
-// The head, with what was run: how many cycles, cores, channels and commands.
+// The style sheet, and what was run: how many cycles, cores, channels and commands.
 fn put_head(run: &Run<'_>, out: &mut Markup) {
     let stats = run.stats;
-    out.push_str(HEAD);
     out.push_str(STYLE);
     out.push_str(BODY);
     put_count("<b>{}</b> cycle{}", stats.cycles, out);
@@ -79,22 +81,22 @@ fn put_time(cycles: u64, khz: Option<u64>, out: &mut Markup) {
 }
 
 // The cores: where there are many, a summary with all else folded.
-fn put_all_cores(alloc: Global, measures: Measures, cores: &[CoreStats], out: &mut Markup) {
+fn put_all_cores(alloc: Global, scale: RunScale, cores: &[CoreStats], out: &mut Markup) {
     out.push_str("<h2 id=\"cores\">Cores</h2>\n");
     if cores.len() <= MOST_CORES {
-        put_cores(measures, cores, out);
-        put_stops(measures.cycles, cores, out);
+        put_cores(scale, cores, out);
+        put_stops(scale.cycles, cores, out);
         return;
     }
-    put_core_summary(alloc, measures, cores, out);
+    put_core_summary(alloc, scale, cores, out);
     out.push_str("<details><summary>each core</summary>\n");
-    put_cores(measures, cores, out);
-    put_stops(measures.cycles, cores, out);
+    put_cores(scale, cores, out);
+    put_stops(scale.cycles, cores, out);
     out.push_str("</details>\n");
 }
 
 // The begin of the timeline of a window, or that the run has no cycle there.
-fn put_window_head(span: Span, out: &mut Markup) {
+fn put_window_head(span: TimelineSpan, out: &mut Markup) {
     let first = Piece::Grouped(span.from);
     if span.end <= span.from {
         out.fill(
@@ -111,7 +113,7 @@ fn put_window_head(span: Span, out: &mut Markup) {
 }
 
 // What the channels did in the window.
-fn put_window(span: Span, refresh: u64, channels: &mut [Channel], out: &mut Markup) {
+fn put_window(span: TimelineSpan, refresh: u64, channels: &mut [Channel], out: &mut Markup) {
     put_window_head(span, out);
     if span.from < span.end {
         for (id, channel) in channels.iter_mut().enumerate() {
@@ -121,14 +123,14 @@ fn put_window(span: Span, refresh: u64, channels: &mut [Channel], out: &mut Mark
 }
 
 // What the channels of a run did.
-fn activity_of(alloc: Global, run: &Run<'_>, span: Span) -> Result<Activity, AllocError> {
+fn activity_of(alloc: Global, run: &Run<'_>, span: TimelineSpan) -> Result<Activity, AllocError> {
     let mut activity = Activity::idle(alloc, run.stats)?;
     activity.add_run(run.commands, span)?;
     Ok(activity)
 }
 
 // What the channels did over the whole run and in the window, with REFs of `refresh` cycles.
-fn put_activity(alloc: Global, run: &Run<'_>, span: Span, refresh: u64, out: &mut Markup) {
+fn put_activity(alloc: Global, run: &Run<'_>, span: TimelineSpan, refresh: u64, out: &mut Markup) {
     match activity_of(alloc, run, span) {
         Ok(mut activity) => {
             put_overview(&activity, out);
@@ -139,13 +141,13 @@ fn put_activity(alloc: Global, run: &Run<'_>, span: Span, refresh: u64, out: &mu
 }
 
 // Where a page with commands leads to.
-fn contents_of(run: &Run<'_>) -> &'static str {
+fn links_of(run: &Run<'_>) -> &'static str {
     if run.commands.is_empty() {
         ""
     } else if run.requests.is_some() {
-        CONTENTS_WITH_LATENCY
+        LINKS_WITH_LATENCY
     } else {
-        CONTENTS
+        LINKS
     }
 }
 
@@ -169,18 +171,18 @@ fn put_run(alloc: Global, run: &Run<'_>, out: &mut Markup) {
         Some(config) => Some(u64::from(config.timing.n_rfc)),
         None => None,
     };
-    let span = Span {
+    let span = TimelineSpan {
         from: run.from,
         end: run.end,
     };
-    out.push_str(contents_of(run));
-    let measures = Measures {
+    out.push_str(links_of(run));
+    let scale = RunScale {
         cycles: stats.cycles,
         refresh,
         khz: run.khz,
     };
-    put_channels(measures, &stats.channels, out);
-    put_all_cores(alloc, measures, &stats.cores, out);
+    put_channels(scale, &stats.channels, out);
+    put_all_cores(alloc, scale, &stats.cores, out);
     put_latency(alloc, run, out);
     if run.commands.is_empty() {
         out.push_str("<p>No command was issued.</p>\n");
@@ -197,8 +199,8 @@ fn put_config(config: Option<&Config>, out: &mut Markup) {
     }
 }
 
-// All of the document.
-fn put_document(alloc: Global, run: &Run<'_>, out: &mut Markup) {
+// All that stands in the document.
+fn put_contents(alloc: Global, run: &Run<'_>, out: &mut Markup) {
     let stats = run.stats;
     put_head(run, out);
     put_time(stats.cycles, run.khz, out);
@@ -209,7 +211,21 @@ fn put_document(alloc: Global, run: &Run<'_>, out: &mut Markup) {
     } else {
         put_run(alloc, run, out);
     }
-    out.push_str(TAIL);
+}
+
+fn contents_of(alloc: Global, run: &Run<'_>) -> Result<String, AllocError> {
+    let mut page = Markup::new(alloc);
+    put_contents(alloc, run, &mut page);
+    page.finish()
+}
+
+// Writes the contents between the begin and the end of a document.
+fn write_framed<W: Write>(contents: &str, writer: &mut W) -> io::Result<()>
+    ensures { OnOk result (WritesDocument (W.contents writer.old) (W.contents writer.new)) }
+{
+    writer.write_all(HEAD.as_bytes())?;
+    writer.write_all(contents.as_bytes())?;
+    writer.write_all(TAIL.as_bytes())
 }
 
 /// Writes a run as one HTML document: its statistics, how long its reads took if its requests are given, what its
@@ -217,12 +233,12 @@ fn put_document(alloc: Global, run: &Run<'_>, out: &mut Markup) {
 ///
 /// # Errors
 ///
-/// An error of `OutOfMemory` where memory is refused, and the writer's error where it fails.
-pub fn write_document<W: Write>(alloc: Global, run: &Run<'_>, writer: &mut W) -> io::Result<()> {
-    let mut page = Markup::new(alloc);
-    put_document(alloc, run, &mut page);
-    let text = page.finish()?;
-    writer.write_all(text.as_bytes())
+/// An error of `OutOfMemory` where memory is refused; nothing is then written. The writer's error where it fails.
+pub fn write_document<W: Write>(alloc: Global, run: &Run<'_>, writer: &mut W) -> io::Result<()>
+    ensures { OnOk result (WritesDocument (W.contents writer.old) (W.contents writer.new)) }
+{
+    let contents = contents_of(alloc, run)?;
+    write_framed(contents.as_str(), writer)
 }
 
 const HEAD: &str = r#"<!DOCTYPE html>
@@ -241,11 +257,11 @@ const BODY: &str = r#"</style>
 <h1>dramsim run</h1>
 <p class="run">"#;
 
-const CONTENTS: &str =
+const LINKS: &str =
     r##"<nav><a href="#channels">Channels</a><a href="#cores">Cores</a><a href="#steps">Whole run</a><a href="#timeline">Timeline</a></nav>
 "##;
 
-const CONTENTS_WITH_LATENCY: &str =
+const LINKS_WITH_LATENCY: &str =
     r##"<nav><a href="#channels">Channels</a><a href="#cores">Cores</a><a href="#latency">Read latency</a><a href="#steps">Whole run</a><a href="#timeline">Timeline</a></nav>
 "##;
 

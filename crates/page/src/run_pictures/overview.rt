@@ -1,4 +1,4 @@
-//! The whole run in steps: a plot of each measure for each channel. A picture's units are the run's cycles and the
+//! The whole run in steps: plots of what each channel did. A picture's units are the run's cycles and the
 //! values of its axis.
 
 use crate::run_pictures::activity::{Activity, Channel, Step, Value};
@@ -6,10 +6,11 @@ use request_pictures::drawing::axes::Quantity;
 use request_pictures::drawing::markup::{LegendEntry, Piece};
 use request_pictures::drawing::page_text::Markup;
 use request_pictures::drawing::scales::axis_end;
+use request_pictures::drawing::steps::{StepAxes, put_step};
 
 /// How values are drawn.
 #[derive(Clone, Copy)]
-enum Form {
+enum SeriesForm {
     /// The area below them is filled. Each step has a value.
     Area,
     /// A line, with a gap at a step without a value.
@@ -20,13 +21,13 @@ enum Form {
 #[derive(Clone, Copy)]
 struct Series {
     class: &'static str,
-    form: Form,
+    form: SeriesForm,
     value: Value,
 }
 
 /// What is plotted for each channel: its series, later ones drawn over earlier ones.
 #[derive(Clone, Copy)]
-struct Measure {
+struct Plot {
     heading: &'static str,
     name: &'static str,
     quantity: Quantity,
@@ -36,8 +37,8 @@ struct Measure {
     legend: &'static [LegendEntry],
 }
 
-static MEASURES: [Measure; 4] = [
-    Measure {
+static PLOTS: [Plot; 4] = [
+    Plot {
         heading: "<h3>Data bus</h3><p>Cycles in which data move, four for each RD or WR, booked in the step of their command.</p>",
         name: "data bus (% of cycles)",
         quantity: Quantity::Percent,
@@ -45,30 +46,30 @@ static MEASURES: [Measure; 4] = [
         series: &[
             Series {
                 class: "bus pale",
-                form: Form::Area,
+                form: SeriesForm::Area,
                 value: Value::BusUse,
             },
             Series {
                 class: "line bus",
-                form: Form::Line,
+                form: SeriesForm::Line,
                 value: Value::BusUse,
             },
         ],
         legend: &[],
     },
-    Measure {
+    Plot {
         heading: "<h3>Row hits</h3><p>A RD or WR is a row hit here unless the last ACT of its bank was issued in the name of its own request. Where a step has neither RD nor WR the line has a gap.</p>",
         name: "row hits (% of RD and WR)",
         quantity: Quantity::Percent,
         greatest: Value::Hits,
         series: &[Series {
             class: "line hits",
-            form: Form::Line,
+            form: SeriesForm::Line,
             value: Value::Hits,
         }],
         legend: &[],
     },
-    Measure {
+    Plot {
         heading: "<h3>Commands</h3><p>Cycles in which the channel issues a command, stacked by kind.</p>",
         name: "commands (% of cycles)",
         quantity: Quantity::Percent,
@@ -76,27 +77,27 @@ static MEASURES: [Measure; 4] = [
         series: &[
             Series {
                 class: "ref",
-                form: Form::Area,
+                form: SeriesForm::Area,
                 value: Value::Stacked(4),
             },
             Series {
                 class: "pre",
-                form: Form::Area,
+                form: SeriesForm::Area,
                 value: Value::Stacked(3),
             },
             Series {
                 class: "act",
-                form: Form::Area,
+                form: SeriesForm::Area,
                 value: Value::Stacked(2),
             },
             Series {
                 class: "wr",
-                form: Form::Area,
+                form: SeriesForm::Area,
                 value: Value::Stacked(1),
             },
             Series {
                 class: "rd",
-                form: Form::Area,
+                form: SeriesForm::Area,
                 value: Value::Stacked(0),
             },
         ],
@@ -123,7 +124,7 @@ static MEASURES: [Measure; 4] = [
             },
         ],
     },
-    Measure {
+    Plot {
         heading: "<h3>Open banks</h3><p>Banks with an open row at the end of each step.</p>",
         name: "open banks",
         quantity: Quantity::Count,
@@ -131,12 +132,12 @@ static MEASURES: [Measure; 4] = [
         series: &[
             Series {
                 class: "open pale",
-                form: Form::Area,
+                form: SeriesForm::Area,
                 value: Value::OpenBanks,
             },
             Series {
                 class: "line open",
-                form: Form::Line,
+                form: SeriesForm::Line,
                 value: Value::OpenBanks,
             },
         ],
@@ -144,68 +145,47 @@ static MEASURES: [Measure; 4] = [
     },
 ];
 
-/// The axes of a plot.
-#[derive(Clone, Copy)]
-struct Axes {
-    cycles: u64,
-    step: u64,
-    /// The value at the upper end, above 0.
-    top: u64,
-}
-
-// Goes on with the path of a series by the value of a step, after the one before it or, where that has none, from a new
-// beginning.
-fn put_step(axes: Axes, place: usize, value: u64, joined: bool, out: &mut Markup) {
-    let start = axes.step.saturating_mul(place as u64);
-    let end = start.saturating_add(axes.step).min(axes.cycles);
-    let y = axes.top.saturating_sub(value);
-    if !joined {
-        out.fill("M{} {}", &[Piece::Number(start), Piece::Number(y)]);
-    }
-    out.fill("V{}H{}", &[Piece::Number(y), Piece::Number(end)]);
-}
-
-fn put_steps(axes: Axes, value: Value, steps: &[Step], mut joined: bool, out: &mut Markup) {
+fn put_steps(axes: StepAxes, value: Value, steps: &[Step], mut joined: bool, out: &mut Markup) {
     for (place, step) in steps.iter().enumerate() {
         let found = step.value(value);
         if let Some(value) = found {
-            put_step(axes, place, value, joined, out);
+            put_step(axes, place as u64, value, joined, out);
         }
         joined = found.is_some();
     }
 }
 
-fn put_series(axes: Axes, series: &Series, steps: &[Step], out: &mut Markup) {
+fn put_series(axes: StepAxes, series: &Series, steps: &[Step], out: &mut Markup) {
     out.fill("<path class=\"{}\" d=\"", &[Piece::Text(series.class)]);
     match series.form {
-        Form::Area => {
+        SeriesForm::Area => {
             out.fill("M0 {}", &[Piece::Number(axes.top)]);
             put_steps(axes, series.value, steps, true, out);
             out.fill("V{}Z", &[Piece::Number(axes.top)]);
         }
-        Form::Line => put_steps(axes, series.value, steps, false, out),
+        SeriesForm::Line => put_steps(axes, series.value, steps, false, out),
     }
     out.push_str("\"/>");
 }
 
-// The plot of a measure for the channel `id`.
-fn put_plot(measure: &Measure, axes: Axes, id: u64, steps: &[Step], out: &mut Markup) {
+// A plot for the channel `id`.
+fn put_plot(plot: &Plot, axes: StepAxes, id: u64, steps: &[Step], out: &mut Markup) {
     out.fill(
         "<figure><figcaption><b>channel {}</b> {}</figcaption><div class=\"plot\"><svg preserveAspectRatio=\"none\" role=\"img\" aria-label=\"channel {}: {}\" viewBox=\"0 0 {} {}\">",
         &[
             Piece::Number(id),
-            Piece::Text(measure.name),
+            Piece::Text(plot.name),
             Piece::Number(id),
-            Piece::Text(measure.name),
+            Piece::Text(plot.name),
             Piece::Number(axes.cycles),
             Piece::Number(axes.top),
         ],
     );
-    for series in measure.series {
+    for series in plot.series {
         put_series(axes, series, steps, out);
     }
     out.push_str("</svg>");
-    out.put_value_ticks(measure.quantity, axes.top);
+    out.put_value_ticks(plot.quantity, axes.top);
     out.put_cycle_ticks(0, axes.cycles);
     out.push_str("</div></figure>\n");
 }
@@ -219,37 +199,38 @@ fn greatest_of(value: Value, steps: &[Step], least: u64) -> u64 {
     greatest
 }
 
-// The upper end of the axes of a measure, the same for all channels. An axis of percent ends at 1 or above, and at 100.
-fn top_of(measure: &Measure, activity: &Activity) -> u64 {
-    let (mut greatest, most) = match measure.quantity {
+// The upper end of the axes of a plot, the same for all channels. An axis of percent ends at 1 or above, and at 100.
+fn top_of(plot: &Plot, activity: &Activity) -> u64 {
+    let (mut greatest, most) = match plot.quantity {
         Quantity::Percent => (10, 1_000),
         Quantity::Count => (1, u64::MAX),
     };
     for channel in &activity.channels {
-        greatest = greatest_of(measure.greatest, &channel.steps, greatest);
+        greatest = greatest_of(plot.greatest, &channel.steps, greatest);
     }
     axis_end(greatest.min(most), 5)
 }
 
-// The plots of a measure, one for each channel.
-fn put_plots(measure: &Measure, axes: Axes, channels: &[Channel], out: &mut Markup) {
+// A plot, once for each channel.
+fn put_for_each(plot: &Plot, axes: StepAxes, channels: &[Channel], out: &mut Markup) {
     for (id, channel) in channels.iter().enumerate() {
-        put_plot(measure, axes, id as u64, &channel.steps, out);
+        put_plot(plot, axes, id as u64, &channel.steps, out);
     }
 }
 
-fn put_measure(measure: &Measure, activity: &Activity, out: &mut Markup) {
-    let axes = Axes {
+// A plot for each channel, below its heading and its legend.
+fn put_section(plot: &Plot, activity: &Activity, out: &mut Markup) {
+    let axes = StepAxes {
         cycles: activity.cycles,
         step: activity.step,
-        top: top_of(measure, activity),
+        top: top_of(plot, activity),
     };
-    out.push_str(measure.heading);
-    if !measure.legend.is_empty() {
-        out.put_legend(measure.legend);
+    out.push_str(plot.heading);
+    if !plot.legend.is_empty() {
+        out.put_legend(plot.legend);
     }
     out.push_str("<div class=\"grid\">\n");
-    put_plots(measure, axes, &activity.channels, out);
+    put_for_each(plot, axes, &activity.channels, out);
     out.push_str("</div>\n");
 }
 
@@ -259,7 +240,7 @@ pub(crate) fn put_overview(activity: &Activity, out: &mut Markup) {
         "<h2 id=\"steps\">The run in steps of {} cycles</h2>\n",
         &[Piece::Grouped(activity.step)],
     );
-    for measure in &MEASURES {
-        put_measure(measure, activity, out);
+    for plot in &PLOTS {
+        put_section(plot, activity, out);
     }
 }

@@ -1,6 +1,6 @@
 //! The timeline of a channel, in strips of at most `STRIP` cycles. A strip's units are a cycle and a pixel.
 
-use crate::run_pictures::activity::{BURST, Channel, Span};
+use crate::run_pictures::activity::{BURST, Channel, TimelineSpan};
 use crate::run_pictures::lanes::{Lane, OpenRow};
 use request_pictures::drawing::markup::{LegendEntry, Piece};
 use request_pictures::drawing::page_text::Markup;
@@ -63,7 +63,7 @@ fn name_of(kind: Kind) -> (&'static str, &'static str) {
 /// Some cycles of the window.
 #[derive(Clone, Copy)]
 struct Strip {
-    span: Span,
+    span: TimelineSpan,
     /// Cycles that there is room for.
     room: u64,
     /// Cycles that a REF is drawn for.
@@ -320,7 +320,7 @@ fn put_strip(strip: Strip, lanes: &mut [Lane], shown: &[IssuedCommand], out: &mu
 
 // The strips of a window.
 fn put_strips(
-    span: Span,
+    span: TimelineSpan,
     refresh: u64,
     lanes: &mut [Lane],
     shown: &[IssuedCommand],
@@ -332,7 +332,7 @@ fn put_strips(
         let from = number.saturating_mul(room).saturating_add(span.from);
         let end = from.saturating_add(room).min(span.end);
         let strip = Strip {
-            span: Span { from, end },
+            span: TimelineSpan { from, end },
             room,
             refresh,
         };
@@ -343,7 +343,7 @@ fn put_strips(
 /// Appends the timeline of the channel `id`, with REFs of `refresh` cycles.
 pub(crate) fn put_timeline(
     id: u64,
-    span: Span,
+    span: TimelineSpan,
     refresh: u64,
     channel: &mut Channel,
     out: &mut Markup,

@@ -1,7 +1,7 @@
 //! The numbers of a run as tables.
 
 use crate::run_pictures::cells::{
-    Cell, Form, Measures, channel_cells, core_cells, core_times, data_rate,
+    Cell, CellForm, RunScale, channel_cells, core_cells, core_times, data_rate,
 };
 use request_pictures::drawing::markup::Piece;
 use request_pictures::drawing::page_text::Markup;
@@ -30,62 +30,62 @@ fn head_if(number: Option<u64>, heading: &'static str) -> &'static str {
 
 // The cells of a channel: the share of its REFs is left out where it is not known how many cycles one takes, and its
 // data rate where the clock is not given.
-fn put_channel_cells(measures: Measures, channel: &ChannelStats, out: &mut Markup) {
-    let cycles = measures.cycles;
-    let cells = channel_cells(cycles, channel, measures.refresh.unwrap_or(0));
-    match measures.refresh {
+fn put_channel_cells(scale: RunScale, channel: &ChannelStats, out: &mut Markup) {
+    let cycles = scale.cycles;
+    let cells = channel_cells(cycles, channel, scale.refresh.unwrap_or(0));
+    match scale.refresh {
         Some(_) => put_cells(&cells, out),
         None => put_cells(&cells[..9], out),
     }
-    match measures.khz {
+    match scale.khz {
         Some(khz) => put_cells(&[data_rate(cycles, channel, khz)], out),
         None => {}
     }
 }
 
 /// Appends the table of the channels.
-pub(crate) fn put_channels(measures: Measures, channels: &[ChannelStats], out: &mut Markup) {
+pub(crate) fn put_channels(scale: RunScale, channels: &[ChannelStats], out: &mut Markup) {
     out.push_str(CHANNEL_HEAD);
-    out.push_str(head_if(measures.refresh, REFRESH_HEAD));
-    out.push_str(head_if(measures.khz, RATE_HEAD));
+    out.push_str(head_if(scale.refresh, REFRESH_HEAD));
+    out.push_str(head_if(scale.khz, RATE_HEAD));
     out.push_str(CHANNEL_HEADINGS);
     for (id, channel) in channels.iter().enumerate() {
         put_label(Piece::Number(id as u64), out);
-        put_channel_cells(measures, channel, out);
+        put_channel_cells(scale, channel, out);
         out.push_str(ROW_TAIL);
     }
     out.push_str(TABLE_TAIL);
 }
 
 // The cells of a core; its times are left out where the clock is not given.
-fn put_core_cells(measures: Measures, core: &CoreStats, out: &mut Markup) {
-    put_cells(&core_cells(measures.cycles, core), out);
-    match measures.khz {
+fn put_core_cells(scale: RunScale, core: &CoreStats, out: &mut Markup) {
+    put_cells(&core_cells(scale.cycles, core), out);
+    match scale.khz {
         Some(khz) => put_cells(&core_times(core, khz), out),
         None => {}
     }
 }
 
 /// Appends the table of the cores.
-pub(crate) fn put_cores(measures: Measures, cores: &[CoreStats], out: &mut Markup) {
+pub(crate) fn put_cores(scale: RunScale, cores: &[CoreStats], out: &mut Markup) {
     out.push_str(CORE_HEAD);
-    out.push_str(head_if(measures.khz, TIMES_HEAD));
+    out.push_str(head_if(scale.khz, TIMES_HEAD));
     out.push_str(CORE_HEADINGS);
     for (id, core) in cores.iter().enumerate() {
         put_label(Piece::Number(id as u64), out);
-        put_core_cells(measures, core, out);
+        put_core_cells(scale, core, out);
         out.push_str(ROW_TAIL);
     }
     out.push_str(TABLE_TAIL);
 }
 
 // A number of a core, by its column: the times come last, where the clock is given.
-fn core_cell(measures: Measures, core: &CoreStats, column: usize) -> Option<Cell> {
-    let cells = core_cells(measures.cycles, core);
+fn core_cell(scale: RunScale, core: &CoreStats, column: usize) -> Option<Cell> {
+    let cells = core_cells(scale.cycles, core);
     if column < cells.len() {
         return cells.get(column).copied();
     }
-    core_times(core, measures.khz?)
+    core_times(core, scale.khz?)
         .get(column - cells.len())
         .copied()
 }
@@ -94,14 +94,14 @@ fn core_cell(measures: Measures, core: &CoreStats, column: usize) -> Option<Cell
 // count is the lower of the two in the middle.
 fn summary_of(
     alloc: Global,
-    measures: Measures,
+    scale: RunScale,
     cores: &[CoreStats],
     column: usize,
 ) -> Result<[Cell; 3], AllocError> {
     let mut known = Vec::new(alloc);
-    let mut form = Form::Count;
+    let mut form = CellForm::Count;
     for core in cores {
-        if let Some((column_form, number)) = core_cell(measures, core, column) {
+        if let Some((column_form, number)) = core_cell(scale, core, column) {
             form = column_form;
             if let Some(number) = number {
                 known.push(number)?;
@@ -127,17 +127,17 @@ fn put_row(name: &'static str, cells: &[Cell], out: &mut Markup) {
 /// Appends the least, the median and the greatest of each number of the cores.
 pub(crate) fn put_core_summary(
     alloc: Global,
-    measures: Measures,
+    scale: RunScale,
     cores: &[CoreStats],
     out: &mut Markup,
 ) {
-    let columns = match measures.khz {
+    let columns = match scale.khz {
         Some(_) => &CORE_COLUMNS[..],
         None => &CORE_COLUMNS[..11],
     };
     out.push_str(SUMMARY_HEAD);
     for (column, name) in columns.iter().enumerate() {
-        match summary_of(alloc, measures, cores, column) {
+        match summary_of(alloc, scale, cores, column) {
             Ok(cells) => put_row(*name, &cells, out),
             Err(AllocError) => out.refuse(),
         }

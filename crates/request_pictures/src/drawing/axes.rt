@@ -1,7 +1,7 @@
 //! The ticks of axes, as lines across a picture with a label beside it. All labels of an axis are in one unit.
 
 ghost use Rattle.std.specs.Prelude.{◌<◌};
-ghost use Rattle.text_builder.specs.Texts.{KeepsRefusal};
+ghost use Rattle.text_builder.specs.Texts.{Grows};
 
 use crate::drawing::markup::Piece;
 use crate::drawing::scales::{share_of, tick_step};
@@ -50,7 +50,7 @@ fn label_of(quantity: Quantity, value: u64, step: u64) -> [Piece; 2] {
 
 // A tick, so many hundredths of a percent from where its axis begins, which `side` names.
 fn put_tick(side: &'static str, offset: u64, label: [Piece; 2], out: &mut TextBuilder)
-    ensures { KeepsRefusal out.old out.new }
+    ensures { Grows out.old out.new }
 {
     let [number, unit] = label;
     out.fill(
@@ -61,7 +61,7 @@ fn put_tick(side: &'static str, offset: u64, label: [Piece; 2], out: &mut TextBu
 
 /// Appends the ticks of the values from 0 up to `top`: at most five above 0.
 pub(crate) fn put_value_ticks(quantity: Quantity, top: u64, out: &mut TextBuilder)
-    ensures { KeepsRefusal out.old out.new }
+    ensures { Grows out.old out.new }
 {
     let step = tick_step(top, 5);
     for tick in 0..=top / step {
@@ -78,7 +78,7 @@ pub(crate) fn put_value_ticks(quantity: Quantity, top: u64, out: &mut TextBuilde
 
 /// Appends the ticks of the cycles of a picture that shows the `span` cycles from `from` on: at most six.
 pub(crate) fn put_cycle_ticks(from: u64, span: u64, out: &mut TextBuilder)
-    ensures { KeepsRefusal out.old out.new }
+    ensures { Grows out.old out.new }
 {
     let step = tick_step(span, 5);
     let end = from.saturating_add(span);

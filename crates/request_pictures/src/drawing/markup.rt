@@ -1,6 +1,8 @@
 //! Text of a page, put together from pieces.
 
-ghost use Rattle.text_builder.specs.Texts.{KeepsRefusal};
+ghost use Rattle.text_builder.specs.Texts.{Puts, PutsWords};
+ghost use Rattle.request_pictures.specs.Legends.{entry_text, legend_text};
+ghost use Rattle.request_pictures.specs.Pieces.{IsGrouped, IsPieceText, group_text, hundredths};
 
 use text_builder::TextBuilder;
 use text_builder::forms::Append;
@@ -20,41 +22,42 @@ pub enum Piece {
     Hundredths(u64),
 }
 
-/// What each group of three digits counts, except for the last group.
-const GROUPS: [u64; 6] = [
-    1_000_000_000_000_000_000,
-    1_000_000_000_000_000,
-    1_000_000_000_000,
-    1_000_000_000,
-    1_000_000,
-    1_000,
-];
+// A comma, and the three digits of a group.
+fn put_group(group: u64, out: &mut TextBuilder)
+    ensures { PutsWords (group_text group) out.old out.new }
+{
+    write!(out, ",{}{}{}", group / 100, group / 10 % 10, group % 10);
+}
 
+// A number in groups of three digits.
 fn put_grouped(number: u64, out: &mut TextBuilder)
-    ensures { KeepsRefusal out.old out.new }
+    ensures { Puts (IsGrouped number) out.old out.new }
 {
     if number < 1_000 {
         return write!(out, "{number}");
     }
-    for size in GROUPS {
-        let group = number / size;
-        if group >= 1_000 {
-            write!(out, "{:03},", group % 1_000);
-        } else if group > 0 {
-            write!(out, "{group},");
-        }
-    }
-    write!(out, "{:03}", number % 1_000);
+    put_grouped(number / 1_000, out);
+    put_group(number % 1_000, out);
+}
+
+// A number of hundredths.
+fn put_hundredths(number: u64, out: &mut TextBuilder)
+    ensures { PutsWords (hundredths number) out.old out.new }
+{
+    let (tenths, last) = (number / 10, number % 10);
+    write!(out, "{}.{}{last}", tenths / 10, tenths % 10);
 }
 
 impl Append for Piece {
+    ghost appends = { IsPieceText };
+
     fn append_to(self, out: &mut TextBuilder) {
         match self {
             Piece::Text(text) => out.push_str(text),
             Piece::Number(number) => write!(out, "{number}"),
             Piece::Grouped(number) => put_grouped(number, out),
             Piece::Tenths(number) => write!(out, "{}.{}", number / 10, number % 10),
-            Piece::Hundredths(number) => write!(out, "{}.{:02}", number / 100, number % 100),
+            Piece::Hundredths(number) => put_hundredths(number, out),
         }
     }
 }
@@ -67,17 +70,18 @@ pub struct LegendEntry {
 }
 
 fn put_entry(entry: &LegendEntry, out: &mut TextBuilder)
-    ensures { KeepsRefusal out.old out.new }
+    ensures { PutsWords (entry_text entry.now) out.old out.new }
 {
-    out.fill(
-        "<li><svg class=\"patch\" viewBox=\"0 0 10 10\"><rect class=\"{}\" width=\"10\" height=\"10\"/></svg>{}</li>",
-        &[Piece::Text(entry.class), Piece::Text(entry.text)],
-    );
+    out.push_str("<li><svg class=\"patch\" viewBox=\"0 0 10 10\"><rect class=\"");
+    out.push_str(entry.class);
+    out.push_str("\" width=\"10\" height=\"10\"/></svg>");
+    out.push_str(entry.text);
+    out.push_str("</li>");
 }
 
 /// Appends a legend as a list.
 pub(crate) fn put_legend(entries: &[LegendEntry], out: &mut TextBuilder)
-    ensures { KeepsRefusal out.old out.new }
+    ensures { PutsWords (legend_text entries.now) out.old out.new }
 {
     out.push_str("<ul class=\"legend\">");
     for entry in entries {

@@ -1,7 +1,10 @@
 //! The text of a page in the making.
 
-ghost use Rattle.std.specs.Prelude.{◌≡◌, true, false, OnOk};
-ghost use Rattle.text_builder.specs.Texts.{KeepsRefusal};
+ghost use Rattle.std.specs.Prelude.{◌≡◌, true, false, [], IfOk, string_bytes};
+ghost use Rattle.text_builder.specs.Filled.{IsFilled};
+ghost use Rattle.text_builder.specs.Texts.{Grows, Puts, PutsWords};
+ghost use Rattle.request_pictures.specs.Legends.{legend_text};
+ghost use Rattle.request_pictures.specs.Pieces.{IsPieceText};
 
 use crate::drawing::axes::{Quantity, put_cycle_ticks, put_value_ticks};
 use crate::drawing::markup::{LegendEntry, Piece, put_legend};
@@ -17,7 +20,8 @@ pub struct Markup {
 impl Markup {
     /// No text yet.
     pub fn new(alloc: Global) -> Markup
-        ensures { result.text.was_refused ≡ false }
+        ensures going { result.text.was_refused ≡ false }
+        ensures empty { string_bytes result.text.text ≡ [] }
     {
         Markup {
             text: TextBuilder::new(alloc),
@@ -33,42 +37,43 @@ impl Markup {
 
     /// Appends a form, with pieces in place of its `{}`, in turn.
     pub fn fill(&mut self, form: &str, pieces: &[Piece])
-        ensures kept { KeepsRefusal self.old.text self.new.text }
+        ensures { Puts (IsFilled IsPieceText form.now pieces.now) self.old.text self.new.text }
     {
         self.text.fill(form, pieces);
     }
 
     /// Appends words, or markup.
     pub fn push_str(&mut self, words: &str)
-        ensures kept { KeepsRefusal self.old.text self.new.text }
+        ensures { PutsWords words.now self.old.text self.new.text }
     {
         self.text.push_str(words);
     }
 
     /// Appends a legend as a list.
     pub fn put_legend(&mut self, entries: &[LegendEntry])
-        ensures kept { KeepsRefusal self.old.text self.new.text }
+        ensures { PutsWords (legend_text entries.now) self.old.text self.new.text }
     {
         put_legend(entries, &mut self.text);
     }
 
     /// Appends the ticks of an axis of cycles.
     pub fn put_cycle_ticks(&mut self, from: u64, span: u64)
-        ensures kept { KeepsRefusal self.old.text self.new.text }
+        ensures { Grows self.old.text self.new.text }
     {
         put_cycle_ticks(from, span, &mut self.text);
     }
 
     /// Appends the ticks of an axis of values.
     pub fn put_value_ticks(&mut self, quantity: Quantity, top: u64)
-        ensures kept { KeepsRefusal self.old.text self.new.text }
+        ensures { Grows self.old.text self.new.text }
     {
         put_value_ticks(quantity, top, &mut self.text);
     }
 
     /// The whole text, unless memory was refused for a part of it.
     pub fn finish(self) -> Result<String, AllocError>
-        ensures { OnOk result (self.text.was_refused ≡ false) }
+        ensures whole { IfOk result (λ text. self.text.was_refused ≡ false) }
+        ensures text { IfOk result (λ text. text ≡ self.text.text) }
     {
         self.text.finish()
     }

@@ -1,6 +1,10 @@
--- No refusal of memory was forgotten.
-use Rattle.text_builder.specs.Texts.{KeepsRefusal}
+-- The form up to the pieces so far, and a rest that is text.
+use denote.Shadow.{shadow}
+use denote.Text.{Utf8}
+use Rattle.std.proofs.Common.{drop}
+use Rattle.text_builder.specs.Texts.{Puts}
+use Rattle.text_builder.proofs.Filled.{Leads}
 use Rattle.text_builder.proofs.TextBuilder.fill.Given as goal
 
-abbrev pub invariant-loop-words : goal.invariant-loop-words
-invariant-loop-words g l = KeepsRefusal l.fn.self l.self
+abbrev pub invariant-loop-piece : goal.invariant-loop-piece
+invariant-loop-piece g l = Puts (Leads g.P.Append.appends l.fn.form l.pieces l.rest (drop l.piece-index l.pieces)) l.fn.self l.self × shadow (Utf8 l.rest)

@@ -1,6 +1,6 @@
--- No refusal of memory was forgotten.
-use Rattle.text_builder.specs.Texts.{KeepsRefusal}
+-- Any text so far.
+use Rattle.text_builder.specs.Texts.{Grows}
 use Rattle.explain.proofs.explain_text.pieces.put_shown.Given as goal
 
 abbrev pub invariant-loop-place : goal.invariant-loop-place
-invariant-loop-place l = KeepsRefusal l.fn.out l.out
+invariant-loop-place l = Grows l.fn.out l.out

@@ -1,6 +1,6 @@
--- No refusal of memory was forgotten.
-use Rattle.text_builder.specs.Texts.{KeepsRefusal}
+-- Any text so far.
+use Rattle.text_builder.specs.Texts.{Grows}
 use Rattle.request_pictures.proofs.drawing.axes.put_cycle_ticks.Given as goal
 
 abbrev pub invariant-loop-tick : goal.invariant-loop-tick
-invariant-loop-tick l = KeepsRefusal l.fn.out l.out
+invariant-loop-tick l = Grows l.fn.out l.out

@@ -1,4 +1,0 @@
-use Rattle.reports.proofs.table.Table.write_text.Goals as goal
-
-pub returns : goal.returns
-returns g c = rw c.put_last_word-start.ensures.text at c.write_row.ensures

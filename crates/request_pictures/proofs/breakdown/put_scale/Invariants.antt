@@ -1,0 +1,6 @@
+-- Any text so far.
+use Rattle.text_builder.specs.Texts.{Grows}
+use Rattle.request_pictures.proofs.breakdown.put_scale.Given as goal
+
+abbrev pub invariant-loop-place : goal.invariant-loop-place
+invariant-loop-place l = Grows l.fn.out.text l.out.text

@@ -1,0 +1,3 @@
+pub mod Legends
+pub mod Pieces
+pub mod Section
