@@ -47,8 +47,8 @@ impl Signal {
         }
     }
 
-    // Looks this often whether it was raised since its count was `seen`, with a pause behind each look. Gives whether it
-    // was.
+    // Looks this often whether it was raised since its count was `seen`, with a pause behind each look. Gives whether
+    // it was.
     fn spin_past(&self, looks: u32, seen: u64) -> bool {
         for _ in 0..looks {
             if self.count() != seen {

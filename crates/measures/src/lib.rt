@@ -1,5 +1,5 @@
-//! What is measured of a run from its tables: what each bank did, how long requests took and waited, percentiles, rates,
-//! and whether requests are those of the run; and numbers with as many digits as say something.
+//! What is measured of a run from its tables: what each bank did, how long requests took and waited, percentiles,
+//! rates, and whether requests are those of the run; and numbers with as many digits as say something.
 #![tactic(auto)]
 
 pub mod bank_counts;

@@ -174,7 +174,8 @@ impl Number {
     /// What percentage of the whole a part is; none for a whole of 0.
     pub fn percent(part: u128, whole: u128) -> Number
         requires { part < 2 ^ 80 }
-        ensures { result ≡ record { halves = halves_of (100 * part) whole; form = NumberForm.Percent } }
+        ensures { result
+            ≡ record { halves = halves_of (100 * part) whole; form = NumberForm.Percent } }
     {
         Number::quotient(100 * part, whole, NumberForm::Percent)
     }

@@ -233,7 +233,7 @@ fn write_framed<W: Write>(contents: &str, writer: &mut W) -> io::Result<()>
 ///
 /// # Errors
 ///
-/// An error of `OutOfMemory` where memory is refused; nothing is then written. The writer's error where it fails.
+/// An error of `OutOfMemory` where memory is refused, and the writer's error where it fails.
 pub fn write_document<W: Write>(alloc: Global, run: &Run<'_>, writer: &mut W) -> io::Result<()>
     ensures { OnOk result (WritesDocument (W.contents writer.old) (W.contents writer.new)) }
 {
