@@ -1,6 +1,6 @@
 //! What is said of a table that is refused.
 
-use crate::explain_text::pieces::Piece::{Foreign, Number};
+use crate::explain_text::fragments::Fragment::{Foreign, Number};
 use csv::{ByteRecord, Reader, ReaderBuilder};
 use std::alloc::{AllocError, Global};
 use text_builder::TextBuilder;

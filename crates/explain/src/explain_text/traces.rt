@@ -1,7 +1,7 @@
 //! What is said of a trace that is refused.
 
+use crate::explain_text::fragments::Fragment::{Foreign, Number, Words};
 use crate::explain_text::lines::line_at;
-use crate::explain_text::pieces::Piece::{Foreign, Number, Words};
 use cpu_trace::number::read_number;
 use sim_base::fault::LineCause;
 use std::alloc::{AllocError, Global};
