@@ -17,3 +17,16 @@ returns-in_err-out-clause-others g c = rw c.as_str-path.ensures.value at c.creat
 
 pub returns-clause-fault : goal.returns-clause-fault
 returns-clause-fault g c = c.close.ensures.fault
+
+pub returns-in-Err-clause-whole : goal.returns-in-Err-clause-whole
+returns-in-Err-clause-whole g c = tt
+
+pub returns-in-Err-clause-noted : goal.returns-in-Err-clause-noted
+returns-in-Err-clause-noted g c = tt
+
+pub returns-in-Err-clause-others : goal.returns-in-Err-clause-others
+returns-in-Err-clause-others g c = rw c.as_str-path.ensures.value at c.create.ensures.others
+
+pub returns-clause-noted : goal.returns-clause-noted
+returns-clause-noted g c =
+    on_ok_weaker c.close.result (λ _ tells. c.close.ensures.unopened tells ∙ (rw c.as_str-path.ensures.value at c.in_ok-out.ensures.noted) tells) c.close.ensures.written
