@@ -1,6 +1,5 @@
 use Rattle.std.proofs.Common.{refl}
 use Rattle.std.proofs.lemmas.Result.{IfOk-from_err}
-use Rattle.config_reader.proofs.Refusing.{same_fault}
 use Rattle.answers.proofs.described.document_at.Goals as goal
 
 pub returns-in_err-read-in-Some-clause-text : goal.returns-in_err-read-in-Some-clause-text

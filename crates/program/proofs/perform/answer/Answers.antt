@@ -1,5 +1,5 @@
 use Rattle.std.proofs.Common.{refl, arith}
-use Rattle.program.proofs.DoneFacts.{quiet_ok, quiet_each, quiet_err, quiet_refused, run_ok, run_each, run_err, warned_ok, warned_each, warned_err}
+use Rattle.program.proofs.DoneFacts.{quiet_each, run_ok, run_each, run_err, warned_ok, warned_each, warned_err}
 use Rattle.program.proofs.perform.answer.Goals as goal
 
 pub returns-in-Run-clause-answered : goal.returns-in-Run-clause-answered
