@@ -131,6 +131,25 @@ fn put_fields(text: &mut TextBuilder, record: &ByteRecord) {
     }
 }
 
+// What stands in the row that was read to, if the table has it, and what is wrong with it.
+fn put_row(
+    text: &mut TextBuilder,
+    kind: TableKind,
+    row: u64,
+    record: &ByteRecord,
+    columns: Option<usize>,
+) {
+    match columns {
+        Some(_) => put_fields(text, record),
+        None => text.push_str(" is missing\n"),
+    }
+    match (row, columns) {
+        (0, _) => text.push_str(header_words(kind)),
+        (_, Some(columns)) => put_flaw(text, kind, record, columns),
+        (_, None) => {}
+    }
+}
+
 /// Says what stands in a row of a table, and what is wrong with it, after the path and the row's number; row 0 is the
 /// header.
 pub fn row_text(
@@ -145,16 +164,9 @@ pub fn row_text(
         .from_reader(alloc, table);
     let mut record = ByteRecord::new(alloc);
     let mut text = TextBuilder::new(alloc);
-    let found = read_to(&mut reader, &mut record, row);
-    match found {
-        Ok(Some(_)) => put_fields(&mut text, &record),
-        Ok(None) => text.push_str(" is missing\n"),
+    match read_to(&mut reader, &mut record, row) {
+        Ok(columns) => put_row(&mut text, kind, row, &record, columns),
         Err(_) => text.refuse(),
-    }
-    match (row, found) {
-        (0, _) => text.push_str(header_words(kind)),
-        (_, Ok(Some(columns))) => put_flaw(&mut text, kind, &record, columns),
-        _ => {}
     }
     text.finish()
 }
