@@ -1,19 +1,12 @@
 -- What is so of an answer, of a run or of a page is so of what it has done, or of why it is refused.
-use Rattle.std.proofs.Common.{◌≡◌, Option, None, Result, Ok, Err, ap}
-use Rattle.std.proofs.lemmas.Bool.{false≢true}
+use Rattle.std.proofs.Common.{Option, None, Result, Ok, Err}
 use Rattle.std.specs.Prelude.{IfOk, IfErr, OnOk}
-use Rattle.std.specs.Result.{IsErr, IsErrAnd}
 use Rattle.sim_base.specs.declared.fault.Fault.{Fault}
 use Rattle.refusal.specs.declared.refusal.Refusal.{Refusal}
 use Rattle.refusal.specs.declared.refusal.Refusal.TheVariants.{Kept}
 use Rattle.refusal.specs.declared.warning.LargePage.{LargePage}
 use Rattle.program.specs.Done.{done_with, quietly_done, run_done, warned_done}
 use Rattle.program.specs.declared.done.Done.{Done}
-
--- what `?` returns of a fault is a refusal that leaves what was there
-pub same_refusal : {A : Type 0} (r : Result A Refusal) (e : Fault) → IsErr r × IsErrAnd r (λ refusal. refusal ≡ Kept e) → r ≡ Err (Kept e)
-same_refusal (Ok x) e h = absurd (false≢true h.0)
-same_refusal (Err refusal) e h = ap Err h.1
 
 -- ---- an answer that warns of nothing
 

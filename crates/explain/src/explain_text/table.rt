@@ -12,6 +12,8 @@ pub enum TableKind {
     Commands,
     /// The statistics of a run, `stats.csv`.
     Statistics,
+    /// The requests of a run, `requests.csv`.
+    Requests,
 }
 
 /// The field of a row of commands that says which command it is.
@@ -85,8 +87,15 @@ fn header_words(kind: TableKind) -> &'static str {
             "the header must be cycle,channel,command,group,bank,row,column,core,entry, with rank before group where a channel has several ranks\n"
         }
         TableKind::Statistics => "the header must be scope,id,name,value\n",
+        TableKind::Requests => {
+            "the header must be core,entry,access,channel,issued,arrived,served,replied,hit\n"
+        }
     }
 }
+
+/// What a row of requests must be like.
+static REQUEST: &str =
+    "nine fields must stand there, with a core below 256, read or write, a channel below 16, hit 0 or 1, and no leading zeros; issued, arrived and served do not fall, only a read has a reply, behind its served; and rows stand by served and then by channel\n";
 
 // What is wrong with a row of commands that has as many fields as the header.
 fn put_command_flaw(text: &mut TextBuilder, record: &ByteRecord) {
@@ -120,6 +129,7 @@ fn put_flaw(text: &mut TextBuilder, kind: TableKind, record: &ByteRecord, column
     match kind {
         TableKind::Commands => put_command_flaw(text, record),
         TableKind::Statistics => text.push_str("a run writes another record there\n"),
+        TableKind::Requests => text.push_str(REQUEST),
     }
 }
 

@@ -21,12 +21,12 @@ pub returns-in_err-ask-clause-quiet : goal.returns-in_err-ask-clause-quiet
 returns-in_err-ask-clause-quiet g c = IfOk-from_err c.from_residual.result _ c.from_residual.ensures.0
 
 pub returns-clause-answered : goal.returns-clause-answered
-returns-clause-answered g c = 
+returns-clause-answered g c =
     IfOk-weaker c.answer.result _ _ (λ done is tells. record { ask = c.in_ok-ask.ask; asked = c.in_ok-ask.ensures.asked; answer = is tells }) c.answer.ensures.answered
 
 pub returns-clause-status : goal.returns-clause-status
 returns-clause-status g c = c.answer.ensures.status
 
 pub returns-clause-refused : goal.returns-clause-refused
-returns-clause-refused g c = 
+returns-clause-refused g c =
     IfErr-weaker c.answer.result _ _ (λ refusal left tells. inr (record { ask = c.in_ok-ask.ask; asked = c.in_ok-ask.ensures.asked; left = left tells })) c.answer.ensures.refused

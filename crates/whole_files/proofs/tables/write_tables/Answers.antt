@@ -1,5 +1,4 @@
 use Rattle.std.proofs.Common.{◌++◌, map, string_bytes, sym, ap, subst, ◌∙◌}
-use Rattle.std.proofs.lemmas.Result.{IfOk-from_err}
 use Rattle.whole_files.specs.Tables.{from_paths, AreApart, ArePut, AreRemoved, SameOutside}
 use Rattle.whole_files.specs.Planned.{planned_of}
 use Rattle.whole_files.proofs.Places.{plan-apart, written}
@@ -23,27 +22,3 @@ pub returns-clause-noted : goal.returns-clause-noted
 returns-clause-noted g c = λ tells.
     let same = ap (map planned_of) c.deref.ensures.value ∙ c.in_ok-planned.ensures.planned in
     c.remove_all.ensures.unopened tells ∙ c.in_ok-write_planned.ensures.noted tells ∙ ap (λ ps. g.F.FileSet.opened c.args.files.now ++ from_paths ps) same
-
-pub returns-in_err-planned-clause-written : goal.returns-in_err-planned-clause-written
-returns-in_err-planned-clause-written g c = IfOk-from_err c.from_residual.result _ c.from_residual.ensures.0
-
-pub returns-in_err-planned-clause-noted : goal.returns-in_err-planned-clause-noted
-returns-in_err-planned-clause-noted g c = IfOk-from_err c.from_residual.result _ c.from_residual.ensures.0
-
-pub returns-in_err-others-clause-written : goal.returns-in_err-others-clause-written
-returns-in_err-others-clause-written g c = IfOk-from_err c.from_residual-in_err-others.result _ c.from_residual-in_err-others.ensures.0
-
-pub returns-in_err-others-clause-noted : goal.returns-in_err-others-clause-noted
-returns-in_err-others-clause-noted g c = IfOk-from_err c.from_residual-in_err-others.result _ c.from_residual-in_err-others.ensures.0
-
-pub returns-in_err-write_planned-clause-written : goal.returns-in_err-write_planned-clause-written
-returns-in_err-write_planned-clause-written g c = IfOk-from_err c.from_residual-in_err-write_planned.result _ c.from_residual-in_err-write_planned.ensures.0
-
-pub returns-in_err-write_planned-clause-noted : goal.returns-in_err-write_planned-clause-noted
-returns-in_err-write_planned-clause-noted g c = IfOk-from_err c.from_residual-in_err-write_planned.result _ c.from_residual-in_err-write_planned.ensures.0
-
-pub returns-clause-refused : goal.returns-clause-refused
-returns-clause-refused g c = tt
-
-pub returns-clause-fault : goal.returns-clause-fault
-returns-clause-fault g c = tt
