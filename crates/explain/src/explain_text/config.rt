@@ -64,7 +64,7 @@ fn put_flaw(text: &mut TextBuilder, document: &Section<'_>, fault: Fault) {
 }
 
 /// Says why a document is refused, by its path and its fault, from 1 to 4, after the path and a colon.
-pub fn config_text(
+pub(crate) fn config_text(
     alloc: Global,
     fault: Fault,
     path: &str,

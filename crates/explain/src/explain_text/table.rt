@@ -162,7 +162,7 @@ fn put_row(
 
 /// Says what stands in a row of a table, and what is wrong with it, after the path and the row's number; row 0 is the
 /// header.
-pub fn row_text(
+pub(crate) fn row_text(
     alloc: Global,
     kind: TableKind,
     row: u64,
