@@ -6,7 +6,7 @@ ghost use Rattle.answers.specs.Inputs.{Prints, HasOwnCommands, IsBanksScreenOf, 
 ghost use Rattle.answers.specs.Pages.{IsNoPage};
 
 use crate::folder::RunFolder;
-use crate::print::print_screen;
+use crate::print::print_answer;
 use crate::requests::{add_requests, requests_in};
 use crate::tables::{RunTables, stranger, tables_in};
 use page::fault::PageFault;
@@ -94,5 +94,5 @@ pub fn perform_show_banks<F: FileSet, P: Write>(
 {
     let found = tables_in(alloc, files, folder)?;
     let screen = screen_in(alloc, files, folder.dir, &found, options);
-    print_screen(alloc, output, screen)
+    print_answer(alloc, output, screen)
 }

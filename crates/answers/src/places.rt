@@ -6,7 +6,7 @@ ghost use Rattle.answers.specs.Answers.{rank_words, place_line};
 ghost use Rattle.answers.specs.Inputs.{Prints, LiesAt, CanMap, BarsMap, Maps, RefusesMap};
 
 use crate::explained::configuration_of;
-use crate::print::print_text;
+use crate::print::print_answer;
 use address_map::place_of;
 use refusal::reason::Reason;
 use sim_base::fault::Fault;
@@ -33,7 +33,7 @@ fn find_place<F: FileSet>(
     Ok((config.ranks, place_of(&config, address)))
 }
 
-fn rank_words_of(alloc: Global, ranks: u32, rank: u32) -> Result<String, Fault>
+fn rank_words_of(alloc: Global, ranks: u32, rank: u32) -> Result<String, Reason>
     ensures words { IfOk result (λ s. string_bytes s ≡ rank_words ranks rank) }
     ensures fault { IfErr result (λ e. e ≡ Fault.Memory) }
 {
@@ -44,7 +44,7 @@ fn rank_words_of(alloc: Global, ranks: u32, rank: u32) -> Result<String, Fault>
     }
 }
 
-fn place_line_of(alloc: Global, ranks: u32, place: Place) -> Result<String, Fault>
+fn place_line_of(alloc: Global, ranks: u32, place: Place) -> Result<String, Reason>
     ensures line { IfOk result (λ s. string_bytes s ≡ place_line ranks place) }
     ensures fault { IfErr result (λ e. e ≡ Fault.Memory) }
 {
@@ -76,6 +76,5 @@ pub fn perform_map<F: FileSet, P: Write>(
     ensures unopened { F.tells → F.opened files.new ≡ F.opened files.old }
 {
     let (ranks, place) = find_place(alloc, files, config, address)?;
-    let line = place_line_of(alloc, ranks, place)?;
-    print_text(alloc, output, line.as_str())
+    print_answer(alloc, output, place_line_of(alloc, ranks, place))
 }

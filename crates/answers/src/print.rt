@@ -27,17 +27,17 @@ pub fn print_text<P: Write>(alloc: Global, output: &mut P, text: &str) -> Result
     }
 }
 
-/// Puts a screen on the stream of answers, unless it is refused.
-pub(crate) fn print_screen<P: Write>(
+/// Puts an answer on the stream of answers, unless it is refused.
+pub(crate) fn print_answer<P: Write>(
     alloc: Global,
     output: &mut P,
-    screen: Result<String, Reason>,
+    answer: Result<String, Reason>,
 ) -> Result<(), Reason>
-    ensures printed { OnOk result (IsOkAnd screen (λ text.
+    ensures printed { OnOk result (IsOkAnd answer (λ text.
         Prints P.Write output.old output.new (string_bytes text))) }
-    ensures fault { IfErr result (λ e. (e ≡ Fault.Write) ⊎ IsErrAnd screen (λ f. e ≡ f)) }
+    ensures fault { IfErr result (λ e. (e ≡ Fault.Write) ⊎ IsErrAnd answer (λ f. e ≡ f)) }
 {
-    match screen {
+    match answer {
         Ok(text) => print_text(alloc, output, text.as_str()),
         Err(reason) => Err(reason),
     }

@@ -9,6 +9,7 @@ ghost use Rattle.answers.specs.Refused.{IsRowRefusal};
 ghost use Rattle.answers.specs.Requests.{AreRequestsOf, IsNoRequests};
 ghost use Rattle.answers.specs.Inputs.{IsTextAt, ReadsRequests, BarsRequests, FindsRequests, BarsRequestsIn, GetsRequests};
 
+use explain::{TableKind, of_table};
 use measures::request_check::agreement::{Mismatch, check_requests, row_of};
 use measures::request_check::tally::{Tally, told};
 use refusal::reason::Reason;
@@ -22,21 +23,6 @@ use std::alloc::{AllocError, Global};
 use whole_files::files::FileSet;
 use whole_files::moves::path_of;
 
-/// What a row of requests must be like.
-static REQUEST: &str =
-    "nine fields must stand there, with a core below 256, read or write, a channel below 16, hit 0 or 1, and no leading zeros; issued, arrived and served do not fall, only a read has a reply, behind its served; and rows stand by served and then by channel";
-
-// What is said of a row that is not one of requests.
-fn row_text(alloc: Global, path: &str, fault: Fault) -> Result<String, AllocError> {
-    match fault {
-        Fault::CheckRow(0) => format!(in alloc;
-            "{path}: row 0: the header must be core,entry,access,channel,issued,arrived,served,replied,hit\n"
-        ),
-        Fault::CheckRow(row) => format!(in alloc; "{path}: row {row}: {REQUEST}\n"),
-        _ => Ok(String::new(alloc)),
-    }
-}
-
 // The rows of a table of requests.
 fn rows_of(alloc: Global, path: &str, table: &[u8]) -> Result<Vec<RequestTimes>, Reason>
     ensures read { IfOk result (λ rows. IsRequestTable (records_of table.now) rows.items) }
@@ -44,7 +30,10 @@ fn rows_of(alloc: Global, path: &str, table: &[u8]) -> Result<Vec<RequestTimes>,
 {
     match read_requests(alloc, table) {
         Ok(rows) => Ok(rows),
-        Err(fault) => Err(Reason::explained(fault, row_text(alloc, path, fault))),
+        Err(fault) => Err(Reason::explained(
+            fault,
+            of_table(alloc, fault, TableKind::Requests, path, table),
+        )),
     }
 }
 

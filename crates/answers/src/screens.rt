@@ -8,7 +8,7 @@ ghost use Rattle.whole_files.specs.Files.{SameFiles};
 
 use crate::described::{RunRecord, described, document_at};
 use crate::folder::RunFolder;
-use crate::print::print_screen;
+use crate::print::print_answer;
 use crate::requests::{add_requests, requests_in};
 use refusal::reason::Reason;
 use request_table::times::RequestTimes;
@@ -110,5 +110,5 @@ pub fn perform_show<F: FileSet, P: Write>(
 {
     let run = run_in(alloc, files, folder)?;
     let screen = screen_in(alloc, files, folder.dir, &run, options);
-    print_screen(alloc, output, screen)
+    print_answer(alloc, output, screen)
 }

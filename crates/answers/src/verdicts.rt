@@ -6,7 +6,7 @@ ghost use Rattle.answers.specs.Answers.{verdict_line};
 ghost use Rattle.answers.specs.Inputs.{Prints, IsVerdictAt, CanCheck, BarsCheck, Checks, RefusesCheck};
 
 use crate::explained::{configuration_of, verdict_of};
-use crate::print::print_text;
+use crate::print::print_answer;
 use refusal::reason::Reason;
 use rule_check::Verdict;
 use sim_base::fault::Fault;
@@ -33,7 +33,7 @@ fn judge<F: FileSet>(
     verdict_of(alloc, &config, commands, &table)
 }
 
-fn verdict_line_of(alloc: Global, found: Verdict) -> Result<String, Fault>
+fn verdict_line_of(alloc: Global, found: Verdict) -> Result<String, Reason>
     ensures line { IfOk result (λ s. string_bytes s ≡ verdict_line found) }
     ensures fault { IfErr result (λ e. e ≡ Fault.Memory) }
 {
@@ -65,7 +65,6 @@ pub fn perform_check<F: FileSet, P: Write>(
     ensures unopened { F.tells → F.opened files.new ≡ F.opened files.old }
 {
     let found = judge(alloc, files, config, commands)?;
-    let line = verdict_line_of(alloc, found)?;
-    print_text(alloc, output, line.as_str())?;
+    print_answer(alloc, output, verdict_line_of(alloc, found))?;
     Ok(found)
 }

@@ -3,9 +3,9 @@ use Rattle.std.proofs.Common.{◌≡◌, ◌&&◌, ◌+◌, ◌<◌, ℕ, Bool, 
 use Rattle.std.proofs.lemmas.List.Sums.{fold_more}
 use Rattle.clap.specs.Words.{AddsSubcommand, App, app_of, new_app, with_subcommand}
 use Rattle.clap.specs.declared.builder.command.Command.{Command}
-use Rattle.command_line.specs.CommandLine.{with_argument, app_in, with_entry}
+use Rattle.command_line.specs.CommandLine.{with_argument, app_in, with_below}
 use Rattle.command_line.specs.declared.command_line.Argument.{Argument}
-use Rattle.command_line.specs.declared.command_line.Entry.{Entry}
+use Rattle.command_line.specs.declared.command_line.Subcommand.{Subcommand}
 
 -- the third of four tests
 third_false : (a b c rest : Bool) → (a && (not b && (not c && rest))) ≡ true → c ≡ false
@@ -26,10 +26,10 @@ plain app [] is = is
 plain app (x ∷ xs) is = plain (with_argument app x) xs is
 
 -- a command with one more of the program's below it
-pub one_more : (below old new : Command) (app : App) (entries : List Entry) (i : ℕ) (default : Entry) → app_of old ≡ fold with_entry app (take i entries)
-    → i < length entries → app_of below ≡ app_in (get_or entries i default) → AddsSubcommand old below new → app_of new ≡ fold with_entry app (take (i + 1) entries)
-one_more below old new app entries i default above lt is adds =
-    let entry = get_or entries i default in
-    adds.shape (no_global _ _ _ _ _ _ is (plain (new_app entry.name.now) entry.arguments.now refl) refl)
+pub one_more : (below old new : Command) (app : App) (commands : List Subcommand) (i : ℕ) (default : Subcommand) → app_of old ≡ fold with_below app (take i commands)
+    → i < length commands → app_of below ≡ app_in (get_or commands i default) → AddsSubcommand old below new → app_of new ≡ fold with_below app (take (i + 1) commands)
+one_more below old new app commands i default above lt is adds =
+    let command = get_or commands i default in
+    adds.shape (no_global _ _ _ _ _ _ is (plain (new_app command.name.now) command.arguments.now refl) refl)
     ∙ ap₂ with_subcommand above (ap (λ (a : App). a.top) is)
-    ∙ sym (fold_more with_entry app entries i default lt)
+    ∙ sym (fold_more with_below app commands i default lt)

@@ -2,11 +2,11 @@
 --     clock_of text      what a text states, in kHz
 use Rattle.std.specs.Prelude.{ℕ, ◌+◌, ◌-◌, ◌*◌, ◌==◌, ◌&&◌, nat_le, nat_lt, List, fold, Option, Some, None, if◌then◌else◌}
 use Rattle.command_line.specs.declared.clock.Reading.{Reading}
-use Rattle.command_line.specs.declared.clock.Place.{Place}
-use Rattle.command_line.specs.declared.clock.Place.TheVariants.{Whole, Tenth, Hundredth, Thousandth, End}
+use Rattle.command_line.specs.declared.clock.DigitPlace.{DigitPlace}
+use Rattle.command_line.specs.declared.clock.DigitPlace.TheVariants.{Whole, Tenth, Hundredth, Thousandth, End}
 
 -- a point, which stands behind whole digits alone
-abbrev pub point_at : ℕ → Place → Option Reading
+abbrev pub point_at : ℕ → DigitPlace → Option Reading
 point_at thousandths Whole = Some (record { thousandths = thousandths; place = Tenth })
 point_at thousandths _ = None
 
@@ -14,7 +14,7 @@ abbrev pub with_point : Reading → Option Reading
 with_point read = point_at read.thousandths read.place
 
 -- a digit at a place; none stands behind the thousandths
-abbrev pub digit_at : ℕ → Place → ℕ → Option Reading
+abbrev pub digit_at : ℕ → DigitPlace → ℕ → Option Reading
 digit_at sum Whole digit = Some (record { thousandths = 10 * sum + 1000 * digit; place = Whole })
 digit_at sum Tenth digit = Some (record { thousandths = sum + 100 * digit; place = Hundredth })
 digit_at sum Hundredth digit = Some (record { thousandths = sum + 10 * digit; place = Thousandth })

@@ -5,7 +5,7 @@ ghost use Rattle.command_line.specs.Clock.{with_point, with_digit, with_byte, re
 
 /// The place of the next digit of a decimal number.
 #[derive(Clone, Copy)]
-enum Place {
+enum DigitPlace {
     Whole,
     Tenth,
     Hundredth,
@@ -18,7 +18,7 @@ enum Place {
 #[derive(Clone, Copy)]
 struct Reading {
     thousandths: u64,
-    place: Place,
+    place: DigitPlace,
 }
 
 /// No clock has as many thousandths of a MHz.
@@ -29,9 +29,9 @@ fn with_point(read: Reading) -> Option<Reading>
     ensures { result ≡ with_point read }
 {
     match read.place {
-        Place::Whole => Some(Reading {
+        DigitPlace::Whole => Some(Reading {
             thousandths: read.thousandths,
-            place: Place::Tenth,
+            place: DigitPlace::Tenth,
         }),
         _ => None,
     }
@@ -44,11 +44,11 @@ fn with_digit(read: Reading, digit: u64) -> Option<Reading>
 {
     let sum = read.thousandths;
     let (thousandths, place) = match read.place {
-        Place::Whole => (10 * sum + 1_000 * digit, Place::Whole),
-        Place::Tenth => (sum + 100 * digit, Place::Hundredth),
-        Place::Hundredth => (sum + 10 * digit, Place::Thousandth),
-        Place::Thousandth => (sum + digit, Place::End),
-        Place::End => return None,
+        DigitPlace::Whole => (10 * sum + 1_000 * digit, DigitPlace::Whole),
+        DigitPlace::Tenth => (sum + 100 * digit, DigitPlace::Hundredth),
+        DigitPlace::Hundredth => (sum + 10 * digit, DigitPlace::Thousandth),
+        DigitPlace::Thousandth => (sum + digit, DigitPlace::End),
+        DigitPlace::End => return None,
     };
     Some(Reading { thousandths, place })
 }
@@ -82,7 +82,7 @@ pub fn read_clock(text: &str) -> Option<u64>
 {
     let start = Some(Reading {
         thousandths: 0,
-        place: Place::Whole,
+        place: DigitPlace::Whole,
     });
     let read = text
         .as_bytes()

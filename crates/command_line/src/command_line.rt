@@ -2,7 +2,7 @@
 
 ghost use Rattle.std.specs.Prelude.{◌≡◌, fold, IfOk, false};
 ghost use Rattle.clap.specs.Words.{app_of, new_app, rule_of};
-ghost use Rattle.command_line.specs.CommandLine.{rule_in, app_in, with_entry, program_app};
+ghost use Rattle.command_line.specs.CommandLine.{rule_in, app_in, with_below, program_app};
 
 use clap::{Arg, ArgAction, Command, value_parser};
 use std::alloc::{AllocError, Global};
@@ -30,19 +30,19 @@ const COMPARE_EXAMPLE: &str = "Example, after runs into two folders:
 
 /// How an argument is given.
 #[derive(Clone, Copy)]
-enum Form {
+enum ArgumentKind {
     /// A word that has to be given.
-    Text,
+    Positional,
     /// One word or more.
-    Texts,
+    Positionals,
     /// An option that takes a word.
-    Choice,
+    RequiredText,
     /// An option that takes a number.
-    Number,
+    RequiredNumber,
     /// An option that takes a word and may be left out.
-    Word,
+    OptionalText,
     /// An option that takes a number and may be left out.
-    Count,
+    OptionalNumber,
     /// An option that takes nothing.
     Flag,
 }
@@ -51,7 +51,7 @@ enum Form {
 #[derive(Clone, Copy)]
 struct Argument {
     id: &'static str,
-    form: Form,
+    kind: ArgumentKind,
     /// What stands for its value.
     name: &'static str,
     help: &'static str,
@@ -59,7 +59,7 @@ struct Argument {
 
 /// A command of the program.
 #[derive(Clone, Copy)]
-struct Entry {
+struct Subcommand {
     name: &'static str,
     about: &'static str,
     example: &'static str,
@@ -73,221 +73,208 @@ fn arg_of<'a>(alloc: Global, argument: &Argument) -> Arg<'a>
 {
     let Argument {
         id,
-        form,
+        kind,
         name,
         help,
     } = *argument;
     let bare = Arg::new(alloc, id).help(help);
-    match form {
-        Form::Text => bare.value_name(name).required(true),
-        Form::Texts => bare
+    match kind {
+        ArgumentKind::Positional => bare.value_name(name).required(true),
+        ArgumentKind::Positionals => bare
             .value_name(name)
             .required(true)
             .action(ArgAction::Append),
-        Form::Choice => bare.value_name(name).required(true).long(id),
-        Form::Number => bare
+        ArgumentKind::RequiredText => bare.value_name(name).required(true).long(id),
+        ArgumentKind::RequiredNumber => bare
             .value_name(name)
             .required(true)
             .long(id)
             .value_parser(value_parser!(u64)),
-        Form::Word => bare.value_name(name).long(id),
-        Form::Count => bare
+        ArgumentKind::OptionalText => bare.value_name(name).long(id),
+        ArgumentKind::OptionalNumber => bare
             .value_name(name)
             .long(id)
             .value_parser(value_parser!(u64)),
-        Form::Flag => bare.long(id).action(ArgAction::SetTrue),
+        ArgumentKind::Flag => bare.long(id).action(ArgAction::SetTrue),
     }
 }
 
+/// The configuration that a command reads.
+const CONFIG: Argument = Argument {
+    id: "config",
+    kind: ArgumentKind::Positional,
+    name: "CONFIG",
+    help: "The configuration, a TOML file",
+};
+
+/// The folder of one run.
+const DIR: Argument = Argument {
+    id: "dir",
+    kind: ArgumentKind::Positional,
+    name: "DIR",
+    help: "The folder with the tables of a run",
+};
+
+/// The configuration of a run whose tables are read.
+const RUN_CONFIG: Argument = Argument {
+    id: "config",
+    kind: ArgumentKind::OptionalText,
+    name: "FILE",
+    help: "The configuration of the run",
+};
+
+/// The clock of the memory of that run.
+const CLOCK: Argument = Argument {
+    id: "mhz",
+    kind: ArgumentKind::OptionalText,
+    name: "N",
+    help: "The clock in MHz, for times and data rates",
+};
+
 /// The commands.
-static ENTRIES: [Entry; 6] = [
+static SUBCOMMANDS: [Subcommand; 6] = [
     // run CONFIG --cycles N --workers N [--share WHEN] [--tables LIST] --out DIR TRACE...
-    Entry {
+    Subcommand {
         name: "run",
         about: "Simulates traces and writes the commands",
         example: RUN_EXAMPLE,
         arguments: &[
-            Argument {
-                id: "config",
-                form: Form::Text,
-                name: "CONFIG",
-                help: "The configuration, a TOML file",
-            },
+            CONFIG,
             Argument {
                 id: "cycles",
-                form: Form::Number,
+                kind: ArgumentKind::RequiredNumber,
                 name: "N",
                 help: "How many cycles to simulate, at most",
             },
             Argument {
                 id: "workers",
-                form: Form::Number,
+                kind: ArgumentKind::RequiredNumber,
                 name: "N",
                 help: "How many threads work, 1 to 64",
             },
             Argument {
                 id: "share",
-                form: Form::Word,
+                kind: ArgumentKind::OptionalText,
                 name: "WHEN",
                 help: "When they share a machine out, auto or always [default: auto]",
             },
             Argument {
                 id: "tables",
-                form: Form::Word,
+                kind: ArgumentKind::OptionalText,
                 name: "LIST",
                 help: "Of commands, stats, final and requests [default: the first 3]",
             },
             Argument {
                 id: "out",
-                form: Form::Choice,
+                kind: ArgumentKind::RequiredText,
                 name: "DIR",
                 help: "The folder for the tables, which must exist",
             },
             Argument {
                 id: "trace",
-                form: Form::Texts,
+                kind: ArgumentKind::Positionals,
                 name: "TRACE",
                 help: "The trace of each core, in order",
             },
         ],
     },
     // check CONFIG COMMANDS
-    Entry {
+    Subcommand {
         name: "check",
         about: "Tests a table of commands against the DDR4 rules",
         example: CHECK_EXAMPLE,
         arguments: &[
-            Argument {
-                id: "config",
-                form: Form::Text,
-                name: "CONFIG",
-                help: "The configuration, a TOML file",
-            },
+            CONFIG,
             Argument {
                 id: "commands",
-                form: Form::Text,
+                kind: ArgumentKind::Positional,
                 name: "COMMANDS",
                 help: "The table of commands, a CSV file",
             },
         ],
     },
     // map CONFIG ADDRESS
-    Entry {
+    Subcommand {
         name: "map",
         about: "Prints where an address lies",
         example: MAP_EXAMPLE,
         arguments: &[
-            Argument {
-                id: "config",
-                form: Form::Text,
-                name: "CONFIG",
-                help: "The configuration, a TOML file",
-            },
+            CONFIG,
             Argument {
                 id: "address",
-                form: Form::Text,
+                kind: ArgumentKind::Positional,
                 name: "ADDRESS",
                 help: "A decimal number, or one after 0x",
             },
         ],
     },
     // show DIR [--all] [--banks] [--config FILE] [--mhz N]
-    Entry {
+    Subcommand {
         name: "show",
         about: "Prints what a run did",
         example: SHOW_EXAMPLE,
         arguments: &[
-            Argument {
-                id: "dir",
-                form: Form::Text,
-                name: "DIR",
-                help: "The folder with the tables of a run",
-            },
+            DIR,
             Argument {
                 id: "all",
-                form: Form::Flag,
+                kind: ArgumentKind::Flag,
                 name: "",
                 help: "Tells of each core, however many there are",
             },
             Argument {
                 id: "banks",
-                form: Form::Flag,
+                kind: ArgumentKind::Flag,
                 name: "",
                 help: "Tells of each bank too",
             },
-            Argument {
-                id: "config",
-                form: Form::Word,
-                name: "FILE",
-                help: "The configuration of the run",
-            },
-            Argument {
-                id: "mhz",
-                form: Form::Word,
-                name: "N",
-                help: "The clock in MHz, for times and data rates",
-            },
+            RUN_CONFIG,
+            CLOCK,
         ],
     },
     // page DIR FILE [--config FILE] [--mhz N] [--from N] [--cycles N]
-    Entry {
+    Subcommand {
         name: "page",
         about: "Draws what a run did as a page of HTML",
         example: PAGE_EXAMPLE,
         arguments: &[
-            Argument {
-                id: "dir",
-                form: Form::Text,
-                name: "DIR",
-                help: "The folder with the tables of a run",
-            },
+            DIR,
             Argument {
                 id: "file",
-                form: Form::Text,
+                kind: ArgumentKind::Positional,
                 name: "FILE",
                 help: "The page, an HTML file",
             },
-            Argument {
-                id: "config",
-                form: Form::Word,
-                name: "FILE",
-                help: "The configuration of the run",
-            },
-            Argument {
-                id: "mhz",
-                form: Form::Word,
-                name: "N",
-                help: "The clock in MHz, for times and data rates",
-            },
+            RUN_CONFIG,
+            CLOCK,
             Argument {
                 id: "from",
-                form: Form::Count,
+                kind: ArgumentKind::OptionalNumber,
                 name: "N",
                 help: "The first cycle of the timeline [default: 0]",
             },
             Argument {
                 id: "cycles",
-                form: Form::Count,
+                kind: ArgumentKind::OptionalNumber,
                 name: "N",
                 help: "How many cycles it shows [default: 2000]",
             },
         ],
     },
     // compare DIR DIR... [--csv]
-    Entry {
+    Subcommand {
         name: "compare",
         about: "Compares runs with the first of them",
         example: COMPARE_EXAMPLE,
         arguments: &[
             Argument {
                 id: "dir",
-                form: Form::Texts,
+                kind: ArgumentKind::Positionals,
                 name: "DIR",
                 help: "The folders with the tables of two runs or more",
             },
             Argument {
                 id: "csv",
-                form: Form::Flag,
+                kind: ArgumentKind::Flag,
                 name: "",
                 help: "Prints a table of CSV in place of a screen",
             },
@@ -303,11 +290,11 @@ fn bare_command<'a>(alloc: Global, name: &'a str, about: &'a str, example: &'a s
 }
 
 // A command with its arguments.
-fn command_of<'a>(alloc: Global, entry: &Entry) -> Result<Command<'a>, AllocError>
-    ensures { IfOk result (λ c. app_of c ≡ app_in entry.now) }
+fn command_of<'a>(alloc: Global, subcommand: &Subcommand) -> Result<Command<'a>, AllocError>
+    ensures { IfOk result (λ c. app_of c ≡ app_in subcommand.now) }
 {
-    let mut command = bare_command(alloc, entry.name, entry.about, entry.example);
-    for argument in entry.arguments {
+    let mut command = bare_command(alloc, subcommand.name, subcommand.about, subcommand.example);
+    for argument in subcommand.arguments {
         let longer = command.arg(arg_of(alloc, argument))?;
         command = longer;
     }
@@ -315,16 +302,16 @@ fn command_of<'a>(alloc: Global, entry: &Entry) -> Result<Command<'a>, AllocErro
 }
 
 // A command with these below it.
-fn with_commands<'a>(
+fn with_subcommands<'a>(
     alloc: Global,
     bare: Command<'a>,
-    entries: &[Entry],
+    subcommands: &[Subcommand],
 ) -> Result<Command<'a>, AllocError>
-    ensures { IfOk result (λ c. app_of c ≡ fold with_entry (app_of bare.entry) entries.now) }
+    ensures { IfOk result (λ c. app_of c ≡ fold with_below (app_of bare.entry) subcommands.now) }
 {
     let mut command = bare;
-    for entry in entries {
-        let below = command_of(alloc, entry)?;
+    for subcommand in subcommands {
+        let below = command_of(alloc, subcommand)?;
         let longer = command.subcommand(below)?;
         command = longer;
     }
@@ -338,5 +325,5 @@ pub fn program<'a>(alloc: Global) -> Result<Command<'a>, AllocError>
     let bare = bare_command(alloc, "dramsim", "Simulates DDR4 main memory", RUN_EXAMPLE)
         .version(VERSION)
         .subcommand_required(true);
-    with_commands(alloc, bare, &ENTRIES)
+    with_subcommands(alloc, bare, &SUBCOMMANDS)
 }

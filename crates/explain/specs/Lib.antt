@@ -2,5 +2,5 @@ pub mod Counts
 pub mod Heads
 pub mod Host
 pub mod Numbers
-pub mod Pieces
+pub mod Fragments
 pub mod Silence

@@ -5,11 +5,11 @@
 //! words, which are tested.
 
 pub mod config;
+mod fragments;
 mod keys;
 mod lines;
 mod links;
 mod nearest;
-mod pieces;
 mod relations;
 mod section;
 pub mod table;

@@ -7,7 +7,7 @@
 
 mod config;
 mod counts;
-pub mod explain_text;
+mod explain_text;
 mod heads;
 mod host;
 mod numbers;

@@ -1,3 +1,4 @@
 pub mod AnswerFacts
+pub mod DoneFacts
 pub mod ReadInputs
 pub mod RefusedFacts

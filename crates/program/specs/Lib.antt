@@ -1,4 +1,5 @@
 pub mod Answered
+pub mod Done
 pub mod Refused
 pub mod Told
 pub mod Runs

@@ -8,7 +8,6 @@
 --     IsAskFault tells held ask fault      why what is asked is refused
 --     IsFaultOf tells held words fault      the same for the words of a command line
 use Rattle.std.specs.Prelude.{◌≡◌, ◌⊎◌, ℕ, true, ⊤, List, [], ◌∷◌, map, option_map, IsOk}
-use Rattle.clap.specs.Words.{Text}
 use Rattle.sim_base.specs.declared.fault.Fault.{Fault}
 use Rattle.sim_base.specs.declared.fault.Fault.TheVariants.{Memory, CommandLine, Write}
 use Rattle.simulation.specs.Runs.{input_of, IsRefusal}
@@ -22,7 +21,7 @@ use Rattle.command_line.specs.declared.words.Ask.{Ask}
 use Rattle.command_line.specs.declared.words.Ask.TheVariants.{Run, Check, Map, Show, ShowBanks, Page, Compare, Help, Version}
 
 -- the words call for no help and no version, and the command line does not take them, unless a word of theirs is bad
-pub record HasNoAsk (words : List Text) : Type 0 where
+pub record HasNoAsk (words : List (List ℕ)) : Type 0 where
   pub no_help : ¬ (IsCallForHelp words)
   pub no_version : ¬ (IsCallForVersion words)
   pub no_command : is_taken words ≡ true → HasBadWord (command_of words)
@@ -87,12 +86,12 @@ abbrev pub IsAskFault : Type 0 → Held → Ask → Fault → Type 0
 IsAskFault tells held ask fault = IsAnswerFault tells held (named ask) (IsFaultIn ask) (IsRight ask) fault
 
 -- the words ask for something, and that is refused with this fault
-pub record IsFaultOfAsk (tells : Type 0) (held : Held) (words : List Text) (fault : Fault) : Type 0 where
+pub record IsFaultOfAsk (tells : Type 0) (held : Held) (words : List (List ℕ)) (fault : Fault) : Type 0 where
   pub ask : Ask
   pub asked : IsAskedBy words ask
   pub refused : IsAskFault tells held ask fault
 
 -- memory was refused; or the words ask for nothing; or they ask for something, and that is refused with this fault
-abbrev pub IsFaultOf : Type 0 → Held → List Text → Fault → Type 0
+abbrev pub IsFaultOf : Type 0 → Held → List (List ℕ) → Fault → Type 0
 IsFaultOf tells held words fault =
     (fault ≡ Memory) ⊎ ((fault ≡ CommandLine) × HasNoAsk words) ⊎ IsFaultOfAsk tells held words fault

@@ -2,6 +2,7 @@
 -- of files says of itself, `P.Write` what a stream does, and `files.old` is the set before a call. A fact about what
 -- files hold is claimed where the set tells.
 --     sight set stream files output      what can be seen of the files and of the stream of answers
+--     IsSeen set stream old new before after is      what is so of what can be seen before and after a call
 --     words_of words      the words of a command line
 --     traces_of asked, run_paths asked      the files of a run's traces, and all that it reads
 --     ReadsInput, ReadsOutcome set files asked ..      the input of a run, and its outcome
@@ -54,6 +55,10 @@ texts_in input = words_of input.texts.now
 -- what can be seen of the files and of the stream of answers
 abbrev pub sight : {S O P : Type 0} → Files S O → Stream P → S → P → Seen
 sight set stream files output = seen (set.held files) (set.has_folder files) (set.opened files) (stream.contents output)
+
+-- this is so of what can be seen before and after a call, where the set tells
+abbrev pub IsSeen : {S O P : Type 0} → Files S O → Stream P → S → S → P → P → (Seen → Seen → Type 0) → Type 0
+IsSeen set stream old new before after is = set.tells → is (sight set stream old before) (sight set stream new after)
 
 -- ---- files that are read
 

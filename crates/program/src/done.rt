@@ -1,7 +1,10 @@
 //! What the program has done.
 
 ghost use Rattle.std.specs.Prelude.{◌≡◌, None};
+ghost use Rattle.program.specs.Done.{quietly_done, run_done, warned_done};
 
+use refusal::reason::Reason;
+use refusal::refusal::Refusal;
 use refusal::status::DONE;
 use refusal::warning::LargePage;
 
@@ -41,5 +44,35 @@ impl Done {
             status,
             warning: None,
         }
+    }
+}
+
+/// What an answer has done that warns of nothing.
+pub(crate) fn quietly_done(answer: Result<(), Reason>) -> Result<Done, Refusal>
+    ensures { result ≡ quietly_done answer }
+{
+    match answer {
+        Ok(()) => Ok(Done::quiet()),
+        Err(reason) => Err(Refusal::Kept(reason)),
+    }
+}
+
+/// What a run has done.
+pub(crate) fn run_done(run: Result<(), Refusal>) -> Result<Done, Refusal>
+    ensures { result ≡ run_done run }
+{
+    match run {
+        Ok(()) => Ok(Done::quiet()),
+        Err(refusal) => Err(refusal),
+    }
+}
+
+/// What a page has done, and what it warns of.
+pub(crate) fn warned_done(page: Result<Option<LargePage>, Reason>) -> Result<Done, Refusal>
+    ensures { result ≡ warned_done page }
+{
+    match page {
+        Ok(warning) => Ok(Done::with_warning(warning)),
+        Err(reason) => Err(Refusal::Kept(reason)),
     }
 }

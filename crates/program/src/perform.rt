@@ -2,10 +2,10 @@
 
 ghost use Rattle.std.specs.Prelude.{◌≡◌, ◌≢◌, ◌≤◌, IfOk, IfErr};
 ghost use Rattle.program.specs.Answered.{IsAnswer, IsDone, IsQuiet, IsLeft, IsRefusedBy, IsRefused};
-ghost use Rattle.program.specs.Runs.{sight, words_of, RefusesAsk, RefusesWords, WarnsOfPages, IsSilentBut, Answers, Tells};
+ghost use Rattle.program.specs.Runs.{sight, words_of, IsSeen, RefusesAsk, RefusesWords, WarnsOfPages, IsSilentBut, Answers, Tells};
 
 use crate::asked::{run_ask, view_of};
-use crate::done::Done;
+use crate::done::{Done, quietly_done, run_done, warned_done};
 use crate::host::Host;
 use crate::printed::{answer_check, answer_compare, answer_map, answer_show, answer_show_banks};
 use crate::runs::perform_run;
@@ -33,21 +33,16 @@ fn answer<R: Threads + Wait + Sync, W: Watch, F: FileSet, P: Write>(
     files: &mut F,
     output: &mut P,
 ) -> Result<Done, Refusal>
-    ensures answered { let old = sight F.FileSet P.Write files.old output.old in
-        let new = sight F.FileSet P.Write files.new output.new in
-        IfOk result (λ done. F.tells → IsAnswer ask.now done old new) }
+    ensures answered { IfOk result (λ done. IsSeen F.FileSet P.Write files.old files.new
+        output.old output.new (IsAnswer ask.now done)) }
     ensures status { IfOk result (λ done. done.status ≤ 1) }
     ensures quiet { IfOk result (λ done. IsQuiet ask.now done.warning) }
-    ensures refused { let old = sight F.FileSet P.Write files.old output.old in
-        let new = sight F.FileSet P.Write files.new output.new in
-        IfErr result (λ e. F.tells → IsLeft e ask.now old new) }
+    ensures refused { IfErr result (λ e. IsSeen F.FileSet P.Write files.old files.new
+        output.old output.new (IsLeft e ask.now)) }
     ensures fault { IfErr result (RefusesAsk F.FileSet files.old ask.now) }
 {
     match ask {
-        Ask::Run(run) => {
-            perform_run(host, alloc, files, &run_ask(run))?;
-            Ok(Done::quiet())
-        }
+        Ask::Run(run) => run_done(perform_run(host, alloc, files, &run_ask(run))),
         Ask::Check { config, commands } => answer_check(alloc, files, output, config, commands),
         Ask::Map { config, address } => answer_map(alloc, files, output, config, *address),
         Ask::Show(show) => answer_show(alloc, files, output, show),
@@ -57,13 +52,11 @@ fn answer<R: Threads + Wait + Sync, W: Watch, F: FileSet, P: Write>(
                 dir: page.dir,
                 config: page.config,
             };
-            let warning = perform_page(alloc, files, &folder, page.file, view_of(page))?;
-            Ok(Done::with_warning(warning))
+            warned_done(perform_page(alloc, files, &folder, page.file, view_of(page)))
         }
         Ask::Compare { dirs, csv } => answer_compare(alloc, files, output, dirs, *csv),
         Ask::Help(text) | Ask::Version(text) => {
-            print_text(alloc, output, text.as_str())?;
-            Ok(Done::quiet())
+            quietly_done(print_text(alloc, output, text.as_str()))
         }
     }
 }
@@ -76,14 +69,12 @@ fn answer_words<R: Threads + Wait + Sync, W: Watch, F: FileSet, P: Write>(
     files: &mut F,
     output: &mut P,
 ) -> Result<Done, Refusal>
-    ensures answered { let old = sight F.FileSet P.Write files.old output.old in
-        let new = sight F.FileSet P.Write files.new output.new in
-        IfOk result (λ done. F.tells → IsDone (words_of words.now) done old new) }
+    ensures answered { IfOk result (λ done. IsSeen F.FileSet P.Write files.old files.new
+        output.old output.new (IsDone (words_of words.now) done)) }
     ensures status { IfOk result (λ done. done.status ≤ 1) }
     ensures quiet { IfOk result (λ done. WarnsOfPages words.now done.warning) }
-    ensures refused { let old = sight F.FileSet P.Write files.old output.old in
-        let new = sight F.FileSet P.Write files.new output.new in
-        IfErr result (λ e. F.tells → IsRefusedBy e (words_of words.now) old new) }
+    ensures refused { IfErr result (λ e. IsSeen F.FileSet P.Write files.old files.new
+        output.old output.new (IsRefusedBy e (words_of words.now))) }
     ensures fault { IfErr result (RefusesWords F.FileSet files.old words.now) }
 {
     let ask = read_words(alloc, words)?;
@@ -114,17 +105,15 @@ pub fn perform<R: Threads + Wait + Sync, W: Watch, F: FileSet, P: Write, E: Writ
     streams: &mut Streams<P, E>,
 ) -> u8
     ensures status { result ≤ 2 }
-    ensures answered { let old = sight F.FileSet P.Write files.old streams.old.output in
-        let new = sight F.FileSet P.Write files.new streams.new.output in
-        result ≢ 2 → F.tells
-        → Answers E.Write streams.old.errors streams.new.errors words.now result old new }
-    ensures refused { let old = sight F.FileSet P.Write files.old streams.old.output in
-        let new = sight F.FileSet P.Write files.new streams.new.output in
-        result ≡ 2 → F.tells → IsRefused (words_of words.now) old new }
-    ensures told { let old = sight F.FileSet P.Write files.old streams.old.output in
-        let new = sight F.FileSet P.Write files.new streams.new.output in
-        result ≡ 2
-        → Tells E.Write streams.old.errors streams.new.errors F.tells words.now old new }
+    ensures answered { result ≢ 2 → IsSeen F.FileSet P.Write files.old files.new
+        streams.old.output streams.new.output
+        (Answers E.Write streams.old.errors streams.new.errors words.now result) }
+    ensures refused { result ≡ 2 → IsSeen F.FileSet P.Write files.old files.new
+        streams.old.output streams.new.output (IsRefused (words_of words.now)) }
+    ensures told { result ≡ 2
+        → Tells E.Write streams.old.errors streams.new.errors F.tells words.now
+        (sight F.FileSet P.Write files.old streams.old.output)
+        (sight F.FileSet P.Write files.new streams.new.output) }
     ensures silent { result ≢ 2 → IsSilentBut streams.old.errors streams.new.errors words.now }
 {
     match answer_words(host, alloc, words, files, &mut streams.output) {

@@ -3,11 +3,11 @@
 ghost use Rattle.std.specs.Prelude.{◌≡◌, ◌≤◌, None, IfOk, IfErr};
 ghost use Rattle.answers.specs.Inputs.{RefusesCheck, RefusesCompare, RefusesMap};
 ghost use Rattle.program.specs.Answered.{IsAnswer, IsCheckAnswer, IsCompareAnswer, IsMapAnswer, verdict_status};
-ghost use Rattle.program.specs.Runs.{sight, words_of, LeavesFiles, RefusesAsk};
+ghost use Rattle.program.specs.Runs.{words_of, IsSeen, LeavesFiles, RefusesAsk};
 ghost use Rattle.refusal.specs.Refusals.{fault_of};
 
 use crate::asked::{layout_of, options_of};
-use crate::done::Done;
+use crate::done::{Done, quietly_done};
 use answers::banks::perform_show_banks;
 use answers::comparisons::perform_compare;
 use answers::folder::RunFolder;
@@ -41,10 +41,8 @@ pub(crate) fn answer_check<F: FileSet, P: Write>(
     config: &str,
     commands: &str,
 ) -> Result<Done, Refusal>
-    ensures answered { let old = sight F.FileSet P.Write files.old output.old in
-        let new = sight F.FileSet P.Write files.new output.new in
-        IfOk result (λ done. F.tells
-        → IsCheckAnswer config.now commands.now done.status old new) }
+    ensures answered { IfOk result (λ done. IsSeen F.FileSet P.Write files.old files.new
+        output.old output.new (IsCheckAnswer config.now commands.now done.status)) }
     ensures status { IfOk result (λ done. done.status ≤ 1) }
     ensures quiet { IfOk result (λ done. done.warning ≡ None) }
     ensures refused { IfErr result (LeavesFiles F.FileSet files.old files.new) }
@@ -63,17 +61,15 @@ pub(crate) fn answer_map<F: FileSet, P: Write>(
     config: &str,
     address: u64,
 ) -> Result<Done, Refusal>
-    ensures answered { let old = sight F.FileSet P.Write files.old output.old in
-        let new = sight F.FileSet P.Write files.new output.new in
-        IfOk result (λ done. F.tells → IsMapAnswer config.now address done.status old new) }
+    ensures answered { IfOk result (λ done. IsSeen F.FileSet P.Write files.old files.new
+        output.old output.new (IsMapAnswer config.now address done.status)) }
     ensures status { IfOk result (λ done. done.status ≤ 1) }
     ensures quiet { IfOk result (λ done. done.warning ≡ None) }
     ensures refused { IfErr result (LeavesFiles F.FileSet files.old files.new) }
     ensures fault { IfErr result (λ e.
         RefusesMap F.FileSet files.old config.now (fault_of e)) }
 {
-    perform_map(alloc, files, output, config, address)?;
-    Ok(Done::quiet())
+    quietly_done(perform_map(alloc, files, output, config, address))
 }
 
 /// The screen of a run.
@@ -83,9 +79,8 @@ pub(crate) fn answer_show<F: FileSet, P: Write>(
     output: &mut P,
     show: &ShowArguments<'_>,
 ) -> Result<Done, Refusal>
-    ensures answered { let old = sight F.FileSet P.Write files.old output.old in
-        let new = sight F.FileSet P.Write files.new output.new in
-        IfOk result (λ done. F.tells → IsAnswer (Ask.Show show.now) done old new) }
+    ensures answered { IfOk result (λ done. IsSeen F.FileSet P.Write files.old files.new
+        output.old output.new (IsAnswer (Ask.Show show.now) done)) }
     ensures status { IfOk result (λ done. done.status ≤ 1) }
     ensures quiet { IfOk result (λ done. done.warning ≡ None) }
     ensures refused { IfErr result (LeavesFiles F.FileSet files.old files.new) }
@@ -95,8 +90,7 @@ pub(crate) fn answer_show<F: FileSet, P: Write>(
         dir: show.dir,
         config: show.config,
     };
-    perform_show(alloc, files, output, &folder, options_of(show))?;
-    Ok(Done::quiet())
+    quietly_done(perform_show(alloc, files, output, &folder, options_of(show)))
 }
 
 /// The screen of a run, with its banks.
@@ -106,9 +100,8 @@ pub(crate) fn answer_show_banks<F: FileSet, P: Write>(
     output: &mut P,
     show: &ShowArguments<'_>,
 ) -> Result<Done, Refusal>
-    ensures answered { let old = sight F.FileSet P.Write files.old output.old in
-        let new = sight F.FileSet P.Write files.new output.new in
-        IfOk result (λ done. F.tells → IsAnswer (Ask.ShowBanks show.now) done old new) }
+    ensures answered { IfOk result (λ done. IsSeen F.FileSet P.Write files.old files.new
+        output.old output.new (IsAnswer (Ask.ShowBanks show.now) done)) }
     ensures status { IfOk result (λ done. done.status ≤ 1) }
     ensures quiet { IfOk result (λ done. done.warning ≡ None) }
     ensures refused { IfErr result (LeavesFiles F.FileSet files.old files.new) }
@@ -118,8 +111,7 @@ pub(crate) fn answer_show_banks<F: FileSet, P: Write>(
         dir: show.dir,
         config: show.config,
     };
-    perform_show_banks(alloc, files, output, &folder, options_of(show))?;
-    Ok(Done::quiet())
+    quietly_done(perform_show_banks(alloc, files, output, &folder, options_of(show)))
 }
 
 /// The comparison of runs, as a screen or as a table of CSV.
@@ -130,16 +122,13 @@ pub(crate) fn answer_compare<F: FileSet, P: Write>(
     dirs: &[&str],
     csv: bool,
 ) -> Result<Done, Refusal>
-    ensures answered { let old = sight F.FileSet P.Write files.old output.old in
-        let new = sight F.FileSet P.Write files.new output.new in
-        IfOk result (λ done. F.tells
-        → IsCompareAnswer (words_of dirs.now) csv done.status old new) }
+    ensures answered { IfOk result (λ done. IsSeen F.FileSet P.Write files.old files.new
+        output.old output.new (IsCompareAnswer (words_of dirs.now) csv done.status)) }
     ensures status { IfOk result (λ done. done.status ≤ 1) }
     ensures quiet { IfOk result (λ done. done.warning ≡ None) }
     ensures refused { IfErr result (LeavesFiles F.FileSet files.old files.new) }
     ensures fault { IfErr result (λ e.
         RefusesCompare F.FileSet files.old dirs.now (fault_of e)) }
 {
-    perform_compare(alloc, files, output, dirs, layout_of(csv))?;
-    Ok(Done::quiet())
+    quietly_done(perform_compare(alloc, files, output, dirs, layout_of(csv)))
 }

@@ -12,7 +12,7 @@ use Rattle.statistics.specs.Values.{RunOutcome}
 use Rattle.whole_files.specs.Files.{Held, SameFiles, SameBut, IsRenamed}
 use Rattle.whole_files.specs.Tables.{path_in, commands_name, stats_name, final_name, requests_name, part_name, NamedText, table_named, commands_of, stats_of, final_of, requests_of, tables_in, name_unless, others_in, PlannedText, planned_in, plan_in, from_paths, paths_of, SameOutside, IsApartFrom, AreApart, AreStaged, AreGone, AreRemoved, IsMoved, IsWaiting, ArePlaced, ArePartlyPlaced, IsIn, IsBeside, ArePut, AreTorn, AreKeptBack, IsLeftUnplaced, other_paths, IsWritten, IsLeftBy}
 use Rattle.whole_files.specs.Planned.{planned_of}
-use Rattle.whole_files.specs.declared.tables.Planned.{Planned}
+use Rattle.whole_files.specs.declared.tables.PlannedTable.{PlannedTable}
 use Rattle.refusal.specs.declared.refusal.Refusal.{Refusal}
 use Rattle.refusal.specs.declared.refusal.Refusal.TheVariants.{Kept, Torn}
 
@@ -75,38 +75,38 @@ mapped_left f xs i x l e = ap (map f) (drop_here xs i x l e) ∙ ap (λ n. f x �
 -- ---- paths that differ
 
 -- the table at a place has no path in common with those before it
-before-apart : (planned : List Planned) (i : ℕ) (p : Planned) → i < length planned → p ≡ get_or planned i p → AreApart (map planned_of planned)
+before-apart : (planned : List PlannedTable) (i : ℕ) (p : PlannedTable) → i < length planned → p ≡ get_or planned i p → AreApart (map planned_of planned)
     → Each (λ q. IsApartFrom q (planned_of p)) (map planned_of (take i planned))
 before-apart [] i p l e a = absurd (omega (arith, l))
 before-apart (x ∷ xs) zero p l e a = tt
 before-apart (x ∷ xs) (suc i) p l e a = (Each-here (IsApartFrom (planned_of x)) planned_of xs i p (omega (arith, l)) e a.1, before-apart xs i p (omega (arith, l)) e a.2)
 
 -- nor with those behind it
-behind-apart : (planned : List Planned) (i : ℕ) (p : Planned) → i < length planned → p ≡ get_or planned i p → AreApart (map planned_of planned)
+behind-apart : (planned : List PlannedTable) (i : ℕ) (p : PlannedTable) → i < length planned → p ≡ get_or planned i p → AreApart (map planned_of planned)
     → Each (IsApartFrom (planned_of p)) (map planned_of (drop (suc i) planned))
 behind-apart [] i p l e a = absurd (omega (arith, l))
 behind-apart (x ∷ xs) zero p l e a = subst (λ z. Each (IsApartFrom (planned_of z)) (map planned_of xs)) (sym e) a.1
 behind-apart (x ∷ xs) (suc i) p l e a = behind-apart xs i p (omega (arith, l)) e a.2
 
-own-apart : (planned : List Planned) (i : ℕ) (p : Planned) → i < length planned → p ≡ get_or planned i p → AreApart (map planned_of planned) → (planned_of p).from ≢ (planned_of p).to
+own-apart : (planned : List PlannedTable) (i : ℕ) (p : PlannedTable) → i < length planned → p ≡ get_or planned i p → AreApart (map planned_of planned) → (planned_of p).from ≢ (planned_of p).to
 own-apart [] i p l e a = absurd (omega (arith, l))
 own-apart (x ∷ xs) zero p l e a = subst (λ z. (planned_of z).from ≢ (planned_of z).to) (sym e) a.0
 own-apart (x ∷ xs) (suc i) p l e a = own-apart xs i p (omega (arith, l)) e a.2
 
 -- a path that is none of those of all tables is none of the one at a place
-outside-from : (path : List ℕ) (planned : List Planned) (i : ℕ) (p : Planned) → i < length planned → p ≡ get_or planned i p → Each (λ q. path ≢ q) (from_paths (map planned_of planned)) → path ≢ (planned_of p).from
+outside-from : (path : List ℕ) (planned : List PlannedTable) (i : ℕ) (p : PlannedTable) → i < length planned → p ≡ get_or planned i p → Each (λ q. path ≢ q) (from_paths (map planned_of planned)) → path ≢ (planned_of p).from
 outside-from path [] i p l e w = absurd (omega (arith, l))
 outside-from path (x ∷ xs) zero p l e w = subst (λ z. path ≢ (planned_of z).from) (sym e) w.0
 outside-from path (x ∷ xs) (suc i) p l e w = outside-from path xs i p (omega (arith, l)) e w.1
 
-outside-to : (path : List ℕ) (planned : List Planned) (i : ℕ) (p : Planned) → i < length planned → p ≡ get_or planned i p → Each (λ q. path ≢ q) (map (λ (q : PlannedText). q.to) (map planned_of planned)) → path ≢ (planned_of p).to
+outside-to : (path : List ℕ) (planned : List PlannedTable) (i : ℕ) (p : PlannedTable) → i < length planned → p ≡ get_or planned i p → Each (λ q. path ≢ q) (map (λ (q : PlannedText). q.to) (map planned_of planned)) → path ≢ (planned_of p).to
 outside-to path [] i p l e w = absurd (omega (arith, l))
 outside-to path (x ∷ xs) zero p l e w = subst (λ z. path ≢ (planned_of z).to) (sym e) w.0
 outside-to path (x ∷ xs) (suc i) p l e w = outside-to path xs i p (omega (arith, l)) e w.1
 
 -- ---- tables that are written
 
-pub staged-more : (planned : List Planned) (i : ℕ) (p : Planned) (a b : Held) → i < length planned → p ≡ get_or planned i p → AreApart (map planned_of planned)
+pub staged-more : (planned : List PlannedTable) (i : ℕ) (p : PlannedTable) (a b : Held) → i < length planned → p ≡ get_or planned i p → AreApart (map planned_of planned)
     → SameBut (planned_of p).from a b → b (planned_of p).from ≡ Some (planned_of p).text → AreStaged (map planned_of (take i planned)) a → AreStaged (map planned_of (take (i + 1) planned)) b
 staged-more planned i p a b l e apart same whole h =
     subst (λ ps. AreStaged ps b) (sym (mapped_more planned_of planned i p l e))
@@ -115,21 +115,21 @@ staged-more planned i p a b l e apart same whole h =
     (map planned_of (take i planned)) (before-apart planned i p l e apart) h)
     (whole, tt))
 
-pub froms-more : (planned : List Planned) (i : ℕ) (p : Planned) → i < length planned → p ≡ get_or planned i p
+pub froms-more : (planned : List PlannedTable) (i : ℕ) (p : PlannedTable) → i < length planned → p ≡ get_or planned i p
     → from_paths (map planned_of (take (i + 1) planned)) ≡ from_paths (map planned_of (take i planned)) ++ (planned_of p).from ∷ []
 froms-more planned i p l e = ap from_paths (mapped_more planned_of planned i p l e) ∙ map-append (λ (q : PlannedText). q.from) (map planned_of (take i planned)) (planned_of p ∷ [])
 
 -- nothing else changes
-pub outside-staged : (planned : List Planned) (i : ℕ) (p : Planned) (z a b : Held) → i < length planned → p ≡ get_or planned i p → SameBut (planned_of p).from a b
+pub outside-staged : (planned : List PlannedTable) (i : ℕ) (p : PlannedTable) (z a b : Held) → i < length planned → p ≡ get_or planned i p → SameBut (planned_of p).from a b
     → SameOutside (from_paths (map planned_of planned)) z a → SameOutside (from_paths (map planned_of planned)) z b
 outside-staged planned i p z a b l e same h = λ path w. same path (outside-from path planned i p l e w) ∙ h path w
 
 -- no table is written yet
-pub none-staged : (planned : List Planned) (held : Held) → AreStaged (map planned_of (take 0 planned)) held
+pub none-staged : (planned : List PlannedTable) (held : Held) → AreStaged (map planned_of (take 0 planned)) held
 none-staged [] held = tt
 none-staged (p ∷ planned) held = tt
 
-pub none-opened : (planned : List Planned) (opened : List (List ℕ)) → opened ≡ opened ++ from_paths (map planned_of (take 0 planned))
+pub none-opened : (planned : List PlannedTable) (opened : List (List ℕ)) → opened ≡ opened ++ from_paths (map planned_of (take 0 planned))
 none-opened [] opened = sym (append-nil opened)
 none-opened (p ∷ planned) opened = sym (append-nil opened)
 
@@ -149,7 +149,7 @@ pub drop_zero : {X : Type 0} (xs : List X) → drop 0 xs ≡ xs
 drop_zero [] = refl
 drop_zero (x ∷ xs) = refl
 
-pub opened-more : (planned : List Planned) (i : ℕ) (p : Planned) (first before after : List (List ℕ)) → i < length planned → p ≡ get_or planned i p → after ≡ before ++ (planned_of p).from ∷ []
+pub opened-more : (planned : List PlannedTable) (i : ℕ) (p : PlannedTable) (first before after : List (List ℕ)) → i < length planned → p ≡ get_or planned i p → after ≡ before ++ (planned_of p).from ∷ []
     → before ≡ first ++ from_paths (map planned_of (take i planned)) → after ≡ first ++ from_paths (map planned_of (take (i + 1) planned))
 opened-more planned i p first before after l e more h =
     more ∙ ap (λ x. x ++ (planned_of p).from ∷ []) h ∙ append_assoc first (from_paths (map planned_of (take i planned))) ((planned_of p).from ∷ [])
@@ -160,7 +160,7 @@ opened-more planned i p first before after l e more h =
 flip : {X : Type 0} {x y : X} → x ≢ y → y ≢ x
 flip n e = n (sym e)
 
-pub moved-more : (planned : List Planned) (i : ℕ) (p : Planned) (z a b : Held) → i < length planned → p ≡ get_or planned i p → AreApart (map planned_of planned)
+pub moved-more : (planned : List PlannedTable) (i : ℕ) (p : PlannedTable) (z a b : Held) → i < length planned → p ≡ get_or planned i p → AreApart (map planned_of planned)
     → IsRenamed (planned_of p).from (planned_of p).to a b → Each (IsWaiting z a) (map planned_of (drop i planned)) → Each (IsMoved z a) (map planned_of (take i planned))
     → Each (IsMoved z b) (map planned_of (take (i + 1) planned))
 moved-more planned i p z a b l e apart r waits h =
@@ -172,7 +172,7 @@ moved-more planned i p z a b l e apart r waits h =
     (map planned_of (take i planned)) (before-apart planned i p l e apart) h)
     ((r.moved ∙ here.0.1, r.gone (own-apart planned i p l e apart)), tt))
 
-pub waits-less : (planned : List Planned) (i : ℕ) (p : Planned) (z a b : Held) → i < length planned → p ≡ get_or planned i p → AreApart (map planned_of planned)
+pub waits-less : (planned : List PlannedTable) (i : ℕ) (p : PlannedTable) (z a b : Held) → i < length planned → p ≡ get_or planned i p → AreApart (map planned_of planned)
     → IsRenamed (planned_of p).from (planned_of p).to a b → Each (IsWaiting z a) (map planned_of (drop i planned)) → Each (IsWaiting z b) (map planned_of (drop (i + 1) planned))
 waits-less planned i p z a b l e apart r waits =
     let rest = (subst (Each (IsWaiting z a)) (mapped_left planned_of planned i p l e) waits).1 in
@@ -181,7 +181,7 @@ waits-less planned i p z a b l e apart r waits =
     (map planned_of (drop (i + 1) planned))
     (subst (λ n. Each (IsApartFrom (planned_of p)) (map planned_of (drop n planned))) (sym (add-one i)) (behind-apart planned i p l e apart)) rest
 
-pub outside-placed : (planned : List Planned) (i : ℕ) (p : Planned) (z a b : Held) → i < length planned → p ≡ get_or planned i p → IsRenamed (planned_of p).from (planned_of p).to a b
+pub outside-placed : (planned : List PlannedTable) (i : ℕ) (p : PlannedTable) (z a b : Held) → i < length planned → p ≡ get_or planned i p → IsRenamed (planned_of p).from (planned_of p).to a b
     → SameOutside (paths_of (map planned_of planned)) z a → SameOutside (paths_of (map planned_of planned)) z b
 outside-placed planned i p z a b l e r h = λ path w.
     let froms = from_paths (map planned_of planned) in
@@ -189,19 +189,19 @@ outside-placed planned i p z a b l e r h = λ path w.
     r.others path (outside-from path planned i p l e (Each-first (λ q. path ≢ q) froms tos w)) (outside-to path planned i p l e (Each-last (λ q. path ≢ q) froms tos w)) ∙ h path w
 
 -- none has its place yet
-waits-all : (planned : List Planned) (a : Held) → Each (IsWaiting a a) (map planned_of planned)
+waits-all : (planned : List PlannedTable) (a : Held) → Each (IsWaiting a a) (map planned_of planned)
 waits-all [] a = tt
 waits-all (p ∷ planned) a = ((refl, refl), waits-all planned a)
 
-pub waits-first : (planned : List Planned) (a : Held) → Each (IsWaiting a a) (map planned_of (drop 0 planned))
+pub waits-first : (planned : List PlannedTable) (a : Held) → Each (IsWaiting a a) (map planned_of (drop 0 planned))
 waits-first planned a = subst (λ ps. Each (IsWaiting a a) (map planned_of ps)) (sym (drop_zero planned)) (waits-all planned a)
 
-pub none-moved : (planned : List Planned) (a : Held) → Each (IsMoved a a) (map planned_of (take 0 planned))
+pub none-moved : (planned : List PlannedTable) (a : Held) → Each (IsMoved a a) (map planned_of (take 0 planned))
 none-moved [] a = tt
 none-moved (p ∷ planned) a = tt
 
 -- some have, and the next one did not get its place
-pub partly : (planned : List Planned) (i : ℕ) (z a b : Held) → 0 < i → i < length planned → SameFiles a b → Each (IsMoved z a) (map planned_of (take i planned))
+pub partly : (planned : List PlannedTable) (i : ℕ) (z a b : Held) → 0 < i → i < length planned → SameFiles a b → Each (IsMoved z a) (map planned_of (take i planned))
     → Each (IsWaiting z a) (map planned_of (drop i planned)) → SameOutside (paths_of (map planned_of planned)) z a → ArePartlyPlaced (map planned_of planned) z b
 partly planned i z a b some l same moved waits others =
     record {
@@ -225,14 +225,14 @@ gone-still path p a b same gone h = by (bytes_eq path p) refl
     by true e = ap b ((bytes_eq-Decides path p).0 e) ∙ gone
     by false e = same path (λ f. false≢true (sym e ∙ (bytes_eq-Decides path p).1 f)) ∙ h
 
-pub none-gone : (planned : List Planned) (i : ℕ) (a : Held) → length planned ≤ i → AreGone (map planned_of (drop i planned)) a
+pub none-gone : (planned : List PlannedTable) (i : ℕ) (a : Held) → length planned ≤ i → AreGone (map planned_of (drop i planned)) a
 none-gone planned i a l = subst (λ ps. AreGone (map planned_of ps) a) (sym (all_dropped planned i l)) tt
 
 pub none-removed : {X : Type 0} (name : X → List ℕ) (paths : List X) (a : Held) → AreRemoved (map name (take 0 paths)) a
 none-removed name [] a = tt
 none-removed name (x ∷ paths) a = tt
 
-pub gone-more : (planned : List Planned) (i : ℕ) (p : Planned) (a b : Held) → i < length planned → p ≡ get_or planned i p → SameBut (planned_of p).from a b → b (planned_of p).from ≡ None
+pub gone-more : (planned : List PlannedTable) (i : ℕ) (p : PlannedTable) (a b : Held) → i < length planned → p ≡ get_or planned i p → SameBut (planned_of p).from a b → b (planned_of p).from ≡ None
     → AreGone (map planned_of (drop (i + 1) planned)) a → AreGone (map planned_of (drop i planned)) b
 gone-more planned i p a b l e same gone h =
     subst (λ ps. AreGone ps b) (sym (mapped_left planned_of planned i p l e))

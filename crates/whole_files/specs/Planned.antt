@@ -11,21 +11,21 @@ use Rattle.reports.specs.Requests.{requests_text}
 use Rattle.whole_files.specs.Tables.{PlannedText, table_named, planned_in}
 use Rattle.whole_files.specs.declared.tables.Contents.{Contents}
 use Rattle.whole_files.specs.declared.tables.Contents.TheVariants.{Commands, Stats, Final, Requests}
-use Rattle.whole_files.specs.declared.tables.Planned.{Planned}
+use Rattle.whole_files.specs.declared.tables.PlannedTable.{PlannedTable}
 
 -- the text of a table
 abbrev pub text_in : Contents → List ℕ
 text_in (Commands ranks commands) = commands_text ranks commands.now
 text_in (Stats stats) = stats_text stats.now
-text_in (Final ranks last) = final_text ranks last.now
+text_in (Final ranks final_state) = final_text ranks final_state.now
 text_in (Requests requests) = requests_text requests.now
 
 -- its paths and its text
-abbrev pub planned_of : Planned → PlannedText
+abbrev pub planned_of : PlannedTable → PlannedText
 planned_of planned = record { from = string_bytes planned.way.from; to = string_bytes planned.way.to; text = text_in planned.contents }
 
 -- the paths and the text of each of these tables
-abbrev pub plans_of : List Planned → List PlannedText
+abbrev pub plans_of : List PlannedTable → List PlannedText
 plans_of planned = map planned_of planned
 
 -- the plan of a table of this name in a folder, if there is something to write

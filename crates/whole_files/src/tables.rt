@@ -45,7 +45,7 @@ enum Contents<'a> {
 
 // A table that is to be written, and its way to its place.
 #[derive(Drop)]
-struct Planned<'a> {
+struct PlannedTable<'a> {
     contents: Contents<'a>,
     way: Move,
 }
@@ -64,7 +64,9 @@ fn write_contents<R: Threads + Sync, W: Write>(
             write_commands_by(threads, *ranks, commands, writer)
         }
         Contents::Stats(stats) => write_stats(threads.alloc, stats, writer),
-        Contents::Final(ranks, last) => write_final(threads.alloc, last, *ranks, writer),
+        Contents::Final(ranks, final_state) => {
+            write_final(threads.alloc, final_state, *ranks, writer)
+        }
         Contents::Requests(requests) => write_requests_by(threads, requests, writer),
     }
 }
@@ -73,7 +75,7 @@ fn write_contents<R: Threads + Sync, W: Write>(
 fn stage_one<R: Threads + Sync, F: FileSet>(
     threads: &TableThreads<'_, R>,
     files: &mut F,
-    table: &Planned<'_>,
+    table: &PlannedTable<'_>,
 ) -> Result<(), Reason>
     ensures whole { OnOk result (F.tells
         → F.held files.new (from_path table.now.way) ≡ Some (text_in table.now.contents)) }
@@ -97,7 +99,7 @@ fn plan<'a>(
     folder: &str,
     name: &str,
     contents: Option<Contents<'a>>,
-    planned: &mut Vec<Planned<'a>>,
+    planned: &mut Vec<PlannedTable<'a>>,
 ) -> Result<(), Fault>
     ensures planned { OnOk result (plans_of planned.new.items
         ≡ plans_of planned.old.items ++ plan_for folder.now name.now contents.entry) }
@@ -108,7 +110,7 @@ fn plan<'a>(
     };
     let part = format!(in alloc; "{name}.part")?;
     let way = move_in(alloc, folder, part.as_str(), name)?;
-    match planned.push(Planned { contents, way }) {
+    match planned.push(PlannedTable { contents, way }) {
         Ok(()) => Ok(()),
         Err(_) => Err(Fault::Memory),
     }
@@ -140,17 +142,21 @@ fn requests_in(run: &Outcome) -> Option<Contents<'_>>
 }
 
 // The tables of an outcome that are asked for, with their ways to their places in a folder.
-fn plan_all<'a>(alloc: Global, folder: &str, run: &'a Outcome) -> Result<Vec<Planned<'a>>, Fault>
+fn plan_all<'a>(
+    alloc: Global,
+    folder: &str,
+    run: &'a Outcome,
+) -> Result<Vec<PlannedTable<'a>>, Fault>
     ensures planned { IfOk result (λ planned.
         plans_of planned.items ≡ plan_in folder.now run.entry.now) }
     ensures fault { IfErr result (λ e. e ≡ Fault.Memory) }
 {
     let mut planned = Vec::new(alloc);
     let stats = if_asked(run.tables.stats, Contents::Stats(&run.stats));
-    let last = if_asked(run.tables.last, Contents::Final(run.ranks, &run.last));
+    let final_state = if_asked(run.tables.last, Contents::Final(run.ranks, &run.last));
     plan(alloc, folder, COMMANDS, commands_in(run), &mut planned)?;
     plan(alloc, folder, STATS, stats, &mut planned)?;
-    plan(alloc, folder, FINAL, last, &mut planned)?;
+    plan(alloc, folder, FINAL, final_state, &mut planned)?;
     plan(alloc, folder, REQUESTS, requests_in(run), &mut planned)?;
     Ok(planned)
 }
@@ -194,7 +200,7 @@ fn others_of(alloc: Global, folder: &str, run: &Outcome) -> Result<Vec<String>, 
 fn stage<R: Threads + Sync, F: FileSet>(
     threads: &TableThreads<'_, R>,
     files: &mut F,
-    planned: &[Planned<'_>],
+    planned: &[PlannedTable<'_>],
 ) -> Result<(), Reason>
     requires apart { AreApart (plans_of planned.now) }
     ensures whole { OnOk result (F.tells → AreStaged (plans_of planned.now) (F.held files.new)) }
@@ -211,7 +217,7 @@ fn stage<R: Threads + Sync, F: FileSet>(
 }
 
 // Tests whether each table could get its place.
-fn test_places<F: FileSet>(files: &mut F, planned: &[Planned<'_>]) -> Result<(), Reason>
+fn test_places<F: FileSet>(files: &mut F, planned: &[PlannedTable<'_>]) -> Result<(), Reason>
     ensures fault { IfErr result (λ e. IsWriteFault e) }
     ensures same { F.tells → SameFiles (F.held files.old) (F.held files.new) }
     ensures unopened { F.tells → F.opened files.new ≡ F.opened files.old }
@@ -248,7 +254,11 @@ fn refusal_of(reason: Reason, placed: bool) -> Refusal
 }
 
 // Gives the tables their places, one right after the other.
-fn place<F: FileSet>(alloc: Global, files: &mut F, planned: &[Planned<'_>]) -> Result<(), Refusal>
+fn place<F: FileSet>(
+    alloc: Global,
+    files: &mut F,
+    planned: &[PlannedTable<'_>],
+) -> Result<(), Refusal>
     requires apart { AreApart (plans_of planned.now) }
     ensures placed { OnOk result (F.tells
         → ArePlaced (plans_of planned.now) (F.held files.old) (F.held files.new)) }
@@ -271,7 +281,7 @@ fn place<F: FileSet>(alloc: Global, files: &mut F, planned: &[Planned<'_>]) -> R
 
 // Removes all that was written under the names that end in `.part`, in reverse order: if only the first is gone, the
 // others are whole and wait for their places.
-fn discard<F: FileSet>(files: &mut F, planned: &[Planned<'_>])
+fn discard<F: FileSet>(files: &mut F, planned: &[PlannedTable<'_>])
     ensures gone { F.tells → AreGone (plans_of planned.now) (F.held files.new) }
     ensures others { F.tells
         → SameOutside (from_paths (plans_of planned.now)) (F.held files.old) (F.held files.new) }
@@ -298,7 +308,7 @@ fn remove_all<F: FileSet>(files: &mut F, paths: &[String])
 // Tests whether all places are free or may give way.
 fn test_all<F: FileSet>(
     files: &mut F,
-    planned: &[Planned<'_>],
+    planned: &[PlannedTable<'_>],
     others: &[String],
 ) -> Result<(), Reason>
     ensures fault { IfErr result (λ e. IsWriteFault e) }
@@ -314,7 +324,7 @@ fn test_all<F: FileSet>(
 fn write_planned<R: Threads + Sync, F: FileSet>(
     threads: &TableThreads<'_, R>,
     files: &mut F,
-    planned: &[Planned<'_>],
+    planned: &[PlannedTable<'_>],
     others: &[String],
 ) -> Result<(), Refusal>
     requires apart { AreApart (plans_of planned.now) }

@@ -1,8 +1,8 @@
 //! What is said of a configuration that is refused.
 
+use crate::explain_text::fragments::Fragment::{Foreign, Number, Words};
 use crate::explain_text::lines::{Position, line_at};
 use crate::explain_text::links::put_links;
-use crate::explain_text::pieces::Piece::{Foreign, Number, Words};
 use crate::explain_text::relations::put_relation;
 use crate::explain_text::section::Section;
 use sim_base::fault::Fault;
@@ -14,8 +14,8 @@ use toml::Table;
 // What is wrong at a place of a document, and the line of that place.
 fn put_place<'a>(text: &mut TextBuilder, document: &'a [u8], offset: usize, flaw: &'a str) {
     let Position { line, column } = Position::behind(document.get(..offset).unwrap_or(document));
-    let pieces = [Number(line), Number(column), Words(flaw)];
-    text.fill(" line {}, column {}: {}\n", &pieces);
+    let fragments = [Number(line), Number(column), Words(flaw)];
+    text.fill(" line {}, column {}: {}\n", &fragments);
     let words = line_at(document, line).unwrap_or(b"").trim_ascii();
     if !words.is_empty() {
         text.fill("{}\n", &[Foreign(words)]);
@@ -64,7 +64,7 @@ fn put_flaw(text: &mut TextBuilder, document: &Section<'_>, fault: Fault) {
 }
 
 /// Says why a document is refused, by its path and its fault, from 1 to 4, after the path and a colon.
-pub fn config_text(
+pub(crate) fn config_text(
     alloc: Global,
     fault: Fault,
     path: &str,

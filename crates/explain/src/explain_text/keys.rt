@@ -1,19 +1,37 @@
 //! The keys of a configuration, and what may stand at them.
 
+ghost use Rattle.std.specs.Prelude.{◌≡◌, IfSome};
+ghost use Rattle.sim_base.specs.Keys.{key_name};
+
 use sim_base::key::Key;
 use sim_base::key_table::{Accepts, KEYS};
 
 /// The keys of an item of `link`.
 pub(crate) static ITEM_KEYS: [Key; 2] = [Key::Id, Key::Latency];
 
-/// Whether a name is that of one of these keys.
-pub(crate) fn is_known(keys: &[Key], name: &str) -> bool {
+/// The one of these keys that has a name.
+pub(crate) fn key_named(keys: &[Key], name: &str) -> Option<Key>
+    ensures { IfSome result (λ key. key_name key ≡ name.now) }
+{
     for key in keys {
         if key.name() == name {
-            return true;
+            return Some(*key);
         }
     }
-    false
+    None
+}
+
+/// Whether a name is that of one of these keys.
+pub(crate) fn is_known(keys: &[Key], name: &str) -> bool {
+    key_named(keys, name).is_some()
+}
+
+/// Whether a number is in the range of a key that is any integer of it.
+pub(crate) fn is_in_range(key: Key, number: i64) -> bool {
+    match key.accepts() {
+        Accepts::Integer(least, most) => i64::from(least) <= number && number <= i64::from(most),
+        _ => false,
+    }
 }
 
 /// What may stand at a key.

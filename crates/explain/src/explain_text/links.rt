@@ -1,7 +1,7 @@
 //! What is said of the items of `link`.
 
-use crate::explain_text::keys::ITEM_KEYS;
-use crate::explain_text::pieces::Piece::Number;
+use crate::explain_text::fragments::Fragment::{Number, Words};
+use crate::explain_text::keys::{ITEM_KEYS, is_in_range, range_of};
 use crate::explain_text::section::Section;
 use sim_base::key::Key;
 use text_builder::TextBuilder;
@@ -40,9 +40,11 @@ fn put_table(text: &mut TextBuilder, item: &Section<'_>) {
         (None, _, _) => item.put_key(text, Key::Id),
         (_, None, _) => item.put_key(text, Key::Latency),
         (_, _, Some(_)) => item.put_unknown(text),
-        (Some(0..=12_287), Some(1..=1_000_000), None) => {}
-        (Some(0..=12_287), _, _) => item.put_range(text, Key::Latency),
-        _ => item.put_range(text, Key::Id),
+        (Some(id), _, _) if !is_in_range(Key::Id, id) => item.put_range(text, Key::Id),
+        (_, Some(latency), _) if !is_in_range(Key::Latency, latency) => {
+            item.put_range(text, Key::Latency)
+        }
+        _ => {}
     }
 }
 
@@ -74,7 +76,11 @@ fn put_items(text: &mut TextBuilder, path: &str, items: &Array) {
             return;
         }
     }
-    text.push_str(" each item of link is a table of id, 0 to 12287, and latency, 1 to 1000000\n");
+    let ranges = [Words(range_of(Key::Id)), Words(range_of(Key::Latency))];
+    text.fill(
+        " each item of link is a table of id, {}, and latency, {}\n",
+        &ranges,
+    );
 }
 
 /// Says what is wrong with `link`, or with the first of its items that is not right, after the path, in a text that is

@@ -1,8 +1,9 @@
 //! What is said of a relation between the numbers of a configuration.
 
+use crate::explain_text::fragments::Fragment::{Entry, Number, Words};
+use crate::explain_text::keys::key_named;
 use crate::explain_text::links::{id_of, integer_at, items_of};
-use crate::explain_text::pieces::Piece::{Entry, Number, Words};
-use sim_base::key::Key;
+use sim_base::key::{DOCUMENT_KEYS, Key};
 use std::alloc::{AllocError, Global};
 use text_builder::TextBuilder;
 use text_builder::forms::Append;
@@ -78,13 +79,17 @@ fn relation_of(number: u8) -> Option<&'static Relation> {
     })
 }
 
+// The number that stands for a key where it is absent, if it may be and means one.
+fn absent_number(name: &str) -> Option<u64> {
+    let number = key_named(&DOCUMENT_KEYS, name)?.default_number()?;
+    Some(u64::from(number))
+}
+
 // The number at a key; where it is absent, the number that it counts as, if there is one.
 fn number_at(table: &Table, name: &str) -> Option<u64> {
-    match (integer_at(table, name), name) {
-        (Some(number), _) => u64::try_from(number).ok(),
-        (None, "ranks") => Some(1),
-        (None, "write_high" | "write_low") => Some(0),
-        _ => None,
+    match integer_at(table, name) {
+        Some(number) => u64::try_from(number).ok(),
+        None => absent_number(name),
     }
 }
 
@@ -166,8 +171,8 @@ fn put_compared(text: &mut TextBuilder, broken: &str, table: &Table) {
 // right one comes to where that does not show it.
 fn put_sides(text: &mut TextBuilder, number: u8, table: &Table) {
     let Some(relation) = relation_of(number) else {
-        let pieces = [Number(u64::from(number))];
-        text.fill(" relation {} does not hold\n", &pieces);
+        let fragments = [Number(u64::from(number))];
+        text.fill(" relation {} does not hold\n", &fragments);
         return;
     };
     text.push_str(relation.rule);

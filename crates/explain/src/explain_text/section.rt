@@ -1,8 +1,8 @@
 //! A table of a configuration, and what is said of its keys.
 
+use crate::explain_text::fragments::Fragment::{Entry, Foreign, Place, Words};
 use crate::explain_text::keys::{is_known, range_of, type_of};
 use crate::explain_text::nearest::nearest;
-use crate::explain_text::pieces::Piece::{Entry, Foreign, Place, Words};
 use sim_base::key::Key;
 use std::alloc::{AllocError, Global};
 use text_builder::TextBuilder;
@@ -37,29 +37,32 @@ impl<'a> Section<'a> {
 
     // What stands at a key, and what may stand there: what is of this type and in the range of the key.
     fn put_value(&self, text: &mut TextBuilder, key: Key, value: &'a Value, of_type: &'static str) {
-        let pieces = [
+        let fragments = [
             Place(self.item),
             Entry(key, value),
             Words(of_type),
             Words(range_of(key)),
         ];
-        text.fill("{} {}, where {}{} may stand\n", &pieces);
+        text.fill("{} {}, where {}{} may stand\n", &fragments);
     }
 
     // What may stand at a key that is not there.
     fn put_absent(&self, text: &mut TextBuilder, key: Key) {
-        let pieces = [Place(self.item), Words(key.name()), Words(range_of(key))];
-        text.fill("{} at {} {} may stand\n", &pieces);
+        let fragments = [Place(self.item), Words(key.name()), Words(range_of(key))];
+        text.fill("{} at {} {} may stand\n", &fragments);
     }
 
     fn put_missing(&self, text: &mut TextBuilder, key: Key) {
-        let pieces = [
+        let fragments = [
             Place(self.item),
             Words(key.name()),
             Words(type_of(key)),
             Words(range_of(key)),
         ];
-        text.fill("{} the key {} is missing; {}{} may stand there\n", &pieces);
+        text.fill(
+            "{} the key {} is missing; {}{} may stand there\n",
+            &fragments,
+        );
         self.put_instead(text, key);
     }
 
@@ -135,8 +138,8 @@ impl<'a> Section<'a> {
 
     // Says that a name is not known, and which one may be meant, after the path.
     fn put_meant(&self, text: &mut TextBuilder, name: &'a str, meant: &'static str) {
-        let pieces = [Place(self.item), Foreign(name.as_bytes()), Words(meant)];
-        text.fill("{} the key {} is not known: did you mean {}?\n", &pieces);
+        let fragments = [Place(self.item), Foreign(name.as_bytes()), Words(meant)];
+        text.fill("{} the key {} is not known: did you mean {}?\n", &fragments);
     }
 }
 

@@ -1,6 +1,6 @@
 //! What is said of a table that is refused.
 
-use crate::explain_text::pieces::Piece::{Foreign, Number};
+use crate::explain_text::fragments::Fragment::{Foreign, Number};
 use csv::{ByteRecord, Reader, ReaderBuilder};
 use std::alloc::{AllocError, Global};
 use text_builder::TextBuilder;
@@ -12,6 +12,8 @@ pub enum TableKind {
     Commands,
     /// The statistics of a run, `stats.csv`.
     Statistics,
+    /// The requests of a run, `requests.csv`.
+    Requests,
 }
 
 /// The field of a row of commands that says which command it is.
@@ -85,8 +87,15 @@ fn header_words(kind: TableKind) -> &'static str {
             "the header must be cycle,channel,command,group,bank,row,column,core,entry, with rank before group where a channel has several ranks\n"
         }
         TableKind::Statistics => "the header must be scope,id,name,value\n",
+        TableKind::Requests => {
+            "the header must be core,entry,access,channel,issued,arrived,served,replied,hit\n"
+        }
     }
 }
+
+/// What a row of requests must be like.
+static REQUEST: &str =
+    "nine fields must stand there, with a core below 256, read or write, a channel below 16, hit 0 or 1, and no leading zeros; issued, arrived and served do not fall, only a read has a reply, behind its served; and rows stand by served and then by channel\n";
 
 // What is wrong with a row of commands that has as many fields as the header.
 fn put_command_flaw(text: &mut TextBuilder, record: &ByteRecord) {
@@ -120,6 +129,7 @@ fn put_flaw(text: &mut TextBuilder, kind: TableKind, record: &ByteRecord, column
     match kind {
         TableKind::Commands => put_command_flaw(text, record),
         TableKind::Statistics => text.push_str("a run writes another record there\n"),
+        TableKind::Requests => text.push_str(REQUEST),
     }
 }
 
@@ -131,9 +141,28 @@ fn put_fields(text: &mut TextBuilder, record: &ByteRecord) {
     }
 }
 
+// What stands in the row that was read to, if the table has it, and what is wrong with it.
+fn put_row(
+    text: &mut TextBuilder,
+    kind: TableKind,
+    row: u64,
+    record: &ByteRecord,
+    columns: Option<usize>,
+) {
+    match columns {
+        Some(_) => put_fields(text, record),
+        None => text.push_str(" is missing\n"),
+    }
+    match (row, columns) {
+        (0, _) => text.push_str(header_words(kind)),
+        (_, Some(columns)) => put_flaw(text, kind, record, columns),
+        (_, None) => {}
+    }
+}
+
 /// Says what stands in a row of a table, and what is wrong with it, after the path and the row's number; row 0 is the
 /// header.
-pub fn row_text(
+pub(crate) fn row_text(
     alloc: Global,
     kind: TableKind,
     row: u64,
@@ -145,16 +174,9 @@ pub fn row_text(
         .from_reader(alloc, table);
     let mut record = ByteRecord::new(alloc);
     let mut text = TextBuilder::new(alloc);
-    let found = read_to(&mut reader, &mut record, row);
-    match found {
-        Ok(Some(_)) => put_fields(&mut text, &record),
-        Ok(None) => text.push_str(" is missing\n"),
+    match read_to(&mut reader, &mut record, row) {
+        Ok(columns) => put_row(&mut text, kind, row, &record, columns),
         Err(_) => text.refuse(),
-    }
-    match (row, found) {
-        (0, _) => text.push_str(header_words(kind)),
-        (_, Ok(Some(columns))) => put_flaw(&mut text, kind, &record, columns),
-        _ => {}
     }
     text.finish()
 }

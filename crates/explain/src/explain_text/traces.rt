@@ -1,7 +1,7 @@
 //! What is said of a trace that is refused.
 
+use crate::explain_text::fragments::Fragment::{Foreign, Number, Words};
 use crate::explain_text::lines::line_at;
-use crate::explain_text::pieces::Piece::{Foreign, Number, Words};
 use cpu_trace::number::read_number;
 use sim_base::fault::LineCause;
 use std::alloc::{AllocError, Global};
@@ -72,7 +72,12 @@ fn put_line(text: &mut TextBuilder, line: Option<&[u8]>) {
 
 /// Says what stands on a line of a trace, counted from 1, and what is wrong with it, after the path and the line's
 /// number. Of a compressed trace it says how to name it.
-pub fn line_text(alloc: Global, path: &str, line: u64, trace: &[u8]) -> Result<String, AllocError> {
+pub(crate) fn line_text(
+    alloc: Global,
+    path: &str,
+    line: u64,
+    trace: &[u8],
+) -> Result<String, AllocError> {
     let mut text = TextBuilder::new(alloc);
     if trace.starts_with(&GZIP) {
         text.fill(

@@ -8,7 +8,7 @@ use Rattle.answers.proofs.RequestFacts.{requests_before}
 use Rattle.answers.proofs.banks.perform_show_banks.Goals as goal
 
 pub returns-clause-shown : goal.returns-clause-shown
-returns-clause-shown g c = on_ok_weaker c.print_screen.result (λ given tells.
+returns-clause-shown g c = on_ok_weaker c.print_answer.result (λ given tells.
     let made = ok_with c.screen_in-screen.result _ _ c.screen_in-screen.ensures.screen given in
     let at = made.1 tells in
     record {
@@ -22,14 +22,14 @@ returns-clause-shown g c = on_ok_weaker c.print_screen.result (λ given tells.
       requests_are = requests_before _ _ _ _ _ _ c.in_ok-found.ensures.same (λ t. at.requests_are) tells;
       screen = at.screen;
       printed = made.2;
-    }) c.print_screen.ensures.printed
+    }) c.print_answer.ensures.printed
 
 pub returns-clause-fault : goal.returns-clause-fault
-returns-clause-fault g c = IfErr-weaker c.print_screen.result _ _ (λ fault refused. elim refused [
+returns-clause-fault g c = IfErr-weaker c.print_answer.result _ _ (λ fault refused. elim refused [
   | inl write ↦ inr (write, c.in_ok-found.ensures.ready)
   | inr other ↦ screen_refused _ _ _ c.in_ok-found.found.run.stats c.in_ok-found.found.commands _ c.in_ok-found.ensures.ready
       (err_with c.screen_in-screen.result _ _ c.screen_in-screen.ensures.fault other)
-]) c.print_screen.ensures.fault
+]) c.print_answer.ensures.fault
 
 pub returns-in_err-found-clause-shown : goal.returns-in_err-found-clause-shown
 returns-in_err-found-clause-shown g c = IfOk-from_err c.from_residual.result _ c.from_residual.ensures.0

@@ -1,15 +1,15 @@
 use Rattle.config_reader.proofs.Refusing.{same_fault}
 use Rattle.answers.proofs.RefusedFacts.{is_pushed, or_memory}
 use Rattle.std.proofs.lemmas.Result.{IfOk-from_err}
-use Rattle.std.proofs.Common.{length, Some, ◌≡◌, Err, rules, ◌∙◌, ◌++◌, [], ◌∷◌, sym, length-append, arith, inl}
+use Rattle.std.proofs.Common.{length, Some, ◌≡◌, ◌∙◌, ◌++◌, [], ◌∷◌, sym, length-append, arith, inl}
 use Rattle.answers.specs.Answers.{stats_path}
 use Rattle.answers.proofs.ManyFiles.{not_read_at, map_pushed, map_all}
 use Rattle.answers.proofs.comparisons.tables_in.Goals as goal
 
 pub returns-in_err-table-clause-fault : goal.returns-in_err-table-clause-fault
 returns-in_err-table-clause-fault g c =
-    let kept : c.from_residual.result ≡ Err c.in_err-table.field-0.0 = search rules in
-    rw kept (not_read_at _ _ _ (λ d. stats_path d.now) c.args.dirs.now _ _ _ c.loop-dir-test.true c.loop-dir.invariant.same c.in_err-table.ensures.fault)
+    rw (same_fault c.from_residual.result _ c.from_residual.ensures)
+    (not_read_at _ _ _ (λ d. stats_path d.now) c.args.dirs.now _ _ _ c.loop-dir-test.true c.loop-dir.invariant.same c.in_err-table.ensures.fault)
 
 pub returns-in_err-table-clause-texts : goal.returns-in_err-table-clause-texts
 returns-in_err-table-clause-texts g c = IfOk-from_err c.from_residual.result _ c.from_residual.ensures.0

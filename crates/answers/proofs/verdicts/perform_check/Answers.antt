@@ -1,6 +1,7 @@
 use Rattle.config_reader.proofs.Refusing.{same_fault}
 use Rattle.std.proofs.lemmas.Result.{IfOk-from_err}
 use Rattle.std.proofs.Common.{inl, inr}
+use Rattle.answers.proofs.NamedFacts.{err_with}
 use Rattle.answers.proofs.verdicts.perform_check.Goals as goal
 
 pub returns-in_err-found-clause-checked : goal.returns-in_err-found-clause-checked
@@ -16,33 +17,22 @@ returns-in_err-found-clause-same g c = c.in_err-found.ensures.same
 pub returns-in_err-found-clause-unopened : goal.returns-in_err-found-clause-unopened
 returns-in_err-found-clause-unopened g c = c.in_err-found.ensures.unopened
 
-pub returns-in_err-line-clause-checked : goal.returns-in_err-line-clause-checked
-returns-in_err-line-clause-checked g c =
-    IfOk-from_err c.from_residual-in_err-line.result _ c.from_residual-in_err-line.ensures.0
+pub returns-in_err-print_answer-clause-checked : goal.returns-in_err-print_answer-clause-checked
+returns-in_err-print_answer-clause-checked g c =
+    IfOk-from_err c.from_residual-in_err-print_answer.result _ c.from_residual-in_err-print_answer.ensures.0
 
-pub returns-in_err-line-clause-fault : goal.returns-in_err-line-clause-fault
-returns-in_err-line-clause-fault g c =
-    rw (same_fault c.from_residual-in_err-line.result _ c.from_residual-in_err-line.ensures) (inl (inl (inl c.in_err-line.ensures.fault)))
+pub returns-in_err-print_answer-clause-fault : goal.returns-in_err-print_answer-clause-fault
+returns-in_err-print_answer-clause-fault g c =
+    rw (same_fault c.from_residual-in_err-print_answer.result _ c.from_residual-in_err-print_answer.ensures) (elim c.in_err-print_answer.ensures.fault [
+      | inl write ↦ inr (write, c.in_ok-found.ensures.ready)
+      | inr made ↦ inl (inl (inl (err_with c.verdict_line_of.result _ _ c.verdict_line_of.ensures.fault made)))
+    ])
 
-pub returns-in_err-line-clause-same : goal.returns-in_err-line-clause-same
-returns-in_err-line-clause-same g c = c.in_ok-found.ensures.same
+pub returns-in_err-print_answer-clause-same : goal.returns-in_err-print_answer-clause-same
+returns-in_err-print_answer-clause-same g c = c.in_ok-found.ensures.same
 
-pub returns-in_err-line-clause-unopened : goal.returns-in_err-line-clause-unopened
-returns-in_err-line-clause-unopened g c = c.in_ok-found.ensures.unopened
-
-pub returns-in_err-print_text-clause-checked : goal.returns-in_err-print_text-clause-checked
-returns-in_err-print_text-clause-checked g c =
-    IfOk-from_err c.from_residual-in_err-print_text.result _ c.from_residual-in_err-print_text.ensures.0
-
-pub returns-in_err-print_text-clause-fault : goal.returns-in_err-print_text-clause-fault
-returns-in_err-print_text-clause-fault g c =
-    rw (same_fault c.from_residual-in_err-print_text.result _ c.from_residual-in_err-print_text.ensures) (inr (c.in_err-print_text.ensures.fault, c.in_ok-found.ensures.ready))
-
-pub returns-in_err-print_text-clause-same : goal.returns-in_err-print_text-clause-same
-returns-in_err-print_text-clause-same g c = c.in_ok-found.ensures.same
-
-pub returns-in_err-print_text-clause-unopened : goal.returns-in_err-print_text-clause-unopened
-returns-in_err-print_text-clause-unopened g c = c.in_ok-found.ensures.unopened
+pub returns-in_err-print_answer-clause-unopened : goal.returns-in_err-print_answer-clause-unopened
+returns-in_err-print_answer-clause-unopened g c = c.in_ok-found.ensures.unopened
 
 pub returns-clause-fault : goal.returns-clause-fault
 returns-clause-fault g c = tt

@@ -8,4 +8,4 @@ pub loop-argument-preserved : goal.loop-argument-preserved
 loop-argument-preserved c =
     c.in_ok-longer.ensures.shape c.arg_of.ensures.own
     ∙ ap₂ with_rule c.loop-argument.invariant c.arg_of.ensures.rule
-    ∙ sym (fold_more with_argument _ c.args.entry.now.arguments.now c.loop-argument.argument-index _ c.loop-argument-test.true)
+    ∙ sym (fold_more with_argument _ c.args.subcommand.now.arguments.now c.loop-argument.argument-index _ c.loop-argument-test.true)

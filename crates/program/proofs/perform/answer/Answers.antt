@@ -1,33 +1,58 @@
-use Rattle.std.proofs.lemmas.Result.{IfOk-from_err}
-use Rattle.std.proofs.Common.{rules, ◌≡◌, Err}
+use Rattle.std.proofs.Common.{refl, arith}
+use Rattle.program.proofs.DoneFacts.{quiet_each, run_ok, run_each, run_err, warned_ok, warned_each, warned_err}
 use Rattle.program.proofs.perform.answer.Goals as goal
 
-pub returns-in_err-perform_run-in-Run-clause-fault : goal.returns-in_err-perform_run-in-Run-clause-fault
-returns-in_err-perform_run-in-Run-clause-fault g c =
-    let kept : c.from_residual.result ≡ Err c.in_err-perform_run-in-Run.field-0.0 = search rules in
-    rw (kept, c.in-Run.is)
-    (rw (c.run_ask.ensures.config, c.run_ask.ensures.cycles, c.run_ask.ensures.workers, c.run_ask.ensures.traces) at c.in_err-perform_run-in-Run.ensures.fault)
+pub returns-in-Run-clause-answered : goal.returns-in-Run-clause-answered
+returns-in-Run-clause-answered g c =
+    let asked = c.run_ask.ensures in
+    rw (c.run_done.ensures, c.in-Run.is) (run_ok _ c.perform_run.result (λ done folder tells. record {
+      status_is = refl;
+      folder = folder tells;
+      done = done tells;
+      silent = refl;
+    })
+    (rw (asked.config, asked.cycles, asked.workers, asked.tables, asked.out, asked.traces) at c.perform_run.ensures.done)
+    (rw asked.out at c.perform_run.ensures.folder))
 
-pub returns-in_err-perform_run-in-Run-clause-answered : goal.returns-in_err-perform_run-in-Run-clause-answered
-returns-in_err-perform_run-in-Run-clause-answered g c = IfOk-from_err c.from_residual.result _ c.from_residual.ensures.0
+pub returns-in-Run-clause-status : goal.returns-in-Run-clause-status
+returns-in-Run-clause-status g c = rw c.run_done.ensures (run_each _ c.perform_run.result (omega arith))
 
-pub returns-in_err-perform_run-in-Run-clause-status : goal.returns-in_err-perform_run-in-Run-clause-status
-returns-in_err-perform_run-in-Run-clause-status g c = IfOk-from_err c.from_residual.result _ c.from_residual.ensures.0
+pub returns-in-Run-clause-quiet : goal.returns-in-Run-clause-quiet
+returns-in-Run-clause-quiet g c = rw (c.run_done.ensures, c.in-Run.is) (run_each _ c.perform_run.result refl)
 
-pub returns-in_err-perform_run-in-Run-clause-quiet : goal.returns-in_err-perform_run-in-Run-clause-quiet
-returns-in_err-perform_run-in-Run-clause-quiet g c = IfOk-from_err c.from_residual.result _ c.from_residual.ensures.0
+pub returns-in-Run-clause-refused : goal.returns-in-Run-clause-refused
+returns-in-Run-clause-refused g c =
+    let asked = c.run_ask.ensures in
+    rw (c.run_done.ensures, c.in-Run.is) (run_err _ c.perform_run.result (λ e left. left)
+    (rw (asked.config, asked.cycles, asked.workers, asked.tables, asked.out, asked.traces) at c.perform_run.ensures.refused))
 
-pub returns-in_err-warning-in-Page-clause-answered : goal.returns-in_err-warning-in-Page-clause-answered
-returns-in_err-warning-in-Page-clause-answered g c =
-    IfOk-from_err c.from_residual-in_err-warning-in-Page.result _ c.from_residual-in_err-warning-in-Page.ensures.0
+pub returns-in-Run-clause-fault : goal.returns-in-Run-clause-fault
+returns-in-Run-clause-fault g c =
+    let asked = c.run_ask.ensures in
+    rw (c.run_done.ensures, c.in-Run.is) (run_err _ c.perform_run.result (λ e why. why)
+    (rw (asked.config, asked.cycles, asked.workers, asked.traces) at c.perform_run.ensures.fault))
 
-pub returns-in_err-warning-in-Page-clause-status : goal.returns-in_err-warning-in-Page-clause-status
-returns-in_err-warning-in-Page-clause-status g c =
-    IfOk-from_err c.from_residual-in_err-warning-in-Page.result _ c.from_residual-in_err-warning-in-Page.ensures.0
+pub returns-in-Page-clause-answered : goal.returns-in-Page-clause-answered
+returns-in-Page-clause-answered g c =
+    rw (c.warned_done.ensures, c.in-Page.is) (warned_ok _ c.perform_page.result (λ warning made opened tells. record {
+      status_is = refl;
+      page = made tells;
+      opened_is = opened tells;
+      silent = refl;
+    }) c.perform_page.ensures.done c.perform_page.ensures.noted)
 
-pub returns-in_err-warning-in-Page-clause-quiet : goal.returns-in_err-warning-in-Page-clause-quiet
-returns-in_err-warning-in-Page-clause-quiet g c =
-    IfOk-from_err c.from_residual-in_err-warning-in-Page.result _ c.from_residual-in_err-warning-in-Page.ensures.0
+pub returns-in-Page-clause-status : goal.returns-in-Page-clause-status
+returns-in-Page-clause-status g c = rw c.warned_done.ensures (warned_each _ c.perform_page.result (λ warning. omega arith))
+
+pub returns-in-Page-clause-quiet : goal.returns-in-Page-clause-quiet
+returns-in-Page-clause-quiet g c = rw (c.warned_done.ensures, c.in-Page.is) (warned_each _ c.perform_page.result (λ warning. tt))
+
+pub returns-in-Page-clause-fault : goal.returns-in-Page-clause-fault
+returns-in-Page-clause-fault g c =
+    rw (c.warned_done.ensures, c.in-Page.is) (warned_err _ c.perform_page.result (λ e why. why) c.perform_page.ensures.fault)
+
+pub returns-in-Help-clause-status : goal.returns-in-Help-clause-status
+returns-in-Help-clause-status g c = rw c.quietly_done.ensures (quiet_each _ c.print_text.result (omega arith))
 
 pub returns-in-Check-clause-status : goal.returns-in-Check-clause-status
 returns-in-Check-clause-status g c = c.answer_check.ensures.status

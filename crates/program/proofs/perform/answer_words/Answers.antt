@@ -1,5 +1,5 @@
 use Rattle.std.proofs.Common.{inr}
-use Rattle.std.proofs.lemmas.Result.{IfOk-weaker, IfErr-weaker}
+use Rattle.std.proofs.lemmas.Result.{IfOk-weaker, IfErr-weaker, IfOk-from_err}
 use Rattle.program.proofs.AnswerFacts.{quiet_unless_page}
 use Rattle.program.proofs.perform.answer_words.Goals as goal
 
@@ -10,3 +10,23 @@ returns-clause-quiet g c =
 pub returns-clause-fault : goal.returns-clause-fault
 returns-clause-fault g c =
     IfErr-weaker c.answer.result _ _ (λ refusal refused. inr (inr (record { ask = c.in_ok-ask.ask; asked = c.in_ok-ask.ensures.asked; refused = refused }))) c.answer.ensures.fault
+
+pub returns-in_err-ask-clause-answered : goal.returns-in_err-ask-clause-answered
+returns-in_err-ask-clause-answered g c = IfOk-from_err c.from_residual.result _ c.from_residual.ensures.0
+
+pub returns-in_err-ask-clause-status : goal.returns-in_err-ask-clause-status
+returns-in_err-ask-clause-status g c = IfOk-from_err c.from_residual.result _ c.from_residual.ensures.0
+
+pub returns-in_err-ask-clause-quiet : goal.returns-in_err-ask-clause-quiet
+returns-in_err-ask-clause-quiet g c = IfOk-from_err c.from_residual.result _ c.from_residual.ensures.0
+
+pub returns-clause-answered : goal.returns-clause-answered
+returns-clause-answered g c =
+    IfOk-weaker c.answer.result _ _ (λ done is tells. record { ask = c.in_ok-ask.ask; asked = c.in_ok-ask.ensures.asked; answer = is tells }) c.answer.ensures.answered
+
+pub returns-clause-status : goal.returns-clause-status
+returns-clause-status g c = c.answer.ensures.status
+
+pub returns-clause-refused : goal.returns-clause-refused
+returns-clause-refused g c =
+    IfErr-weaker c.answer.result _ _ (λ refusal left tells. inr (record { ask = c.in_ok-ask.ask; asked = c.in_ok-ask.ensures.asked; left = left tells })) c.answer.ensures.refused

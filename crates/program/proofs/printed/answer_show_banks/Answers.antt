@@ -1,11 +1,27 @@
-use Rattle.std.proofs.lemmas.Result.{IfOk-from_err}
+use Rattle.std.proofs.Common.{refl, arith}
+use Rattle.program.proofs.DoneFacts.{quiet_ok, quiet_each, quiet_err, quiet_refused}
 use Rattle.program.proofs.printed.answer_show_banks.Goals as goal
 
-pub returns-in_err-perform_show_banks-clause-answered : goal.returns-in_err-perform_show_banks-clause-answered
-returns-in_err-perform_show_banks-clause-answered g c = IfOk-from_err c.from_residual.result _ c.from_residual.ensures.0
+pub returns-clause-answered : goal.returns-clause-answered
+returns-clause-answered g c =
+    rw c.quietly_done.ensures (quiet_ok _ c.perform_show_banks.result (λ h tells. record {
+      status_is = refl;
+      shown = h tells;
+      untouched = record { same = c.perform_show_banks.ensures.same tells; unopened = c.perform_show_banks.ensures.unopened tells };
+    }) c.perform_show_banks.ensures.shown)
 
-pub returns-in_err-perform_show_banks-clause-status : goal.returns-in_err-perform_show_banks-clause-status
-returns-in_err-perform_show_banks-clause-status g c = IfOk-from_err c.from_residual.result _ c.from_residual.ensures.0
+pub returns-clause-status : goal.returns-clause-status
+returns-clause-status g c = rw c.quietly_done.ensures (quiet_each _ c.perform_show_banks.result (omega arith))
 
-pub returns-in_err-perform_show_banks-clause-quiet : goal.returns-in_err-perform_show_banks-clause-quiet
-returns-in_err-perform_show_banks-clause-quiet g c = IfOk-from_err c.from_residual.result _ c.from_residual.ensures.0
+pub returns-clause-quiet : goal.returns-clause-quiet
+returns-clause-quiet g c = rw c.quietly_done.ensures (quiet_each _ c.perform_show_banks.result refl)
+
+pub returns-clause-refused : goal.returns-clause-refused
+returns-clause-refused g c =
+    rw c.quietly_done.ensures (quiet_refused _ c.perform_show_banks.result (λ e tells. record {
+      kept = tt;
+      untouched = record { same = c.perform_show_banks.ensures.same tells; unopened = c.perform_show_banks.ensures.unopened tells };
+    }))
+
+pub returns-clause-fault : goal.returns-clause-fault
+returns-clause-fault g c = rw c.quietly_done.ensures (quiet_err _ c.perform_show_banks.result (λ e h. h) c.perform_show_banks.ensures.fault)

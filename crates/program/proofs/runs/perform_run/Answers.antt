@@ -1,6 +1,6 @@
 use Rattle.std.proofs.Common.{◌++◌, inl, inr, ap, ◌∙◌}
 use Rattle.whole_files.specs.Tables.{parts}
-use Rattle.std.proofs.lemmas.Result.{on_ok_weaker, IfErr-weaker}
+use Rattle.std.proofs.lemmas.Result.{on_ok_weaker, IfErr-weaker, IfOk-from_err}
 use Rattle.whole_files.proofs.Places.{written_from, left_from}
 use Rattle.program.proofs.RefusedFacts.{when_ok, both_on_ok}
 use Rattle.program.proofs.runs.perform_run.Goals as goal
@@ -28,3 +28,9 @@ returns-clause-refused g c =
 pub returns-clause-folder : goal.returns-clause-folder
 returns-clause-folder g c =
     on_ok_weaker c.write_tables.result (λ h tells. when_ok c.test_folder-folder.result _ c.in_ok-run.ensures.folder c.test_folder-folder.ensures.there tells) c.write_tables.ensures.noted
+
+pub returns-in_err-run-clause-done : goal.returns-in_err-run-clause-done
+returns-in_err-run-clause-done g c = IfOk-from_err c.from_residual.result _ c.from_residual.ensures.0
+
+pub returns-in_err-run-clause-folder : goal.returns-in_err-run-clause-folder
+returns-in_err-run-clause-folder g c = IfOk-from_err c.from_residual.result _ c.from_residual.ensures.0

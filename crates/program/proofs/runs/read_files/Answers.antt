@@ -1,4 +1,5 @@
-use Rattle.std.proofs.Common.{◌≡◌, Err, inl, ◌∷◌, map, ap, rules, ◌∙◌}
+use Rattle.std.proofs.Common.{inl, ◌∷◌, map, ap, ◌∙◌}
+use Rattle.config_reader.proofs.Refusing.{same_fault}
 use Rattle.std.specs.Result.{is_ok}
 use Rattle.std.proofs.lemmas.Result.{IfOk-weaker, IfErr-weaker, IfOk-from_err}
 use Rattle.answers.proofs.ManyFiles.{texts_held}
@@ -34,8 +35,8 @@ returns-clause-fault g c =
 
 pub returns-in_err-texts-clause-fault : goal.returns-in_err-texts-clause-fault
 returns-in_err-texts-clause-fault g c =
-    let kept : c.from_residual-in_err-texts.result ≡ Err c.in_err-texts.field-0.0 = search rules in
-    rw kept (inl (inl (not_read_later _ _ _ _ _ _ c.in_ok-document.ensures.same c.in_err-texts.ensures.fault)))
+    rw (same_fault c.from_residual-in_err-texts.result _ c.from_residual-in_err-texts.ensures)
+    (inl (inl (not_read_later _ _ _ _ _ _ c.in_ok-document.ensures.same c.in_err-texts.ensures.fault)))
 
 pub returns-in_err-document-clause-folder : goal.returns-in_err-document-clause-folder
 returns-in_err-document-clause-folder g c = IfOk-from_err c.from_residual.result _ c.from_residual.ensures.0

@@ -1,6 +1,6 @@
-//! Texts, put together of pieces.
+//! Texts, put together of fragments.
 
-ghost use Rattle.explain.specs.Pieces.{IsPieceText};
+ghost use Rattle.explain.specs.Fragments.{IsFragmentText};
 ghost use Rattle.text_builder.specs.Texts.{Grows};
 
 use sim_base::key::Key;
@@ -15,9 +15,9 @@ const MOST: usize = 80;
 /// This many bytes hold more characters than are shown, and a cut after them splits none that is shown.
 const HEAD: usize = 4 * (MOST + 1);
 
-/// A piece of a text.
+/// A fragment of a text.
 #[derive(Clone, Copy)]
-pub(crate) enum Piece<'a> {
+pub(crate) enum Fragment<'a> {
     Words(&'a str),
     Number(u64),
     /// Bytes that someone else wrote: at most 80 characters are shown, and `...` where more follow; `?` for what is not
@@ -29,17 +29,17 @@ pub(crate) enum Piece<'a> {
     Place(Option<u64>),
 }
 
-impl Append for Piece<'_> {
-    ghost appends = { IsPieceText };
+impl Append for Fragment<'_> {
+    ghost appends = { IsFragmentText };
 
     fn append_to(self, out: &mut TextBuilder) {
         match self {
-            Piece::Words(words) => out.push_str(words),
-            Piece::Number(number) => write!(out, "{number}"),
-            Piece::Foreign(bytes) => put_foreign(bytes, out),
-            Piece::Entry(key, value) => put_entry(key, value, out),
-            Piece::Place(Some(item)) => write!(out, " item {item} of link:"),
-            Piece::Place(None) => {}
+            Fragment::Words(words) => out.push_str(words),
+            Fragment::Number(number) => write!(out, "{number}"),
+            Fragment::Foreign(bytes) => put_foreign(bytes, out),
+            Fragment::Entry(key, value) => put_entry(key, value, out),
+            Fragment::Place(Some(item)) => write!(out, " item {item} of link:"),
+            Fragment::Place(None) => {}
         }
     }
 }
