@@ -15,7 +15,7 @@ use request_table::times::RequestTimes;
 use show::options::Options;
 use show::show_text;
 use sim_base::fault::Fault;
-use std::alloc::{AllocError, Global};
+use std::alloc::Global;
 use std::io::Write;
 use whole_files::files::FileSet;
 use whole_files::moves::path_of;
@@ -62,8 +62,9 @@ fn screen_of(
     run: &RunRecord,
     requests: &Option<Vec<RequestTimes>>,
     options: Options,
-) -> Result<String, AllocError>
-    ensures { IfOk result (IsScreenOf run.now requests.now) }
+) -> Result<String, Reason>
+    ensures screen { IfOk result (IsScreenOf run.now requests.now) }
+    ensures fault { IfErr result (λ e. e ≡ Fault.Memory) }
 {
     let mut screen = show_text(alloc, &run.stats, options, run.config.as_ref())?;
     add_requests(alloc, &run.stats, requests, options, &mut screen)?;
@@ -84,7 +85,7 @@ fn screen_in<F: FileSet>(
     ensures unopened { F.tells → F.opened files.new ≡ F.opened files.old }
 {
     let requests = requests_in(alloc, files, dir, &run.stats)?;
-    Ok(screen_of(alloc, run, &requests, options)?)
+    screen_of(alloc, run, &requests, options)
 }
 
 /// `show DIR [--all] [--config FILE] [--mhz N]`: prints what the run did whose tables are in a folder, with what its

@@ -1,14 +1,15 @@
 use Rattle.config_reader.proofs.Refusing.{same_fault}
-use Rattle.std.proofs.lemmas.Result.{IfOk-from_err}
-use Rattle.std.proofs.Common.{option_map, inl, refl}
+use Rattle.std.proofs.lemmas.Result.{IfOk-weaker, IfErr-weaker, IfOk-from_err}
+use Rattle.std.proofs.Common.{option_map, inl}
 use Rattle.answers.proofs.screens.screen_in.Goals as goal
 
 pub returns-clause-screen : goal.returns-clause-screen
-returns-clause-screen g c = λ tells. record {
-  requests = option_map (λ r. r.items) c.in_ok-requests.requests;
-  requests_are = c.in_ok-requests.ensures.found tells;
-  screen = c.in_ok-screen_of.ensures;
-}
+returns-clause-screen g c =
+    IfOk-weaker c.screen_of.result _ _ (λ text made tells. record {
+      requests = option_map (λ r. r.items) c.in_ok-requests.requests;
+      requests_are = c.in_ok-requests.ensures.found tells;
+      screen = made;
+    }) c.screen_of.ensures.screen
 
 pub returns-in_err-requests-clause-screen : goal.returns-in_err-requests-clause-screen
 returns-in_err-requests-clause-screen g c = IfOk-from_err c.from_residual.result _ c.from_residual.ensures.0
@@ -23,22 +24,8 @@ returns-in_err-requests-clause-same g c = c.in_err-requests.ensures.same
 pub returns-in_err-requests-clause-unopened : goal.returns-in_err-requests-clause-unopened
 returns-in_err-requests-clause-unopened g c = c.in_err-requests.ensures.unopened
 
-pub returns-in_err-screen_of-clause-screen : goal.returns-in_err-screen_of-clause-screen
-returns-in_err-screen_of-clause-screen g c =
-    IfOk-from_err c.from_residual-in_err-screen_of.result _ c.from_residual-in_err-screen_of.ensures.0
-
-pub returns-in_err-screen_of-clause-kind : goal.returns-in_err-screen_of-clause-kind
-returns-in_err-screen_of-clause-kind g c =
-    rw (same_fault c.from_residual-in_err-screen_of.result _ c.from_residual-in_err-screen_of.ensures) (inl refl)
-
-pub returns-in_err-screen_of-clause-same : goal.returns-in_err-screen_of-clause-same
-returns-in_err-screen_of-clause-same g c = c.in_ok-requests.ensures.same
-
-pub returns-in_err-screen_of-clause-unopened : goal.returns-in_err-screen_of-clause-unopened
-returns-in_err-screen_of-clause-unopened g c = c.in_ok-requests.ensures.unopened
-
 pub returns-clause-kind : goal.returns-clause-kind
-returns-clause-kind g c = tt
+returns-clause-kind g c = IfErr-weaker c.screen_of.result _ _ (λ fault memory. inl memory) c.screen_of.ensures.fault
 
 pub returns-clause-same : goal.returns-clause-same
 returns-clause-same g c = c.in_ok-requests.ensures.same
