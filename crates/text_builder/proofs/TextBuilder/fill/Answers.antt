@@ -8,7 +8,7 @@ loop-piece-init g c = (leads_from g.P.Append.appends c.args.form.now c.args.piec
 pub loop-piece-preserved : goal.loop-piece-preserved
 loop-piece-preserved g c = (
   leads_on g.P.Append.appends c.args.form.now c.args.pieces.now c.loop-piece.rest.now c.fill_next-rest.result.now c.loop-piece.piece-index c.piece-item.result c.loop-piece-test.true c.piece-item.is
-  c.loop-piece.invariant.0 c.fill_next-rest.ensures,
+      c.loop-piece.invariant.0 c.fill_next-rest.ensures,
   c.fill_next-rest.utf8,
 )
 
