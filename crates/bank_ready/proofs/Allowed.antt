@@ -88,6 +88,14 @@ no-sooner s history command cycle later floor e h from le =
     let floored : floor ≤ ready_from s.timing history (kind_of command) (rank_of command) (bank_of command) = rw e le in
     omega (arith, ready, floored)
 
+-- an ACT is allowed no sooner than the four-activate window of its rank has room for it
+pub act-no-sooner : (s : Config) (history : List IssuedCommand) (command : Command) (cycle : ℕ)
+    → Ascends history → kind_of command ≡ kind.Act → IsAllowedFrom s history command cycle
+    → (window_from s.timing (rank_of command) history).oldest ≤ cycle
+act-no-sooner s history command cycle up e from =
+    let room = (act s.timing history cycle command up (rw e refl)).1 ((from cycle).0 (omega arith)) in
+    omega (arith, room)
+
 pub allowed-rank : (t : Timing) (history : List IssuedCommand) (now : ℕ) (command : Command) (later : Kind) (rank : ℕ)
     → kind_of command ≡ later → rank_of command ≡ rank → names_rank later ≡ true → is_kind later kind.Act ≡ false
     → (ready_from t history later rank None ≤ now) ↔ IsTrue (is_allowed t history now command)

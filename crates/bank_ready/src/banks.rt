@@ -3,9 +3,9 @@
 ghost use Rattle.std.specs.Prelude.{◌≡◌, ◌+◌, ◌*◌, ◌^◌, ◌<◌, ◌≤◌, length};
 
 use crate::words::{
-    ColumnCommand, RankState, act_rd_and_wr_words, bound_until, new_words, note_act_in_rank,
-    own_number, raise_acts, raise_column_words, raise_own, raise_rank, raise_rank_groups,
-    raise_rank_words, unused_ranks,
+    ColumnCommand, RankState, act_rd_and_wr_words, bound_until, first_room, new_words,
+    note_act_in_rank, own_number, raise_acts, raise_column_words, raise_own, raise_rank,
+    raise_rank_groups, raise_rank_words, unused_ranks,
 };
 use sim_base::command::{Command, Kind, Relation};
 use sim_base::config::Config;
@@ -46,6 +46,7 @@ impl Banks {
     ghost use Rattle.std.specs.Prelude.{ℕ, ◌≡◌, ◌+◌, ◌*◌, ◌^◌, ◌<◌, ◌≤◌, List, [], All, Some, None, IsTrue, IfOk};
     ghost use Rattle.sim_base.specs.declared.config.Config.{Config};
     ghost use Rattle.sim_base.specs.declared.command.Command.{Command};
+    ghost use Rattle.sim_base.specs.declared.command.Kind.{Kind};
     ghost use Rattle.sim_base.specs.declared.command.IssuedCommand.{IssuedCommand};
     ghost use Rattle.sim_base.specs.declared.command.Source.{Source};
     ghost use Rattle.sim_base.specs.Rules.{kind_of, bank_of, rank_of};
@@ -111,6 +112,18 @@ impl Banks {
             Kind::Wr => self.wr_floor,
             Kind::Act | Kind::Pre | Kind::Prea | Kind::Ref => unreachable!(),
         }
+    }
+
+    /// A cycle before which no ACT is allowed in any bank: where the four-activate window of a rank first has room for
+    /// one more.
+    #[inline(always)]
+    pub fn act_floor(&self) -> Cycle
+        ensures floor { (s : Config) (history : List IssuedCommand) (command : Command) (cycle : ℕ)
+            → StandsFor self.now s history
+            → kind_of command ≡ Kind.Act → rank_of command < rank_count self.now
+            → IsAllowedFrom s history command cycle → result ≤ cycle }
+    {
+        first_room(&self.ranks)
     }
 
     /// The least cycle from which on a PREA or a REF of a rank is no longer held back.

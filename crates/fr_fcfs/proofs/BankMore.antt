@@ -1,6 +1,6 @@
 -- What one bank offers beside the best offer so far.
-use Rattle.std.proofs.Common.{◌≡◌, ℕ, ◌*◌, ◌<◌, ◌≤◌, Bool, true, false, not, cond, ◌&&◌, ◌||◌, eqb, leb, eq-eqb, List, length, Option, Some, None, refl, sym, ap, subst, ◌∙◌, inl, inr, arith}
-use Rattle.std.proofs.lemmas.Bool.{cases_Bool, and_parts, false_from_ne_true}
+use Rattle.std.proofs.Common.{◌≡◌, ℕ, ◌*◌, ◌<◌, ◌≤◌, Bool, true, false, not, cond, ◌&&◌, ◌||◌, eqb, leb, eq-eqb, max, List, length, Option, Some, None, refl, sym, ap, subst, ◌∙◌, inl, inr, arith}
+use Rattle.std.proofs.lemmas.Bool.{cases_Bool, and_parts, false_from_ne_true, not-true}
 use Rattle.std.specs.List.{All}
 use Rattle.std.specs.Option.{is_some, IfSome}
 use Rattle.std.proofs.Math.Bool.{or-false, and-false, and-true}
@@ -15,10 +15,11 @@ use Rattle.sim_base.specs.declared.message.Request.{Request}
 use Rattle.sim_base.specs.Access.{is_access}
 use Rattle.sim_base.specs.Places.{bank_in}
 use Rattle.sim_base.specs.Rules.{is_legal, is_allowed, is_kind, finds_its_banks, open_row, is_row, kind_of, bank_of}
-use Rattle.sim_base.specs.Scheduling.{needed, ready_hit}
+use Rattle.sim_base.specs.Scheduling.{needed, ready_hit, ready_row, is_withheld}
 use Rattle.bank_ready.specs.Ready.{ready_from}
-use Rattle.bank_ready.specs.Stands.{IsAllowedFrom}
-use Rattle.bank_ready.proofs.Allowed.{allowed-other}
+use Rattle.bank_ready.specs.Words.{window_from}
+use Rattle.bank_ready.specs.Stands.{Ascends, IsAllowedFrom}
+use Rattle.bank_ready.proofs.Allowed.{allowed-other, allowed-act}
 use Rattle.queue.specs.declared.request_log.Arrived.{Arrived}
 use Rattle.queue.specs.Log.{all_requests}
 use Rattle.queue.specs.Columns.{bank_number}
@@ -34,11 +35,11 @@ use Rattle.queue.proofs.BankCandidatesServed.{earlier_none}
 use Rattle.fr_fcfs.specs.declared.accesses.Accesses.{Accesses}
 use Rattle.fr_fcfs.specs.declared.offers.Offer.{Offer}
 use Rattle.fr_fcfs.specs.Requests.{IsInBanks, is_hit}
-use Rattle.fr_fcfs.specs.Offers.{includes, is_of, only, column_kind, if_allowed, hit_candidate, oldest_candidate, hits_now, hits_in, rows_in, offer_from, row_kind, IsReadyFrom, IsBestOffer, IsBestSoFar}
+use Rattle.fr_fcfs.specs.Offers.{includes, is_of, only, column_kind, if_allowed, hit_candidate, oldest_candidate, going, hits_now, hits_in, rows_now, rows_in, offer_from, row_kind, IsReadyFrom, IsBestOffer, IsBestSoFar}
 use Rattle.fr_fcfs.proofs.Legal.{needed_bank}
 use Rattle.fr_fcfs.proofs.Firsts.{same_among, either_among, place_if}
 use Rattle.fr_fcfs.proofs.Bests.{hit_offer_is, row_offer_is, best_same}
-use Rattle.fr_fcfs.proofs.BankOffers.{bank_is, row_hit_is, hit_kind, legal_then, rows_are, rows_withheld, none_offered, no_hits}
+use Rattle.fr_fcfs.proofs.BankOffers.{bank_is, row_hit_is, hit_kind, row_kind_at, legal_then, rows_are, rows_withheld, none_offered, no_hits}
 use Rattle.fr_fcfs.proofs.Favoured.{within}
 use Rattle.fr_fcfs.proofs.SoFar.{IsTaken, one_more, so_far_same}
 
@@ -275,4 +276,36 @@ hits_before s history ranks log access floor places least cycle early =
     (λ r in_banks.
     false_from_ne_true (hits_now s history (only access) cycle r)
     (λ now_is. let late = hit_after s history ranks r access floor cycle in_banks least now_is in absurd (omega arith)))
+    ∙ sym (none_everywhere (λ r. false) log (λ r. refl))
+
+act_after : (s : Config) (history : List IssuedCommand) (ranks : ℕ) (log : List Arrived) (accesses : Accesses) (r : Request) (floor cycle : ℕ) → IsInBanks ranks r → Ascends history
+    → IsFloor s history ranks kind.Act floor → open_row (bank_in r.place) history ≡ None → rows_now s history log accesses cycle r ≡ true → floor ≤ cycle
+unfolding ready_row needed
+act_after s history ranks log accesses r floor cycle in_banks up least closed now_is =
+    let cands = going accesses log in
+    let outer = and_parts (is_of accesses r) (ready_row s history cycle cands r) now_is in
+    let inner = and_parts (not (is_hit history r) && is_legal s history cycle (needed history r)) (not (is_withheld history cands (needed history r))) outer.1 in
+    let parts = and_parts (not (is_hit history r)) (is_legal s history cycle (needed history r)) inner.0 in
+    let bank = bank_number r.place in
+    let command = needed history r in
+    let kind_is : kind_of command ≡ kind.Act = row_kind_at (open_row (bank_in r.place) history) r (not-true (is_hit history r) parts.0) ∙ ap row_kind closed in
+    let bank_is_at : bank_of command ≡ Some (bank_at bank) = needed_bank (open_row (bank_in r.place) history) r ∙ ap Some (bank_is ranks r bank in_banks (eq-eqb bank bank refl)) in
+    let allowed = λ (now : ℕ). allowed-act s.timing history now command (bank_at bank) up kind_is bank_is_at in
+    let late = (allowed cycle).1 (allowed_too s history cycle command parts.1) in
+    let ready = max (ready_from s.timing history kind.Act (bank_at bank).rank (Some (bank_at bank))) (window_from s.timing (bank_at bank).rank history).oldest in
+    let floor_is = least command ready bank kind_is bank_is_at (number_in ranks r in_banks) allowed in
+    omega (arith, late, floor_is)
+
+-- no ACT for a closed bank is ready before it
+pub acts_before : (s : Config) (history : List IssuedCommand) (ranks : ℕ) (log : List Arrived) (accesses : Accesses) (closed : ℕ → Bool) (floor : ℕ) → All (IsInBanks ranks) (all_requests log)
+    → Ascends history → IsFloor s history ranks kind.Act floor → ((bank : ℕ) → closed bank ≡ true → open_row (bank_at bank) history ≡ None) → (cycle : ℕ) → cycle < floor
+    → first_place (λ r. closed (bank_number r.place) && rows_now s history log accesses cycle r) log ≡ None
+acts_before s history ranks log accesses closed floor places up least none cycle early =
+    same_among (λ r. closed (bank_number r.place) && rows_now s history log accesses cycle r) (λ r. false) (IsInBanks ranks) log places
+    (λ r in_banks.
+    false_from_ne_true (closed (bank_number r.place) && rows_now s history log accesses cycle r)
+    (λ both.
+    let parts = and_parts (closed (bank_number r.place)) (rows_now s history log accesses cycle r) both in
+    let row_is = ap (λ b. open_row b history) (bank_is ranks r (bank_number r.place) in_banks (eq-eqb (bank_number r.place) (bank_number r.place) refl)) ∙ none (bank_number r.place) parts.0 in
+    let late = act_after s history ranks log accesses r floor cycle in_banks up least row_is parts.1 in absurd (omega arith)))
     ∙ sym (none_everywhere (λ r. false) log (λ r. refl))

@@ -61,7 +61,7 @@ pub hit_kind : (history : List IssuedCommand) (r : Request) → is_hit history r
 unfolding needed
 hit_kind history r hit = ap kind_of (column_needed (open_row (bank_in r.place) history) r hit) ∙ kind_to r.access r
 
-row_kind_at : (row : Option ℕ) (r : Request) → is_column_command (needed_at row r) ≡ false → kind_of (needed_at row r) ≡ row_kind row
+pub row_kind_at : (row : Option ℕ) (r : Request) → is_column_command (needed_at row r) ≡ false → kind_of (needed_at row r) ≡ row_kind row
 row_kind_at None r other = refl
 row_kind_at (Some row) r other = elim (cases_Bool (eqb row r.place.row)) [
   | inl same ↦

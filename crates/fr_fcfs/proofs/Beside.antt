@@ -48,6 +48,17 @@ beside_more left after bank test log was is others =
     either_among (λ r. not (after (bank_number r.place)) && test r) (λ r. not (left (bank_number r.place)) && test r) (λ r. eqb (bank_number r.place) bank && test r) (λ r. Unit {0}) log
     (λ k d exists. tt) (λ r in_all. beside_test left after bank (bank_number r.place) (test r) was is others)
 
+parts_test : (asked left t : Bool) → (asked ≡ true → left ≡ false) → (not left && t) ≡ ((not (asked || left) && t) || (asked && t))
+parts_test true left t apart = ap (λ b. not b && t) (apart refl)
+parts_test false left t apart = sym (or-false (not left && t))
+
+-- the banks that are asked for, and those beside them
+pub beside_parts : (asked left : ℕ → Bool) (test : Request → Bool) (log : List Arrived) → ((k : ℕ) → asked k ≡ true → left k ≡ false)
+    → place_beside left test log ≡ earlier (place_beside (λ k. asked k || left k) test log) (first_place (λ r. asked (bank_number r.place) && test r) log)
+beside_parts asked left test log apart =
+    either_among (λ r. not (left (bank_number r.place)) && test r) (λ r. not (asked (bank_number r.place) || left (bank_number r.place)) && test r) (λ r. asked (bank_number r.place) && test r) (λ r. Unit {0}) log
+    (λ k d exists. tt) (λ r in_all. parts_test (asked (bank_number r.place)) (left (bank_number r.place)) (test r) (apart (bank_number r.place)))
+
 at_bank : (left : ℕ → Bool) (n k : ℕ) (t b : Bool) → left n ≡ b → (eqb k n && (not (left k) && t)) ≡ (eqb k n && (not b && t))
 at_bank left n k t b is = elim (cases_eq k n) [
   | inl same ↦ ap (λ x. eqb k n && (not x && t)) (ap left same ∙ is)

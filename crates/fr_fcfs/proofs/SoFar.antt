@@ -100,6 +100,23 @@ hits_late room now floor hits rows late_hits o late fits none so_far = elim (cas
       absurd (omega arith)
 ]
 
+-- nor do ACTs and PREs that are
+pub rows_late : (room now floor : ℕ) (hits rows late_rows : ℕ → Option ℕ) (o : Offer) → o.cycle < floor → floor ≤ 18446744073709551615 → ((c : ℕ) → c < floor → late_rows c ≡ None)
+    → IsBestSoFar room now hits rows o → IsBestSoFar room now hits (λ c. earlier (rows c) (late_rows c)) o
+rows_late room now floor hits rows late_rows o late fits none so_far = elim (cases_lt o.slot room) [
+  | inl within ↦
+      let best = subst (IsBest now hits rows) (offer_within room o within) so_far.best in
+      told room now hits (λ c. earlier (rows c) (late_rows c)) o within
+      (record {
+        from_now = best.from_now;
+        none_before = λ c from before. let before_it = best.none_before c from before in (before_it.0, ap (earlier (rows c)) (none c (omega arith)) ∙ earlier_none (rows c) ∙ before_it.1);
+        then_is = subst (λ x. IsAt o.hit (hits o.cycle) x o.slot) (sym (ap (earlier (rows o.cycle)) (none o.cycle late) ∙ earlier_none (rows o.cycle))) best.then_is;
+      })
+  | inr outside ↦
+      let last : o.cycle ≡ 18446744073709551615 = ap (λ x. x.cycle) (so_far.none outside) in
+      absurd (omega arith)
+]
+
 pub earlier_assoc : (a b c : Option ℕ) → earlier (earlier a b) c ≡ earlier a (earlier b c)
 earlier_assoc None b c = refl
 earlier_assoc (Some i) None c = refl

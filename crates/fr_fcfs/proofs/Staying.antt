@@ -1,6 +1,6 @@
 -- What is chosen, with requests that arrive and do not go before it.
 use Rattle.std.proofs.Common.{◌≡◌, ℕ, ◌+◌, ◌<◌, Bool, true, false, not, cond, ◌&&◌, ◌||◌, ◌≤◌, eq-eqb, List, [], ◌∷◌, ◌++◌, map, length, drop, slice_index_or, Option, Some, None, refl, sym, ap, subst, ◌∙◌, arith}
-use Rattle.std.proofs.lemmas.Bool.{and_parts, lt-leb}
+use Rattle.std.proofs.lemmas.Bool.{and_parts, lt-leb, not-true}
 use Rattle.std.proofs.lemmas.List.{map-append, length-map, get_or-map, get_or-drop, length-drop}
 use Rattle.std.proofs.lemmas.Option.{slice_get-get_or}
 use Rattle.std.proofs.lemmas.List.Elements.{All-nil, All-cons, All-head, All-tail, All-map, All-filter, filter-append}
@@ -187,11 +187,7 @@ row_is_none s history t requests r ready =
     let hit = is_hit history r in
     let legal = is_legal s history t (needed history r) in
     let outer = and_parts (not hit && legal) (not (is_withheld history requests (needed history r))) ready in
-    not_true hit (and_parts (not hit) legal outer.0).0
-  where
-    not_true : (b : Bool) → not b ≡ true → b ≡ false
-    not_true true is = sym is
-    not_true false is = refl
+    not-true hit (and_parts (not hit) legal outer.0).0
 
 -- what is chosen for the cycle is so still
 chosen_still : (s : Config) (history : List IssuedCommand) (cycle : ℕ) (requests more : List Request) (command : Command) → All (ComesAfter s history cycle (is_column_command command)) more

@@ -218,6 +218,36 @@ fn with_rows_of(
     }
 }
 
+/// Takes the ACTs of closed banks into the best offer so far, as `with_rows_of` does. They are left out where none may be
+/// issued by its cycle.
+#[inline(always)]
+fn with_acts(
+    best: &mut Offer,
+    bank_candidates: &BankCandidates,
+    banks: &Banks,
+    closed: BankSet,
+    commands: RowCommands,
+)
+    requires same_banks { OfSameBanks bank_candidates.now banks.now }
+    requires within { (bank : ℕ) → is_in closed bank ≡ true → bank < bank_count bank_candidates.now }
+    requires needed { (bank : ℕ) → is_in closed bank ≡ true
+        → NeedsRow commands bank_candidates.now bank }
+    requires acts { commands.kind ≡ Kind.Act }
+    ensures { (s : Config) (history : List IssuedCommand) (log : List Arrived)
+        (hits : ℕ → Option ℕ) (left : ℕ → Bool)
+        → StandForLog bank_candidates.now banks.now s history log
+        → AreNotLeft (is_in closed) left
+        → IsBestSoFar (length log) commands.now hits
+        (rows_beside s history log commands.accesses (with_left (is_in closed) left)) best.old
+        → IsBestSoFar (length log) commands.now hits
+        (rows_beside s history log commands.accesses left) best.new }
+{
+    if best.cycle < banks.act_floor() {
+        return;
+    }
+    with_rows_of(best, bank_candidates, banks, closed, commands);
+}
+
 /// Takes what opens or closes a row into the best offer so far, in all banks that are asked for. A row hit keeps its
 /// bank from being closed.
 #[inline(always)]
@@ -251,7 +281,7 @@ fn with_rows(
         accesses,
         now,
     };
-    with_rows_of(best, bank_candidates, banks, closed, activate);
+    with_acts(best, bank_candidates, banks, closed, activate);
 }
 
 /// Takes the row hits of one access into the best offer so far, in all banks.

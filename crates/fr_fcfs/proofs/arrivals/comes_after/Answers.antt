@@ -1,6 +1,6 @@
 -- What it needs is of this kind, which may be issued from a cycle on.
-use Rattle.std.proofs.Common.{◌≡◌, Bool, true, false, not, refl, sym, ap, subst, ◌∙◌}
-use Rattle.std.proofs.lemmas.Bool.{true≢false}
+use Rattle.std.proofs.Common.{refl, sym, ap, subst, ◌∙◌}
+use Rattle.std.proofs.lemmas.Bool.{true≢false, not-true}
 use Rattle.sim_base.specs.Rules.{open_row, kind_of}
 use Rattle.sim_base.specs.Scheduling.{needed, needed_at}
 use Rattle.queue.specs.Candidates.{bank_at}
@@ -27,8 +27,4 @@ returns-else-hit c s history other stands knows =
     let kind_is = sym (c.kind_needed-kind.ensures.kind r refl refl ∙ ap (λ o. kind_of (needed_at o r)) row_is) in
     after_ready s history (rank_count c.args.banks.now) r c.kind_needed-kind.result c.ready.result c.args.cycle c.args.hit c.requires.place
     (subst (λ n. IsReadyFrom s history (bank_at n) c.kind_needed-kind.result c.ready.result) c.bank_number.ensures.number (c.ready.ensures s history stands)) kind_is c.if-after.true
-    (λ off. sym (c.is_column_kind.ensures (needed history r) kind_is) ∙ not_true c.is_column_kind.result other)
-  where
-    not_true : (b : Bool) → not b ≡ true → b ≡ false
-    not_true true is = sym is
-    not_true false is = refl
+    (λ off. sym (c.is_column_kind.ensures (needed history r) kind_is) ∙ not-true c.is_column_kind.result other)

@@ -1,6 +1,6 @@
 -- Open banks are closed and closed ones opened; no other banks are left.
 use Rattle.std.proofs.Common.{◌≡◌, ℕ, Bool, true, false, not, ◌&&◌, ◌||◌, Option, None, Some, refl, sym, ap, length, ◌∙◌}
-use Rattle.std.proofs.lemmas.Bool.{and_parts}
+use Rattle.std.proofs.lemmas.Bool.{and_parts, not-true}
 use Rattle.std.specs.Option.{is_some}
 use Rattle.std.proofs.Math.Bool.{or-false}
 use Rattle.sim_base.specs.declared.command.Kind.TheVariants as kind
@@ -12,10 +12,6 @@ use Rattle.fr_fcfs.proofs.Beside.{beside_all, beside_same, beside_nothing}
 use Rattle.fr_fcfs.proofs.BankMore.{row_none}
 use Rattle.fr_fcfs.proofs.SoFar.{so_far_same}
 use Rattle.fr_fcfs.proofs.first.with_rows.Goals as goal
-
-not_true : (b : Bool) → not b ≡ true → b ≡ false
-not_true true is = sym is
-not_true false is = refl
 
 opens : (row : Option ℕ) → is_some row ≡ false → kind.Act ≡ row_kind row
 opens None is = refl
@@ -50,27 +46,27 @@ with_rows_of-requires-clause-needed c k there =
     let exists = c.banks_with_candidate.ensures.within k parts.0 in
     record {
       some = sym (c.banks_with_candidate.ensures.each k exists) ∙ parts.0;
-      no_hit = sym (c.hit.ensures k exists) ∙ not_true (is_in c.hit.result k) parts.1;
+      no_hit = sym (c.hit.ensures k exists) ∙ not-true (is_in c.hit.result k) parts.1;
       kind_is =
           closes (row_of_bank c.args.bank_candidates.now k)
           (sym (c.open_banks.ensures k exists)
           ∙ is_open (is_in c.minus-asked.result k) (is_in c.open_banks.result k) (ap (λ b. is_in c.minus-asked.result k && not b) (sym (c.minus-closed.ensures k)) ∙ sym (c.minus-opened.ensures k) ∙ there));
     }
 
-pub with_rows_of-requires-2-clause-within : goal.with_rows_of-requires-2-clause-within
-with_rows_of-requires-2-clause-within c k there =
+pub with_acts-requires-clause-within : goal.with_acts-requires-clause-within
+with_acts-requires-clause-within c k there =
     let asked = (and_parts (is_in c.minus-asked.result k) (not (is_in c.open_banks.result k)) (sym (c.minus-closed.ensures k) ∙ there)).0 in
     c.banks_with_candidate.ensures.within k (and_parts (is_in c.banks_with_candidate.result k) (not (is_in c.hit.result k)) (sym (c.minus-asked.ensures k) ∙ asked)).0
 
-pub with_rows_of-requires-2-clause-needed : goal.with_rows_of-requires-2-clause-needed
-with_rows_of-requires-2-clause-needed c k there =
+pub with_acts-requires-clause-needed : goal.with_acts-requires-clause-needed
+with_acts-requires-clause-needed c k there =
     let closed = and_parts (is_in c.minus-asked.result k) (not (is_in c.open_banks.result k)) (sym (c.minus-closed.ensures k) ∙ there) in
     let parts = and_parts (is_in c.banks_with_candidate.result k) (not (is_in c.hit.result k)) (sym (c.minus-asked.ensures k) ∙ closed.0) in
     let exists = c.banks_with_candidate.ensures.within k parts.0 in
     record {
       some = sym (c.banks_with_candidate.ensures.each k exists) ∙ parts.0;
-      no_hit = sym (c.hit.ensures k exists) ∙ not_true (is_in c.hit.result k) parts.1;
-      kind_is = opens (row_of_bank c.args.bank_candidates.now k) (sym (c.open_banks.ensures k exists) ∙ not_true (is_in c.open_banks.result k) closed.1);
+      no_hit = sym (c.hit.ensures k exists) ∙ not-true (is_in c.hit.result k) parts.1;
+      kind_is = opens (row_of_bank c.args.bank_candidates.now k) (sym (c.open_banks.ensures k exists) ∙ not-true (is_in c.open_banks.result k) closed.1);
     }
 
 pub returns : goal.returns
@@ -95,12 +91,12 @@ returns c s history log hits known before =
     ((λ i. (sym (c.banks_with_candidate.ensures.each k exists)) i && not ((sym (c.hit.ensures k exists)) i)) ∙ sym (c.minus-asked.ensures k) ∙ sym (whole k) ∙ off) cycle)))
     before in
     let apart : (k : ℕ) → is_in opened k ≡ true → is_in closed k ≡ false =
-    λ k there. not_true (is_in closed k) (and_parts (is_in asked k) (not (is_in closed k)) (sym (c.minus-opened.ensures k) ∙ there)).1 in
+    λ k there. not-true (is_in closed k) (and_parts (is_in asked k) (not (is_in closed k)) (sym (c.minus-opened.ensures k) ∙ there)).1 in
     let half = c.with_rows_of.ensures s history log hits (λ k. is_in closed k) known apart start in
     let rest =
     so_far_same (length log) now hits (rows_beside s history log accesses (λ k. is_in closed k)) hits (rows_beside s history log accesses (λ k. is_in closed k || false)) c.with_rows_of.new.best
     (λ cycle late. refl)
     (λ cycle late. beside_same (λ k. is_in closed k) (λ k. is_in closed k || false) (rows_now s history log accesses cycle) log (λ k. sym (or-false (is_in closed k)))) half in
-    so_far_same (length log) now hits (rows_beside s history log accesses (λ k. false)) hits (λ cycle. first_place (rows_now s history log accesses cycle) log) c.with_rows_of-2.new.best
+    so_far_same (length log) now hits (rows_beside s history log accesses (λ k. false)) hits (λ cycle. first_place (rows_now s history log accesses cycle) log) c.with_acts.new.best
     (λ cycle late. refl) (λ cycle late. beside_all (λ k. false) (rows_now s history log accesses cycle) log (λ k. refl))
-    (c.with_rows_of-2.ensures s history log hits (λ k. false) known (λ k there. refl) rest)
+    (c.with_acts.ensures s history log hits (λ k. false) known (λ k there. refl) rest)
