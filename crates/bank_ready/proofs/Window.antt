@@ -1,5 +1,5 @@
 -- The last four ACTs of a rank decide when one more is allowed.
-use Rattle.std.proofs.Common.{◌≡◌, ℕ, zero, suc, ◌+◌, ◌≤◌, ◌<◌, ◌↔◌, ◌++◌, ◌∙◌, ◌&&◌, true, false, cond, min, get_or, List, [], ◌∷◌, length, map, refl, sym, ap, arith, inl, inr}
+use Rattle.std.proofs.Common.{◌≡◌, ℕ, ◌+◌, ◌≤◌, ◌<◌, ◌↔◌, ◌++◌, ◌∙◌, ◌&&◌, true, false, cond, List, [], ◌∷◌, length, map, refl, sym, ap, arith, inl, inr}
 use Rattle.std.specs.Prelude.{count_by, filter, fold, nat_lt}
 use Rattle.std.specs.List.{AllByRecursion as Each}
 use Rattle.std.proofs.lemmas.Bool.{cond_both, cases_lt, cases_Bool, lt-ltb, le-ltb, cond-true, cond-false}
@@ -10,8 +10,7 @@ use Rattle.sim_base.specs.declared.timing.Timing.{Timing}
 use Rattle.sim_base.specs.declared.command.IssuedCommand.{IssuedCommand}
 use Rattle.sim_base.specs.Rules.{recent_acts}
 use Rattle.bank_ready.specs.Ready.{is_act_in, window_ends}
-use Rattle.bank_ready.specs.Words.{no_acts, pushed, first_room, window_from}
-use Rattle.bank_ready.specs.declared.words.RankState.{RankState}
+use Rattle.bank_ready.specs.Words.{no_acts, pushed, window_from}
 use Rattle.bank_ready.specs.declared.words.Window.{Window}
 use Rattle.bank_ready.specs.Stands.{Ascends}
 
@@ -135,17 +134,3 @@ pub oldest-first : (t : Timing) (rank : ℕ) (history : List IssuedCommand) → 
 unfolding window_from
 oldest-first t rank history up =
     folded-up (window_ends t rank history) no_acts (omega arith) (omega arith) (omega arith) (all-above (window_ends t rank history)) (window_ends-ascending t rank history up)
-
-room-from : (first : ℕ) (ranks : List RankState) → fold (λ least state. min least state.window.oldest) first ranks ≤ first
-room-from first [] = omega arith
-room-from first (state ∷ ranks) = omega (arith, room-from (min first state.window.oldest) ranks)
-
-room-in : (first : ℕ) (ranks : List RankState) (k : ℕ) (d : RankState) → k < length ranks
-    → fold (λ least state. min least state.window.oldest) first ranks ≤ (get_or ranks k d).window.oldest
-room-in first [] k d inside = absurd (omega arith)
-room-in first (state ∷ ranks) zero d inside = omega (arith, room-from (min first state.window.oldest) ranks)
-room-in first (state ∷ ranks) (suc k) d inside = room-in (min first state.window.oldest) ranks k d (omega arith)
-
--- no rank has room sooner
-pub first_room-least : (ranks : List RankState) (k : ℕ) (d : RankState) → k < length ranks → first_room ranks ≤ (get_or ranks k d).window.oldest
-first_room-least ranks k d inside = room-in 18446744073709551615 ranks k d inside

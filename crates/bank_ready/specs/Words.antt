@@ -8,7 +8,6 @@
 --     names_bank kind, names_rank kind, is_column_kind kind      a command of this kind names a bank, or a rank alone, or is a column command
 --     unused_rank      a rank that has had no command
 --     pushed window end      the last four ACTs of a rank after one more
---     first_room ranks      the first cycle in which the four-activate window of some rank has room for one more ACT
 --     window_from t rank history      the last four ACTs of a rank
 --     word_from t history later k, act_word_from t history k      from which cycle on no command of a history holds back one of a bank
 --     rank_state_from t history rank      what a rank keeps of the commands of a history
@@ -16,7 +15,7 @@
 --     rank_raised t cycle earlier state      what a rank keeps after one more command in it
 --     rank_after_act t cycle end state      what it keeps after an ACT
 --     rank_state_after t cycle command rank state      what a rank keeps after one more command
-use Rattle.std.specs.Prelude.{ℕ, ◌+◌, ◌*◌, ◌/◌, ◌%◌, ◌==◌, ◌&&◌, max, min, Bool, true, false, List, slice_index_or, fold, Option, Some, None, if◌then◌else◌}
+use Rattle.std.specs.Prelude.{ℕ, ◌+◌, ◌*◌, ◌/◌, ◌%◌, ◌==◌, ◌&&◌, max, Bool, true, false, List, slice_index_or, fold, Option, Some, None, if◌then◌else◌}
 use Rattle.sim_base.specs.declared.timing.Timing.{Timing}
 use Rattle.sim_base.specs.declared.place.BankId.{BankId}
 use Rattle.sim_base.specs.declared.command.Command.{Command}
@@ -134,11 +133,6 @@ unused_rank = record { prea = 0; refresh = 0; window = no_acts }
 
 abbrev pub pushed : Window → ℕ → Window
 pushed window end = record { oldest = window.second; second = window.third; third = window.last; last = end }
-
--- the first cycle in which the four-activate window of some rank has room for one more ACT: the oldest of the last four
--- of the rank then no longer counts
-abbrev pub first_room : List RankState → ℕ
-first_room ranks = fold (λ first state. min first state.window.oldest) 18446744073709551615 ranks
 
 -- the last four ACTs of a rank
 unfoldable pub window_from : Timing → ℕ → List IssuedCommand → Window

@@ -3,9 +3,9 @@
 ghost use Rattle.std.specs.Prelude.{◌≡◌, ◌+◌, ◌*◌, ◌^◌, ◌<◌, ◌≤◌, length};
 
 use crate::words::{
-    ColumnCommand, RankState, act_rd_and_wr_words, bound_until, first_room, new_words,
-    note_act_in_rank, own_number, raise_acts, raise_column_words, raise_own, raise_rank,
-    raise_rank_groups, raise_rank_words, unused_ranks,
+    ColumnCommand, RankState, act_rd_and_wr_words, bound_until, new_words, note_act_in_rank,
+    own_number, raise_acts, raise_column_words, raise_own, raise_rank, raise_rank_groups,
+    raise_rank_words, unused_ranks,
 };
 use sim_base::command::{Command, Kind, Relation};
 use sim_base::config::Config;
@@ -114,8 +114,8 @@ impl Banks {
         }
     }
 
-    /// A cycle before which no ACT is allowed in any bank: where the four-activate window of a rank first has room for
-    /// one more.
+    /// A cycle before which no ACT is allowed in any bank: where the four-activate window of the only rank has room for
+    /// one more. Of several ranks, one has room nearly always, so that it is 0.
     #[inline(always)]
     pub fn act_floor(&self) -> Cycle
         ensures floor { (s : Config) (history : List IssuedCommand) (command : Command) (cycle : ℕ)
@@ -123,7 +123,10 @@ impl Banks {
             → kind_of command ≡ Kind.Act → rank_of command < rank_count self.now
             → IsAllowedFrom s history command cycle → result ≤ cycle }
     {
-        first_room(&self.ranks)
+        match self.ranks.as_slice() {
+            [rank] => rank.window.oldest,
+            _ => 0,
+        }
     }
 
     /// The least cycle from which on a PREA or a REF of a rank is no longer held back.

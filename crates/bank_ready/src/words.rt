@@ -6,7 +6,7 @@ ghost use Rattle.sim_base.specs.Places.{is_bank};
 ghost use Rattle.sim_base.specs.declared.command.Relation.{Relation};
 ghost use Rattle.sim_base.specs.Rules.{is_bound};
 ghost use Rattle.bank_ready.specs.Ready.{held_until};
-ghost use Rattle.bank_ready.specs.Words.{is_column_kind, is_own, bank_at, number_of, rank_after_act, rank_raised, own_until, rank_until, first_room, unused_rank};
+ghost use Rattle.bank_ready.specs.Words.{is_column_kind, is_own, bank_at, number_of, rank_after_act, rank_raised, own_until, rank_until, unused_rank};
 ghost use Rattle.bank_ready.specs.Words.{groups_rank_until, group_until, ranks_until, all_groups_until};
 ghost use Rattle.bank_ready.specs.Raised.{AreRaised, AreAllRaised, IsSpanRaised, AreSameBefore, AreSameFrom};
 ghost use Rattle.bank_ready.specs.Raised.{group_word_until, act_until, IsRankChanged};
@@ -49,15 +49,6 @@ fn unused_rank() -> RankState
             last: 0,
         },
     }
-}
-
-/// The first cycle in which the four-activate window of some rank has room for one more ACT.
-pub(crate) fn first_room(ranks: &[RankState]) -> Cycle
-    ensures { result ≡ first_room ranks.now }
-{
-    ranks
-        .iter()
-        .fold(Cycle::MAX, |first, state| first.min(state.window.oldest))
 }
 
 /// Words that hold nothing back.
