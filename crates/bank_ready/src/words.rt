@@ -1,7 +1,7 @@
 //! What a channel keeps of the commands that were issued: columns with a word for each bank or for each group, and what
 //! it keeps of each rank.
 
-ghost use Rattle.std.specs.Prelude.{◌≡◌, ◌+◌, ◌*◌, ◌%◌, ◌^◌, ◌<◌, ◌≤◌, ℕ, IsTrue, IfSome, IfOk, length, replicate};
+ghost use Rattle.std.specs.Prelude.{◌≡◌, ◌+◌, ◌*◌, ◌%◌, ◌^◌, ◌<◌, ◌≤◌, ℕ, max, IsTrue, IfSome, IfOk, length, replicate};
 ghost use Rattle.sim_base.specs.Places.{is_bank};
 ghost use Rattle.sim_base.specs.declared.command.Relation.{Relation};
 ghost use Rattle.sim_base.specs.Rules.{is_bound};
@@ -141,6 +141,16 @@ pub(crate) fn own_number(bank: BankId) -> Option<usize>
     }
 }
 
+/// Raises a word to a cycle.
+#[inline(always)]
+fn raise_word(word: &mut Cycle, until: Cycle)
+    ensures { word.new ≡ max word.old until }
+{
+    if *word < until {
+        *word = until;
+    }
+}
+
 /// Raises N words from a place on to a cycle.
 #[inline(always)]
 pub(crate) fn raise<const N: usize>(words: &mut [Cycle], first: usize, until: Cycle)
@@ -150,8 +160,7 @@ pub(crate) fn raise<const N: usize>(words: &mut [Cycle], first: usize, until: Cy
     ensures above { AreSameFrom words.old words.new (first + N) }
 {
     for place in 0..N {
-        let word = &mut words[first + place];
-        *word = (*word).max(until);
+        raise_word(&mut words[first + place], until);
     }
 }
 
@@ -162,8 +171,7 @@ pub(crate) fn raise_own(words: &mut [Cycle], own: Option<usize>, until: Cycle)
     ensures { AreRaised words.old words.new (own_until own until) }
 {
     if let Some(own) = own {
-        let word = &mut words[own];
-        *word = (*word).max(until);
+        raise_word(&mut words[own], until);
     }
 }
 
@@ -186,8 +194,7 @@ pub(crate) fn raise_groups(
         } else {
             other_group
         };
-        let word = &mut words[first + other as usize];
-        *word = (*word).max(until);
+        raise_word(&mut words[first + other as usize], until);
     }
 }
 

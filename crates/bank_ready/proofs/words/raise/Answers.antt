@@ -7,7 +7,7 @@ loop-place-init g c = none-raised c.args.words.now c.args.first (λ k. c.args.un
 
 pub loop-place-preserved : goal.loop-place-preserved
 loop-place-preserved g c =
-    one-more c.args.words.now c.loop-place.words c.args.first c.loop-place.place c.max.result (λ (k : ℕ). c.args.until) c.loop-place.invariant (omega arith) c.max.ensures
+    one-more c.args.words.now c.loop-place.words c.args.first c.loop-place.place c.raise_word.new.word (λ (k : ℕ). c.args.until) c.loop-place.invariant (omega arith) c.raise_word.ensures
 
 pub returns-clause-inside : goal.returns-clause-inside
 returns-clause-inside g c k d from to = c.loop-place.invariant.done k d from (omega arith)

@@ -15,8 +15,8 @@ loop-other-preserved c =
       | then-other-group w ↦ w.until-is ∙ chosen-group a.rank a.group c.loop-other.other a.same_group a.other_group c.loop-other-test.true (sym w.if-other-group.true)
       | else-other-group w ↦ w.until-is ∙ another-group a.rank a.group c.loop-other.other a.same_group a.other_group c.loop-other-test.true (λ e. w.if-other-group.false (sym e))
     ] in
-    one-more a.words.now c.loop-other.words (4 * a.rank) c.loop-other.other c.max.result until c.loop-other.invariant (omega arith)
-    (c.max.ensures ∙ ap (max (get_or c.loop-other.words at 0)) raised)
+    one-more a.words.now c.loop-other.words (4 * a.rank) c.loop-other.other c.raise_word.new.word until c.loop-other.invariant (omega arith)
+    (c.raise_word.ensures ∙ ap (max (get_or c.loop-other.words at 0)) raised)
 
 pub returns : goal.returns
 returns c =
