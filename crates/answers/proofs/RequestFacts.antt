@@ -7,7 +7,7 @@ use Rattle.sim_base.proofs.Lists.{get-push}
 use Rattle.statistics.specs.Values.{RunStats}
 use Rattle.whole_files.specs.Files.{Held, SameFiles}
 use Rattle.answers.specs.Refused.{IsReady, IsInputFault, IsFaultBeside, IsRightBeside, HoldRuns, IsNoComparison, IsRightCompare}
-use Rattle.answers.specs.Requests.{requests_path, AreRequestsAt, IsRequestsFault, AreRequestsRefused, HoldsSomeRequests, HoldsRequestsOf, HaveRequests, AreFoldersRefused, IsTailAt, IsTailIn, AreTails}
+use Rattle.answers.specs.Requests.{requests_path, AreRequestsAt, IsRequestsFault, AreRequestsRefused, HoldsSomeRequests, HoldsRequestsOf, HaveRequests, IsFolderRefused, IsTailAt, IsTailIn, AreTails}
 
 -- memory was refused before a table of requests was read
 memory_requests : (found : Option (List ℕ)) (stats : RunStats) (fault : Fault) → fault ≡ Memory → IsRequestsFault found stats fault
@@ -81,8 +81,8 @@ tails_before tells old mid dirs runs tails same are t = elim (are t) [
   )
 ]
 
-folders_before : (tells : Type 0) (old mid : Held) (dirs : List (List ℕ)) (runs : List RunStats) (fault : Fault) → (tells → SameFiles old mid) → AreFoldersRefused tells mid dirs runs fault
-    → AreFoldersRefused tells old dirs runs fault
+folders_before : (tells : Type 0) (old mid : Held) (dirs : List (List ℕ)) (runs : List RunStats) (fault : Fault) → (tells → SameFiles old mid) → IsFolderRefused tells mid dirs runs fault
+    → IsFolderRefused tells old dirs runs fault
 folders_before tells old mid dirs runs fault same refused = record {
   place = refused.place;
   dir = refused.dir;
@@ -95,7 +95,7 @@ folders_before tells old mid dirs runs fault same refused = record {
 
 -- the tables of a comparison are right, and memory was refused, or the requests in a folder are
 pub tails_refused : (tells : Type 0) (old mid : Held) (paths dirs : List (List ℕ)) (runs : List RunStats) (fault : Fault) → IsReady tells old paths (λ texts. HoldRuns texts runs)
-    → (tells → SameFiles old mid) → (fault ≡ Memory) ⊎ AreFoldersRefused tells mid dirs runs fault → IsInputFault tells old paths (IsNoComparison tells old dirs) fault
+    → (tells → SameFiles old mid) → (fault ≡ Memory) ⊎ IsFolderRefused tells mid dirs runs fault → IsInputFault tells old paths (IsNoComparison tells old dirs) fault
 tails_refused tells old mid paths dirs runs fault ready same (inl memory) = inl (inl memory)
 tails_refused tells old mid paths dirs runs fault ready same (inr refused) = inr (record {
   texts = ready.texts;
@@ -163,7 +163,7 @@ requests_so_far now held dirs runs tails place count so_far k dir run below at_d
 
 pub folder_refused : {A : Type 0} (tells : Type 0) (now : A → List ℕ) (old mid : Held) (dirs : List A) (runs : List RunStats) (tails : List (Option ℕ)) (place : ℕ) (d : A) (r : RunStats)
     (fault : Fault) → place < length dirs → length runs ≡ length dirs → length tails ≡ place → (tells → SameFiles old mid) → (tells → TailsSoFar now old dirs runs tails) → r ≡ get_or runs place r
-    → AreRequestsRefused tells mid (requests_path (now (get_or dirs place d))) r fault → AreFoldersRefused tells old (map now dirs) runs fault
+    → AreRequestsRefused tells mid (requests_path (now (get_or dirs place d))) r fault → IsFolderRefused tells old (map now dirs) runs fault
 folder_refused tells now old mid dirs runs tails place d r fault within counts count same so_far here refused = record {
   place = place;
   dir = now (get_or dirs place d);

@@ -33,7 +33,7 @@ use Rattle.answers.specs.Banks.{IsShownWithBanks}
 use Rattle.answers.specs.Named.{with_config, IsNamedText, IsConfiguredBy, IsConfigured}
 use Rattle.answers.specs.Pages.{AreTablesIn, AreTablesAt, NamesStranger, IsPageDone}
 use Rattle.answers.specs.Refused.{IsTableFault, IsRightTable, IsMapFault, IsRightMap, IsShowFault, HoldRun, IsNoShow, IsRightShow, IsPageFault, HoldRunTables, IsNoPage, IsRightPage, IsCompareFault, HoldRuns, IsNoComparison, IsRightCompare, IsFilesFault, IsInputFault, IsReady, IsAnswerFault}
-use Rattle.answers.specs.Requests.{requests_path, AreRequestsAt, AreRequestsRefused, AddsRequests, IsRunScreen, IsRunBanksScreen, IsScreenAt, IsBanksScreenAt, HoldsSomeRequests, IsTailIn, AreFoldersRefused, AreTails}
+use Rattle.answers.specs.Requests.{requests_path, AreRequestsAt, AreRequestsRefused, AddsRequests, IsRunScreen, IsRunBanksScreen, IsScreenAt, IsBanksScreenAt, HoldsSomeRequests, IsTailIn, IsFolderRefused, AreTails}
 use Rattle.answers.specs.declared.comparisons.StatsTable.{StatsTable}
 use Rattle.answers.specs.declared.described.FileText.{FileText}
 use Rattle.answers.specs.declared.described.RunRecord.{RunRecord}
@@ -351,7 +351,7 @@ AreTailsIn set files dirs runs tails = set.tells → AreTails (paths_of dirs) (s
 
 -- why there are none: memory was refused, or the requests in a folder are
 abbrev pub BarsTails : {S O : Type 0} → Files S O → S → List (Bor (List ℕ)) → List RunStats → Fault → Type 0
-BarsTails set files dirs runs fault = (fault ≡ Memory) ⊎ AreFoldersRefused set.tells (set.held files) (paths_of dirs) runs fault
+BarsTails set files dirs runs fault = (fault ≡ Memory) ⊎ IsFolderRefused set.tells (set.held files) (paths_of dirs) runs fault
 
 -- the comparison of the runs in folders was printed
 abbrev pub Compares : {S O : Type 0} → Files S O → S → List (Bor (List ℕ)) → Layout → (List ℕ → Type 0) → Type 0

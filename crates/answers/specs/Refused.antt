@@ -30,7 +30,7 @@ use Rattle.whole_files.specs.Files.{Held}
 use Rattle.answers.specs.Answers.{stats_table}
 use Rattle.answers.specs.Named.{Fits}
 use Rattle.answers.specs.Pages.{HoldsCommandsOf, IsNoCommands}
-use Rattle.answers.specs.Requests.{requests_path, AreRequestsRefused, HoldsSomeRequests, AreFoldersRefused, AreTails}
+use Rattle.answers.specs.Requests.{requests_path, AreRequestsRefused, HoldsSomeRequests, IsFolderRefused, AreTails}
 
 -- one of these paths holds no file, where the set of files tells
 abbrev pub LacksOne : Type 0 → Held → List (List ℕ) → Type 0
@@ -194,7 +194,7 @@ pub record IsCompareFault (texts : List (List ℕ)) (fault : Fault) : Type 0 whe
 pub record IsTailsFault (tells : Type 0) (held : Held) (dirs texts : List (List ℕ)) (fault : Fault) : Type 0 where
   pub runs : List RunStats
   pub tables : HoldRuns texts runs
-  pub refused : AreFoldersRefused tells held dirs runs fault
+  pub refused : IsFolderRefused tells held dirs runs fault
 
 -- what is wrong with a comparison of the runs in folders: their tables, or else the requests
 abbrev pub IsNoComparison : Type 0 → Held → List (List ℕ) → List (List ℕ) → Fault → Type 0

@@ -7,7 +7,7 @@
 --     AreRequestsRefused tells held path stats fault      the same of a path
 --     AreShown requests text      what a screen has of requests, where there are any
 --     HaveRequests dirs held runs count      the first folders have requests of their runs
---     AreFoldersRefused tells held dirs runs fault      the first folder whose requests are refused
+--     IsFolderRefused tells held dirs runs fault      the first folder whose requests are refused
 --     IsTailAt found stats tail      the 99th percentile of the read latencies that a path holds
 --     AreTails dirs held runs tails      the same of each folder, or none
 use Rattle.std.specs.Prelude.{◌≡◌, ◌⊎◌, ℕ, ◌<◌, ⊤, List, [], ◌++◌, length, codes, slice_get, Option, Some, None, MatchOption}
@@ -124,7 +124,7 @@ HaveRequests dirs held runs count =
     → HoldsRequestsOf (held (requests_path dir)) run
 
 -- the requests in a folder are refused, and each folder before it has requests of its run
-pub record AreFoldersRefused (tells : Type 0) (held : Held) (dirs : List (List ℕ)) (runs : List RunStats) (fault : Fault) : Type 0 where
+pub record IsFolderRefused (tells : Type 0) (held : Held) (dirs : List (List ℕ)) (runs : List RunStats) (fault : Fault) : Type 0 where
   pub place : ℕ
   pub dir : List ℕ
   pub run : RunStats
