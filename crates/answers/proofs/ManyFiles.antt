@@ -1,14 +1,13 @@
 -- Files of any number, from those that were read one after the other.
-use Rattle.std.proofs.Common.{◌≡◌, ◌⊎◌, inl, inr, ℕ, zero, suc, ◌<◌, ◌≤◌, List, [], ◌∷◌, ◌++◌, ◌+◌, length, map, take, get_or, Some, None, refl, sym, ap, ap₂, ◌∙◌, arith}
-use Rattle.std.proofs.lemmas.List.{length-map, map-append, map_more, take_all}
+use Rattle.std.proofs.Common.{◌≡◌, inl, inr, ℕ, zero, suc, ◌<◌, ◌≤◌, List, [], ◌∷◌, ◌++◌, ◌+◌, length, map, take, get_or, Some, None, refl, sym, ap, ap₂, subst, ◌∙◌, arith}
+use Rattle.std.proofs.lemmas.List.{length-map, map-append, map_more, take_all, take-map}
 use Rattle.sim_base.specs.declared.fault.Fault.{Fault}
-use Rattle.sim_base.specs.declared.fault.Fault.TheVariants.{Memory}
 use Rattle.rule_check.specs.Verdict.{records_of}
 use Rattle.statistics.specs.Values.{RunStats}
 use Rattle.whole_files.specs.Files.{Held, SameFiles, IsReadFault}
 use Rattle.answers.specs.Answers.{stats_path, stats_table, AreStatsOf}
-use Rattle.answers.specs.Refused.{LacksOne, AreTexts, IsFilesFault, IsInputFault, IsRowRefusal, IsCompareFault, IsRightCompare}
-use Rattle.answers.proofs.RefusedFacts.{found_or_memory}
+use Rattle.answers.specs.Refused.{LacksOne, AreTexts, IsFilesFault, IsStatsRefusal, IsCompareFault, HoldRuns}
+use Rattle.answers.proofs.RequestFacts.{there}
 
 map_same : {A B : Type 0} (f h : A → B) → ((x : A) → f x ≡ h x) → (xs : List A) → map f xs ≡ map h xs
 map_same f h same [] = refl
@@ -67,12 +66,20 @@ stats_at held dir bytes xs ys runs read rows = record {
   rows_are = map_twice records_of bytes ys ∙ rows;
 }
 
-pub right_compare : {B : Type 0} (bytes : B → List ℕ) (ys : List B) (runs : List RunStats) → map (λ y. records_of (bytes y)) ys ≡ map stats_table runs → IsRightCompare (map bytes ys)
-right_compare bytes ys runs rows = record { runs = runs; rows_are = map_twice records_of bytes ys ∙ rows }
+pub hold_runs : {B : Type 0} (bytes : B → List ℕ) (ys : List B) (runs : List RunStats) → map (λ y. records_of (bytes y)) ys ≡ map stats_table runs → HoldRuns (map bytes ys) runs
+hold_runs bytes ys runs rows = map_twice records_of bytes ys ∙ rows
 
-pub compare_refused : (tells : Type 0) (held : Held) (paths texts : List (List ℕ)) (fault : Fault) → AreTexts tells held paths texts → (fault ≡ Memory) ⊎ IsRowRefusal fault
-    → IsInputFault tells held paths IsCompareFault fault
-compare_refused tells held paths texts fault read refused = found_or_memory tells held paths texts IsCompareFault fault read refused
+-- a table is refused, and those before it are right
+pub table_refused : {B : Type 0} (bytes : B → List ℕ) (ys : List B) (runs : List RunStats) (k : ℕ) (d : B) (text : List ℕ) (fault : Fault) → k < length ys
+    → map (λ y. records_of (bytes y)) (take k ys) ≡ map stats_table runs → text ≡ bytes (get_or ys k d) → IsStatsRefusal text fault → IsCompareFault (map bytes ys) fault
+table_refused bytes ys runs k d text fault within before same refused = record {
+  place = k;
+  table = bytes (get_or ys k d);
+  runs = runs;
+  table_is = there bytes ys k d within;
+  before = ap (map records_of) (take-map bytes k ys) ∙ hold_runs bytes (take k ys) runs before;
+  refused = subst (λ t. IsStatsRefusal t fault) same refused;
+}
 
 -- two lists of which the same is made have as many items
 pub same_count : {A B C : Type 0} (f : A → C) (h : B → C) (xs : List A) (ys : List B) → map f xs ≡ map h ys → length ys ≡ length xs

@@ -1,22 +1,22 @@
 -- What a configuration that may be named adds to what is read, and to why it is refused.
 use Rattle.std.proofs.Common.{◌≡◌, ◌≢◌, ◌⊎◌, inl, inr, ℕ, List, [], ◌∷◌, Option, Some, None, Result, Ok, Err, sym, ap, ap₂, ◌∙◌, arith}
 use Rattle.std.specs.Result.{IfOk}
-use Rattle.std.specs.Prelude.{IfErr, OnOk, IsOkAnd, IsErrAnd}
+use Rattle.std.specs.Prelude.{IfErr, OnOk, IsOk, IsOkAnd, IsErrAnd}
 use Rattle.sim_base.specs.declared.command.IssuedCommand.{IssuedCommand}
 use Rattle.sim_base.specs.declared.config.Config.{Config}
 use Rattle.sim_base.specs.declared.fault.Fault.{Fault}
-use Rattle.sim_base.specs.declared.fault.Fault.TheVariants.{Memory, CheckRow}
+use Rattle.sim_base.specs.declared.fault.Fault.TheVariants.{Memory}
 use Rattle.sim_base.specs.Values.{values_of}
 use Rattle.config_reader.specs.Document.{document_of}
-use Rattle.reports.specs.Stats.{stats_header, stats_rows}
+use Rattle.page.specs.Rows.{IsOfRunAt}
 use Rattle.rule_check.specs.Verdict.{records_of}
 use Rattle.statistics.specs.Values.{RunStats}
-use Rattle.run_tables.specs.Records as Tables
 use Rattle.whole_files.specs.Files.{Held, SameFiles, IsReadFault}
+use Rattle.answers.specs.Answers.{stats_table}
 use Rattle.answers.specs.Named.{with_config, IsNamedText, IsConfiguredBy, IsConfigured}
-use Rattle.answers.specs.Pages.{AreTablesIn}
-use Rattle.answers.specs.Refused.{LacksOne, AreTexts, IsFilesFault, IsInputFault, IsReady, IsRowRefusal, IsSizeFault, IsShowFault, IsRightShow, IsPageFault, IsRightPage}
-use Rattle.answers.proofs.RefusedFacts.{one_text, two_texts, memory_or_row, unless_memory, found_or_memory}
+use Rattle.answers.specs.Pages.{AreTablesIn, HoldsCommandsOf, IsNoCommands}
+use Rattle.answers.specs.Refused.{LacksOne, AreTexts, IsFilesFault, IsInputFault, IsReady, IsStatsRefusal, IsSizeFault, IsShowFault, HoldRun, IsPageFault, HoldRunTables}
+use Rattle.answers.proofs.RefusedFacts.{one_text, two_texts, unless_memory, found_or_memory}
 
 -- ---- files that are read
 
@@ -77,18 +77,18 @@ configured_from tells held (Some path) (Some text) stats (Some machine) named is
 configured_from tells held (Some path) (Some text) stats None named is t = absurd is
 configured_from tells held (Some path) None stats machine named is t = absurd named
 
-pub right_show : (document : Option (List ℕ)) (table : List ℕ) (stats : RunStats) (machine : Option Config) → records_of table ≡ stats_header ∷ stats_rows stats
-    → IsConfiguredBy document stats machine → IsRightShow (with_config document (table ∷ []))
-right_show None table stats machine read is = record { stats = stats; rows_are = read }
-right_show (Some text) table stats (Some machine) read is = record { machine = machine; stats = stats; configured = is.0; rows_are = read; fits = is.1 }
-right_show (Some text) table stats None read is = absurd is
+-- a table of statistics under a configuration that may be named
+pub holds_run : (document : Option (List ℕ)) (table : List ℕ) (stats : RunStats) (machine : Option Config) → records_of table ≡ stats_table stats
+    → IsConfiguredBy document stats machine → HoldRun (with_config document (table ∷ [])) stats
+holds_run None table stats machine read is = read
+holds_run (Some text) table stats (Some machine) read is = record { machine = machine; configured = is.0; rows_are = read; fits = is.1 }
+holds_run (Some text) table stats None read is = absurd is
 
-pub right_page : (document : Option (List ℕ)) (table commands_table : List ℕ) (stats : RunStats) (commands : List IssuedCommand) (machine : Option Config)
-    → AreTablesIn table commands_table stats commands → IsConfiguredBy document stats machine → IsRightPage (with_config document (table ∷ commands_table ∷ []))
-right_page None table commands_table stats commands machine tables is = record { stats = stats; commands = commands; tables = tables }
-right_page (Some text) table commands_table stats commands (Some machine) tables is =
-    (record { machine = machine; stats = stats; configured = is.0; rows_are = tables.rows_are; fits = is.1 }, record { stats = stats; commands = commands; tables = tables })
-right_page (Some text) table commands_table stats commands None tables is = absurd is
+-- and commands of the run behind it
+pub holds_tables : (document : Option (List ℕ)) (table commands : List ℕ) (stats : RunStats) → HoldRun (with_config document (table ∷ [])) stats → HoldsCommandsOf commands stats
+    → HoldRunTables (with_config document (table ∷ commands ∷ [])) stats
+holds_tables None table commands stats run own = (run, own)
+holds_tables (Some text) table commands stats run own = (run, own)
 
 -- ---- why that is refused
 
@@ -97,49 +97,42 @@ pub config_refused : (document text table : List ℕ) (fault : Fault) → text �
 config_refused document text table fault same refused =
     unless_memory (λ f. IsShowFault (document ∷ table ∷ []) f) fault (λ other. inl (ap document_of (sym same) ∙ refused other))
 
-row_under : (document table : List ℕ) (machine : Config) (fault : Fault) → document_of document ≡ Ok (values_of machine) → (fault ≡ Memory) ⊎ IsRowRefusal fault
+pub stats_refused : (document text table : List ℕ) (machine : Config) (fault : Fault) → text ≡ document → document_of text ≡ Ok (values_of machine) → IsStatsRefusal table fault
     → (fault ≡ Memory) ⊎ IsShowFault (document ∷ table ∷ []) fault
-row_under document table machine fault configured (inl memory) = inl memory
-row_under document table machine fault configured (inr row) = inr (inr (record { machine = machine; configured = configured; fault_is = inl row }))
-
-pub row_refused : (document text table : List ℕ) (machine : Config) (fault : Fault) → text ≡ document → document_of text ≡ Ok (values_of machine) → Tables.IsTableFault fault
-    → (fault ≡ Memory) ⊎ IsShowFault (document ∷ table ∷ []) fault
-row_refused document text table machine fault same configured refused =
-    row_under document table machine fault (ap document_of (sym same) ∙ configured) (memory_or_row fault refused)
+stats_refused document text table machine fault same configured refused =
+    inr (inr (record { machine = machine; configured = ap document_of (sym same) ∙ configured; fault_is = inl refused }))
 
 pub size_refused : (document text table : List ℕ) (machine : Config) (stats : RunStats) (fault : Fault) → text ≡ document → document_of text ≡ Ok (values_of machine)
-    → records_of table ≡ stats_header ∷ stats_rows stats → IsSizeFault machine stats fault → (fault ≡ Memory) ⊎ IsShowFault (document ∷ table ∷ []) fault
+    → records_of table ≡ stats_table stats → IsSizeFault machine stats fault → (fault ≡ Memory) ⊎ IsShowFault (document ∷ table ∷ []) fault
 size_refused document text table machine stats fault same configured read refused = inr (inr (record {
   machine = machine;
   configured = ap document_of (sym same) ∙ configured;
   fault_is = inr (record { stats = stats; rows_are = read; fault_is = refused });
 }))
 
-row_of_page : (document : Option (List ℕ)) (table commands : List ℕ) (stats : RunStats) (machine : Option Config) (fault : Fault) → IsConfiguredBy document stats machine
-    → (fault ≡ Memory) ⊎ IsRowRefusal fault → (fault ≡ Memory) ⊎ IsPageFault (with_config document (table ∷ commands ∷ [])) fault
-row_of_page document table commands stats machine fault is (inl memory) = inl memory
-row_of_page None table commands stats machine fault is (inr row) = inr row
-row_of_page (Some text) table commands stats (Some machine) fault is (inr row) = inr (inr (record { machine = machine; configured = is.0; fault_is = inl row }))
-row_of_page (Some text) table commands stats None fault is (inr row) = absurd is
+-- the commands are not looked at
+pub run_refused : (document : Option (List ℕ)) (table commands : List ℕ) (fault : Fault) → (fault ≡ Memory) ⊎ IsShowFault (with_config document (table ∷ [])) fault
+    → (fault ≡ Memory) ⊎ IsPageFault (with_config document (table ∷ commands ∷ [])) fault
+run_refused document table commands fault (inl memory) = inl memory
+run_refused None table commands fault (inr refused) = inr (inl refused)
+run_refused (Some text) table commands fault (inr refused) = inr (inl refused)
 
-pub commands_refused : (document : Option (List ℕ)) (table commands : List ℕ) (stats : RunStats) (machine : Option Config) (fault : Fault) → IsConfiguredBy document stats machine
-    → Tables.IsTableFault fault → (fault ≡ Memory) ⊎ IsPageFault (with_config document (table ∷ commands ∷ [])) fault
-commands_refused document table commands stats machine fault is refused = row_of_page document table commands stats machine fault is (memory_or_row fault refused)
-
--- a command that is not of the run is a row of the table of a page that has no other fault
-pub row_of_right : (texts : List (List ℕ)) (row : ℕ) → IsRightPage texts → IsPageFault texts (CheckRow row)
-row_of_right [] row right = absurd right
-row_of_right (a ∷ []) row right = absurd right
-row_of_right (a ∷ b ∷ []) row right = tt
-row_of_right (a ∷ b ∷ c ∷ []) row right = inr (record { machine = right.0.machine; configured = right.0.configured; fault_is = inl tt })
-row_of_right (a ∷ b ∷ c ∷ d ∷ rest) row right = absurd right
+-- the commands are refused
+pub commands_refused : (document : Option (List ℕ)) (table commands : List ℕ) (stats : RunStats) (fault : Fault) → HoldRun (with_config document (table ∷ [])) stats
+    → IsNoCommands commands stats fault → (fault ≡ Memory) ⊎ IsPageFault (with_config document (table ∷ commands ∷ [])) fault
+commands_refused None table commands stats fault run refused = inr (inr (record { stats = stats; run = run; fault_is = refused }))
+commands_refused (Some text) table commands stats fault run refused = inr (inr (record { stats = stats; run = run; fault_is = refused }))
 
 -- ---- all of that together
 
--- two facts of one result
+-- two facts of one result, and three
 pub both_ok : {T E : Type 0} (r : Result T E) (P Q R : T → Type 0) → ((x : T) → P x → Q x → R x) → IfOk r P → IfOk r Q → IfOk r R
 both_ok (Ok x) P Q R f p q = f x p q
 both_ok (Err e) P Q R f p q = tt
+
+pub all_ok : {T E : Type 0} (r : Result T E) (P Q R S : T → Type 0) → ((x : T) → P x → Q x → R x → S x) → IfOk r P → IfOk r Q → IfOk r R → IfOk r S
+all_ok (Ok x) P Q R S f p q s = f x p q s
+all_ok (Err e) P Q R S f p q s = tt
 
 -- a result that is given on
 pub ok_with : {T E : Type 0} (r : Result T E) (P Q : T → Type 0) → IfOk r P → IsOkAnd r Q → (x : T) × P x × Q x
@@ -149,6 +142,14 @@ ok_with (Err e) P Q p q = absurd q
 pub ok_so : {T E : Type 0} {A : Type 0} (r : Result T E) (Q : T → Type 0) → OnOk r A → IsOkAnd r Q → A
 ok_so (Ok x) Q a q = a
 ok_so (Err e) Q a q = absurd q
+
+pub any_ok : {T E : Type 0} {A : Type 0} (r : Result T E) → A → OnOk r A
+any_ok (Ok x) a = a
+any_ok (Err e) a = tt
+
+pub when_ok : {T E : Type 0} {A : Type 0} (r : Result T E) → OnOk r A → IsOk r → A
+when_ok (Ok x) a q = a
+when_ok (Err e) a q = absurd cc
 
 pub err_with : {T E : Type 0} (r : Result T E) (P : E → Type 0) (e : E) → IfErr r P → IsErrAnd r (λ f. e ≡ f) → P e
 err_with (Ok x) P e p q = absurd q
@@ -160,12 +161,12 @@ show_texts tells old mid config document path table named same is =
     named_texts tells old config document (path ∷ []) (table ∷ []) named (one_text tells old path table (text_later tells old mid path table same is))
 
 pub ready_show : (tells : Type 0) (old mid : Held) (config document : Option (List ℕ)) (path table : List ℕ) (stats : RunStats) (machine : Option Config)
-    → IsNamedText tells old config document → (tells → SameFiles old mid) → (tells → mid path ≡ Some table) → records_of table ≡ stats_header ∷ stats_rows stats
-    → IsConfiguredBy document stats machine → IsReady tells old (with_config config (path ∷ [])) IsRightShow
+    → IsNamedText tells old config document → (tells → SameFiles old mid) → (tells → mid path ≡ Some table) → records_of table ≡ stats_table stats
+    → IsConfiguredBy document stats machine → IsReady tells old (with_config config (path ∷ [])) (λ texts. HoldRun texts stats)
 ready_show tells old mid config document path table stats machine named same is read configured = record {
   texts = with_config document (table ∷ []);
   read = show_texts tells old mid config document path table named same is;
-  right = right_show document table stats machine read configured;
+  right = holds_run document table stats machine read configured;
 }
 
 pub fault_show : (tells : Type 0) (old mid : Held) (config document : Option (List ℕ)) (path table : List ℕ) (fault : Fault) → IsNamedText tells old config document
@@ -185,12 +186,13 @@ page_texts tells old mid last config document one two table commands named same 
 pub ready_page : (tells : Type 0) (old mid last : Held) (config document : Option (List ℕ)) (one two table commands_table : List ℕ) (stats : RunStats) (commands : List IssuedCommand)
     (machine : Option Config) → IsNamedText tells old config document
     → (tells → SameFiles old mid) → (tells → mid one ≡ Some table) → (tells → SameFiles mid last) → (tells → last two ≡ Some commands_table)
-    → AreTablesIn table commands_table stats commands → IsConfiguredBy document stats machine
-    → IsReady tells old (with_config config (one ∷ two ∷ [])) IsRightPage
-ready_page tells old mid last config document one two table commands_table stats commands machine named same is later is_later tables configured = record {
+    → AreTablesIn table commands_table stats commands → IsConfiguredBy document stats machine → ((place : ℕ) → IsOfRunAt stats commands place)
+    → IsReady tells old (with_config config (one ∷ two ∷ [])) (λ texts. HoldRunTables texts stats)
+ready_page tells old mid last config document one two table commands_table stats commands machine named same is later is_later tables configured own = record {
   texts = with_config document (table ∷ commands_table ∷ []);
   read = page_texts tells old mid last config document one two table commands_table named same is later is_later;
-  right = right_page document table commands_table stats commands machine tables configured;
+  right = holds_tables document table commands_table stats (holds_run document table stats machine tables.rows_are configured)
+      (record { commands = commands; commands_are = tables.commands_are; of_run = own });
 }
 
 pub fault_page : (tells : Type 0) (old mid last : Held) (config document : Option (List ℕ)) (one two table commands : List ℕ) (fault : Fault) → IsNamedText tells old config document

@@ -4,13 +4,12 @@ use Rattle.std.specs.Prelude.{if◌then◌else◌}
 use Rattle.std.specs.Result.{is_ok, result_or}
 use Rattle.sim_base.specs.declared.config.Config.{Config}
 use Rattle.sim_base.specs.declared.fault.Fault.{Fault}
-use Rattle.sim_base.specs.declared.fault.Fault.TheVariants.{Memory, CheckRow}
+use Rattle.sim_base.specs.declared.fault.Fault.TheVariants.{Memory}
 use Rattle.sim_base.specs.Values.{values_of}
 use Rattle.config_reader.specs.Document.{document_of}
 use Rattle.rule_check.specs.Verdict.{records_of, verdict}
-use Rattle.run_tables.specs.Records as Stats
 use Rattle.whole_files.specs.Files.{Held, SameFiles}
-use Rattle.answers.specs.Refused.{AreTexts, IsInputFault, IsMapFault, IsTableFault, IsRowRefusal}
+use Rattle.answers.specs.Refused.{AreTexts, IsInputFault, IsMapFault, IsTableFault}
 
 -- memory was refused for an item, or it is behind the others
 pub or_memory : {T E : Type 0} (r : Result T E) (e : Fault) → Err e ≡ result_or r (Err Memory) → e ≡ Memory
@@ -64,9 +63,3 @@ row_fault tells held config commands document table text machine fault read conf
     found_or_memory tells held (config ∷ commands ∷ []) (document ∷ table ∷ []) IsTableFault fault read
     (unless_memory (λ f. IsTableFault (document ∷ table ∷ []) f) fault
     (λ other. inr (record { machine = machine; configured = configured; row_is = ap (λ t. verdict machine (records_of t)) (sym same) ∙ refused other })))
-
--- a table of a run is refused for memory, or by a row
-pub memory_or_row : (fault : Fault) → Stats.IsTableFault fault → (fault ≡ Memory) ⊎ IsRowRefusal fault
-memory_or_row (CheckRow row) refused = inr tt
-memory_or_row Memory refused = inl refl
-memory_or_row fault refused = absurd refused

@@ -2,52 +2,115 @@
 use Rattle.std.proofs.Common.{◌≡◌, ◌⊎◌, inl, inr, ℕ, zero, suc, ◌<◌, List, [], ◌∷◌, ◌++◌, length, map, get_or, Option, Some, None, slice_get, refl, sym, ap, subst, ◌∙◌, arith}
 use Rattle.request_table.specs.declared.times.RequestTimes.{RequestTimes}
 use Rattle.sim_base.specs.declared.fault.Fault.{Fault}
-use Rattle.sim_base.specs.declared.fault.Fault.TheVariants.{Memory, CheckRow}
+use Rattle.sim_base.specs.declared.fault.Fault.TheVariants.{Memory}
 use Rattle.sim_base.proofs.Lists.{get-push}
 use Rattle.statistics.specs.Values.{RunStats}
 use Rattle.whole_files.specs.Files.{Held, SameFiles}
-use Rattle.answers.specs.Refused.{IsReady, IsAnswerFault, IsRowRefusal, IsShowFault, IsRightShow, IsPageFault, IsRightPage, IsCompareFault, IsRightCompare}
-use Rattle.answers.specs.Requests.{requests_path, AreRequestsAt, IsRequestsFault, IsTailAt, IsTailIn, AreTails}
-use Rattle.answers.proofs.NamedFacts.{row_of_right}
-
--- a row is refused whose tables are right
-show_row : (texts : List (List ℕ)) (row : ℕ) → IsRightShow texts → IsShowFault texts (CheckRow row)
-show_row [] row right = absurd right
-show_row (a ∷ []) row right = tt
-show_row (a ∷ b ∷ []) row right = inr (record { machine = right.machine; configured = right.configured; fault_is = inl tt })
-show_row (a ∷ b ∷ c ∷ rest) row right = absurd right
-
--- tables are right, and requests beside them are refused
-beside : (tells : Type 0) (held : Held) (paths : List (List ℕ)) (is_fault : List (List ℕ) → Fault → Type 0) (is_right : List (List ℕ) → Type 0) (fault : Fault)
-    → ((texts : List (List ℕ)) (row : ℕ) → is_right texts → is_fault texts (CheckRow row)) → IsReady tells held paths is_right → (fault ≡ Memory) ⊎ IsRowRefusal fault
-    → IsAnswerFault tells held paths is_fault is_right fault
-beside tells held paths is_fault is_right fault row ready (inl memory) = inl (inl (inl memory))
-beside tells held paths is_fault is_right (CheckRow k) row ready (inr refused) = inl (inr (record { texts = ready.texts; read = ready.read; fault_is = row ready.texts k ready.right }))
-beside tells held paths is_fault is_right fault row ready (inr refused) = absurd refused
-
-pub show_beside : (tells : Type 0) (held : Held) (paths : List (List ℕ)) (fault : Fault) → IsReady tells held paths IsRightShow → (fault ≡ Memory) ⊎ IsRowRefusal fault
-    → IsAnswerFault tells held paths IsShowFault IsRightShow fault
-show_beside tells held paths fault ready refused = beside tells held paths IsShowFault IsRightShow fault show_row ready refused
-
-pub page_beside : (tells : Type 0) (held : Held) (paths : List (List ℕ)) (fault : Fault) → IsReady tells held paths IsRightPage → (fault ≡ Memory) ⊎ IsRowRefusal fault
-    → IsAnswerFault tells held paths IsPageFault IsRightPage fault
-page_beside tells held paths fault ready refused = beside tells held paths IsPageFault IsRightPage fault row_of_right ready refused
-
--- the tables of a comparison are right, and requests beside them are refused
-pub compare_beside : (tells : Type 0) (held : Held) (paths : List (List ℕ)) (fault : Fault) → IsReady tells held paths IsRightCompare → (fault ≡ Memory) ⊎ IsRowRefusal fault
-    → IsAnswerFault tells held paths IsCompareFault IsRightCompare fault
-compare_beside tells held paths fault ready refused = beside tells held paths IsCompareFault IsRightCompare fault (λ texts row right. tt) ready refused
+use Rattle.answers.specs.Refused.{IsReady, IsInputFault, IsFaultBeside, IsRightBeside, HoldRuns, IsNoComparison, IsRightCompare}
+use Rattle.answers.specs.Requests.{requests_path, AreRequestsAt, IsRequestsFault, AreRequestsRefused, HoldsSomeRequests, HoldsRequestsOf, HaveRequests, IsFolderRefused, IsTailAt, IsTailIn, AreTails}
 
 -- memory was refused before a table of requests was read
-pub memory_requests : (found : Option (List ℕ)) (stats : RunStats) (fault : Fault) → fault ≡ Memory → IsRequestsFault found stats fault
+memory_requests : (found : Option (List ℕ)) (stats : RunStats) (fault : Fault) → fault ≡ Memory → IsRequestsFault found stats fault
 memory_requests None stats fault memory = memory
 memory_requests (Some table) stats fault memory = subst (λ f. IsRequestsFault (Some table) stats f) (sym memory) tt
+
+pub memory_refused : (tells : Type 0) (held : Held) (path : List ℕ) (stats : RunStats) (fault : Fault) → fault ≡ Memory → AreRequestsRefused tells held path stats fault
+memory_refused tells held path stats fault memory = record { found = held path; found_is = λ t. refl; fault_is = memory_requests (held path) stats fault memory }
+
+-- ---- why an answer is refused whose texts can be read
+
+-- what is wrong with the texts is wrong with the answer
+pub texts_refused : (tells : Type 0) (held : Held) (paths : List (List ℕ)) (is_fault is_more : List (List ℕ) → Fault → Type 0) (fault : Fault)
+    → ((texts : List (List ℕ)) → is_fault texts fault → is_more texts fault) → IsInputFault tells held paths is_fault fault → IsInputFault tells held paths is_more fault
+texts_refused tells held paths is_fault is_more fault more (inl unread) = inl unread
+texts_refused tells held paths is_fault is_more fault more (inr found) =
+    inr (record { texts = found.texts; read = found.read; fault_is = more found.texts found.fault_is })
+
+refused_before : (tells : Type 0) (old mid : Held) (path : List ℕ) (stats : RunStats) (fault : Fault) → (tells → SameFiles old mid) → AreRequestsRefused tells mid path stats fault
+    → AreRequestsRefused tells old path stats fault
+refused_before tells old mid path stats fault same refused =
+    record { found = refused.found; found_is = λ t. sym (same t path) ∙ refused.found_is t; fault_is = refused.fault_is }
+
+-- the texts are right, and the requests beside them are refused
+pub beside_refused : (tells : Type 0) (old mid : Held) (paths : List (List ℕ)) (dir : List ℕ) (is_fault : List (List ℕ) → Fault → Type 0) (holds : List (List ℕ) → RunStats → Type 0)
+    (stats : RunStats) (fault : Fault) → IsReady tells old paths (λ texts. holds texts stats) → (tells → SameFiles old mid) → AreRequestsRefused tells mid (requests_path dir) stats fault
+    → IsInputFault tells old paths (λ texts f. is_fault texts f ⊎ IsFaultBeside (holds texts) tells old dir f) fault
+beside_refused tells old mid paths dir is_fault holds stats fault ready same refused = inr (record {
+  texts = ready.texts;
+  read = ready.read;
+  fault_is = inr (record { stats = stats; run = ready.right; refused = refused_before tells old mid (requests_path dir) stats fault same refused });
+})
+
+-- the texts are right, and so are the requests beside them, or there are none
+pub right_beside : (tells : Type 0) (old mid : Held) (paths : List (List ℕ)) (dir : List ℕ) (holds : List (List ℕ) → RunStats → Type 0) (stats : RunStats)
+    → IsReady tells old paths (λ texts. holds texts stats) → (tells → SameFiles old mid) → (tells → HoldsSomeRequests (mid (requests_path dir)) stats)
+    → IsReady tells old paths (λ texts. IsRightBeside (holds texts) tells old dir)
+right_beside tells old mid paths dir holds stats ready same some = record {
+  texts = ready.texts;
+  read = ready.read;
+  right = record { stats = stats; run = ready.right; requests = λ t. subst (λ found. HoldsSomeRequests found stats) (same t (requests_path dir)) (some t) };
+}
 
 -- ---- files that were read before
 
 pub requests_before : (tells : Type 0) (old mid : Held) (path : List ℕ) (stats : RunStats) (requests : Option (List RequestTimes)) → (tells → SameFiles old mid)
     → (tells → AreRequestsAt (mid path) stats requests) → tells → AreRequestsAt (old path) stats requests
 requests_before tells old mid path stats requests same are t = subst (λ found. AreRequestsAt found stats requests) (same t path) (are t)
+
+have_before : (old mid : Held) (dirs : List (List ℕ)) (runs : List RunStats) (count : ℕ) → SameFiles old mid → HaveRequests dirs mid runs count → HaveRequests dirs old runs count
+have_before old mid dirs runs count same have k dir run below at_dir at_run =
+    subst (λ found. HoldsRequestsOf found run) (same (requests_path dir)) (have k dir run below at_dir at_run)
+
+pub tails_before : (tells : Type 0) (old mid : Held) (dirs : List (List ℕ)) (runs : List RunStats) (tails : List (Option ℕ)) → (tells → SameFiles old mid) → (tells → AreTails dirs mid runs tails) → tells
+    → AreTails dirs old runs tails
+tails_before tells old mid dirs runs tails same are t = elim (are t) [
+  | inl all ↦ inl (record {
+    count = all.count;
+    tails_are = λ k dir run tail at_dir at_run at_tail.
+        subst (λ found. IsTailAt found run tail) (same t (requests_path dir)) (all.tails_are k dir run tail at_dir at_run at_tail);
+  })
+  | inr lacks ↦ inr (
+    lacks.0,
+    record {
+      place = lacks.1.place;
+      dir = lacks.1.dir;
+      dir_is = lacks.1.dir_is;
+      none = sym (same t (requests_path lacks.1.dir)) ∙ lacks.1.none;
+      before = have_before old mid dirs runs lacks.1.place (same t) lacks.1.before;
+    },
+  )
+]
+
+folders_before : (tells : Type 0) (old mid : Held) (dirs : List (List ℕ)) (runs : List RunStats) (fault : Fault) → (tells → SameFiles old mid) → IsFolderRefused tells mid dirs runs fault
+    → IsFolderRefused tells old dirs runs fault
+folders_before tells old mid dirs runs fault same refused = record {
+  place = refused.place;
+  dir = refused.dir;
+  run = refused.run;
+  dir_is = refused.dir_is;
+  run_is = refused.run_is;
+  before = λ t. have_before old mid dirs runs refused.place (same t) (refused.before t);
+  refused = refused_before tells old mid (requests_path refused.dir) refused.run fault same refused.refused;
+}
+
+-- the tables of a comparison are right, and memory was refused, or the requests in a folder are
+pub tails_refused : (tells : Type 0) (old mid : Held) (paths dirs : List (List ℕ)) (runs : List RunStats) (fault : Fault) → IsReady tells old paths (λ texts. HoldRuns texts runs)
+    → (tells → SameFiles old mid) → (fault ≡ Memory) ⊎ IsFolderRefused tells mid dirs runs fault → IsInputFault tells old paths (IsNoComparison tells old dirs) fault
+tails_refused tells old mid paths dirs runs fault ready same (inl memory) = inl (inl memory)
+tails_refused tells old mid paths dirs runs fault ready same (inr refused) = inr (record {
+  texts = ready.texts;
+  read = ready.read;
+  fault_is = inr (record { runs = runs; tables = ready.right; refused = folders_before tells old mid dirs runs fault same refused });
+})
+
+-- nothing is wrong with a comparison
+pub right_compare : (tells : Type 0) (old mid : Held) (paths dirs : List (List ℕ)) (runs : List RunStats) (tails : List (Option ℕ)) → IsReady tells old paths (λ texts. HoldRuns texts runs)
+    → (tells → SameFiles old mid) → (tells → AreTails dirs mid runs tails) → IsReady tells old paths (IsRightCompare tells old dirs)
+right_compare tells old mid paths dirs runs tails ready same are = record {
+  texts = ready.texts;
+  read = ready.read;
+  right = record { runs = runs; tables = ready.right; requests = λ t. (tails, tails_before tells old mid dirs runs tails same are t) };
+}
 
 -- ---- percentiles of several runs
 
@@ -61,10 +124,15 @@ item_at [] k d v at = absurd cc
 item_at (x ∷ xs) zero d v at = cc at
 item_at (x ∷ xs) (suc k) d v at = item_at xs k d v at
 
-there : {A B : Type 0} (f : A → B) (xs : List A) (k : ℕ) (d : A) → k < length xs → slice_get (map f xs) k ≡ Some (f (get_or xs k d))
+pub there : {A B : Type 0} (f : A → B) (xs : List A) (k : ℕ) (d : A) → k < length xs → slice_get (map f xs) k ≡ Some (f (get_or xs k d))
 there f [] k d within = absurd (omega (arith, within))
 there f (x ∷ xs) zero d within = refl
 there f (x ∷ xs) (suc k) d within = there f xs k d (omega (arith, within))
+
+item_there : {A : Type 0} (xs : List A) (k : ℕ) (d : A) → k < length xs → slice_get xs k ≡ Some (get_or xs k d)
+item_there [] k d within = absurd (omega (arith, within))
+item_there (x ∷ xs) zero d within = refl
+item_there (x ∷ xs) (suc k) d within = item_there xs k d (omega (arith, within))
 
 -- the percentiles so far are those of the first folders
 abbrev pub TailsSoFar : {A : Type 0} → (A → List ℕ) → Held → List A → List RunStats → List (Option ℕ) → Type 0
@@ -84,21 +152,45 @@ tails_more now held dirs runs tails more place tail d r count so_far pushed is k
           (subst (λ x. IsTailAt (held (requests_path dir)) x tail) run_is (subst (λ x. IsTailAt (held (requests_path x)) (get_or runs place r) tail) dir_is is))
     ]
 
-pub none_at : {A : Type 0} (now : A → List ℕ) (held : Held) (dirs : List A) (runs : List RunStats) (tails : List (Option ℕ)) (k : ℕ) (d : A) → k < length dirs
-    → held (requests_path (now (get_or dirs k d))) ≡ None → tails ≡ [] → AreTails (map now dirs) held runs tails
-none_at now held dirs runs tails k d within none empty = inr (empty, (k, now (get_or dirs k d), there now dirs k d within, none))
-
--- ---- why a table of requests is refused
+-- so the first folders have requests
+requests_so_far : {A : Type 0} (now : A → List ℕ) (held : Held) (dirs : List A) (runs : List RunStats) (tails : List (Option ℕ)) (place : ℕ) → length tails ≡ place
+    → TailsSoFar now held dirs runs tails → HaveRequests (map now dirs) held runs place
+requests_so_far now held dirs runs tails place count so_far k dir run below at_dir at_run =
+    let found = so_far k dir run (get_or tails k None) at_dir at_run (item_there tails k None (omega (arith, below, count))) in
+    record { requests = found.requests; requests_are = found.requests_are }
 
 -- ---- one folder more
 
-pub folder_lacks : {A : Type 0} (tells : Type 0) (now : A → List ℕ) (old mid : Held) (dirs : List A) (runs : List RunStats) (tails : List (Option ℕ)) (k : ℕ) (d : A) (stats : RunStats)
-    (found : Option (Option ℕ)) → k < length dirs → (tells → SameFiles old mid) → (tells → IsTailIn (mid (requests_path (now (get_or dirs k d)))) stats found) → found ≡ None → tails ≡ [] → tells
-    → AreTails (map now dirs) old runs tails
-folder_lacks tells now old mid dirs runs tails k d stats found within same is none empty t =
+pub folder_refused : {A : Type 0} (tells : Type 0) (now : A → List ℕ) (old mid : Held) (dirs : List A) (runs : List RunStats) (tails : List (Option ℕ)) (place : ℕ) (d : A) (r : RunStats)
+    (fault : Fault) → place < length dirs → length runs ≡ length dirs → length tails ≡ place → (tells → SameFiles old mid) → (tells → TailsSoFar now old dirs runs tails) → r ≡ get_or runs place r
+    → AreRequestsRefused tells mid (requests_path (now (get_or dirs place d))) r fault → IsFolderRefused tells old (map now dirs) runs fault
+folder_refused tells now old mid dirs runs tails place d r fault within counts count same so_far here refused = record {
+  place = place;
+  dir = now (get_or dirs place d);
+  run = r;
+  dir_is = there now dirs place d within;
+  run_is = item_there runs place r (omega (arith, within, counts)) ∙ ap Some (sym here);
+  before = λ t. requests_so_far now old dirs runs tails place count (so_far t);
+  refused = refused_before tells old mid (requests_path (now (get_or dirs place d))) r fault same refused;
+}
+
+pub folder_lacks : {A : Type 0} (tells : Type 0) (now : A → List ℕ) (old mid : Held) (dirs : List A) (runs : List RunStats) (tails empty : List (Option ℕ)) (k : ℕ) (d : A) (stats : RunStats)
+    (found : Option (Option ℕ)) → k < length dirs → length tails ≡ k → (tells → SameFiles old mid) → (tells → TailsSoFar now old dirs runs tails)
+    → (tells → IsTailIn (mid (requests_path (now (get_or dirs k d)))) stats found) → found ≡ None → empty ≡ [] → tells
+    → AreTails (map now dirs) old runs empty
+folder_lacks tells now old mid dirs runs tails empty k d stats found within count same so_far is none is_empty t =
     let path : List ℕ = requests_path (now (get_or dirs k d)) in
     let lacks : mid path ≡ None = subst (λ f. IsTailIn (mid path) stats f) none (is t) in
-    none_at now old dirs runs tails k d within (sym (same t path) ∙ lacks) empty
+    inr (
+      is_empty,
+      record {
+        place = k;
+        dir = now (get_or dirs k d);
+        dir_is = there now dirs k d within;
+        none = sym (same t path) ∙ lacks;
+        before = requests_so_far now old dirs runs tails k count (so_far t);
+      },
+    )
 
 pub folder_more : {A : Type 0} (tells : Type 0) (now : A → List ℕ) (old mid : Held) (dirs : List A) (runs : List RunStats) (tails more : List (Option ℕ)) (place : ℕ) (tail : Option ℕ) (d : A) (r : RunStats)
     (found : Option (Option ℕ)) → length tails ≡ place → (tells → SameFiles old mid) → (tells → TailsSoFar now old dirs runs tails) → more ≡ tails ++ tail ∷ [] → r ≡ get_or runs place r

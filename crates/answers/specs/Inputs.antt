@@ -22,7 +22,7 @@ use Rattle.rule_check.specs.Verdict.{records_of, verdict}
 use Rattle.rule_check.specs.declared.verdict.Verdict.{Verdict}
 use Rattle.sim_base.specs.declared.config.Config.{Config}
 use Rattle.sim_base.specs.declared.fault.Fault.{Fault}
-use Rattle.sim_base.specs.declared.fault.Fault.TheVariants.{Memory}
+use Rattle.sim_base.specs.declared.fault.Fault.TheVariants.{Memory, Write}
 use Rattle.sim_base.specs.declared.place.Place.{Place}
 use Rattle.statistics.specs.Values.{RunStats}
 use Rattle.whole_files.specs.Tables.{path_in, commands_name}
@@ -31,9 +31,9 @@ use Rattle.whole_files.specs.declared.files.FileSet.{Ghosts as Files}
 use Rattle.answers.specs.Answers.{IsVerdict, IsChecked, IsPlace, IsMapped, IsStatsOf, IsShown, stats_path, stats_table, AreStatsOf, IsCompared}
 use Rattle.answers.specs.Banks.{IsShownWithBanks}
 use Rattle.answers.specs.Named.{with_config, IsNamedText, IsConfiguredBy, IsConfigured}
-use Rattle.answers.specs.Pages.{AreTablesIn, AreTablesAt, IsNoPage, IsPageDone}
-use Rattle.answers.specs.Refused.{IsTableFault, IsRightTable, IsMapFault, IsRightMap, IsShowFault, IsRightShow, IsPageFault, IsRightPage, IsCompareFault, IsRightCompare, IsFilesFault, IsInputFault, IsReady, IsAnswerFault, IsRowRefusal}
-use Rattle.answers.specs.Requests.{requests_path, AreRequestsAt, IsRequestsFault, AddsRequests, IsRunScreen, IsRunBanksScreen, IsScreenAt, IsBanksScreenAt, HoldsSomeRequests, IsTailIn, AreTails}
+use Rattle.answers.specs.Pages.{AreTablesIn, AreTablesAt, NamesStranger, IsPageDone}
+use Rattle.answers.specs.Refused.{IsTableFault, IsRightTable, IsMapFault, IsRightMap, IsShowFault, HoldRun, IsNoShow, IsRightShow, IsPageFault, HoldRunTables, IsNoPage, IsRightPage, IsCompareFault, HoldRuns, IsNoComparison, IsRightCompare, IsFilesFault, IsInputFault, IsReady, IsAnswerFault}
+use Rattle.answers.specs.Requests.{requests_path, AreRequestsAt, AreRequestsRefused, AddsRequests, IsRunScreen, IsRunBanksScreen, IsScreenAt, IsBanksScreenAt, HoldsSomeRequests, IsTailIn, IsFolderRefused, AreTails}
 use Rattle.answers.specs.declared.comparisons.StatsTable.{StatsTable}
 use Rattle.answers.specs.declared.described.FileText.{FileText}
 use Rattle.answers.specs.declared.described.RunRecord.{RunRecord}
@@ -113,7 +113,8 @@ IsVerdictRefusal machine table fault = fault ≢ Memory → verdict machine (rec
 abbrev pub IsRunUnder : Option (List ℕ) → RunRecord → Type 0
 IsRunUnder document run = IsConfiguredBy document run.stats run.config
 
--- memory was refused, or this is wrong with the table of a run's statistics, or with the configuration beside it
+-- memory was refused, or this is wrong with the configuration, where there is one, or else with the table of a run's
+-- statistics
 abbrev pub IsNoRun : Option (List ℕ) → List ℕ → Fault → Type 0
 IsNoRun document table fault = (fault ≡ Memory) ⊎ IsShowFault (with_config document (table ∷ [])) fault
 
@@ -121,7 +122,15 @@ IsNoRun document table fault = (fault ≡ Memory) ⊎ IsShowFault (with_config d
 abbrev pub HoldTables : FileText → FileText → RunTables → Type 0
 HoldTables stats commands found = AreTablesIn stats.bytes.items commands.bytes.items found.run.stats found.commands
 
--- memory was refused, or this is wrong with the tables of a run, or with the configuration beside them
+-- each command is of the run
+abbrev pub HasOwnCommands : RunTables → Type 0
+HasOwnCommands found = (place : ℕ) → IsOfRunAt found.run.stats found.commands place
+
+-- a fault names the first command that is not of the run
+abbrev pub HasStrangers : RunTables → Fault → Type 0
+HasStrangers found fault = NamesStranger found.run.stats found.commands fault
+
+-- memory was refused, or this is wrong with the configuration, where there is one, or else with the tables of a run
 abbrev pub AreNoTables : Option (List ℕ) → FileText → FileText → Fault → Type 0
 AreNoTables document stats commands fault =
     (fault ≡ Memory) ⊎ IsPageFault (with_config document (stats.bytes.items ∷ commands.bytes.items ∷ [])) fault
@@ -182,11 +191,15 @@ FindsRequests set files dir stats found = ReadsRequests set files (requests_path
 
 -- why the file of a table of requests gives none of a run
 abbrev pub BarsRequests : {S O : Type 0} → Files S O → S → List ℕ → RunStats → Fault → Type 0
-BarsRequests set files path stats fault = set.tells → IsRequestsFault (set.held files path) stats fault
+BarsRequests set files path stats fault = AreRequestsRefused set.tells (set.held files) path stats fault
 
 -- why the table of requests in a folder gives none of a run
 abbrev pub BarsRequestsIn : {S O : Type 0} → Files S O → S → List ℕ → RunStats → Fault → Type 0
 BarsRequestsIn set files dir stats fault = BarsRequests set files (requests_path dir) stats fault
+
+-- a folder has the requests of a run, or none
+abbrev pub FindsSomeRequests : {S O : Type 0} → Files S O → S → List ℕ → RunStats → Type 0
+FindsSomeRequests set files dir stats = set.tells → HoldsSomeRequests (set.held files (requests_path dir)) stats
 
 -- a screen has got what there is to say of requests
 abbrev pub GetsRequests : Option (Vec RequestTimes Global) → String Global → String Global → Type 0
@@ -203,16 +216,17 @@ abbrev pub RunFits : {S O : Type 0} → Files S O → S → Option (Bor (List �
 RunFits set files config run = set.tells → IsConfigured (path_of config) (set.held files) run.stats
 
 -- the table of a run's statistics can be read, and is right, and so is the configuration that is named, if one is
-abbrev pub CanShow : {S O : Type 0} → Files S O → S → Option (Bor (List ℕ)) → List ℕ → Type 0
-CanShow set files config path = IsReady set.tells (set.held files) (with_config (path_of config) (path ∷ [])) IsRightShow
+abbrev pub CanShow : {S O : Type 0} → Files S O → S → Option (Bor (List ℕ)) → List ℕ → RunRecord → Type 0
+CanShow set files config path run =
+    IsReady set.tells (set.held files) (with_config (path_of config) (path ∷ [])) (λ texts. HoldRun texts run.stats)
 
 -- why it is refused
 abbrev pub BarsShow : {S O : Type 0} → Files S O → S → Option (Bor (List ℕ)) → List ℕ → Fault → Type 0
 BarsShow set files config path fault = IsInputFault set.tells (set.held files) (with_config (path_of config) (path ∷ [])) IsShowFault fault
 
 -- both of a folder
-abbrev pub CanShowIn : {S O : Type 0} → Files S O → S → RunFolder → Type 0
-CanShowIn set files folder = CanShow set files folder.config (stats_path folder.dir.now)
+abbrev pub CanShowIn : {S O : Type 0} → Files S O → S → RunFolder → RunRecord → Type 0
+CanShowIn set files folder run = CanShow set files folder.config (stats_path folder.dir.now) run
 
 abbrev pub BarsShowIn : {S O : Type 0} → Files S O → S → RunFolder → Fault → Type 0
 BarsShowIn set files folder fault = BarsShow set files folder.config (stats_path folder.dir.now) fault
@@ -232,7 +246,8 @@ Shows set files folder printed = set.tells → IsShown folder.dir.now (path_of f
 -- why no screen of a run is printed
 abbrev pub RefusesShow : {S O : Type 0} → Files S O → S → RunFolder → Fault → Type 0
 RefusesShow set files folder fault =
-    IsAnswerFault set.tells (set.held files) (with_config (path_of folder.config) (stats_path folder.dir.now ∷ [])) IsShowFault IsRightShow fault
+    IsAnswerFault set.tells (set.held files) (with_config (path_of folder.config) (stats_path folder.dir.now ∷ []))
+    (IsNoShow set.tells (set.held files) folder.dir.now) (IsRightShow set.tells (set.held files) folder.dir.now) fault
 
 -- ---- show --banks, and page
 
@@ -245,9 +260,9 @@ abbrev pub AreTablesInFolder : {S O : Type 0} → Files S O → S → RunFolder 
 AreTablesInFolder set files folder found = AreTablesOf set files (stats_path folder.dir.now) (commands_path folder.dir.now) found
 
 -- the tables of a run can be read, and are right, and so is the configuration that is named, if one is
-abbrev pub CanPage : {S O : Type 0} → Files S O → S → Option (Bor (List ℕ)) → List ℕ → List ℕ → Type 0
-CanPage set files config stats commands =
-    IsReady set.tells (set.held files) (with_config (path_of config) (stats ∷ commands ∷ [])) IsRightPage
+abbrev pub CanPage : {S O : Type 0} → Files S O → S → Option (Bor (List ℕ)) → List ℕ → List ℕ → RunTables → Type 0
+CanPage set files config stats commands found =
+    IsReady set.tells (set.held files) (with_config (path_of config) (stats ∷ commands ∷ [])) (λ texts. HoldRunTables texts found.run.stats)
 
 -- why they are refused
 abbrev pub BarsPage : {S O : Type 0} → Files S O → S → Option (Bor (List ℕ)) → List ℕ → List ℕ → Fault → Type 0
@@ -255,15 +270,11 @@ BarsPage set files config stats commands fault =
     IsInputFault set.tells (set.held files) (with_config (path_of config) (stats ∷ commands ∷ [])) IsPageFault fault
 
 -- both of a folder
-abbrev pub CanPageIn : {S O : Type 0} → Files S O → S → RunFolder → Type 0
-CanPageIn set files folder = CanPage set files folder.config (stats_path folder.dir.now) (commands_path folder.dir.now)
+abbrev pub CanPageIn : {S O : Type 0} → Files S O → S → RunFolder → RunTables → Type 0
+CanPageIn set files folder found = CanPage set files folder.config (stats_path folder.dir.now) (commands_path folder.dir.now) found
 
 abbrev pub BarsPageIn : {S O : Type 0} → Files S O → S → RunFolder → Fault → Type 0
 BarsPageIn set files folder fault = BarsPage set files folder.config (stats_path folder.dir.now) (commands_path folder.dir.now) fault
-
--- each command is of the run
-abbrev pub HasOwnCommands : RunTables → Type 0
-HasOwnCommands found = (place : ℕ) → IsOfRunAt found.run.stats found.commands place
 
 -- the screen of a run and its banks, with what there is to say of its requests
 abbrev pub IsBanksScreenOf : RunTables → Option (Vec RequestTimes Global) → String Global → Type 0
@@ -274,13 +285,10 @@ abbrev pub IsBanksScreenIn : {S O : Type 0} → Files S O → S → List ℕ →
 IsBanksScreenIn set files dir found text =
     set.tells → IsBanksScreenAt (set.held files (requests_path dir)) found.run.stats found.commands (string_bytes text)
 
--- a folder has the requests of a run, or none
-abbrev pub FindsSomeRequests : {S O : Type 0} → Files S O → S → List ℕ → RunStats → Type 0
-FindsSomeRequests set files dir stats = set.tells → HoldsSomeRequests (set.held files (requests_path dir)) stats
-
--- why neither a screen of banks nor a page is made of the tables of a run: its requests are refused, or its commands
-abbrev pub IsNoScreen : RunTables → Fault → Type 0
-IsNoScreen found fault = ((fault ≡ Memory) ⊎ IsRowRefusal fault) ⊎ IsNoPage found.run.stats found.commands fault
+-- why no page is made of the tables of the run in a folder: its requests are refused; or they are not, and a writer is
+abbrev pub BarsPageOf : {S O : Type 0} → Files S O → S → List ℕ → RunTables → Fault → Type 0
+BarsPageOf set files dir found fault =
+    BarsRequestsIn set files dir found.run.stats fault ⊎ ((fault ≡ Write) × FindsSomeRequests set files dir found.run.stats)
 
 -- a page is in its place, with this warning
 abbrev pub PutsPage : {S O : Type 0} → Files S O → S → S → List ℕ → Option LargePage → Page → Type 0
@@ -299,7 +307,8 @@ MakesPage set old new folder file warning =
 abbrev pub RefusesPage : {S O : Type 0} → Files S O → S → RunFolder → Fault → Type 0
 RefusesPage set files folder fault =
     IsAnswerFault set.tells (set.held files)
-    (with_config (path_of folder.config) (stats_path folder.dir.now ∷ commands_path folder.dir.now ∷ [])) IsPageFault IsRightPage fault
+    (with_config (path_of folder.config) (stats_path folder.dir.now ∷ commands_path folder.dir.now ∷ []))
+    (IsNoPage set.tells (set.held files) folder.dir.now) (IsRightPage set.tells (set.held files) folder.dir.now) fault
 
 -- ---- compare
 
@@ -313,16 +322,20 @@ AreStatsTablesIn set files dirs tables =
     set.tells → map (λ d. set.held files (stats_path d.now)) dirs ≡ map (λ t. Some t.bytes.items) tables.items
 
 -- the statistics that tables hold
-abbrev pub HoldRuns : List StatsTable → Vec RunStats Global → Type 0
-HoldRuns tables runs = map (λ t. records_of t.bytes.items) tables ≡ map stats_table runs.items
+abbrev pub GiveRuns : List StatsTable → Vec RunStats Global → Type 0
+GiveRuns tables runs = map (λ t. records_of t.bytes.items) tables ≡ map stats_table runs.items
+
+-- memory was refused, or this is wrong with the first table that is refused
+abbrev pub GiveNoRuns : List StatsTable → Fault → Type 0
+GiveNoRuns tables fault = (fault ≡ Memory) ⊎ IsCompareFault (map (λ t. t.bytes.items) tables) fault
 
 -- the statistics of the runs in folders
 abbrev pub AreRunsIn : {S O : Type 0} → Files S O → S → List (Bor (List ℕ)) → Vec RunStats Global → Type 0
 AreRunsIn set files dirs runs = set.tells → AreStatsOf (paths_of dirs) (set.held files) runs.items
 
 -- the tables of the runs in folders can be read, and are right
-abbrev pub CanCompare : {S O : Type 0} → Files S O → S → List (Bor (List ℕ)) → Type 0
-CanCompare set files dirs = IsReady set.tells (set.held files) (stats_paths dirs) IsRightCompare
+abbrev pub CanCompare : {S O : Type 0} → Files S O → S → List (Bor (List ℕ)) → Vec RunStats Global → Type 0
+CanCompare set files dirs runs = IsReady set.tells (set.held files) (stats_paths dirs) (λ texts. HoldRuns texts runs.items)
 
 -- why they are refused
 abbrev pub BarsCompare : {S O : Type 0} → Files S O → S → List (Bor (List ℕ)) → Fault → Type 0
@@ -336,10 +349,16 @@ IsTailInFolder set files dir stats found = set.tells → IsTailIn (set.held file
 abbrev pub AreTailsIn : {S O : Type 0} → Files S O → S → List (Bor (List ℕ)) → List RunStats → Vec (Option ℕ) Global → Type 0
 AreTailsIn set files dirs runs tails = set.tells → AreTails (paths_of dirs) (set.held files) runs tails.items
 
+-- why there are none: memory was refused, or the requests in a folder are
+abbrev pub BarsTails : {S O : Type 0} → Files S O → S → List (Bor (List ℕ)) → List RunStats → Fault → Type 0
+BarsTails set files dirs runs fault = (fault ≡ Memory) ⊎ IsFolderRefused set.tells (set.held files) (paths_of dirs) runs fault
+
 -- the comparison of the runs in folders was printed
 abbrev pub Compares : {S O : Type 0} → Files S O → S → List (Bor (List ℕ)) → Layout → (List ℕ → Type 0) → Type 0
 Compares set files dirs layout printed = set.tells → IsCompared (paths_of dirs) layout (set.held files) printed
 
 -- why no comparison is printed
 abbrev pub RefusesCompare : {S O : Type 0} → Files S O → S → List (Bor (List ℕ)) → Fault → Type 0
-RefusesCompare set files dirs fault = IsAnswerFault set.tells (set.held files) (stats_paths dirs) IsCompareFault IsRightCompare fault
+RefusesCompare set files dirs fault =
+    IsAnswerFault set.tells (set.held files) (stats_paths dirs) (IsNoComparison set.tells (set.held files) (paths_of dirs))
+    (IsRightCompare set.tells (set.held files) (paths_of dirs)) fault

@@ -1,15 +1,18 @@
 -- The page of a run. What stands in its text is not specified here, but covered by tests.
 --     AreTablesIn stats_table commands_table stats commands      what the two tables hold
 --     AreTablesAt stats_path commands_path held stats commands      the same for what two files hold
---     IsNoPage stats commands fault      why they make no page
+--     HoldsCommandsOf table stats      a table holds commands of the run
+--     IsFirstStranger stats commands place      the first command that is not of the run
+--     IsNoCommands table stats fault      why a table holds no commands of the run
 --     IsPageDone dir file config warning old new      the page is in its place, and this is warned of
-use Rattle.std.specs.Prelude.{◌≡◌, ℕ, ◌+◌, ◌-◌, ◌<◌, ⊤, List, ◌∷◌, length, slice_get, IsSomeAnd, Option, Some}
+use Rattle.std.specs.Prelude.{◌≡◌, ◌⊎◌, ℕ, ◌+◌, ◌<◌, List, ◌∷◌, slice_get, IsSomeAnd, Option, Some}
 use Rattle.sim_base.specs.declared.command.IssuedCommand.{IssuedCommand}
 use Rattle.sim_base.specs.declared.fault.Fault.{Fault}
-use Rattle.sim_base.specs.declared.fault.Fault.TheVariants.{CheckRow, Memory, Write}
-use Rattle.command_table.specs.Tables.{IsRising}
+use Rattle.sim_base.specs.declared.fault.Fault.TheVariants.{CheckRow}
 use Rattle.reports.specs.Stats.{stats_header, stats_rows}
 use Rattle.rule_check.specs.Verdict.{records_of}
+use Rattle.run_tables.specs.Commands.{IsCommandTable, HoldsCommands}
+use Rattle.run_tables.specs.Records.{IsRefusedFor}
 use Rattle.statistics.specs.Values.{RunStats}
 use Rattle.page.specs.Rows.{IsOfRun, IsOfRunAt}
 use Rattle.refusal.specs.Warnings.{IsWarningOf}
@@ -21,12 +24,10 @@ use Rattle.request_table.specs.declared.times.RequestTimes.{RequestTimes}
 use Rattle.answers.specs.Named.{IsConfigured}
 use Rattle.answers.specs.Requests.{requests_path, AreRequestsAt}
 
--- one table has just the records of the statistics, and the other a row for each command, by their cycles, below its
--- header
+-- one table has just the records of the statistics, and the other just those of the commands
 pub record AreTablesIn (stats_table commands_table : List ℕ) (stats : RunStats) (commands : List IssuedCommand) : Type 0 where
   pub rows_are : records_of stats_table ≡ stats_header ∷ stats_rows stats
-  pub count_is : length (records_of commands_table) ≡ length commands + 1
-  pub rising : IsRising commands
+  pub commands_are : IsCommandTable (records_of commands_table) commands
 
 -- the tables that two files hold are those of these statistics and commands
 pub record AreTablesAt (stats_path commands_path : List ℕ) (held : Held) (stats : RunStats) (commands : List IssuedCommand) : Type 0 where
@@ -36,12 +37,31 @@ pub record AreTablesAt (stats_path commands_path : List ℕ) (held : Held) (stat
   pub commands_is : held commands_path ≡ Some commands_table
   pub tables : AreTablesIn stats_table commands_table stats commands
 
--- the command in this row, counted from 1, is not of the run; or memory was refused, or a writer
-abbrev pub IsNoPage : RunStats → List IssuedCommand → Fault → Type 0
-IsNoPage stats commands (CheckRow row) = (0 < row) × IsSomeAnd (slice_get commands (row - 1)) (λ command. ¬ IsOfRun stats command)
-IsNoPage stats commands Memory = ⊤
-IsNoPage stats commands Write = ⊤
-IsNoPage stats commands _ = ⊥
+-- a table holds commands of the run
+pub record HoldsCommandsOf (table : List ℕ) (stats : RunStats) : Type 0 where
+  pub commands : List IssuedCommand
+  pub commands_are : IsCommandTable (records_of table) commands
+  pub of_run : (place : ℕ) → IsOfRunAt stats commands place
+
+-- the command at this place is not of the run, and those before it are
+pub record IsFirstStranger (stats : RunStats) (commands : List IssuedCommand) (place : ℕ) : Type 0 where
+  pub before : (k : ℕ) → k < place → IsOfRunAt stats commands k
+  pub stranger : IsSomeAnd (slice_get commands place) (λ command. ¬ IsOfRun stats command)
+
+-- a fault names the first command that is not of the run, by its row, where 0 is the header
+abbrev pub NamesStranger : RunStats → List IssuedCommand → Fault → Type 0
+NamesStranger stats commands fault = (place : ℕ) × IsFirstStranger stats commands place × (fault ≡ CheckRow (place + 1))
+
+-- a table is one of commands, and the fault names the first that is not of the run
+pub record HasStranger (table : List ℕ) (stats : RunStats) (fault : Fault) : Type 0 where
+  pub commands : List IssuedCommand
+  pub commands_are : IsCommandTable (records_of table) commands
+  pub named : NamesStranger stats commands fault
+
+-- why a table holds no commands of the run: it is no table of commands from this row on, or one is not of the run; or
+-- memory was refused
+abbrev pub IsNoCommands : List ℕ → RunStats → Fault → Type 0
+IsNoCommands table stats fault = IsRefusedFor HoldsCommands (records_of table) fault ⊎ HasStranger table stats fault
 
 -- the folder has the tables of a run, a configuration that is named is one that it fits, each command is of the run, so
 -- is a table of requests, where there is one, the file is a new one, nothing else has changed, and a page of more than

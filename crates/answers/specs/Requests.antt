@@ -3,11 +3,14 @@
 --     AreRequestsOf table stats requests      a table holds these requests, which are of the run of these statistics
 --     AreRequestsAt found stats requests      the same of what a path holds, if it holds a file
 --     IsNoRequests table stats fault      why a table holds no requests of the run
---     IsRequestsFault tells found stats fault      the same of what a path holds
+--     IsRequestsFault found stats fault      the same of what a path holds
+--     AreRequestsRefused tells held path stats fault      the same of a path
 --     AreShown requests text      what a screen has of requests, where there are any
+--     HaveRequests dirs held runs count      the first folders have requests of their runs
+--     IsFolderRefused tells held dirs runs fault      the first folder whose requests are refused
 --     IsTailAt found stats tail      the 99th percentile of the read latencies that a path holds
 --     AreTails dirs held runs tails      the same of each folder, or none
-use Rattle.std.specs.Prelude.{◌≡◌, ◌⊎◌, ℕ, ⊤, List, [], ◌++◌, length, codes, slice_get, Option, Some, None, MatchOption}
+use Rattle.std.specs.Prelude.{◌≡◌, ◌⊎◌, ℕ, ◌<◌, ⊤, List, [], ◌++◌, length, codes, slice_get, Option, Some, None, MatchOption}
 use Rattle.sim_base.specs.declared.command.IssuedCommand.{IssuedCommand}
 use Rattle.sim_base.specs.declared.fault.Fault.{Fault}
 use Rattle.sim_base.specs.declared.fault.Fault.TheVariants.{CheckRow, Memory}
@@ -61,6 +64,12 @@ abbrev pub IsRequestsFault : Option (List ℕ) → RunStats → Fault → Type 0
 IsRequestsFault (Some table) stats fault = IsNoRequests table stats fault
 IsRequestsFault None stats fault = fault ≡ Memory
 
+-- why the file of a table of requests gives none of the run, by what it holds, where the set of files tells
+pub record AreRequestsRefused (tells : Type 0) (held : Held) (path : List ℕ) (stats : RunStats) (fault : Fault) : Type 0 where
+  pub found : Option (List ℕ)
+  pub found_is : tells → held path ≡ found
+  pub fault_is : IsRequestsFault found stats fault
+
 -- what a screen has of requests, where there are any
 abbrev pub AreShown : Option (List RequestTimes) → List ℕ → Type 0
 AreShown None text = text ≡ []
@@ -103,6 +112,27 @@ pub record HoldsSomeRequests (found : Option (List ℕ)) (stats : RunStats) : Ty
   pub requests : Option (List RequestTimes)
   pub requests_are : AreRequestsAt found stats requests
 
+-- a path holds requests of the run
+pub record HoldsRequestsOf (found : Option (List ℕ)) (stats : RunStats) : Type 0 where
+  pub requests : List RequestTimes
+  pub requests_are : AreRequestsAt found stats (Some requests)
+
+-- each of the first folders, as many as this, has requests of its run
+abbrev pub HaveRequests : List (List ℕ) → Held → List RunStats → ℕ → Type 0
+HaveRequests dirs held runs count =
+    (k : ℕ) (dir : List ℕ) (run : RunStats) → k < count → slice_get dirs k ≡ Some dir → slice_get runs k ≡ Some run
+    → HoldsRequestsOf (held (requests_path dir)) run
+
+-- the requests in a folder are refused, and each folder before it has requests of its run
+pub record IsFolderRefused (tells : Type 0) (held : Held) (dirs : List (List ℕ)) (runs : List RunStats) (fault : Fault) : Type 0 where
+  pub place : ℕ
+  pub dir : List ℕ
+  pub run : RunStats
+  pub dir_is : slice_get dirs place ≡ Some dir
+  pub run_is : slice_get runs place ≡ Some run
+  pub before : tells → HaveRequests dirs held runs place
+  pub refused : AreRequestsRefused tells held (requests_path dir) run fault
+
 -- the 99th percentile of the latencies of these requests, if a read was answered
 abbrev pub IsTailOf : List RequestTimes → Option ℕ → Type 0
 IsTailOf requests tail = MatchOption tail (read_latencies requests ≡ []) (IsPercentile (read_latencies requests) 99)
@@ -124,10 +154,14 @@ pub record HaveTails (dirs : List (List ℕ)) (held : Held) (runs : List RunStat
   pub tails_are : (k : ℕ) (dir : List ℕ) (run : RunStats) (tail : Option ℕ) → slice_get dirs k ≡ Some dir → slice_get runs k ≡ Some run → slice_get tails k ≡ Some tail
       → IsTailAt (held (requests_path dir)) run tail
 
--- one of the folders has no requests
-abbrev pub LackRequests : List (List ℕ) → Held → Type 0
-LackRequests dirs held = (k : ℕ) × (dir : List ℕ) × (slice_get dirs k ≡ Some dir) × (held (requests_path dir) ≡ None)
+-- a folder has no requests, and each folder before it has requests of its run
+pub record LackRequests (dirs : List (List ℕ)) (held : Held) (runs : List RunStats) : Type 0 where
+  pub place : ℕ
+  pub dir : List ℕ
+  pub dir_is : slice_get dirs place ≡ Some dir
+  pub none : held (requests_path dir) ≡ None
+  pub before : HaveRequests dirs held runs place
 
 -- each folder has requests, and these are their 99th percentiles; or one has none, and so there are none
 abbrev pub AreTails : List (List ℕ) → Held → List RunStats → List (Option ℕ) → Type 0
-AreTails dirs held runs tails = HaveTails dirs held runs tails ⊎ ((tails ≡ []) × LackRequests dirs held)
+AreTails dirs held runs tails = HaveTails dirs held runs tails ⊎ ((tails ≡ []) × LackRequests dirs held runs)

@@ -2,15 +2,12 @@
 
 ghost use Rattle.std.specs.Prelude.{◌≡◌, IfOk, IfErr, OnOk};
 ghost use Rattle.whole_files.specs.Files.{SameFiles};
-ghost use Rattle.answers.specs.Inputs.{Prints, HasOwnCommands, IsBanksScreenOf, IsBanksScreenIn, IsNoScreen, ShowsBanks, RefusesPage};
-ghost use Rattle.answers.specs.Pages.{IsNoPage};
+ghost use Rattle.answers.specs.Inputs.{Prints, BarsRequestsIn, FindsSomeRequests, IsBanksScreenOf, IsBanksScreenIn, ShowsBanks, RefusesPage};
 
 use crate::folder::RunFolder;
 use crate::print::print_answer;
 use crate::requests::{add_requests, requests_in};
-use crate::tables::{RunTables, stranger, tables_in};
-use page::fault::PageFault;
-use page::rows::check_rows;
+use crate::tables::{RunTables, tables_in};
 use refusal::reason::Reason;
 use request_table::times::RequestTimes;
 use show::options::Options;
@@ -20,32 +17,16 @@ use std::alloc::Global;
 use std::io::Write;
 use whole_files::files::FileSet;
 
-// Refuses commands that are not of the run.
-fn check_of_run(alloc: Global, dir: &str, found: &RunTables) -> Result<(), Reason>
-    ensures of_run { OnOk result (HasOwnCommands found.now) }
-    ensures fault { IfErr result (IsNoPage found.now.run.stats found.now.commands) }
-{
-    match check_rows(&found.run.stats, &found.commands) {
-        Ok(()) => Ok(()),
-        Err(PageFault::Command(place)) => Err(stranger(alloc, dir, found, place)),
-        Err(PageFault::Memory) => Err(Reason::from(Fault::Memory)),
-        Err(PageFault::Write) => Err(Reason::from(Fault::Write)),
-    }
-}
-
 // The screen of a run and its banks, with what there is to say of its requests.
 fn screen_of(
     alloc: Global,
-    dir: &str,
     found: &RunTables,
     requests: &Option<Vec<RequestTimes>>,
     options: Options,
 ) -> Result<String, Reason>
-    ensures of_run { OnOk result (HasOwnCommands found.now) }
     ensures screen { IfOk result (IsBanksScreenOf found.now requests.now) }
-    ensures fault { IfErr result (IsNoPage found.now.run.stats found.now.commands) }
+    ensures fault { IfErr result (λ e. e ≡ Fault.Memory) }
 {
-    check_of_run(alloc, dir, found)?;
     let config = found.run.config.as_ref();
     let mut text = show_banks(alloc, &found.run.stats, &found.commands, options, config)?;
     add_requests(alloc, &found.run.stats, requests, options, &mut text)?;
@@ -60,14 +41,14 @@ fn screen_in<F: FileSet>(
     found: &RunTables,
     options: Options,
 ) -> Result<String, Reason>
-    ensures of_run { OnOk result (HasOwnCommands found.now) }
     ensures screen { IfOk result (IsBanksScreenIn F.FileSet files.old dir.now found.now) }
-    ensures fault { IfErr result (IsNoScreen found.now) }
+    ensures requests { OnOk result (FindsSomeRequests F.FileSet files.old dir.now found.now.run.stats) }
+    ensures fault { IfErr result (BarsRequestsIn F.FileSet files.old dir.now found.now.run.stats) }
     ensures same { F.tells → SameFiles (F.held files.old) (F.held files.new) }
     ensures unopened { F.tells → F.opened files.new ≡ F.opened files.old }
 {
     let requests = requests_in(alloc, files, dir, &found.run.stats)?;
-    screen_of(alloc, dir, found, &requests, options)
+    screen_of(alloc, found, &requests, options)
 }
 
 /// `show DIR --banks [--all] [--config FILE] [--mhz N]`: prints what the run did whose tables are in a folder, and what
@@ -76,9 +57,11 @@ fn screen_in<F: FileSet>(
 ///
 /// # Errors
 ///
-/// `Fault::Read`, the first fault of the configuration, the faults of the tables, `Fault::ConfigRange` of `cores` or
-/// `channels` where the configuration has another number of them than the run, `Fault::CheckRow` for the first command
-/// or request that is not of the run, `Fault::Write` where the answer cannot be written, and `Fault::Memory`.
+/// The first of these: `Fault::Read` of a file; the first fault of the configuration; `Fault::CheckRow` of the first
+/// wrong record of the statistics; `Fault::ConfigRange` of `cores` or `channels` where the configuration has another
+/// number of them than the run; `Fault::CheckRow` of the first wrong record of the commands, of the first command that
+/// is not of the run, of the first wrong record of the requests, or of the row in which they stop being of the run;
+/// `Fault::Write` where the answer cannot be written. `Fault::Memory` may come at any time.
 pub fn perform_show_banks<F: FileSet, P: Write>(
     alloc: Global,
     files: &mut F,

@@ -1,9 +1,8 @@
 //! Runs beside the first of them.
 
-ghost use Rattle.std.specs.Prelude.{◌≡◌, ◌⊎◌, length, IfOk, IfErr, OnOk};
+ghost use Rattle.std.specs.Prelude.{◌≡◌, length, IfOk, IfErr, OnOk};
 ghost use Rattle.answers.specs.Answers.{stats_path};
-ghost use Rattle.answers.specs.Inputs.{Prints, IsUnread, stats_paths, IsTableIn, AreStatsTablesIn, HoldRuns, AreRunsIn, CanCompare, BarsCompare, IsTailInFolder, AreTailsIn, Compares, RefusesCompare};
-ghost use Rattle.answers.specs.Refused.{IsRowRefusal};
+ghost use Rattle.answers.specs.Inputs.{Prints, IsUnread, stats_paths, IsTableIn, AreStatsTablesIn, GiveRuns, GiveNoRuns, AreRunsIn, CanCompare, BarsCompare, BarsRequestsIn, IsTailInFolder, AreTailsIn, BarsTails, Compares, RefusesCompare};
 ghost use Rattle.answers.specs.Requests.{IsTailOf};
 ghost use Rattle.whole_files.specs.Files.{SameFiles, IsReadFault};
 
@@ -64,8 +63,8 @@ fn tables_in<F: FileSet>(
 
 // What they hold.
 fn runs_of(alloc: Global, tables: &[StatsTable]) -> Result<Vec<Stats>, Reason>
-    ensures read { IfOk result (HoldRuns tables.now) }
-    ensures fault { IfErr result (λ e. (e ≡ Fault.Memory) ⊎ IsRowRefusal e) }
+    ensures read { IfOk result (GiveRuns tables.now) }
+    ensures fault { IfErr result (GiveNoRuns tables.now) }
 {
     let mut runs = Vec::new(alloc);
     for table in tables {
@@ -79,7 +78,7 @@ fn runs_of(alloc: Global, tables: &[StatsTable]) -> Result<Vec<Stats>, Reason>
 fn runs_in<F: FileSet>(alloc: Global, files: &mut F, dirs: &[&str]) -> Result<Vec<Stats>, Reason>
     ensures runs { IfOk result (AreRunsIn F.FileSet files.old dirs.now) }
     ensures count { IfOk result (λ runs. length runs.items ≡ length dirs.now) }
-    ensures ready { OnOk result (CanCompare F.FileSet files.old dirs.now) }
+    ensures ready { IfOk result (CanCompare F.FileSet files.old dirs.now) }
     ensures fault { IfErr result (BarsCompare F.FileSet files.old dirs.now) }
     ensures same { F.tells → SameFiles (F.held files.old) (F.held files.new) }
     ensures unopened { F.tells → F.opened files.new ≡ F.opened files.old }
@@ -106,7 +105,7 @@ fn tail_in<F: FileSet>(
     stats: &Stats,
 ) -> Result<Option<Option<Cycle>>, Reason>
     ensures found { IfOk result (IsTailInFolder F.FileSet files.old dir.now stats.now) }
-    ensures kind { IfErr result (λ e. (e ≡ Fault.Memory) ⊎ IsRowRefusal e) }
+    ensures fault { IfErr result (BarsRequestsIn F.FileSet files.old dir.now stats.now) }
     ensures same { F.tells → SameFiles (F.held files.old) (F.held files.new) }
     ensures unopened { F.tells → F.opened files.new ≡ F.opened files.old }
 {
@@ -125,7 +124,7 @@ fn tails_in<F: FileSet>(
 ) -> Result<Vec<Option<Cycle>>, Reason>
     requires { length runs.now ≡ length dirs.now }
     ensures tails { IfOk result (AreTailsIn F.FileSet files.old dirs.now runs.now) }
-    ensures kind { IfErr result (λ e. (e ≡ Fault.Memory) ⊎ IsRowRefusal e) }
+    ensures fault { IfErr result (BarsTails F.FileSet files.old dirs.now runs.now) }
     ensures same { F.tells → SameFiles (F.held files.old) (F.held files.new) }
     ensures unopened { F.tells → F.opened files.new ≡ F.opened files.old }
 {
@@ -144,9 +143,9 @@ fn tails_in<F: FileSet>(
 ///
 /// # Errors
 ///
-/// `Fault::Read`, the fault of the first table of statistics that has one, that of the first table of requests,
-/// `Fault::CheckRow` where this is not of its run, `Fault::Write` where the answer cannot be written, and
-/// `Fault::Memory`.
+/// The first of these: `Fault::Read` of a file; `Fault::CheckRow` of the first wrong record of the first table of
+/// statistics that has one; the same of the requests of the first folder in which they are wrong or not of its run, up
+/// to a folder that has none; `Fault::Write` where the answer cannot be written. `Fault::Memory` may come at any time.
 pub fn perform_compare<F: FileSet, P: Write>(
     alloc: Global,
     files: &mut F,

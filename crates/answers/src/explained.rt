@@ -1,12 +1,13 @@
 //! What files hold, read as the other crates do, with a refusal that is explained by their texts.
 
-ghost use Rattle.std.specs.Prelude.{◌≡◌, ◌+◌, length, Ok, IfOk, IfErr};
+ghost use Rattle.std.specs.Prelude.{◌≡◌, Ok, IfOk, IfErr};
 ghost use Rattle.answers.specs.Answers.{stats_table};
 ghost use Rattle.answers.specs.Inputs.{IsConfigRefusal, IsVerdictRefusal};
-ghost use Rattle.command_table.specs.Tables.{IsRising};
+ghost use Rattle.answers.specs.Refused.{IsStatsRefusal};
 ghost use Rattle.config_reader.specs.Document.{document_of};
 ghost use Rattle.rule_check.specs.Verdict.{records_of, verdict};
-ghost use Rattle.run_tables.specs.Records.{IsTableFault};
+ghost use Rattle.run_tables.specs.Commands.{IsCommandTable, HoldsCommands};
+ghost use Rattle.run_tables.specs.Records.{IsRefusedFor};
 ghost use Rattle.sim_base.specs.Values.{values_of};
 
 use command_table::list::CommandList;
@@ -53,7 +54,7 @@ pub(crate) fn verdict_of(
 /// The statistics of a run.
 pub(crate) fn statistics_of(alloc: Global, path: &str, table: &[u8]) -> Result<Stats, Reason>
     ensures read { IfOk result (λ stats. records_of table.now ≡ stats_table stats) }
-    ensures fault { IfErr result IsTableFault }
+    ensures refused { IfErr result (IsStatsRefusal table.now) }
 {
     match read_stats(alloc, table) {
         Ok(stats) => Ok(stats),
@@ -66,9 +67,8 @@ pub(crate) fn statistics_of(alloc: Global, path: &str, table: &[u8]) -> Result<S
 
 /// The commands of a run.
 pub(crate) fn commands_of(alloc: Global, path: &str, table: &[u8]) -> Result<CommandList, Reason>
-    ensures rows { IfOk result (λ rows. length (records_of table.now) ≡ length rows + 1) }
-    ensures rising { IfOk result IsRising }
-    ensures fault { IfErr result IsTableFault }
+    ensures read { IfOk result (λ rows. IsCommandTable (records_of table.now) rows) }
+    ensures refused { IfErr result (IsRefusedFor HoldsCommands (records_of table.now)) }
 {
     match read_commands(alloc, table) {
         Ok(rows) => Ok(rows),

@@ -1,15 +1,14 @@
 //! The page of a run, from the tables in its folder. What stands in it is covered by tests, not by a contract.
 
-ghost use Rattle.std.specs.Prelude.{◌≡◌, ◌⊎◌, IfOk, IfErr, OnOk, OnErr, IsOkAnd, IsErrAnd};
+ghost use Rattle.std.specs.Prelude.{◌≡◌, ◌⊎◌, IfOk, IfErr, OnOk, OnErr, IsOk, IsOkAnd, IsErrAnd};
 ghost use Rattle.refusal.specs.Warnings.{IsWarningOf};
 ghost use Rattle.whole_files.specs.Files.{SameFiles, IsWriteFault};
 ghost use Rattle.whole_files.specs.WholeFile.{part_of};
-ghost use Rattle.answers.specs.Inputs.{HasOwnCommands, FindsSomeRequests, IsNoScreen, PutsPage, MakesPage, OpensOne, LeavesUnwritten, RefusesPage};
-ghost use Rattle.answers.specs.Pages.{IsNoPage};
+ghost use Rattle.answers.specs.Inputs.{HasOwnCommands, FindsSomeRequests, BarsPageOf, PutsPage, MakesPage, OpensOne, LeavesUnwritten, RefusesPage};
 
 use crate::folder::RunFolder;
 use crate::requests::requests_in;
-use crate::tables::{RunTables, stranger, tables_in};
+use crate::tables::{RunTables, tables_in};
 use page::fault::PageFault;
 use page::page::write_page;
 use page::window::{Beside, RunCommands, View, Window};
@@ -47,14 +46,9 @@ fn rows_of(requests: &Option<Vec<RequestTimes>>) -> Option<&[RequestTimes]> {
 }
 
 // The text of the page, which is made before a file is opened.
-fn page_text(
-    alloc: Global,
-    dir: &str,
-    found: &RunTables,
-    shown: Shown<'_>,
-) -> Result<Vec<u8>, Reason>
-    ensures of_run { OnOk result (HasOwnCommands found.now) }
-    ensures fault { IfErr result (IsNoPage found.now.run.stats found.now.commands) }
+fn page_text(alloc: Global, found: &RunTables, shown: Shown<'_>) -> Result<Vec<u8>, Reason>
+    requires { HasOwnCommands found.now }
+    ensures { IfErr result IsWriteFault }
 {
     let mut text = Vec::new(alloc);
     let run = RunCommands {
@@ -67,7 +61,7 @@ fn page_text(
     };
     match write_page(alloc, &run, beside, shown.view, &mut text) {
         Ok(()) => Ok(text),
-        Err(PageFault::Command(place)) => Err(stranger(alloc, dir, found, place)),
+        Err(PageFault::Command(_)) => unreachable!(),
         Err(PageFault::Memory) => Err(Reason::from(Fault::Memory)),
         Err(PageFault::Write) => Err(Reason::from(Fault::Write)),
     }
@@ -84,13 +78,9 @@ fn in_proportion(cycles: u64, bytes: u64) -> u64 {
 
 // The window with a number of cycles, of those that were tried, that gives a page of at most 50 MB. None where none of
 // them does, or memory is refused.
-fn cycles_that_fit(
-    alloc: Global,
-    dir: &str,
-    found: &RunTables,
-    shown: Shown<'_>,
-    bytes: u64,
-) -> Option<u64> {
+fn cycles_that_fit(alloc: Global, found: &RunTables, shown: Shown<'_>, bytes: u64) -> Option<u64>
+    requires { HasOwnCommands found.now }
+{
     let View { window, khz } = shown.view;
     let left = found.run.stats.cycles.saturating_sub(window.from);
     let mut fewer = Window {
@@ -101,9 +91,7 @@ fn cycles_that_fit(
     for _ in 0..MOST_TRIED {
         fewer.cycles = in_proportion(fewer.cycles, bytes);
         let view = View { window: fewer, khz };
-        bytes = page_text(alloc, dir, found, Shown { view, ..shown })
-            .ok()?
-            .len() as u64;
+        bytes = page_text(alloc, found, Shown { view, ..shown }).ok()?.len() as u64;
         if bytes <= LARGE_PAGE {
             return Some(fewer.cycles);
         }
@@ -112,13 +100,8 @@ fn cycles_that_fit(
 }
 
 // What is warned of where a page is long.
-fn warning_of(
-    alloc: Global,
-    dir: &str,
-    found: &RunTables,
-    shown: Shown<'_>,
-    text: &[u8],
-) -> Option<LargePage>
+fn warning_of(alloc: Global, found: &RunTables, shown: Shown<'_>, text: &[u8]) -> Option<LargePage>
+    requires { HasOwnCommands found.now }
     ensures { IsWarningOf text.now result }
 {
     let bytes = text.len() as u64;
@@ -127,7 +110,7 @@ fn warning_of(
     }
     Some(LargePage {
         bytes,
-        cycles: cycles_that_fit(alloc, dir, found, shown, bytes),
+        cycles: cycles_that_fit(alloc, found, shown, bytes),
     })
 }
 
@@ -139,10 +122,10 @@ fn page_in<F: FileSet>(
     found: &RunTables,
     view: View,
 ) -> Result<Page, Reason>
-    ensures of_run { OnOk result (HasOwnCommands found.now) }
+    requires { HasOwnCommands found.now }
     ensures requests { OnOk result (FindsSomeRequests F.FileSet files.old dir.now found.now.run.stats) }
     ensures warned { IfOk result (λ page. IsWarningOf page.text.items page.warning) }
-    ensures fault { IfErr result (IsNoScreen found.now) }
+    ensures fault { IfErr result (BarsPageOf F.FileSet files.old dir.now found.now) }
     ensures same { F.tells → SameFiles (F.held files.old) (F.held files.new) }
     ensures unopened { F.tells → F.opened files.new ≡ F.opened files.old }
 {
@@ -151,8 +134,8 @@ fn page_in<F: FileSet>(
         view,
         requests: rows_of(&requests),
     };
-    let text = page_text(alloc, dir, found, shown)?;
-    let warning = warning_of(alloc, dir, found, shown, &text);
+    let text = page_text(alloc, found, shown)?;
+    let warning = warning_of(alloc, found, shown, &text);
     Ok(Page { text, warning })
 }
 
@@ -167,7 +150,8 @@ fn put_page<F: FileSet>(
         IsOkAnd page (PutsPage F.FileSet files.old files.new file.now warning)) }
     ensures noted { OnOk result (OpensOne F.FileSet files.old files.new (part_of file.now)) }
     ensures refused { OnErr result (LeavesUnwritten F.FileSet files.old files.new file.now) }
-    ensures fault { IfErr result (λ e. IsWriteFault e ⊎ IsErrAnd page (λ f. e ≡ f)) }
+    ensures fault { IfErr result (λ e.
+        (IsWriteFault e × IsOk page) ⊎ IsErrAnd page (λ f. e ≡ f)) }
 {
     match page {
         Ok(page) => {
@@ -185,9 +169,11 @@ fn put_page<F: FileSet>(
 ///
 /// # Errors
 ///
-/// `Fault::Read`, the first fault of the configuration, the faults of the tables, `Fault::ConfigRange` of `cores` or
-/// `channels` where the configuration has another number of them than the run, `Fault::CheckRow` for the first command
-/// or request that is not of the run, `Fault::Write` where the file cannot be written, and `Fault::Memory`.
+/// The first of these: `Fault::Read` of a file; the first fault of the configuration; `Fault::CheckRow` of the first
+/// wrong record of the statistics; `Fault::ConfigRange` of `cores` or `channels` where the configuration has another
+/// number of them than the run; `Fault::CheckRow` of the first wrong record of the commands, of the first command that
+/// is not of the run, of the first wrong record of the requests, or of the row in which they stop being of the run;
+/// `Fault::Write` where the file cannot be written. `Fault::Memory` may come at any time.
 pub fn perform_page<F: FileSet>(
     alloc: Global,
     files: &mut F,

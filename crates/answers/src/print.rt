@@ -1,6 +1,6 @@
 //! Answers on a stream.
 
-ghost use Rattle.std.specs.Prelude.{◌≡◌, ◌⊎◌, IfErr, OnOk, IsOkAnd, IsErrAnd, string_bytes};
+ghost use Rattle.std.specs.Prelude.{◌≡◌, ◌⊎◌, IfErr, OnOk, IsOk, IsOkAnd, IsErrAnd, string_bytes};
 ghost use Rattle.answers.specs.Inputs.{Prints};
 
 use refusal::reason::Reason;
@@ -35,7 +35,8 @@ pub(crate) fn print_answer<P: Write>(
 ) -> Result<(), Reason>
     ensures printed { OnOk result (IsOkAnd answer (λ text.
         Prints P.Write output.old output.new (string_bytes text))) }
-    ensures fault { IfErr result (λ e. (e ≡ Fault.Write) ⊎ IsErrAnd answer (λ f. e ≡ f)) }
+    ensures fault { IfErr result (λ e.
+        ((e ≡ Fault.Write) × IsOk answer) ⊎ IsErrAnd answer (λ f. e ≡ f)) }
 {
     match answer {
         Ok(text) => print_text(alloc, output, text.as_str()),

@@ -1,11 +1,10 @@
 //! The requests of a run, where a file of its folder holds their table.
 
-ghost use Rattle.std.specs.Prelude.{◌≡◌, ◌⊎◌, IfOk, IfErr, OnOk};
+ghost use Rattle.std.specs.Prelude.{◌≡◌, IfOk, IfErr, OnOk};
 ghost use Rattle.rule_check.specs.Verdict.{records_of};
 ghost use Rattle.run_tables.specs.Records.{IsRefusedFor};
 ghost use Rattle.run_tables.specs.Requests.{IsRequestTable, HoldsRequests};
 ghost use Rattle.whole_files.specs.Files.{SameFiles};
-ghost use Rattle.answers.specs.Refused.{IsRowRefusal};
 ghost use Rattle.answers.specs.Requests.{AreRequestsOf, IsNoRequests};
 ghost use Rattle.answers.specs.Inputs.{IsTextAt, ReadsRequests, BarsRequests, FindsRequests, BarsRequestsIn, GetsRequests};
 
@@ -130,7 +129,6 @@ fn requests_at<F: FileSet>(
 ) -> Result<Option<Vec<RequestTimes>>, Reason>
     ensures found { IfOk result (ReadsRequests F.FileSet files.old path.now stats.now) }
     ensures fault { IfErr result (BarsRequests F.FileSet files.old path.now stats.now) }
-    ensures kind { IfErr result (λ e. (e ≡ Fault.Memory) ⊎ IsRowRefusal e) }
     ensures same { F.tells → SameFiles (F.held files.old) (F.held files.new) }
     ensures unopened { F.tells → F.opened files.new ≡ F.opened files.old }
 {
@@ -150,7 +148,6 @@ pub(crate) fn requests_in<F: FileSet>(
 ) -> Result<Option<Vec<RequestTimes>>, Reason>
     ensures found { IfOk result (FindsRequests F.FileSet files.old dir.now stats.now) }
     ensures fault { IfErr result (BarsRequestsIn F.FileSet files.old dir.now stats.now) }
-    ensures kind { IfErr result (λ e. (e ≡ Fault.Memory) ⊎ IsRowRefusal e) }
     ensures same { F.tells → SameFiles (F.held files.old) (F.held files.new) }
     ensures unopened { F.tells → F.opened files.new ≡ F.opened files.old }
 {

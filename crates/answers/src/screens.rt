@@ -1,9 +1,8 @@
 //! What a run did, on one screen.
 
-ghost use Rattle.std.specs.Prelude.{◌≡◌, ◌⊎◌, IfOk, IfErr, OnOk};
+ghost use Rattle.std.specs.Prelude.{◌≡◌, IfOk, IfErr, OnOk};
 ghost use Rattle.answers.specs.Answers.{stats_path};
-ghost use Rattle.answers.specs.Inputs.{Prints, IsRunAt, RunFits, CanShow, BarsShow, CanShowIn, BarsShowIn, IsScreenOf, IsScreenIn, Shows, RefusesShow};
-ghost use Rattle.answers.specs.Refused.{IsRowRefusal};
+ghost use Rattle.answers.specs.Inputs.{Prints, IsRunAt, RunFits, CanShow, BarsShow, CanShowIn, BarsShowIn, BarsRequestsIn, FindsSomeRequests, IsScreenOf, IsScreenIn, Shows, RefusesShow};
 ghost use Rattle.whole_files.specs.Files.{SameFiles};
 
 use crate::described::{RunRecord, described, document_at};
@@ -29,7 +28,7 @@ fn run_at<F: FileSet>(
 ) -> Result<RunRecord, Reason>
     ensures stats { IfOk result (IsRunAt F.FileSet files.old path.now) }
     ensures configured { IfOk result (RunFits F.FileSet files.old config.entry) }
-    ensures ready { OnOk result (CanShow F.FileSet files.old config.entry path.now) }
+    ensures ready { IfOk result (CanShow F.FileSet files.old config.entry path.now) }
     ensures fault { IfErr result (BarsShow F.FileSet files.old config.entry path.now) }
     ensures same { F.tells → SameFiles (F.held files.old) (F.held files.new) }
     ensures unopened { F.tells → F.opened files.new ≡ F.opened files.old }
@@ -47,7 +46,7 @@ fn run_in<F: FileSet>(
 ) -> Result<RunRecord, Reason>
     ensures stats { IfOk result (IsRunAt F.FileSet files.old (stats_path folder.now.dir.now)) }
     ensures configured { IfOk result (RunFits F.FileSet files.old folder.now.config) }
-    ensures ready { OnOk result (CanShowIn F.FileSet files.old folder.now) }
+    ensures ready { IfOk result (CanShowIn F.FileSet files.old folder.now) }
     ensures fault { IfErr result (BarsShowIn F.FileSet files.old folder.now) }
     ensures same { F.tells → SameFiles (F.held files.old) (F.held files.new) }
     ensures unopened { F.tells → F.opened files.new ≡ F.opened files.old }
@@ -80,7 +79,8 @@ fn screen_in<F: FileSet>(
     options: Options,
 ) -> Result<String, Reason>
     ensures screen { IfOk result (IsScreenIn F.FileSet files.old dir.now run.now) }
-    ensures kind { IfErr result (λ e. (e ≡ Fault.Memory) ⊎ IsRowRefusal e) }
+    ensures requests { OnOk result (FindsSomeRequests F.FileSet files.old dir.now run.now.stats) }
+    ensures fault { IfErr result (BarsRequestsIn F.FileSet files.old dir.now run.now.stats) }
     ensures same { F.tells → SameFiles (F.held files.old) (F.held files.new) }
     ensures unopened { F.tells → F.opened files.new ≡ F.opened files.old }
 {
@@ -93,9 +93,10 @@ fn screen_in<F: FileSet>(
 ///
 /// # Errors
 ///
-/// `Fault::Read`, the first fault of the configuration, the fault of the table, that of the requests, `Fault::CheckRow`
-/// where they are not of the run, `Fault::ConfigRange` of `cores` or `channels` where the configuration has another
-/// number of them than the run, `Fault::Write` where the answer cannot be written, and `Fault::Memory`.
+/// The first of these: `Fault::Read` of a file; the first fault of the configuration; `Fault::CheckRow` of the first
+/// wrong record of the statistics; `Fault::ConfigRange` of `cores` or `channels` where the configuration has another
+/// number of them than the run; `Fault::CheckRow` of the first wrong record of the requests, or of the row in which they
+/// stop being of the run; `Fault::Write` where the answer cannot be written. `Fault::Memory` may come at any time.
 pub fn perform_show<F: FileSet, P: Write>(
     alloc: Global,
     files: &mut F,

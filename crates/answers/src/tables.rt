@@ -1,16 +1,20 @@
 //! The tables of a run, its statistics and its commands, from the files of its folder.
 
-ghost use Rattle.std.specs.Prelude.{◌≡◌, ◌+◌, ◌<◌, length, IfOk, IfErr, OnOk};
+ghost use Rattle.std.specs.Prelude.{◌≡◌, ◌+◌, ◌<◌, ◌↔◌, ℕ, length, IsTrue, IfNone, IfSome, IfOk, IfErr, OnOk};
+ghost use Rattle.page.specs.Rows.{IsOfRun, IsOfRunAt};
 ghost use Rattle.whole_files.specs.Files.{SameFiles};
-ghost use Rattle.answers.specs.Inputs.{HoldTables, IsRunUnder, text_of, AreNoTables, AreTablesOf, RunFits, CanPage, BarsPage, AreTablesInFolder, CanPageIn, BarsPageIn};
+ghost use Rattle.answers.specs.Pages.{IsFirstStranger};
+ghost use Rattle.answers.specs.Inputs.{HoldTables, IsRunUnder, text_of, HasOwnCommands, HasStrangers, AreNoTables, AreTablesOf, RunFits, CanPage, BarsPage, AreTablesInFolder, CanPageIn, BarsPageIn};
 
 use crate::described::{FileText, RunRecord, described, document_at};
 use crate::explained::commands_of;
 use crate::folder::RunFolder;
 use command_table::list::CommandList;
 use refusal::reason::Reason;
+use sim_base::command::IssuedCommand;
 use sim_base::fault::Fault;
-use std::alloc::Global;
+use statistics::stats::Stats;
+use std::alloc::{AllocError, Global};
 use whole_files::files::FileSet;
 use whole_files::moves::path_of;
 
@@ -21,7 +25,66 @@ pub(crate) struct RunTables {
     pub(crate) commands: CommandList,
 }
 
-// What two tables hold, under the configuration that is named, if one is.
+// Whether the run has the channel and the cycle of a command.
+fn is_of_run(stats: &Stats, command: &IssuedCommand) -> bool
+    ensures { IsTrue result ↔ IsOfRun stats.now command.now }
+{
+    command.cycle < stats.cycles && (command.channel as usize) < stats.channels.len()
+}
+
+// The place of the first command that is not of the run.
+fn first_stranger(stats: &Stats, commands: &CommandList) -> Option<usize>
+    ensures none { IfNone result ((place : ℕ) → IsOfRunAt stats.now commands.now place) }
+    ensures first { IfSome result (IsFirstStranger stats.now commands.now) }
+{
+    'rows: for place in 0..commands.len() {
+        if let Some(command) = commands.get(place)
+            && !is_of_run(stats, &command)
+        {
+            return Some(place);
+        }
+    }
+    None
+}
+
+// The row of a command in its table, where 0 is the header.
+fn row_of(commands: &CommandList, place: usize) -> u64
+    requires there { place < length commands.now }
+    ensures { result ≡ place + 1 }
+{
+    let _count = commands.len();
+    place as u64 + 1
+}
+
+// What explains that a command is not of the run.
+fn explain_stranger(
+    alloc: Global,
+    path: &str,
+    stats: &Stats,
+    row: u64,
+) -> Result<String, AllocError> {
+    let (cycles, channels) = (stats.cycles, stats.channels.len());
+    format!(in alloc;
+        "{path}: row {row} is none of the run: that has the cycles below {cycles} and the channels below {channels}\n"
+    )
+}
+
+// Refuses commands that are not of the run.
+fn check_of_run(alloc: Global, path: &str, found: &RunTables) -> Result<(), Reason>
+    ensures of_run { OnOk result (HasOwnCommands found.now) }
+    ensures fault { IfErr result (HasStrangers found.now) }
+{
+    match first_stranger(&found.run.stats, &found.commands) {
+        None => Ok(()),
+        Some(place) => {
+            let row = row_of(&found.commands, place);
+            let more = explain_stranger(alloc, path, &found.run.stats, row);
+            Err(Reason::explained(Fault::CheckRow(row), more))
+        }
+    }
+}
+
+// What two tables hold, under the configuration that is named, if one is. The commands have to be of the run.
 fn read_tables(
     alloc: Global,
     document: &Option<FileText<'_>>,
@@ -30,11 +93,17 @@ fn read_tables(
 ) -> Result<RunTables, Reason>
     ensures tables { IfOk result (HoldTables stats.now commands.now) }
     ensures configured { IfOk result (λ found. IsRunUnder (text_of document.now) found.run) }
+    ensures of_run { IfOk result HasOwnCommands }
     ensures fault { IfErr result (AreNoTables (text_of document.now) stats.now commands.now) }
 {
     let run = described(alloc, document, stats.path, &stats.bytes)?;
-    let commands = commands_of(alloc, commands.path, &commands.bytes)?;
-    Ok(RunTables { run, commands })
+    let rows = commands_of(alloc, commands.path, &commands.bytes)?;
+    let found = RunTables {
+        run,
+        commands: rows,
+    };
+    check_of_run(alloc, commands.path, &found)?;
+    Ok(found)
 }
 
 // What the tables in two files hold.
@@ -47,7 +116,8 @@ fn tables_at<F: FileSet>(
 ) -> Result<RunTables, Reason>
     ensures tables { IfOk result (AreTablesOf F.FileSet files.old stats.now commands.now) }
     ensures fits { IfOk result (λ found. RunFits F.FileSet files.old config.entry found.run) }
-    ensures ready { OnOk result (CanPage F.FileSet files.old config.entry stats.now commands.now) }
+    ensures of_run { IfOk result HasOwnCommands }
+    ensures ready { IfOk result (CanPage F.FileSet files.old config.entry stats.now commands.now) }
     ensures fault { IfErr result (BarsPage F.FileSet files.old config.entry stats.now commands.now) }
     ensures same { F.tells → SameFiles (F.held files.old) (F.held files.new) }
     ensures unopened { F.tells → F.opened files.new ≡ F.opened files.old }
@@ -66,7 +136,7 @@ fn tables_at<F: FileSet>(
     read_tables(alloc, &document, &stats, &commands)
 }
 
-/// What the tables of the run in a folder hold.
+/// What the tables of the run in a folder hold. Its commands have to be of the run.
 pub(crate) fn tables_in<F: FileSet>(
     alloc: Global,
     files: &mut F,
@@ -74,7 +144,8 @@ pub(crate) fn tables_in<F: FileSet>(
 ) -> Result<RunTables, Reason>
     ensures tables { IfOk result (AreTablesInFolder F.FileSet files.old folder.now) }
     ensures fits { IfOk result (λ found. RunFits F.FileSet files.old folder.now.config found.run) }
-    ensures ready { OnOk result (CanPageIn F.FileSet files.old folder.now) }
+    ensures of_run { IfOk result HasOwnCommands }
+    ensures ready { IfOk result (CanPageIn F.FileSet files.old folder.now) }
     ensures fault { IfErr result (BarsPageIn F.FileSet files.old folder.now) }
     ensures same { F.tells → SameFiles (F.held files.old) (F.held files.new) }
     ensures unopened { F.tells → F.opened files.new ≡ F.opened files.old }
@@ -88,27 +159,4 @@ pub(crate) fn tables_in<F: FileSet>(
         stats.as_str(),
         commands.as_str(),
     )
-}
-
-// The row of a command in its table, where 0 is the header.
-fn row_of(commands: &CommandList, place: usize) -> u64
-    requires there { place < length commands.now }
-    ensures { result ≡ place + 1 }
-{
-    let _count = commands.len();
-    place as u64 + 1
-}
-
-/// Refuses a command that is not of the run.
-pub(crate) fn stranger(alloc: Global, dir: &str, found: &RunTables, place: usize) -> Reason
-    requires there { place < length found.now.commands }
-    ensures { result ≡ Fault.CheckRow (place + 1) }
-{
-    let row = row_of(&found.commands, place);
-    let stats = &found.run.stats;
-    let (cycles, channels) = (stats.cycles, stats.channels.len());
-    let more = format!(in alloc;
-        "{dir}/commands.csv: row {row} is none of the run: that has the cycles below {cycles} and the channels below {channels}\n"
-    );
-    Reason::explained(Fault::CheckRow(row), more)
 }

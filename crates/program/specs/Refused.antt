@@ -1,10 +1,10 @@
 -- Why what the words ask for is refused. What is tested comes in this order: the words; whether each file that they
--- name can be read; what these files hold, the configuration before all else; and last, whether the answer can be
--- written.
+-- name can be read; what these files hold, the configuration before all else; what the tables of requests hold, where
+-- the folders of runs have them; and last, whether the answer can be written.
 --     HasNoAsk words      the words ask for nothing
 --     named ask      the files that are read
 --     IsRunFault cycles workers texts fault, IsRightRun cycles workers texts      what is wrong with the texts of a run, and that nothing is
---     IsFaultIn ask texts fault, IsRight ask texts      the same for what is asked
+--     IsFaultIn tells held ask texts fault, IsRight tells held ask texts      the same for what is asked
 --     IsAskFault tells held ask fault      why what is asked is refused
 --     IsFaultOf tells held words fault      the same for the words of a command line
 use Rattle.std.specs.Prelude.{◌≡◌, ◌⊎◌, ℕ, true, ⊤, List, [], ◌∷◌, map, option_map, IsOk}
@@ -16,7 +16,7 @@ use Rattle.whole_files.specs.Files.{Held}
 use Rattle.whole_files.specs.Tables.{path_in, stats_name, commands_name}
 use Rattle.answers.specs.Answers.{stats_path}
 use Rattle.answers.specs.Named.{with_config}
-use Rattle.answers.specs.Refused.{IsTableFault, IsRightTable, IsMapFault, IsRightMap, IsShowFault, IsRightShow, IsPageFault, IsRightPage, IsCompareFault, IsRightCompare, IsAnswerFault}
+use Rattle.answers.specs.Refused.{IsTableFault, IsRightTable, IsMapFault, IsRightMap, IsNoShow, IsRightShow, IsNoPage, IsRightPage, IsNoComparison, IsRightCompare, IsAnswerFault}
 use Rattle.command_line.specs.declared.words.Ask.{Ask}
 use Rattle.command_line.specs.declared.words.Ask.TheVariants.{Run, Check, Map, Show, ShowBanks, Page, Compare, Help, Version}
 
@@ -57,33 +57,33 @@ abbrev pub IsRightRun : ℕ → ℕ → List (List ℕ) → Type 0
 IsRightRun cycles workers (document ∷ texts) = IsOk (input_of document texts cycles workers)
 IsRightRun cycles workers _ = ⊥
 
--- what is wrong with the texts of the files that are read
-abbrev pub IsFaultIn : Ask → List (List ℕ) → Fault → Type 0
-IsFaultIn (Run run) = IsRunFault run.cycles run.workers
-IsFaultIn (Check config commands) = IsTableFault
-IsFaultIn (Map config address) = IsMapFault
-IsFaultIn (Show show) = IsShowFault
-IsFaultIn (ShowBanks show) = IsPageFault
-IsFaultIn (Page page) = IsPageFault
-IsFaultIn (Compare dirs csv) = IsCompareFault
-IsFaultIn (Help text) = λ _ _. ⊥
-IsFaultIn (Version text) = λ _ _. ⊥
+-- what is wrong with the texts of the files that are read, or with the tables of requests beside them
+abbrev pub IsFaultIn : Type 0 → Held → Ask → List (List ℕ) → Fault → Type 0
+IsFaultIn tells held (Run run) = IsRunFault run.cycles run.workers
+IsFaultIn tells held (Check config commands) = IsTableFault
+IsFaultIn tells held (Map config address) = IsMapFault
+IsFaultIn tells held (Show show) = IsNoShow tells held show.dir.now
+IsFaultIn tells held (ShowBanks show) = IsNoPage tells held show.dir.now
+IsFaultIn tells held (Page page) = IsNoPage tells held page.dir.now
+IsFaultIn tells held (Compare dirs csv) = IsNoComparison tells held (map (λ d. d.now) dirs.items)
+IsFaultIn tells held (Help text) = λ _ _. ⊥
+IsFaultIn tells held (Version text) = λ _ _. ⊥
 
 -- nothing is
-abbrev pub IsRight : Ask → List (List ℕ) → Type 0
-IsRight (Run run) = IsRightRun run.cycles run.workers
-IsRight (Check config commands) = IsRightTable
-IsRight (Map config address) = IsRightMap
-IsRight (Show show) = IsRightShow
-IsRight (ShowBanks show) = IsRightPage
-IsRight (Page page) = IsRightPage
-IsRight (Compare dirs csv) = IsRightCompare
-IsRight (Help text) = λ _. ⊤
-IsRight (Version text) = λ _. ⊤
+abbrev pub IsRight : Type 0 → Held → Ask → List (List ℕ) → Type 0
+IsRight tells held (Run run) = IsRightRun run.cycles run.workers
+IsRight tells held (Check config commands) = IsRightTable
+IsRight tells held (Map config address) = IsRightMap
+IsRight tells held (Show show) = IsRightShow tells held show.dir.now
+IsRight tells held (ShowBanks show) = IsRightPage tells held show.dir.now
+IsRight tells held (Page page) = IsRightPage tells held page.dir.now
+IsRight tells held (Compare dirs csv) = IsRightCompare tells held (map (λ d. d.now) dirs.items)
+IsRight tells held (Help text) = λ _. ⊤
+IsRight tells held (Version text) = λ _. ⊤
 
 -- why what is asked is refused
 abbrev pub IsAskFault : Type 0 → Held → Ask → Fault → Type 0
-IsAskFault tells held ask fault = IsAnswerFault tells held (named ask) (IsFaultIn ask) (IsRight ask) fault
+IsAskFault tells held ask fault = IsAnswerFault tells held (named ask) (IsFaultIn tells held ask) (IsRight tells held ask) fault
 
 -- the words ask for something, and that is refused with this fault
 pub record IsFaultOfAsk (tells : Type 0) (held : Held) (words : List (List ℕ)) (fault : Fault) : Type 0 where

@@ -88,9 +88,10 @@ fn answer_words<R: Threads + Wait + Sync, W: Watch, F: FileSet, P: Write>(
 /// A refusal is one line on the stream of errors, `fault N: ...`, and a second one where the tables in the folder are
 /// of two runs, with lines that explain it after them. It is told whole, unless the stream refuses
 /// (`ErrorStream::has_refused`): then the stream has a beginning of it. The fault is the first in this order: the
-/// words, the files that they name, what stands in these (the configuration, and then as `simulate` and `check` say),
-/// whether a run's folder is there, and what cannot be written. Memory may be refused at any time. With another status,
-/// nothing is told, but of a page of more than 50 MB one line that warns of it, with its length in bytes.
+/// words, the files that they name, what stands in these (the configuration, and then as `simulate` and `check` say, or
+/// of the tables of a run the statistics, the commands and the requests), whether a run's folder is there, and what
+/// cannot be written. Memory may be refused at any time. With another status, nothing is told, but of a page of more
+/// than 50 MB one line that warns of it, with its length in bytes.
 ///
 /// Promises about files are made only where the set of files tells what it holds. A run whose status is 0 has put the
 /// tables of its outcome that were asked for into the folder, and none of another run is left there. Where it is 2,

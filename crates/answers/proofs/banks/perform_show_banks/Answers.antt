@@ -2,9 +2,9 @@
 use Rattle.config_reader.proofs.Refusing.{same_fault}
 use Rattle.std.proofs.Common.{inl, inr, ◌∙◌}
 use Rattle.std.proofs.lemmas.Result.{on_ok_weaker, IfErr-weaker, IfOk-from_err}
-use Rattle.answers.proofs.NamedFacts.{ok_with, ok_so, err_with}
-use Rattle.answers.proofs.PageFacts.{screen_refused}
-use Rattle.answers.proofs.RequestFacts.{requests_before}
+use Rattle.answers.specs.Refused.{IsPageFault, HoldRunTables}
+use Rattle.answers.proofs.NamedFacts.{ok_with, when_ok, err_with}
+use Rattle.answers.proofs.RequestFacts.{requests_before, texts_refused, beside_refused, right_beside}
 use Rattle.answers.proofs.banks.perform_show_banks.Goals as goal
 
 pub returns-clause-shown : goal.returns-clause-shown
@@ -18,7 +18,7 @@ returns-clause-shown g c = on_ok_weaker c.print_answer.result (λ given tells.
       text = _;
       tables = c.in_ok-found.ensures.tables tells;
       configured = c.in_ok-found.ensures.fits tells;
-      of_run = ok_so c.screen_in-screen.result _ c.screen_in-screen.ensures.of_run given;
+      of_run = c.in_ok-found.ensures.of_run;
       requests_are = requests_before _ _ _ _ _ _ c.in_ok-found.ensures.same (λ t. at.requests_are) tells;
       screen = at.screen;
       printed = made.2;
@@ -26,9 +26,13 @@ returns-clause-shown g c = on_ok_weaker c.print_answer.result (λ given tells.
 
 pub returns-clause-fault : goal.returns-clause-fault
 returns-clause-fault g c = IfErr-weaker c.print_answer.result _ _ (λ fault refused. elim refused [
-  | inl write ↦ inr (write, c.in_ok-found.ensures.ready)
-  | inr other ↦ screen_refused _ _ _ c.in_ok-found.found.run.stats c.in_ok-found.found.commands _ c.in_ok-found.ensures.ready
-      (err_with c.screen_in-screen.result _ _ c.screen_in-screen.ensures.fault other)
+  | inl write ↦ inr (
+    write.0,
+    right_beside _ _ _ _ _ HoldRunTables _ c.in_ok-found.ensures.ready c.in_ok-found.ensures.same
+        (when_ok c.screen_in-screen.result c.screen_in-screen.ensures.requests write.1),
+  )
+  | inr other ↦ inl (beside_refused _ _ _ _ _ IsPageFault HoldRunTables _ _ c.in_ok-found.ensures.ready c.in_ok-found.ensures.same
+      (err_with c.screen_in-screen.result _ _ c.screen_in-screen.ensures.fault other))
 ]) c.print_answer.ensures.fault
 
 pub returns-in_err-found-clause-shown : goal.returns-in_err-found-clause-shown
@@ -36,7 +40,7 @@ returns-in_err-found-clause-shown g c = IfOk-from_err c.from_residual.result _ c
 
 pub returns-in_err-found-clause-fault : goal.returns-in_err-found-clause-fault
 returns-in_err-found-clause-fault g c =
-    rw (same_fault c.from_residual.result _ c.from_residual.ensures) (inl c.in_err-found.ensures.fault)
+    rw (same_fault c.from_residual.result _ c.from_residual.ensures) (inl (texts_refused _ _ _ IsPageFault _ _ (λ texts wrong. inl wrong) c.in_err-found.ensures.fault))
 
 pub returns-in_err-found-clause-same : goal.returns-in_err-found-clause-same
 returns-in_err-found-clause-same g c = c.in_err-found.ensures.same

@@ -1,6 +1,8 @@
 use Rattle.config_reader.proofs.Refusing.{same_fault}
-use Rattle.std.proofs.Common.{inr, option_map, inl}
+use Rattle.std.proofs.Common.{option_map}
 use Rattle.std.proofs.lemmas.Result.{IfOk-weaker, IfErr-weaker, IfOk-from_err}
+use Rattle.answers.proofs.NamedFacts.{any_ok}
+use Rattle.answers.proofs.RequestFacts.{memory_refused}
 use Rattle.answers.proofs.banks.screen_in.Goals as goal
 
 pub returns-clause-screen : goal.returns-clause-screen
@@ -11,26 +13,29 @@ returns-clause-screen g c = IfOk-weaker c.screen_of.result _ _ (λ text shown te
 }) c.screen_of.ensures.screen
 
 pub returns-clause-fault : goal.returns-clause-fault
-returns-clause-fault g c = IfErr-weaker c.screen_of.result _ _ (λ fault none. inr none) c.screen_of.ensures.fault
+returns-clause-fault g c = IfErr-weaker c.screen_of.result _ _ (λ fault memory. memory_refused _ _ _ _ _ memory) c.screen_of.ensures.fault
 
-pub returns-in_err-requests-clause-of_run : goal.returns-in_err-requests-clause-of_run
-returns-in_err-requests-clause-of_run g c = IfOk-from_err c.from_residual.result _ c.from_residual.ensures.0
+pub returns-clause-requests : goal.returns-clause-requests
+returns-clause-requests g c = any_ok c.screen_of.result (λ t. record {
+  requests = option_map (λ r. r.items) c.in_ok-requests.requests;
+  requests_are = c.in_ok-requests.ensures.found t;
+})
+
+pub returns-in_err-requests-clause-requests : goal.returns-in_err-requests-clause-requests
+returns-in_err-requests-clause-requests g c = IfOk-from_err c.from_residual.result _ c.from_residual.ensures.0
 
 pub returns-in_err-requests-clause-screen : goal.returns-in_err-requests-clause-screen
 returns-in_err-requests-clause-screen g c = IfOk-from_err c.from_residual.result _ c.from_residual.ensures.0
 
 pub returns-in_err-requests-clause-fault : goal.returns-in_err-requests-clause-fault
 returns-in_err-requests-clause-fault g c =
-    rw (same_fault c.from_residual.result _ c.from_residual.ensures) (inl c.in_err-requests.ensures.kind)
+    rw (same_fault c.from_residual.result _ c.from_residual.ensures) c.in_err-requests.ensures.fault
 
 pub returns-in_err-requests-clause-same : goal.returns-in_err-requests-clause-same
 returns-in_err-requests-clause-same g c = c.in_err-requests.ensures.same
 
 pub returns-in_err-requests-clause-unopened : goal.returns-in_err-requests-clause-unopened
 returns-in_err-requests-clause-unopened g c = c.in_err-requests.ensures.unopened
-
-pub returns-clause-of_run : goal.returns-clause-of_run
-returns-clause-of_run g c = c.screen_of.ensures.of_run
 
 pub returns-clause-same : goal.returns-clause-same
 returns-clause-same g c = c.in_ok-requests.ensures.same

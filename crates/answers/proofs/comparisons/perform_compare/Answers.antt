@@ -1,7 +1,8 @@
 use Rattle.config_reader.proofs.Refusing.{same_fault}
 use Rattle.std.proofs.lemmas.Result.{IfErr-weaker, IfOk-from_err}
 use Rattle.std.proofs.Common.{inl, inr, refl, ◌∙◌}
-use Rattle.answers.proofs.RequestFacts.{compare_beside}
+use Rattle.answers.specs.Refused.{IsCompareFault}
+use Rattle.answers.proofs.RequestFacts.{texts_refused, tails_refused, right_compare}
 use Rattle.answers.proofs.comparisons.perform_compare.Goals as goal
 
 pub returns-in_err-runs-clause-compared : goal.returns-in_err-runs-clause-compared
@@ -9,7 +10,7 @@ returns-in_err-runs-clause-compared g c = IfOk-from_err c.from_residual.result _
 
 pub returns-in_err-runs-clause-fault : goal.returns-in_err-runs-clause-fault
 returns-in_err-runs-clause-fault g c =
-    rw (same_fault c.from_residual.result _ c.from_residual.ensures) (inl c.in_err-runs.ensures.fault)
+    rw (same_fault c.from_residual.result _ c.from_residual.ensures) (inl (texts_refused _ _ _ IsCompareFault _ _ (λ texts wrong. inl wrong) c.in_err-runs.ensures.fault))
 
 pub returns-in_err-runs-clause-same : goal.returns-in_err-runs-clause-same
 returns-in_err-runs-clause-same g c = c.in_err-runs.ensures.same
@@ -23,7 +24,7 @@ returns-in_err-tails-clause-compared g c =
 
 pub returns-in_err-tails-clause-fault : goal.returns-in_err-tails-clause-fault
 returns-in_err-tails-clause-fault g c =
-    rw (same_fault c.from_residual-in_err-tails.result _ c.from_residual-in_err-tails.ensures) (compare_beside _ _ _ _ c.in_ok-runs.ensures.ready c.in_err-tails.ensures.kind)
+    rw (same_fault c.from_residual-in_err-tails.result _ c.from_residual-in_err-tails.ensures) (inl (tails_refused _ _ _ _ _ _ _ c.in_ok-runs.ensures.ready c.in_ok-runs.ensures.same (rw c.deref.ensures.value at c.in_err-tails.ensures.fault)))
 
 pub returns-in_err-tails-clause-same : goal.returns-in_err-tails-clause-same
 returns-in_err-tails-clause-same g c = λ t path. c.in_err-tails.ensures.same t path ∙ c.in_ok-runs.ensures.same t path
@@ -53,4 +54,4 @@ returns-clause-unopened g c = λ t. c.in_ok-tails.ensures.unopened t ∙ c.in_ok
 
 pub returns-clause-fault : goal.returns-clause-fault
 returns-clause-fault g c =
-    IfErr-weaker c.print_text.result _ _ (λ e is. inr (is, c.in_ok-runs.ensures.ready)) c.print_text.ensures.fault
+    IfErr-weaker c.print_text.result _ _ (λ e is. inr (is, right_compare _ _ _ _ _ _ _ c.in_ok-runs.ensures.ready c.in_ok-runs.ensures.same (rw c.deref.ensures.value at c.in_ok-tails.ensures.tails))) c.print_text.ensures.fault

@@ -2,7 +2,9 @@ use Rattle.std.proofs.lemmas.Result.{IfOk-weaker, IfErr-weaker, IfOk-from_err}
 use Rattle.std.proofs.Common.{◌∙◌}
 use Rattle.rule_check.specs.Verdict.{records_of}
 use Rattle.answers.specs.Answers.{stats_path, stats_table}
-use Rattle.answers.proofs.ManyFiles.{stats_at, many_texts, right_compare, compare_refused, same_count}
+use Rattle.answers.specs.Refused.{IsCompareFault}
+use Rattle.answers.proofs.ManyFiles.{stats_at, many_texts, hold_runs, same_count}
+use Rattle.answers.proofs.RefusedFacts.{found_or_memory}
 use Rattle.answers.proofs.comparisons.runs_in.Goals as goal
 
 pub returns-clause-runs : goal.returns-clause-runs
@@ -16,14 +18,14 @@ returns-clause-ready g c =
     IfOk-weaker c.runs_of.result _ _ (λ runs read. record {
       texts = _;
       read = many_texts _ _ (λ d. stats_path d.now) (λ t. t.bytes.items) c.args.dirs.now c.in_ok-tables.tables.items c.in_ok-tables.ensures.count c.in_ok-tables.ensures.texts;
-      right = right_compare (λ t. t.bytes.items) c.in_ok-tables.tables.items runs.items (rw c.deref.ensures.value at read);
+      right = hold_runs (λ t. t.bytes.items) c.in_ok-tables.tables.items runs.items (rw c.deref.ensures.value at read);
     }) c.runs_of.ensures.read
 
 pub returns-clause-fault : goal.returns-clause-fault
 returns-clause-fault g c =
-    IfErr-weaker c.runs_of.result _ _ (λ fault refused. compare_refused _ _ _ _ fault
+    IfErr-weaker c.runs_of.result _ _ (λ fault refused. found_or_memory _ _ _ _ IsCompareFault fault
     (many_texts _ _ (λ d. stats_path d.now) (λ t. t.bytes.items) c.args.dirs.now c.in_ok-tables.tables.items c.in_ok-tables.ensures.count c.in_ok-tables.ensures.texts)
-    refused) c.runs_of.ensures.fault
+    (rw c.deref.ensures.value at refused)) c.runs_of.ensures.fault
 
 pub returns-clause-count : goal.returns-clause-count
 returns-clause-count g c =

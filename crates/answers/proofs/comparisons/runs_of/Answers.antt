@@ -1,10 +1,10 @@
-use Rattle.std.proofs.Common.{◌≡◌, ◌∙◌, ◌++◌, [], ◌∷◌, sym, ap, inl}
+use Rattle.std.proofs.Common.{◌≡◌, ◌∙◌, ◌++◌, [], ◌∷◌, sym, ap, inl, inr}
 use Rattle.answers.specs.Answers.{stats_table}
 use Rattle.rule_check.specs.Verdict.{records_of}
-use Rattle.answers.proofs.ManyFiles.{map_pushed, map_all}
+use Rattle.answers.proofs.ManyFiles.{map_pushed, map_all, table_refused}
 use Rattle.std.proofs.lemmas.Result.{IfOk-from_err}
 use Rattle.config_reader.proofs.Refusing.{same_fault}
-use Rattle.answers.proofs.RefusedFacts.{memory_or_row, or_memory, is_pushed}
+use Rattle.answers.proofs.RefusedFacts.{or_memory, is_pushed}
 use Rattle.answers.proofs.comparisons.runs_of.Goals as goal
 
 pub returns-in_err-stats-clause-read : goal.returns-in_err-stats-clause-read
@@ -12,7 +12,9 @@ returns-in_err-stats-clause-read c = IfOk-from_err c.from_residual.result _ c.fr
 
 pub returns-in_err-stats-clause-fault : goal.returns-in_err-stats-clause-fault
 returns-in_err-stats-clause-fault c =
-    rw (same_fault c.from_residual.result _ c.from_residual.ensures) (memory_or_row _ c.in_err-stats.ensures.fault)
+    rw (same_fault c.from_residual.result _ c.from_residual.ensures)
+    (inr (table_refused (λ t. t.bytes.items) c.args.tables.now c.loop-table.runs.items c.loop-table.table-index c.table-item.result c.deref.result.now _ c.loop-table-test.true
+    c.loop-table.invariant (c.deref.ensures.value ∙ ap (λ t. t.bytes.items) c.table-item.is) c.in_err-stats.ensures.refused))
 
 pub returns-in_err-or-clause-read : goal.returns-in_err-or-clause-read
 returns-in_err-or-clause-read c =

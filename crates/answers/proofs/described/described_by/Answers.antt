@@ -1,6 +1,6 @@
 use Rattle.config_reader.proofs.Refusing.{same_fault}
 use Rattle.std.proofs.lemmas.Result.{IfOk-from_err}
-use Rattle.answers.proofs.NamedFacts.{config_refused, row_refused, size_refused}
+use Rattle.answers.proofs.NamedFacts.{config_refused, stats_refused, size_refused}
 use Rattle.answers.proofs.described.described_by.Goals as goal
 
 pub returns-in_err-config-clause-fault : goal.returns-in_err-config-clause-fault
@@ -11,7 +11,7 @@ returns-in_err-config-clause-fault c =
 pub returns-in_err-stats-clause-fault : goal.returns-in_err-stats-clause-fault
 returns-in_err-stats-clause-fault c =
     rw (same_fault c.from_residual-in_err-stats.result _ c.from_residual-in_err-stats.ensures)
-    (row_refused c.args.document.now.bytes.items _ c.args.table.now c.in_ok-config.config _ c.deref.ensures.value c.in_ok-config.ensures.ok c.in_err-stats.ensures.fault)
+    (stats_refused c.args.document.now.bytes.items _ c.args.table.now c.in_ok-config.config _ c.deref.ensures.value c.in_ok-config.ensures.ok c.in_err-stats.ensures.refused)
 
 pub returns-in_err-check_fits-clause-fault : goal.returns-in_err-check_fits-clause-fault
 returns-in_err-check_fits-clause-fault c =

@@ -1,6 +1,7 @@
 use Rattle.config_reader.proofs.Refusing.{same_fault}
 use Rattle.std.proofs.lemmas.Result.{IfOk-from_err}
-use Rattle.std.proofs.Common.{option_map, inl, inr}
+use Rattle.std.proofs.Common.{option_map, inl}
+use Rattle.answers.proofs.PageFacts.{text_unwritten}
 use Rattle.answers.proofs.pages.page_in.Goals as goal
 
 pub returns-clause-requests : goal.returns-clause-requests
@@ -8,9 +9,6 @@ returns-clause-requests g c = λ tells. record { requests = option_map (λ r. r.
 
 pub returns-clause-warned : goal.returns-clause-warned
 returns-clause-warned g c = rw c.deref.ensures.value at c.warning_of-warning.ensures
-
-pub returns-in_err-requests-clause-of_run : goal.returns-in_err-requests-clause-of_run
-returns-in_err-requests-clause-of_run g c = IfOk-from_err c.from_residual.result _ c.from_residual.ensures.0
 
 pub returns-in_err-requests-clause-requests : goal.returns-in_err-requests-clause-requests
 returns-in_err-requests-clause-requests g c = IfOk-from_err c.from_residual.result _ c.from_residual.ensures.0
@@ -20,17 +18,13 @@ returns-in_err-requests-clause-warned g c = IfOk-from_err c.from_residual.result
 
 pub returns-in_err-requests-clause-fault : goal.returns-in_err-requests-clause-fault
 returns-in_err-requests-clause-fault g c =
-    rw (same_fault c.from_residual.result _ c.from_residual.ensures) (inl c.in_err-requests.ensures.kind)
+    rw (same_fault c.from_residual.result _ c.from_residual.ensures) (inl c.in_err-requests.ensures.fault)
 
 pub returns-in_err-requests-clause-same : goal.returns-in_err-requests-clause-same
 returns-in_err-requests-clause-same g c = c.in_err-requests.ensures.same
 
 pub returns-in_err-requests-clause-unopened : goal.returns-in_err-requests-clause-unopened
 returns-in_err-requests-clause-unopened g c = c.in_err-requests.ensures.unopened
-
-pub returns-in_err-text-clause-of_run : goal.returns-in_err-text-clause-of_run
-returns-in_err-text-clause-of_run g c =
-    IfOk-from_err c.from_residual-in_err-text.result _ c.from_residual-in_err-text.ensures.0
 
 pub returns-in_err-text-clause-requests : goal.returns-in_err-text-clause-requests
 returns-in_err-text-clause-requests g c =
@@ -42,16 +36,14 @@ returns-in_err-text-clause-warned g c =
 
 pub returns-in_err-text-clause-fault : goal.returns-in_err-text-clause-fault
 returns-in_err-text-clause-fault g c =
-    rw (same_fault c.from_residual-in_err-text.result _ c.from_residual-in_err-text.ensures) (inr c.in_err-text.ensures.fault)
+    rw (same_fault c.from_residual-in_err-text.result _ c.from_residual-in_err-text.ensures) (text_unwritten _ _ _ _ _ c.in_err-text.ensures
+    (λ t. record { requests = option_map (λ r. r.items) c.in_ok-requests.requests; requests_are = c.in_ok-requests.ensures.found t }))
 
 pub returns-in_err-text-clause-same : goal.returns-in_err-text-clause-same
 returns-in_err-text-clause-same g c = c.in_ok-requests.ensures.same
 
 pub returns-in_err-text-clause-unopened : goal.returns-in_err-text-clause-unopened
 returns-in_err-text-clause-unopened g c = c.in_ok-requests.ensures.unopened
-
-pub returns-clause-of_run : goal.returns-clause-of_run
-returns-clause-of_run g c = c.in_ok-text.ensures.of_run
 
 pub returns-clause-fault : goal.returns-clause-fault
 returns-clause-fault g c = tt

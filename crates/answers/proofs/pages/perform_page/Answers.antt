@@ -4,9 +4,10 @@ use Rattle.config_reader.proofs.Refusing.{same_fault}
 use Rattle.std.proofs.Common.{inl, inr, ◌∙◌, sym, subst, ap, ◌++◌, ◌∷◌, []}
 use Rattle.std.proofs.lemmas.Result.{IfOk-weaker, IfErr-weaker, on_err_weaker, IfOk-from_err, on_ok_weaker}
 use Rattle.refusal.specs.Warnings.{IsWarningOf}
-use Rattle.answers.proofs.NamedFacts.{ok_with, ok_so, err_with}
-use Rattle.answers.proofs.PageFacts.{whole_from, unwritten_from, screen_refused, write_refused}
-use Rattle.answers.proofs.RequestFacts.{requests_before}
+use Rattle.answers.specs.Refused.{IsPageFault, HoldRunTables}
+use Rattle.answers.proofs.NamedFacts.{ok_with, ok_so, when_ok, err_with}
+use Rattle.answers.proofs.PageFacts.{whole_from, unwritten_from, write_refused}
+use Rattle.answers.proofs.RequestFacts.{requests_before, texts_refused, beside_refused, right_beside}
 use Rattle.answers.proofs.pages.perform_page.Goals as goal
 
 pub returns-clause-done : goal.returns-clause-done
@@ -21,7 +22,7 @@ returns-clause-done g c = IfOk-weaker c.put_page.result _ _ (λ warning given te
       tables = c.in_ok-found.ensures.tables tells;
       configured = c.in_ok-found.ensures.fits tells;
       requests_are = requests_before _ _ _ _ _ _ c.in_ok-found.ensures.same (λ t. at.requests_are) tells;
-      of_run = ok_so c.page_in-page.result _ c.page_in-page.ensures.of_run given;
+      of_run = c.in_ok-found.ensures.of_run;
       written = whole_from _ _ _ _ _ (λ path. c.page_in-page.ensures.same tells path ∙ c.in_ok-found.ensures.same tells path) (made.2.1 tells);
       warned = subst (IsWarningOf made.0.text.items) (sym made.2.0) made.1;
     }) c.put_page.ensures.put
@@ -34,9 +35,12 @@ returns-clause-refused g c = on_err_weaker c.put_page.result
 
 pub returns-clause-fault : goal.returns-clause-fault
 returns-clause-fault g c = IfErr-weaker c.put_page.result _ _ (λ fault refused. elim refused [
-  | inl write ↦ write_refused _ _ _ _ c.in_ok-found.ensures.ready write
-  | inr other ↦ screen_refused _ _ _ c.in_ok-found.found.run.stats c.in_ok-found.found.commands _ c.in_ok-found.ensures.ready
-      (err_with c.page_in-page.result _ _ c.page_in-page.ensures.fault other)
+  | inl write ↦ write_refused _ _ _ _ _ _ (right_beside _ _ _ _ _ HoldRunTables _ c.in_ok-found.ensures.ready c.in_ok-found.ensures.same
+      (when_ok c.page_in-page.result c.page_in-page.ensures.requests write.1)) write.0
+  | inr other ↦ elim (err_with c.page_in-page.result _ _ c.page_in-page.ensures.fault other) [
+    | inl requests ↦ inl (beside_refused _ _ _ _ _ IsPageFault HoldRunTables _ _ c.in_ok-found.ensures.ready c.in_ok-found.ensures.same requests)
+    | inr unwritten ↦ inr (unwritten.0, right_beside _ _ _ _ _ HoldRunTables _ c.in_ok-found.ensures.ready c.in_ok-found.ensures.same unwritten.1)
+  ]
 ]) c.put_page.ensures.fault
 
 pub returns-in_err-found-clause-done : goal.returns-in_err-found-clause-done
@@ -47,7 +51,7 @@ returns-in_err-found-clause-noted g c = IfOk-from_err c.from_residual.result _ c
 
 pub returns-in_err-found-clause-fault : goal.returns-in_err-found-clause-fault
 returns-in_err-found-clause-fault g c =
-    rw (same_fault c.from_residual.result _ c.from_residual.ensures) (inl c.in_err-found.ensures.fault)
+    rw (same_fault c.from_residual.result _ c.from_residual.ensures) (inl (texts_refused _ _ _ IsPageFault _ _ (λ texts wrong. inl wrong) c.in_err-found.ensures.fault))
 
 pub returns-in_err-found-clause-refused : goal.returns-in_err-found-clause-refused
 returns-in_err-found-clause-refused g c =

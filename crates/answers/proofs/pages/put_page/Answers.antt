@@ -13,7 +13,7 @@ pub returns-in_err-write_whole-in-Ok-clause-noted : goal.returns-in_err-write_wh
 returns-in_err-write_whole-in-Ok-clause-noted g c = IfOk-from_err c.from_residual.result _ c.from_residual.ensures.0
 
 pub returns-in_err-write_whole-in-Ok-clause-fault : goal.returns-in_err-write_whole-in-Ok-clause-fault
-returns-in_err-write_whole-in-Ok-clause-fault g c = rw (same_fault c.from_residual.result _ c.from_residual.ensures) (inl c.in_err-write_whole-in-Ok.ensures.fault)
+returns-in_err-write_whole-in-Ok-clause-fault g c = rw (same_fault c.from_residual.result _ c.from_residual.ensures) (inl (c.in_err-write_whole-in-Ok.ensures.fault, rw c.in-Ok.is refl))
 
 pub returns-in_ok-write_whole-in-Ok-clause-noted : goal.returns-in_ok-write_whole-in-Ok-clause-noted
 returns-in_ok-write_whole-in-Ok-clause-noted g c = c.in_ok-write_whole-in-Ok.ensures.noted

@@ -35,6 +35,6 @@ returns-clause-mapped g c = on_ok_weaker c.print_answer.result (λ given tells.
 
 pub returns-clause-fault : goal.returns-clause-fault
 returns-clause-fault g c = IfErr-weaker c.print_answer.result _ _ (λ fault refused. elim refused [
-  | inl write ↦ inr (write, c.in_ok-ranks.ensures.ready)
+  | inl write ↦ inr (write.0, c.in_ok-ranks.ensures.ready)
   | inr made ↦ inl (inl (inl (err_with c.place_line_of.result _ _ c.place_line_of.ensures.fault made)))
 ]) c.print_answer.ensures.fault

@@ -1,8 +1,8 @@
 use Rattle.config_reader.proofs.Refusing.{same_fault}
 use Rattle.std.proofs.lemmas.Result.{IfOk-from_err}
 use Rattle.answers.specs.Requests.{requests_path}
-use Rattle.std.proofs.Common.{inl, refl, ◌≡◌, ◌∙◌}
-use Rattle.answers.proofs.RequestFacts.{memory_requests}
+use Rattle.std.proofs.Common.{refl, ◌≡◌, ◌∙◌}
+use Rattle.answers.proofs.RequestFacts.{memory_refused}
 use Rattle.answers.proofs.requests.requests_in.Goals as goal
 
 pub returns-in_err-path-clause-found : goal.returns-in_err-path-clause-found
@@ -10,11 +10,7 @@ returns-in_err-path-clause-found g c = IfOk-from_err c.from_residual.result _ c.
 
 pub returns-in_err-path-clause-fault : goal.returns-in_err-path-clause-fault
 returns-in_err-path-clause-fault g c =
-    rw (same_fault c.from_residual.result _ c.from_residual.ensures) (λ t. memory_requests _ _ _ c.in_err-path.ensures.fault)
-
-pub returns-in_err-path-clause-kind : goal.returns-in_err-path-clause-kind
-returns-in_err-path-clause-kind g c =
-    rw (same_fault c.from_residual.result _ c.from_residual.ensures) (inl c.in_err-path.ensures.fault)
+    rw (same_fault c.from_residual.result _ c.from_residual.ensures) (memory_refused _ _ _ _ _ c.in_err-path.ensures.fault)
 
 pub returns-in_err-path-clause-same : goal.returns-in_err-path-clause-same
 returns-in_err-path-clause-same g c = λ t path. refl
@@ -31,9 +27,6 @@ pub returns-clause-fault : goal.returns-clause-fault
 returns-clause-fault g c =
     let one : c.as_str.result.now ≡ requests_path c.args.dir.now = c.as_str.ensures.value ∙ c.in_ok-path.ensures.path in
     rw one at c.requests_at.ensures.fault
-
-pub returns-clause-kind : goal.returns-clause-kind
-returns-clause-kind g c = c.requests_at.ensures.kind
 
 pub returns-clause-same : goal.returns-clause-same
 returns-clause-same g c = c.requests_at.ensures.same

@@ -2,8 +2,9 @@
 use Rattle.config_reader.proofs.Refusing.{same_fault}
 use Rattle.std.proofs.Common.{inl, inr, ◌∙◌}
 use Rattle.std.proofs.lemmas.Result.{on_ok_weaker, IfErr-weaker, IfOk-from_err}
-use Rattle.answers.proofs.NamedFacts.{ok_with, err_with}
-use Rattle.answers.proofs.RequestFacts.{requests_before, show_beside}
+use Rattle.answers.specs.Refused.{IsShowFault, HoldRun}
+use Rattle.answers.proofs.NamedFacts.{ok_with, when_ok, err_with}
+use Rattle.answers.proofs.RequestFacts.{requests_before, texts_refused, beside_refused, right_beside}
 use Rattle.answers.proofs.screens.perform_show.Goals as goal
 
 pub returns-clause-shown : goal.returns-clause-shown
@@ -23,8 +24,13 @@ returns-clause-shown g c = on_ok_weaker c.print_answer.result (λ given tells.
 
 pub returns-clause-fault : goal.returns-clause-fault
 returns-clause-fault g c = IfErr-weaker c.print_answer.result _ _ (λ fault refused. elim refused [
-  | inl write ↦ inr (write, c.in_ok-run.ensures.ready)
-  | inr beside ↦ show_beside _ _ _ _ c.in_ok-run.ensures.ready (err_with c.screen_in-screen.result _ _ c.screen_in-screen.ensures.kind beside)
+  | inl write ↦ inr (
+    write.0,
+    right_beside _ _ _ _ _ HoldRun _ c.in_ok-run.ensures.ready c.in_ok-run.ensures.same
+        (when_ok c.screen_in-screen.result c.screen_in-screen.ensures.requests write.1),
+  )
+  | inr other ↦ inl (beside_refused _ _ _ _ _ IsShowFault HoldRun _ _ c.in_ok-run.ensures.ready c.in_ok-run.ensures.same
+      (err_with c.screen_in-screen.result _ _ c.screen_in-screen.ensures.fault other))
 ]) c.print_answer.ensures.fault
 
 pub returns-in_err-run-clause-shown : goal.returns-in_err-run-clause-shown
@@ -32,7 +38,7 @@ returns-in_err-run-clause-shown g c = IfOk-from_err c.from_residual.result _ c.f
 
 pub returns-in_err-run-clause-fault : goal.returns-in_err-run-clause-fault
 returns-in_err-run-clause-fault g c =
-    rw (same_fault c.from_residual.result _ c.from_residual.ensures) (inl c.in_err-run.ensures.fault)
+    rw (same_fault c.from_residual.result _ c.from_residual.ensures) (inl (texts_refused _ _ _ IsShowFault _ _ (λ texts wrong. inl wrong) c.in_err-run.ensures.fault))
 
 pub returns-in_err-run-clause-same : goal.returns-in_err-run-clause-same
 returns-in_err-run-clause-same g c = c.in_err-run.ensures.same

@@ -1,6 +1,8 @@
 use Rattle.config_reader.proofs.Refusing.{same_fault}
 use Rattle.std.proofs.lemmas.Result.{IfOk-weaker, IfErr-weaker, IfOk-from_err}
-use Rattle.std.proofs.Common.{option_map, inl}
+use Rattle.std.proofs.Common.{option_map}
+use Rattle.answers.proofs.NamedFacts.{any_ok}
+use Rattle.answers.proofs.RequestFacts.{memory_refused}
 use Rattle.answers.proofs.screens.screen_in.Goals as goal
 
 pub returns-clause-screen : goal.returns-clause-screen
@@ -14,9 +16,12 @@ returns-clause-screen g c =
 pub returns-in_err-requests-clause-screen : goal.returns-in_err-requests-clause-screen
 returns-in_err-requests-clause-screen g c = IfOk-from_err c.from_residual.result _ c.from_residual.ensures.0
 
-pub returns-in_err-requests-clause-kind : goal.returns-in_err-requests-clause-kind
-returns-in_err-requests-clause-kind g c =
-    rw (same_fault c.from_residual.result _ c.from_residual.ensures) (c.in_err-requests.ensures.kind)
+pub returns-in_err-requests-clause-requests : goal.returns-in_err-requests-clause-requests
+returns-in_err-requests-clause-requests g c = IfOk-from_err c.from_residual.result _ c.from_residual.ensures.0
+
+pub returns-in_err-requests-clause-fault : goal.returns-in_err-requests-clause-fault
+returns-in_err-requests-clause-fault g c =
+    rw (same_fault c.from_residual.result _ c.from_residual.ensures) c.in_err-requests.ensures.fault
 
 pub returns-in_err-requests-clause-same : goal.returns-in_err-requests-clause-same
 returns-in_err-requests-clause-same g c = c.in_err-requests.ensures.same
@@ -24,8 +29,14 @@ returns-in_err-requests-clause-same g c = c.in_err-requests.ensures.same
 pub returns-in_err-requests-clause-unopened : goal.returns-in_err-requests-clause-unopened
 returns-in_err-requests-clause-unopened g c = c.in_err-requests.ensures.unopened
 
-pub returns-clause-kind : goal.returns-clause-kind
-returns-clause-kind g c = IfErr-weaker c.screen_of.result _ _ (λ fault memory. inl memory) c.screen_of.ensures.fault
+pub returns-clause-requests : goal.returns-clause-requests
+returns-clause-requests g c = any_ok c.screen_of.result (λ t. record {
+  requests = option_map (λ r. r.items) c.in_ok-requests.requests;
+  requests_are = c.in_ok-requests.ensures.found t;
+})
+
+pub returns-clause-fault : goal.returns-clause-fault
+returns-clause-fault g c = IfErr-weaker c.screen_of.result _ _ (λ fault memory. memory_refused _ _ _ _ _ memory) c.screen_of.ensures.fault
 
 pub returns-clause-same : goal.returns-clause-same
 returns-clause-same g c = c.in_ok-requests.ensures.same

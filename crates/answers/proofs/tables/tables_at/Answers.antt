@@ -1,7 +1,7 @@
 use Rattle.std.proofs.Common.{◌∙◌}
 use Rattle.config_reader.proofs.Refusing.{same_fault}
 use Rattle.std.proofs.lemmas.Result.{IfOk-weaker, IfErr-weaker, IfOk-from_err}
-use Rattle.answers.proofs.NamedFacts.{configured_from, both_ok, ready_page, fault_page, config_unread, one_unread, two_unread}
+use Rattle.answers.proofs.NamedFacts.{configured_from, all_ok, ready_page, fault_page, config_unread, one_unread, two_unread}
 use Rattle.answers.proofs.tables.tables_at.Goals as goal
 
 pub returns-clause-fits : goal.returns-clause-fits
@@ -10,11 +10,25 @@ returns-clause-fits g c =
 
 pub returns-clause-ready : goal.returns-clause-ready
 returns-clause-ready g c =
-    both_ok c.read_tables.result _ _ _
-    (λ found tables is. ready_page _ _ _ _ _ _ _ _ _ _ _ _ _ c.in_ok-document.ensures.text c.in_ok-document.ensures.same
+    all_ok c.read_tables.result _ _ _ _
+    (λ found tables is own. ready_page _ _ _ _ _ _ _ _ _ _ _ _ _ c.in_ok-document.ensures.text c.in_ok-document.ensures.same
     c.in_ok-stats_table.ensures.bytes c.in_ok-stats_table.ensures.same
-    c.in_ok-commands_table.ensures.bytes tables is)
-    c.read_tables.ensures.tables c.read_tables.ensures.configured
+    c.in_ok-commands_table.ensures.bytes tables is own)
+    c.read_tables.ensures.tables c.read_tables.ensures.configured c.read_tables.ensures.of_run
+
+pub returns-clause-of_run : goal.returns-clause-of_run
+returns-clause-of_run g c = c.read_tables.ensures.of_run
+
+pub returns-in_err-document-clause-of_run : goal.returns-in_err-document-clause-of_run
+returns-in_err-document-clause-of_run g c = IfOk-from_err c.from_residual.result _ c.from_residual.ensures.0
+
+pub returns-in_err-stats_table-clause-of_run : goal.returns-in_err-stats_table-clause-of_run
+returns-in_err-stats_table-clause-of_run g c =
+    IfOk-from_err c.from_residual-in_err-stats_table.result _ c.from_residual-in_err-stats_table.ensures.0
+
+pub returns-in_err-commands_table-clause-of_run : goal.returns-in_err-commands_table-clause-of_run
+returns-in_err-commands_table-clause-of_run g c =
+    IfOk-from_err c.from_residual-in_err-commands_table.result _ c.from_residual-in_err-commands_table.ensures.0
 
 pub returns-clause-fault : goal.returns-clause-fault
 returns-clause-fault g c =

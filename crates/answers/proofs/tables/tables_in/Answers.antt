@@ -54,6 +54,16 @@ returns-in_err-commands-clause-unopened g c = λ t. refl
 pub returns-clause-fits : goal.returns-clause-fits
 returns-clause-fits g c = c.tables_at.ensures.fits
 
+pub returns-clause-of_run : goal.returns-clause-of_run
+returns-clause-of_run g c = c.tables_at.ensures.of_run
+
+pub returns-in_err-stats-clause-of_run : goal.returns-in_err-stats-clause-of_run
+returns-in_err-stats-clause-of_run g c = IfOk-from_err c.from_residual.result _ c.from_residual.ensures.0
+
+pub returns-in_err-commands-clause-of_run : goal.returns-in_err-commands-clause-of_run
+returns-in_err-commands-clause-of_run g c =
+    IfOk-from_err c.from_residual-in_err-commands.result _ c.from_residual-in_err-commands.ensures.0
+
 pub returns-clause-ready : goal.returns-clause-ready
 returns-clause-ready g c =
     let one : c.as_str.result.now ≡ path_in c.args.folder.now.dir.now stats_name = c.as_str.ensures.value ∙ c.in_ok-stats.ensures.path in

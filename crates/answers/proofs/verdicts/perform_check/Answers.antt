@@ -24,7 +24,7 @@ returns-in_err-print_answer-clause-checked g c =
 pub returns-in_err-print_answer-clause-fault : goal.returns-in_err-print_answer-clause-fault
 returns-in_err-print_answer-clause-fault g c =
     rw (same_fault c.from_residual-in_err-print_answer.result _ c.from_residual-in_err-print_answer.ensures) (elim c.in_err-print_answer.ensures.fault [
-      | inl write ↦ inr (write, c.in_ok-found.ensures.ready)
+      | inl write ↦ inr (write.0, c.in_ok-found.ensures.ready)
       | inr made ↦ inl (inl (inl (err_with c.verdict_line_of.result _ _ c.verdict_line_of.ensures.fault made)))
     ])
 
