@@ -2,3 +2,4 @@ pub mod Ranks
 pub mod Ordered
 pub mod Kept
 pub mod Acts
+pub mod Powers

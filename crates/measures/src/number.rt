@@ -1,7 +1,8 @@
 //! Numbers as a screen shows them: at most four digits that say something.
 
-ghost use Rattle.std.specs.Prelude.{◌≡◌, ◌*◌, ◌/◌, ◌^◌, ◌<◌, Some, None, IfOk, codes, min, string_bytes};
-ghost use Rattle.measures.specs.Number.{halves_of};
+ghost use Rattle.std.specs.Prelude.{◌≡◌, ◌*◌, ◌^◌, ◌<◌, ◌≤◌, ◌++◌, Some, None, IfOk, IfSome, string_bytes};
+ghost use Rattle.measures.specs.Number.{halves_of, number_text};
+ghost use Rattle.measures.specs.Number.{most_decimals, limit_of, decimals_of, unit_of, digits_of, fits, least_power, power_of, tenths_text, hundredths_text, thousandths_text, digits_text, written};
 
 use std::alloc::{AllocError, Global};
 
@@ -17,7 +18,9 @@ pub enum NumberForm {
 }
 
 impl NumberForm {
-    fn most_decimals(self) -> u8 {
+    fn most_decimals(self) -> u32
+        ensures { result ≡ most_decimals self }
+    {
         match self {
             NumberForm::Mean => 3,
             NumberForm::Percent => 1,
@@ -25,11 +28,13 @@ impl NumberForm {
         }
     }
 
-    /// With one decimal, the digits of a number of this form are below this one.
-    fn limit_of_tenths(self) -> u128 {
-        match self {
-            NumberForm::Percent => 10_000,
-            NumberForm::Mean | NumberForm::Count => 1_000,
+    // With the last digit at this power of ten, the digits of a number of this form are below this one.
+    fn limit_of(self, power: u32) -> u128
+        ensures { result ≡ limit_of self power }
+    {
+        match (self, power) {
+            (_, 3) | (NumberForm::Percent, 2) => 10_000,
+            _ => 1_000,
         }
     }
 }
@@ -46,100 +51,125 @@ pub struct Number {
 /// A greater sum counts as this one.
 const GREATEST_SUM: u128 = 1 << 70;
 
-/// A way to write a number: as digits, the last of which is worth `last_digit` halves of a thousandth.
-#[derive(Clone, Copy)]
-struct Scale {
-    last_digit: u128,
-    decimals: u8,
-    /// The digits, read as a number, are below this one.
-    limit: u128,
-    unit: &'static str,
-    ghost some: { 0 < last_digit },
-}
+/// The last digit of a number is at most this power of ten of thousandths.
+const GREATEST_POWER: u32 = 21;
 
-impl Scale {
-    fn new(last_digit: u128, decimals: u8, limit: u128, unit: &'static str) -> Scale
-        requires { 0 < last_digit }
-    {
-        Scale {
-            last_digit,
-            decimals,
-            limit,
-            unit,
-        }
-    }
-
-    /// The digits of a number that is given in halves of a thousandth, rounded half up.
-    fn digits(self, halves: u128) -> u128 {
-        (halves / self.last_digit).div_ceil(2)
-    }
-
-    fn fits(self, halves: u128) -> bool {
-        self.digits(halves) < self.limit
-    }
-
-    /// Ten to the power of the number of its decimals.
-    fn whole(self) -> u128
-        ensures { 0 < result }
-    {
-        match self.decimals {
-            0 => 1,
-            1 => 10,
-            2 => 100,
-            _ => 1_000,
-        }
-    }
-
-    /// A number that is given in halves of a thousandth.
-    fn text(self, alloc: Global, halves: u128) -> Result<String, AllocError> {
-        let (digits, unit) = (self.digits(halves), self.unit);
-        let (whole, part) = (digits / self.whole(), digits % self.whole());
-        match self.decimals {
-            0 => format!(in alloc; "{whole}{unit}"),
-            1 => format!(in alloc; "{whole}.{part}{unit}"),
-            2 => format!(in alloc; "{whole}.{part:02}{unit}"),
-            _ => format!(in alloc; "{whole}.{part:03}{unit}"),
-        }
+// How many decimals a number has whose last digit is this power of ten of thousandths, in its unit.
+#[tactic(auto, unfolding(crate::specs::Number::decimals_of))]
+fn decimals_of(power: u32) -> u32
+    ensures { result ≡ decimals_of power }
+{
+    if power < 4 {
+        3 - power
+    } else {
+        2 - (power - 4) % 3
     }
 }
 
-// The first scale that fits a number and has no more decimals than its form.
-fn scale_of(form: NumberForm, halves: u128) -> Scale {
-    let scales = [
-        Scale::new(1, 3, 1_000, ""),
-        Scale::new(10, 2, 1_000, ""),
-        Scale::new(100, 1, form.limit_of_tenths(), ""),
-        Scale::new(1_000, 0, 10_000, ""),
-    ];
-    for scale in scales {
-        if scale.decimals <= form.most_decimals() && scale.fits(halves) {
-            return scale;
-        }
+// The unit of such a number: from ten thousand on, each is a thousand times the one before it.
+#[tactic(auto, unfolding(crate::specs::Number::unit_of))]
+fn unit_of(power: u32) -> &'static str
+    ensures { result.now ≡ unit_of power }
+{
+    match power {
+        0..=3 => "",
+        4..=6 => "k",
+        7..=9 => "M",
+        10..=12 => "G",
+        13..=15 => "T",
+        16..=18 => "P",
+        _ => "E",
     }
-    coarse_scale(halves)
 }
 
-/// The units of numbers of ten thousand and more, each a thousand times the one before it.
-static UNITS: [&str; 6] = ["k", "M", "G", "T", "P", "E"];
+// The digits of a number that is given in halves of a thousandth, rounded half up.
+#[tactic(auto, unfolding(crate::specs::Number::digits_of), using(crate::proofs::Powers::power_fits, crate::proofs::Powers::power_some))]
+fn digits_of(power: u32, halves: u128) -> u128
+    requires { power ≤ 21 }
+    ensures { result ≡ digits_of power halves }
+{
+    (halves / 10u128.pow(power)).div_ceil(2)
+}
 
-// The first scale with a unit that fits a number, or the last one: for each unit there are three, with two decimals,
-// one and none.
-fn coarse_scale(halves: u128) -> Scale {
-    let mut last_digit = 1_000u128;
-    for place in 0..18usize {
-        last_digit = last_digit.saturating_mul(10);
-        let decimals = match place % 3 {
-            0 => 2,
-            1 => 1,
-            _ => 0,
-        };
-        let unit = UNITS.get(place / 3).copied().unwrap_or("E");
-        let scale = Scale::new(last_digit, decimals, 1_000, unit);
-        if scale.fits(halves) {
-            return scale;
-        }
+// Whether a number can be written with its last digit at this power of ten: with no more decimals than its form has,
+// and with few digits.
+#[tactic(auto, unfolding(crate::specs::Number::fits))]
+fn fits(form: NumberForm, power: u32, halves: u128) -> bool
+    requires { power ≤ 21 }
+    ensures { result ≡ fits form power halves }
+{
+    (power > 3 || decimals_of(power) <= form.most_decimals())
+        && digits_of(power, halves) < form.limit_of(power)
+}
+
+// The least power of ten at which the last digit of a number can be, if there is one.
+#[tactic(auto, unfolding(crate::specs::Number::least_power))]
+fn least_power(form: NumberForm, halves: u128) -> Option<u32>
+    ensures place { result ≡ least_power form halves }
+    ensures within { IfSome result (λ power. power < 21) }
+{
+    (0..GREATEST_POWER).find(move |power| fits(form, *power, halves))
+}
+
+// That power of ten, or the greatest one.
+#[tactic(auto, unfolding(crate::specs::Number::power_of))]
+fn power_of(form: NumberForm, halves: u128) -> u32
+    ensures place { result ≡ power_of form halves }
+    ensures within { result ≤ 21 }
+{
+    match least_power(form, halves) {
+        Some(power) => power,
+        None => GREATEST_POWER,
     }
-    Scale::new(last_digit, 0, 1_000, "E")
+}
+
+// A number of tenths, of hundredths and of thousandths, each with a unit behind it.
+fn tenths_text(alloc: Global, tenths: u128, unit: &str) -> Result<String, AllocError>
+    ensures { IfOk result (λ text. string_bytes text ≡ tenths_text tenths ++ unit.now) }
+{
+    let (whole, tenth) = (tenths / 10, tenths % 10);
+    format!(in alloc; "{whole}.{tenth}{unit}")
+}
+
+fn hundredths_text(alloc: Global, hundredths: u128, unit: &str) -> Result<String, AllocError>
+    ensures { IfOk result (λ text. string_bytes text ≡ hundredths_text hundredths ++ unit.now) }
+{
+    let (whole, tenth, last) = (hundredths / 100, hundredths / 10 % 10, hundredths % 10);
+    format!(in alloc; "{whole}.{tenth}{last}{unit}")
+}
+
+fn thousandths_text(alloc: Global, thousandths: u128, unit: &str) -> Result<String, AllocError>
+    ensures { IfOk result (λ text. string_bytes text ≡ thousandths_text thousandths ++ unit.now) }
+{
+    let whole = thousandths / 1_000;
+    let (tenth, hundredth, last) = (
+        thousandths / 100 % 10,
+        thousandths / 10 % 10,
+        thousandths % 10,
+    );
+    format!(in alloc; "{whole}.{tenth}{hundredth}{last}{unit}")
+}
+
+// Digits with so many decimals, and a unit behind them.
+fn digits_text(alloc: Global, decimals: u32, digits: u128, unit: &str) -> Result<String, AllocError>
+    ensures { IfOk result (λ text. string_bytes text ≡ digits_text decimals digits ++ unit.now) }
+{
+    match decimals {
+        0 => format!(in alloc; "{digits}{unit}"),
+        1 => tenths_text(alloc, digits, unit),
+        2 => hundredths_text(alloc, digits, unit),
+        _ => thousandths_text(alloc, digits, unit),
+    }
+}
+
+// A number that is given in halves of a thousandth.
+#[tactic(auto, unfolding(crate::specs::Number::written))]
+fn written(alloc: Global, form: NumberForm, halves: u128) -> Result<String, AllocError>
+    ensures { IfOk result (λ text. string_bytes text ≡ written form halves) }
+{
+    let power = power_of(form, halves);
+    let digits = digits_of(power, halves);
+    digits_text(alloc, decimals_of(power), digits, unit_of(power))
 }
 
 impl Number {
@@ -182,7 +212,7 @@ impl Number {
 
     /// A number that is not there.
     pub fn absent() -> Number
-        ensures { result.halves ≡ None }
+        ensures { result ≡ record { halves = None; form = NumberForm.Count } }
     {
         Number {
             halves: None,
@@ -192,10 +222,10 @@ impl Number {
 
     /// The number as a screen shows it; `-` for one that is not there. The only error is out of memory.
     pub fn text(self, alloc: Global) -> Result<String, AllocError>
-        ensures absent { self.halves ≡ None → IfOk result (λ text. string_bytes text ≡ codes "-") }
+        ensures { IfOk result (λ text. string_bytes text ≡ number_text self) }
     {
         match self.halves {
-            Some(halves) => scale_of(self.form, halves).text(alloc, halves),
+            Some(halves) => written(alloc, self.form, halves),
             None => String::from_str(alloc, "-"),
         }
     }

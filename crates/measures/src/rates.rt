@@ -31,10 +31,10 @@ pub fn data_rate(cycles: u64, channel: &ChannelStats, khz: u64) -> Quotient
 /// A quotient of cycles, in ns.
 pub fn nanoseconds(cycles: u128, divisor: u64, khz: u64) -> Quotient
     ensures dividend { result.dividend ≡ min (cycles * 1000000) (2 ^ 128 - 1) }
-    ensures divisor { result.divisor ≡ min (divisor * khz) (2 ^ 128 - 1) }
+    ensures divisor { result.divisor ≡ divisor * khz }
 {
     Quotient {
         dividend: cycles.saturating_mul(1_000_000),
-        divisor: u128::from(divisor).saturating_mul(u128::from(khz)),
+        divisor: u128::from(divisor) * u128::from(khz),
     }
 }

@@ -1,3 +1,4 @@
 pub mod Legends
 pub mod Pieces
+pub mod Scales
 pub mod Section

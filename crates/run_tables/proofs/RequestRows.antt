@@ -12,6 +12,8 @@ use Rattle.sim_base.specs.declared.message.Access.TheVariants.{Read, Write}
 use Rattle.request_table.specs.declared.times.RequestTimes.{RequestTimes}
 use Rattle.rule_check.specs.Fields.{◌>>=◌, is_empty, text_at}
 use Rattle.run_tables.specs.Numbers.{number_written}
+use Rattle.run_tables.specs.declared.requests.AskedFields.{AskedFields}
+use Rattle.run_tables.specs.declared.requests.TimeFields.{TimeFields}
 use Rattle.run_tables.specs.RequestRows.{below_limit, exact_below, replied_in, access_in, hit_in, asked_in, times_in, is_reply_to, follows, in_time, row_of, request_from, request_in, is_request_header}
 use Rattle.run_tables.specs.Requests.{IsReplyTo, RequestFits}
 use Rattle.run_tables.proofs.Written.{bytes_same, decimal_some, number_back, number_is}
@@ -139,15 +141,18 @@ record Asked (fields : List (List ℕ)) (core entry : ℕ) (access : Access) (ch
   entry_in : entry < 2 ^ 62
   channel_in : channel < 16
 
-asked_is : (fields : List (List ℕ)) (asked : ℕ × ℕ × Access × ℕ) → asked_in fields ≡ Some asked → Asked fields asked.0 asked.1 asked.2 asked.3
+abbrev asked_of : ℕ → ℕ → Access → ℕ → AskedFields
+asked_of core entry access channel = record { core = core; entry = entry; access = access; channel = channel }
+
+asked_is : (fields : List (List ℕ)) (asked : AskedFields) → asked_in fields ≡ Some asked → Asked fields asked.core asked.entry asked.access asked.channel
 unfolding asked_in
 asked_is fields asked h =
-    let a = bind_some (exact_below 256 (text_at fields 0)) (λ core. exact_below (2 ^ 62) (text_at fields 1) >>= (λ entry. access_in (text_at fields 2) >>= (λ access. exact_below 16 (text_at fields 3) >>= (λ channel. Some (core, entry, access, channel))))) asked h in
-    let b = bind_some (exact_below (2 ^ 62) (text_at fields 1)) (λ entry. access_in (text_at fields 2) >>= (λ access. exact_below 16 (text_at fields 3) >>= (λ channel. Some (a.0, entry, access, channel)))) asked a.2 in
-    let c = bind_some (access_in (text_at fields 2)) (λ access. exact_below 16 (text_at fields 3) >>= (λ channel. Some (a.0, b.0, access, channel))) asked b.2 in
-    let d = bind_some (exact_below 16 (text_at fields 3)) (λ channel. Some (a.0, b.0, c.0, channel)) asked c.2 in
+    let a = bind_some (exact_below 256 (text_at fields 0)) (λ core. exact_below (2 ^ 62) (text_at fields 1) >>= (λ entry. access_in (text_at fields 2) >>= (λ access. exact_below 16 (text_at fields 3) >>= (λ channel. Some (asked_of core entry access channel))))) asked h in
+    let b = bind_some (exact_below (2 ^ 62) (text_at fields 1)) (λ entry. access_in (text_at fields 2) >>= (λ access. exact_below 16 (text_at fields 3) >>= (λ channel. Some (asked_of a.0 entry access channel)))) asked a.2 in
+    let c = bind_some (access_in (text_at fields 2)) (λ access. exact_below 16 (text_at fields 3) >>= (λ channel. Some (asked_of a.0 b.0 access channel))) asked b.2 in
+    let d = bind_some (exact_below 16 (text_at fields 3)) (λ channel. Some (asked_of a.0 b.0 c.0 channel)) asked c.2 in
     let last = d.2 in
-    let whole : (a.0, b.0, c.0, d.0) ≡ asked = cc last in
+    let whole : asked_of a.0 b.0 c.0 d.0 ≡ asked = cc last in
     let core = exact_is 256 (text_at fields 0) a.0 a.1 in
     let entry = exact_is (2 ^ 62) (text_at fields 1) b.0 b.1 in
     let channel = exact_is 16 (text_at fields 3) d.0 d.1 in
@@ -160,7 +165,7 @@ asked_is fields asked h =
       entry_in = entry.1;
       channel_in = channel.1;
     } in
-    subst (λ (t : ℕ × ℕ × Access × ℕ). Asked fields t.0 t.1 t.2 t.3) whole found
+    subst (λ (t : AskedFields). Asked fields t.core t.entry t.access t.channel) whole found
 
 record Times (fields : List (List ℕ)) (issued arrived served : ℕ) (replied : Option ℕ) : Type 0 where
   issued_is : text_at fields 4 ≡ decimal issued
@@ -170,15 +175,18 @@ record Times (fields : List (List ℕ)) (issued arrived served : ℕ) (replied :
   served_in : served < 2 ^ 62
   replied_in : IsCycle replied
 
-times_is : (fields : List (List ℕ)) (times : ℕ × ℕ × ℕ × Option ℕ) → times_in fields ≡ Some times → Times fields times.0 times.1 times.2 times.3
+abbrev times_of : ℕ → ℕ → ℕ → Option ℕ → TimeFields
+times_of issued arrived served replied = record { issued = issued; arrived = arrived; served = served; replied = replied }
+
+times_is : (fields : List (List ℕ)) (times : TimeFields) → times_in fields ≡ Some times → Times fields times.issued times.arrived times.served times.replied
 unfolding times_in
 times_is fields times h =
-    let a = bind_some (exact_below (2 ^ 62) (text_at fields 4)) (λ issued. exact_below (2 ^ 62) (text_at fields 5) >>= (λ arrived. exact_below (2 ^ 62) (text_at fields 6) >>= (λ served. replied_in (text_at fields 7) >>= (λ replied. Some (issued, arrived, served, replied))))) times h in
-    let b = bind_some (exact_below (2 ^ 62) (text_at fields 5)) (λ arrived. exact_below (2 ^ 62) (text_at fields 6) >>= (λ served. replied_in (text_at fields 7) >>= (λ replied. Some (a.0, arrived, served, replied)))) times a.2 in
-    let c = bind_some (exact_below (2 ^ 62) (text_at fields 6)) (λ served. replied_in (text_at fields 7) >>= (λ replied. Some (a.0, b.0, served, replied))) times b.2 in
-    let d = bind_some (replied_in (text_at fields 7)) (λ replied. Some (a.0, b.0, c.0, replied)) times c.2 in
+    let a = bind_some (exact_below (2 ^ 62) (text_at fields 4)) (λ issued. exact_below (2 ^ 62) (text_at fields 5) >>= (λ arrived. exact_below (2 ^ 62) (text_at fields 6) >>= (λ served. replied_in (text_at fields 7) >>= (λ replied. Some (times_of issued arrived served replied))))) times h in
+    let b = bind_some (exact_below (2 ^ 62) (text_at fields 5)) (λ arrived. exact_below (2 ^ 62) (text_at fields 6) >>= (λ served. replied_in (text_at fields 7) >>= (λ replied. Some (times_of a.0 arrived served replied)))) times a.2 in
+    let c = bind_some (exact_below (2 ^ 62) (text_at fields 6)) (λ served. replied_in (text_at fields 7) >>= (λ replied. Some (times_of a.0 b.0 served replied))) times b.2 in
+    let d = bind_some (replied_in (text_at fields 7)) (λ replied. Some (times_of a.0 b.0 c.0 replied)) times c.2 in
     let last = d.2 in
-    let whole : (a.0, b.0, c.0, d.0) ≡ times = cc last in
+    let whole : times_of a.0 b.0 c.0 d.0 ≡ times = cc last in
     let issued = exact_is (2 ^ 62) (text_at fields 4) a.0 a.1 in
     let arrived = exact_is (2 ^ 62) (text_at fields 5) b.0 b.1 in
     let served = exact_is (2 ^ 62) (text_at fields 6) c.0 c.1 in
@@ -191,7 +199,7 @@ times_is fields times h =
       served_in = served.1;
       replied_in = replied.1;
     } in
-    subst (λ (t : ℕ × ℕ × ℕ × Option ℕ). Times fields t.0 t.1 t.2 t.3) whole found
+    subst (λ (t : TimeFields). Times fields t.issued t.arrived t.served t.replied) whole found
 
 -- NINE FIELDS
 
@@ -270,7 +278,7 @@ request_is fields row h =
     let parts = if_some (length fields == 9) (request_from fields) row h in
     from_is fields row (eqb-true (length fields) 9 parts.0) parts.1
 
-asked_back : (row : RequestTimes) → RequestFits row → asked_in (request_fields row) ≡ Some (row.core, row.entry, row.access, row.channel)
+asked_back : (row : RequestTimes) → RequestFits row → asked_in (request_fields row) ≡ Some (record { core = row.core; entry = row.entry; access = row.access; channel = row.channel })
 unfolding asked_in text_at field_at
 asked_back row fits =
     let core = exact_back 256 row.core fits.core_in_range (omega arith) in
@@ -279,7 +287,7 @@ asked_back row fits =
     let channel = exact_back 16 row.channel fits.channel_in_range (omega arith) in
     rw (core, entry, access, channel) refl
 
-times_back : (row : RequestTimes) → RequestFits row → times_in (request_fields row) ≡ Some (row.issued, row.arrived, row.served, row.replied)
+times_back : (row : RequestTimes) → RequestFits row → times_in (request_fields row) ≡ Some (record { issued = row.issued; arrived = row.arrived; served = row.served; replied = row.replied })
 unfolding times_in text_at field_at
 times_back row fits =
     let in_range = fits.served_in_range in

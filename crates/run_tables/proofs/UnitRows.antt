@@ -10,6 +10,10 @@ use Rattle.statistics.specs.declared.channels.ChannelStats.{ChannelStats}
 use Rattle.statistics.specs.declared.cores.CoreStats.{CoreStats}
 use Rattle.run_tables.specs.Lines.{has_text}
 use Rattle.run_tables.specs.Stats.{CoreInRange}
+use Rattle.run_tables.specs.declared.stats.CommandCounts.{CommandCounts}
+use Rattle.run_tables.specs.declared.stats.EntryCounts.{EntryCounts}
+use Rattle.run_tables.specs.declared.stats.QueueCounts.{QueueCounts}
+use Rattle.run_tables.specs.declared.stats.StopCounts.{StopCounts}
 use Rattle.run_tables.specs.Units.{entries_at, stops_at, commands_at, queue_at, core_at, channel_at, channel_size, draining_at, draining_size, count_at, sum_at, cycle_at}
 use Rattle.run_tables.proofs.RowReads.{Read, Row, then_read, map_read, bind_ok}
 use Rattle.run_tables.proofs.RowValues.{read_count, read_sum, read_cycle, read_draining, count_ok, count_of, sum_ok, sum_of, cycle_ok, cycle_of, draining_ok, draining_some, draining_none}
@@ -99,20 +103,20 @@ entries_reads row id =
     then_read (row + 4) (row + 5) (row + 6) _ _ (omega arith) (omega arith) (read_count (codes "core") id (codes "replies") (row + 4) (row + 5) (omega arith)) (λ replies.
     map_read (row + 5) (row + 6) _ _ (read_sum (codes "core") id (codes "read_latency") (row + 5) (row + 6) (omega arith)).read)))))
 
-abbrev entries_rows : ℕ → ℕ × ℕ × ℕ × ℕ × ℕ × ℕ → List (List (List ℕ))
+abbrev entries_rows : ℕ → EntryCounts → List (List (List ℕ))
 entries_rows id x =
-    value_fields (codes "core") id (codes "issued", Some x.0)
-    ∷ value_fields (codes "core") id (codes "retired", Some x.1)
-    ∷ value_fields (codes "core") id (codes "reads", Some x.2)
-    ∷ value_fields (codes "core") id (codes "writes", Some x.3)
-    ∷ value_fields (codes "core") id (codes "replies", Some x.4)
-    ∷ value_fields (codes "core") id (codes "read_latency", Some x.5)
+    value_fields (codes "core") id (codes "issued", Some x.issued)
+    ∷ value_fields (codes "core") id (codes "retired", Some x.retired)
+    ∷ value_fields (codes "core") id (codes "reads", Some x.reads)
+    ∷ value_fields (codes "core") id (codes "writes", Some x.writes)
+    ∷ value_fields (codes "core") id (codes "replies", Some x.replies)
+    ∷ value_fields (codes "core") id (codes "read_latency", Some x.read_latency)
     ∷ []
 
-abbrev entries_fit : ℕ × ℕ × ℕ × ℕ × ℕ × ℕ → Type 0
-entries_fit x = (x.0 < 2 ^ 64) × (x.1 < 2 ^ 64) × (x.2 < 2 ^ 64) × (x.3 < 2 ^ 64) × (x.4 < 2 ^ 64) × (x.5 < 2 ^ 128)
+abbrev entries_fit : EntryCounts → Type 0
+entries_fit x = (x.issued < 2 ^ 64) × (x.retired < 2 ^ 64) × (x.reads < 2 ^ 64) × (x.writes < 2 ^ 64) × (x.replies < 2 ^ 64) × (x.read_latency < 2 ^ 128)
 
-entries_ok : (table : List (List (List ℕ))) (row id : ℕ) (x : ℕ × ℕ × ℕ × ℕ × ℕ × ℕ) → entries_at table row id ≡ Ok x → (drop row table ≡ entries_rows id x ++ drop (row + 6) table) × entries_fit x
+entries_ok : (table : List (List (List ℕ))) (row id : ℕ) (x : EntryCounts) → entries_at table row id ≡ Ok x → (drop row table ≡ entries_rows id x ++ drop (row + 6) table) × entries_fit x
 unfolding entries_at
 entries_ok table row id x h =
     let issued = bind_ok (count_at table row (codes "core") id (codes "issued")) _ x h in
@@ -121,8 +125,8 @@ entries_ok table row id x h =
     let writes = bind_ok (count_at table (row + 3) (codes "core") id (codes "writes")) _ x reads.2 in
     let replies = bind_ok (count_at table (row + 4) (codes "core") id (codes "replies")) _ x writes.2 in
     let read_latency = bind_ok (sum_at table (row + 5) (codes "core") id (codes "read_latency")) _ x replies.2 in
-    let same = ok_same (issued.0, retired.0, reads.0, writes.0, replies.0, read_latency.0) x read_latency.2 in
-    subst (λ (x : ℕ × ℕ × ℕ × ℕ × ℕ × ℕ). (drop row table ≡ entries_rows id x ++ drop (row + 6) table) × entries_fit x) same (
+    let same = ok_same (record { issued = issued.0; retired = retired.0; reads = reads.0; writes = writes.0; replies = replies.0; read_latency = read_latency.0 }) x read_latency.2 in
+    subst (λ (x : EntryCounts). (drop row table ≡ entries_rows id x ++ drop (row + 6) table) × entries_fit x) same (
       (count_row (codes "core") id (codes "issued") issued.0 _ row (row + 1) table (omega arith) issued.1
           (count_row (codes "core") id (codes "retired") retired.0 _ (row + 1) (row + 2) table (omega arith) retired.1
           (count_row (codes "core") id (codes "reads") reads.0 _ (row + 2) (row + 3) table (omega arith) reads.1
@@ -140,8 +144,8 @@ entries_ok table row id x h =
       ),
     )
 
-entries_from : (table : List (List (List ℕ))) (row id : ℕ) (issued : ℕ) (retired : ℕ) (reads : ℕ) (writes : ℕ) (replies : ℕ) (read_latency : ℕ) (rest : List (List (List ℕ))) → drop row table ≡ entries_rows id (issued, retired, reads, writes, replies, read_latency) ++ rest → entries_fit (issued, retired, reads, writes, replies, read_latency)
-    → (entries_at table row id ≡ Ok (issued, retired, reads, writes, replies, read_latency)) × (drop (row + 6) table ≡ rest)
+entries_from : (table : List (List (List ℕ))) (row id : ℕ) (issued : ℕ) (retired : ℕ) (reads : ℕ) (writes : ℕ) (replies : ℕ) (read_latency : ℕ) (rest : List (List (List ℕ))) → drop row table ≡ entries_rows id (record { issued = issued; retired = retired; reads = reads; writes = writes; replies = replies; read_latency = read_latency }) ++ rest → entries_fit (record { issued = issued; retired = retired; reads = reads; writes = writes; replies = replies; read_latency = read_latency })
+    → (entries_at table row id ≡ Ok (record { issued = issued; retired = retired; reads = reads; writes = writes; replies = replies; read_latency = read_latency })) × (drop (row + 6) table ≡ rest)
 unfolding entries_at
 entries_from table row id issued retired reads writes replies read_latency rest is fit =
     let issued_read = count_from (codes "core") id (codes "issued") issued _ row (row + 1) table (omega arith) is fit.0 in
@@ -169,20 +173,20 @@ stops_reads row id =
     then_read (row + 4) (row + 5) (row + 6) _ _ (omega arith) (omega arith) (read_count (codes "core") id (codes "stop_credit") (row + 4) (row + 5) (omega arith)) (λ stop_credit.
     map_read (row + 5) (row + 6) _ _ (read_cycle (codes "core") id (codes "finish") (row + 5) (row + 6) (omega arith)).read)))))
 
-abbrev stops_rows : ℕ → ℕ × ℕ × ℕ × ℕ × ℕ × Option ℕ → List (List (List ℕ))
+abbrev stops_rows : ℕ → StopCounts → List (List (List ℕ))
 stops_rows id x =
-    value_fields (codes "core") id (codes "stop_end", Some x.0)
-    ∷ value_fields (codes "core") id (codes "stop_width", Some x.1)
-    ∷ value_fields (codes "core") id (codes "stop_window", Some x.2)
-    ∷ value_fields (codes "core") id (codes "stop_memory", Some x.3)
-    ∷ value_fields (codes "core") id (codes "stop_credit", Some x.4)
-    ∷ value_fields (codes "core") id (codes "finish", x.5)
+    value_fields (codes "core") id (codes "stop_end", Some x.stop_end)
+    ∷ value_fields (codes "core") id (codes "stop_width", Some x.stop_width)
+    ∷ value_fields (codes "core") id (codes "stop_window", Some x.stop_window)
+    ∷ value_fields (codes "core") id (codes "stop_memory", Some x.stop_memory)
+    ∷ value_fields (codes "core") id (codes "stop_credit", Some x.stop_credit)
+    ∷ value_fields (codes "core") id (codes "finish", x.finish)
     ∷ []
 
-abbrev stops_fit : ℕ × ℕ × ℕ × ℕ × ℕ × Option ℕ → Type 0
-stops_fit x = (x.0 < 2 ^ 64) × (x.1 < 2 ^ 64) × (x.2 < 2 ^ 64) × (x.3 < 2 ^ 64) × (x.4 < 2 ^ 64) × IfSome x.5 (λ k. k < 2 ^ 64)
+abbrev stops_fit : StopCounts → Type 0
+stops_fit x = (x.stop_end < 2 ^ 64) × (x.stop_width < 2 ^ 64) × (x.stop_window < 2 ^ 64) × (x.stop_memory < 2 ^ 64) × (x.stop_credit < 2 ^ 64) × IfSome x.finish (λ k. k < 2 ^ 64)
 
-stops_ok : (table : List (List (List ℕ))) (row id : ℕ) (x : ℕ × ℕ × ℕ × ℕ × ℕ × Option ℕ) → stops_at table row id ≡ Ok x → (drop row table ≡ stops_rows id x ++ drop (row + 6) table) × stops_fit x
+stops_ok : (table : List (List (List ℕ))) (row id : ℕ) (x : StopCounts) → stops_at table row id ≡ Ok x → (drop row table ≡ stops_rows id x ++ drop (row + 6) table) × stops_fit x
 unfolding stops_at
 stops_ok table row id x h =
     let stop_end = bind_ok (count_at table row (codes "core") id (codes "stop_end")) _ x h in
@@ -191,8 +195,8 @@ stops_ok table row id x h =
     let stop_memory = bind_ok (count_at table (row + 3) (codes "core") id (codes "stop_memory")) _ x stop_window.2 in
     let stop_credit = bind_ok (count_at table (row + 4) (codes "core") id (codes "stop_credit")) _ x stop_memory.2 in
     let finish = bind_ok (cycle_at table (row + 5) (codes "core") id (codes "finish")) _ x stop_credit.2 in
-    let same = ok_same (stop_end.0, stop_width.0, stop_window.0, stop_memory.0, stop_credit.0, finish.0) x finish.2 in
-    subst (λ (x : ℕ × ℕ × ℕ × ℕ × ℕ × Option ℕ). (drop row table ≡ stops_rows id x ++ drop (row + 6) table) × stops_fit x) same (
+    let same = ok_same (record { stop_end = stop_end.0; stop_width = stop_width.0; stop_window = stop_window.0; stop_memory = stop_memory.0; stop_credit = stop_credit.0; finish = finish.0 }) x finish.2 in
+    subst (λ (x : StopCounts). (drop row table ≡ stops_rows id x ++ drop (row + 6) table) × stops_fit x) same (
       (count_row (codes "core") id (codes "stop_end") stop_end.0 _ row (row + 1) table (omega arith) stop_end.1
           (count_row (codes "core") id (codes "stop_width") stop_width.0 _ (row + 1) (row + 2) table (omega arith) stop_width.1
           (count_row (codes "core") id (codes "stop_window") stop_window.0 _ (row + 2) (row + 3) table (omega arith) stop_window.1
@@ -210,8 +214,8 @@ stops_ok table row id x h =
       ),
     )
 
-stops_from : (table : List (List (List ℕ))) (row id : ℕ) (stop_end : ℕ) (stop_width : ℕ) (stop_window : ℕ) (stop_memory : ℕ) (stop_credit : ℕ) (finish : Option ℕ) (rest : List (List (List ℕ))) → drop row table ≡ stops_rows id (stop_end, stop_width, stop_window, stop_memory, stop_credit, finish) ++ rest → stops_fit (stop_end, stop_width, stop_window, stop_memory, stop_credit, finish)
-    → (stops_at table row id ≡ Ok (stop_end, stop_width, stop_window, stop_memory, stop_credit, finish)) × (drop (row + 6) table ≡ rest)
+stops_from : (table : List (List (List ℕ))) (row id : ℕ) (stop_end : ℕ) (stop_width : ℕ) (stop_window : ℕ) (stop_memory : ℕ) (stop_credit : ℕ) (finish : Option ℕ) (rest : List (List (List ℕ))) → drop row table ≡ stops_rows id (record { stop_end = stop_end; stop_width = stop_width; stop_window = stop_window; stop_memory = stop_memory; stop_credit = stop_credit; finish = finish }) ++ rest → stops_fit (record { stop_end = stop_end; stop_width = stop_width; stop_window = stop_window; stop_memory = stop_memory; stop_credit = stop_credit; finish = finish })
+    → (stops_at table row id ≡ Ok (record { stop_end = stop_end; stop_width = stop_width; stop_window = stop_window; stop_memory = stop_memory; stop_credit = stop_credit; finish = finish })) × (drop (row + 6) table ≡ rest)
 unfolding stops_at
 stops_from table row id stop_end stop_width stop_window stop_memory stop_credit finish rest is fit =
     let stop_end_read = count_from (codes "core") id (codes "stop_end") stop_end _ row (row + 1) table (omega arith) is fit.0 in
@@ -236,7 +240,7 @@ core_ok table row id core h =
     let first = entries_ok table row id one.0 one.1 in
     let second = stops_ok table (row + 6) id two.0 two.1 in
     let end : row + 6 + 6 ≡ row + 12 = omega arith in
-    let same = ok_same (record { issued = one.0.0; retired = one.0.1; reads = one.0.2; writes = one.0.3; replies = one.0.4; read_latency = one.0.5; stop_end = two.0.0; stop_width = two.0.1; stop_window = two.0.2; stop_memory = two.0.3; stop_credit = two.0.4; finish = two.0.5 }) core two.2 in
+    let same = ok_same (record { issued = one.0.issued; retired = one.0.retired; reads = one.0.reads; writes = one.0.writes; replies = one.0.replies; read_latency = one.0.read_latency; stop_end = two.0.stop_end; stop_width = two.0.stop_width; stop_window = two.0.stop_window; stop_memory = two.0.stop_memory; stop_credit = two.0.stop_credit; finish = two.0.finish }) core two.2 in
     subst (λ (c : CoreStats). (drop row table ≡ core_rows id c ++ drop (row + 12) table) × CoreInRange c) same (
       first.0 ∙ ap (λ (t : List (List (List ℕ))). entries_rows id one.0 ++ t) (second.0 ∙ ap (λ (t : List (List (List ℕ))). stops_rows id two.0 ++ t) (ap (λ k. drop k table) end)),
       record { counts = record { issued = first.1.0; retired = first.1.1; reads = first.1.2; writes = first.1.3; replies = first.1.4; read_latency = first.1.5; stop_end = second.1.0; stop_width = second.1.1; stop_window = second.1.2; stop_memory = second.1.3; stop_credit = second.1.4 }; finish = second.1.5 },
@@ -292,20 +296,20 @@ commands_reads row id =
     then_read (row + 4) (row + 5) (row + 6) _ _ (omega arith) (omega arith) (read_count (codes "channel") id (codes "prea") (row + 4) (row + 5) (omega arith)) (λ prea.
     map_read (row + 5) (row + 6) _ _ (read_count (codes "channel") id (codes "ref") (row + 5) (row + 6) (omega arith)).read)))))
 
-abbrev commands_rows : ℕ → ℕ × ℕ × ℕ × ℕ × ℕ × ℕ → List (List (List ℕ))
+abbrev commands_rows : ℕ → CommandCounts → List (List (List ℕ))
 commands_rows id x =
-    value_fields (codes "channel") id (codes "act", Some x.0)
-    ∷ value_fields (codes "channel") id (codes "rd", Some x.1)
-    ∷ value_fields (codes "channel") id (codes "wr", Some x.2)
-    ∷ value_fields (codes "channel") id (codes "pre", Some x.3)
-    ∷ value_fields (codes "channel") id (codes "prea", Some x.4)
-    ∷ value_fields (codes "channel") id (codes "ref", Some x.5)
+    value_fields (codes "channel") id (codes "act", Some x.act)
+    ∷ value_fields (codes "channel") id (codes "rd", Some x.rd)
+    ∷ value_fields (codes "channel") id (codes "wr", Some x.wr)
+    ∷ value_fields (codes "channel") id (codes "pre", Some x.pre)
+    ∷ value_fields (codes "channel") id (codes "prea", Some x.prea)
+    ∷ value_fields (codes "channel") id (codes "ref", Some x.refs)
     ∷ []
 
-abbrev commands_fit : ℕ × ℕ × ℕ × ℕ × ℕ × ℕ → Type 0
-commands_fit x = (x.0 < 2 ^ 64) × (x.1 < 2 ^ 64) × (x.2 < 2 ^ 64) × (x.3 < 2 ^ 64) × (x.4 < 2 ^ 64) × (x.5 < 2 ^ 64)
+abbrev commands_fit : CommandCounts → Type 0
+commands_fit x = (x.act < 2 ^ 64) × (x.rd < 2 ^ 64) × (x.wr < 2 ^ 64) × (x.pre < 2 ^ 64) × (x.prea < 2 ^ 64) × (x.refs < 2 ^ 64)
 
-commands_ok : (table : List (List (List ℕ))) (row id : ℕ) (x : ℕ × ℕ × ℕ × ℕ × ℕ × ℕ) → commands_at table row id ≡ Ok x → (drop row table ≡ commands_rows id x ++ drop (row + 6) table) × commands_fit x
+commands_ok : (table : List (List (List ℕ))) (row id : ℕ) (x : CommandCounts) → commands_at table row id ≡ Ok x → (drop row table ≡ commands_rows id x ++ drop (row + 6) table) × commands_fit x
 unfolding commands_at
 commands_ok table row id x h =
     let act = bind_ok (count_at table row (codes "channel") id (codes "act")) _ x h in
@@ -314,8 +318,8 @@ commands_ok table row id x h =
     let pre = bind_ok (count_at table (row + 3) (codes "channel") id (codes "pre")) _ x wr.2 in
     let prea = bind_ok (count_at table (row + 4) (codes "channel") id (codes "prea")) _ x pre.2 in
     let refs = bind_ok (count_at table (row + 5) (codes "channel") id (codes "ref")) _ x prea.2 in
-    let same = ok_same (act.0, rd.0, wr.0, pre.0, prea.0, refs.0) x refs.2 in
-    subst (λ (x : ℕ × ℕ × ℕ × ℕ × ℕ × ℕ). (drop row table ≡ commands_rows id x ++ drop (row + 6) table) × commands_fit x) same (
+    let same = ok_same (record { act = act.0; rd = rd.0; wr = wr.0; pre = pre.0; prea = prea.0; refs = refs.0 }) x refs.2 in
+    subst (λ (x : CommandCounts). (drop row table ≡ commands_rows id x ++ drop (row + 6) table) × commands_fit x) same (
       (count_row (codes "channel") id (codes "act") act.0 _ row (row + 1) table (omega arith) act.1
           (count_row (codes "channel") id (codes "rd") rd.0 _ (row + 1) (row + 2) table (omega arith) rd.1
           (count_row (codes "channel") id (codes "wr") wr.0 _ (row + 2) (row + 3) table (omega arith) wr.1
@@ -333,8 +337,8 @@ commands_ok table row id x h =
       ),
     )
 
-commands_from : (table : List (List (List ℕ))) (row id : ℕ) (act : ℕ) (rd : ℕ) (wr : ℕ) (pre : ℕ) (prea : ℕ) (refs : ℕ) (rest : List (List (List ℕ))) → drop row table ≡ commands_rows id (act, rd, wr, pre, prea, refs) ++ rest → commands_fit (act, rd, wr, pre, prea, refs)
-    → (commands_at table row id ≡ Ok (act, rd, wr, pre, prea, refs)) × (drop (row + 6) table ≡ rest)
+commands_from : (table : List (List (List ℕ))) (row id : ℕ) (act : ℕ) (rd : ℕ) (wr : ℕ) (pre : ℕ) (prea : ℕ) (refs : ℕ) (rest : List (List (List ℕ))) → drop row table ≡ commands_rows id (record { act = act; rd = rd; wr = wr; pre = pre; prea = prea; refs = refs }) ++ rest → commands_fit (record { act = act; rd = rd; wr = wr; pre = pre; prea = prea; refs = refs })
+    → (commands_at table row id ≡ Ok (record { act = act; rd = rd; wr = wr; pre = pre; prea = prea; refs = refs })) × (drop (row + 6) table ≡ rest)
 unfolding commands_at
 commands_from table row id act rd wr pre prea refs rest is fit =
     let act_read = count_from (codes "channel") id (codes "act") act _ row (row + 1) table (omega arith) is fit.0 in
@@ -362,19 +366,19 @@ queue_reads row id =
     then_read (row + 4) (row + 5) (row + 6) _ _ (omega arith) (omega arith) (read_count (codes "channel") id (codes "refreshing") (row + 4) (row + 5) (omega arith)) (λ refreshing.
     map_read (row + 5) (row + 6) _ _ (read_draining id (row + 5) (row + 6) (omega arith)))))))
 
-abbrev queue_rows : ℕ → ℕ × ℕ × ℕ × ℕ × ℕ × Option ℕ → List (List (List ℕ))
+abbrev queue_rows : ℕ → QueueCounts → List (List (List ℕ))
 queue_rows id x =
-    value_fields (codes "channel") id (codes "hits", Some x.0)
-    ∷ value_fields (codes "channel") id (codes "queued", Some x.1)
-    ∷ value_fields (codes "channel") id (codes "queued_max", Some x.2)
-    ∷ value_fields (codes "channel") id (codes "idle", Some x.3)
-    ∷ value_fields (codes "channel") id (codes "refreshing", Some x.4)
-    ∷ map (value_fields (codes "channel") id) (draining_values x.5)
+    value_fields (codes "channel") id (codes "hits", Some x.hits)
+    ∷ value_fields (codes "channel") id (codes "queued", Some x.queued)
+    ∷ value_fields (codes "channel") id (codes "queued_max", Some x.queued_max)
+    ∷ value_fields (codes "channel") id (codes "idle", Some x.idle)
+    ∷ value_fields (codes "channel") id (codes "refreshing", Some x.refreshing)
+    ∷ map (value_fields (codes "channel") id) (draining_values x.draining)
 
-abbrev queue_fit : ℕ × ℕ × ℕ × ℕ × ℕ × Option ℕ → Type 0
-queue_fit x = (x.0 < 2 ^ 64) × (x.1 < 2 ^ 128) × (x.2 < 2 ^ 64) × (x.3 < 2 ^ 64) × (x.4 < 2 ^ 64) × IfSome x.5 (λ k. k < 2 ^ 64)
+abbrev queue_fit : QueueCounts → Type 0
+queue_fit x = (x.hits < 2 ^ 64) × (x.queued < 2 ^ 128) × (x.queued_max < 2 ^ 64) × (x.idle < 2 ^ 64) × (x.refreshing < 2 ^ 64) × IfSome x.draining (λ k. k < 2 ^ 64)
 
-queue_ok : (table : List (List (List ℕ))) (row id : ℕ) (base : ℕ) (x : ℕ × ℕ × ℕ × ℕ × ℕ × Option ℕ) → row + 5 ≡ base + 11 → queue_at table row id ≡ Ok x → (drop row table ≡ queue_rows id x ++ drop (base + draining_size x.5) table) × queue_fit x
+queue_ok : (table : List (List (List ℕ))) (row id : ℕ) (base : ℕ) (x : QueueCounts) → row + 5 ≡ base + 11 → queue_at table row id ≡ Ok x → (drop row table ≡ queue_rows id x ++ drop (base + draining_size x.draining) table) × queue_fit x
 unfolding queue_at
 queue_ok table row id base x at h =
     let hits = bind_ok (count_at table row (codes "channel") id (codes "hits")) _ x h in
@@ -384,8 +388,8 @@ queue_ok table row id base x at h =
     let refreshing = bind_ok (count_at table (row + 4) (codes "channel") id (codes "refreshing")) _ x idle.2 in
     let draining = bind_ok (draining_at table (row + 5) id) _ x refreshing.2 in
     let last = draining_rows table base (row + 5) id draining.0 at draining.1 in
-    let same = ok_same (hits.0, queued.0, queued_max.0, idle.0, refreshing.0, draining.0) x draining.2 in
-    subst (λ (x : ℕ × ℕ × ℕ × ℕ × ℕ × Option ℕ). (drop row table ≡ queue_rows id x ++ drop (base + draining_size x.5) table) × queue_fit x) same (
+    let same = ok_same (record { hits = hits.0; queued = queued.0; queued_max = queued_max.0; idle = idle.0; refreshing = refreshing.0; draining = draining.0 }) x draining.2 in
+    subst (λ (x : QueueCounts). (drop row table ≡ queue_rows id x ++ drop (base + draining_size x.draining) table) × queue_fit x) same (
       (count_row (codes "channel") id (codes "hits") hits.0 _ row (row + 1) table (omega arith) hits.1
           (sum_row (codes "channel") id (codes "queued") queued.0 _ (row + 1) (row + 2) table (omega arith) queued.1
           (count_row (codes "channel") id (codes "queued_max") queued_max.0 _ (row + 2) (row + 3) table (omega arith) queued_max.1
@@ -402,8 +406,8 @@ queue_ok table row id base x at h =
       ),
     )
 
-queue_from : (table : List (List (List ℕ))) (row id : ℕ) (hits : ℕ) (queued : ℕ) (queued_max : ℕ) (idle : ℕ) (refreshing : ℕ) (draining : Option ℕ) (rest : List (List (List ℕ))) → drop row table ≡ queue_rows id (hits, queued, queued_max, idle, refreshing, draining) ++ rest → queue_fit (hits, queued, queued_max, idle, refreshing, draining) → NoDraining rest
-    → queue_at table row id ≡ Ok (hits, queued, queued_max, idle, refreshing, draining)
+queue_from : (table : List (List (List ℕ))) (row id : ℕ) (hits : ℕ) (queued : ℕ) (queued_max : ℕ) (idle : ℕ) (refreshing : ℕ) (draining : Option ℕ) (rest : List (List (List ℕ))) → drop row table ≡ queue_rows id (record { hits = hits; queued = queued; queued_max = queued_max; idle = idle; refreshing = refreshing; draining = draining }) ++ rest → queue_fit (record { hits = hits; queued = queued; queued_max = queued_max; idle = idle; refreshing = refreshing; draining = draining }) → NoDraining rest
+    → queue_at table row id ≡ Ok (record { hits = hits; queued = queued; queued_max = queued_max; idle = idle; refreshing = refreshing; draining = draining })
 unfolding queue_at
 queue_from table row id hits queued queued_max idle refreshing draining rest is fit none =
     let hits_read = count_from (codes "channel") id (codes "hits") hits _ row (row + 1) table (omega arith) is fit.0 in
@@ -428,7 +432,7 @@ channel_ok table row id channel h =
     let first = commands_ok table row id one.0 one.1 in
     let second = queue_ok table (row + 6) id row two.0 (omega arith) two.1 in
     let end : row + 6 + 6 ≡ row + 12 = omega arith in
-    let same = ok_same (record { act = one.0.0; rd = one.0.1; wr = one.0.2; pre = one.0.3; prea = one.0.4; refs = one.0.5; hits = two.0.0; queued = two.0.1; queued_max = two.0.2; idle = two.0.3; refreshing = two.0.4; draining = two.0.5 }) channel two.2 in
+    let same = ok_same (record { act = one.0.act; rd = one.0.rd; wr = one.0.wr; pre = one.0.pre; prea = one.0.prea; refs = one.0.refs; hits = two.0.hits; queued = two.0.queued; queued_max = two.0.queued_max; idle = two.0.idle; refreshing = two.0.refreshing; draining = two.0.draining }) channel two.2 in
     subst (λ (c : ChannelStats). (drop row table ≡ channel_rows id c ++ drop (row + channel_size c) table) × ChannelFits c) same (
       first.0 ∙ ap (λ (t : List (List (List ℕ))). commands_rows id one.0 ++ t) second.0,
       record { act = first.1.0; rd = first.1.1; wr = first.1.2; pre = first.1.3; prea = first.1.4; refs = first.1.5; hits = second.1.0; queued = second.1.1; queued_max = second.1.2; idle = second.1.3; refreshing = second.1.4; draining = second.1.5 },

@@ -11,6 +11,8 @@ use Rattle.sim_base.specs.declared.message.Access.{Access}
 use Rattle.sim_base.specs.declared.message.Access.TheVariants.{Read, Write}
 use Rattle.request_table.specs.declared.times.RequestTimes.{RequestTimes}
 use Rattle.rule_check.specs.Fields.{◌>>=◌, is_empty, text_at}
+use Rattle.run_tables.specs.declared.requests.AskedFields.{AskedFields}
+use Rattle.run_tables.specs.declared.requests.TimeFields.{TimeFields}
 use Rattle.run_tables.specs.Numbers.{number_written}
 
 -- a number, if it is below a limit
@@ -35,22 +37,22 @@ unfoldable pub hit_in : List ℕ → Option Bool
 hit_in text = if bytes_eq text (codes "1") then Some true else if bytes_eq text (codes "0") then Some false else None
 
 -- the fields that tell who asks what: core, entry, access and channel
-unfoldable pub asked_in : List (List ℕ) → Option (ℕ × ℕ × Access × ℕ)
+unfoldable pub asked_in : List (List ℕ) → Option AskedFields
 asked_in fields = do
   core ← exact_below 256 (text_at fields 0)
   entry ← exact_below (2 ^ 62) (text_at fields 1)
   access ← access_in (text_at fields 2)
   channel ← exact_below 16 (text_at fields 3)
-  Some (core, entry, access, channel)
+  Some (record { core = core; entry = entry; access = access; channel = channel })
 
 -- the fields that tell when: issued, arrived, served and replied
-unfoldable pub times_in : List (List ℕ) → Option (ℕ × ℕ × ℕ × Option ℕ)
+unfoldable pub times_in : List (List ℕ) → Option TimeFields
 times_in fields = do
   issued ← exact_below (2 ^ 62) (text_at fields 4)
   arrived ← exact_below (2 ^ 62) (text_at fields 5)
   served ← exact_below (2 ^ 62) (text_at fields 6)
   replied ← replied_in (text_at fields 7)
-  Some (issued, arrived, served, replied)
+  Some (record { issued = issued; arrived = arrived; served = served; replied = replied })
 
 -- the reply to a read comes after its RD; a write has none
 abbrev pub is_reply_to : Access → ℕ → Option ℕ → Bool
@@ -67,16 +69,16 @@ abbrev pub in_time : RequestTimes → Option RequestTimes
 in_time row = if follows row then Some row else None
 
 -- the row of these fields
-abbrev pub row_of : (ℕ × ℕ × Access × ℕ) → (ℕ × ℕ × ℕ × Option ℕ) → Bool → RequestTimes
+abbrev pub row_of : AskedFields → TimeFields → Bool → RequestTimes
 row_of asked times hit = record {
-  core = asked.0;
-  entry = asked.1;
-  access = asked.2;
-  channel = asked.3;
-  issued = times.0;
-  arrived = times.1;
-  served = times.2;
-  replied = times.3;
+  core = asked.core;
+  entry = asked.entry;
+  access = asked.access;
+  channel = asked.channel;
+  issued = times.issued;
+  arrived = times.arrived;
+  served = times.served;
+  replied = times.replied;
   hit = hit;
 }
 

@@ -9,6 +9,10 @@ use Rattle.sim_base.specs.declared.fault.Fault.{Fault}
 use Rattle.statistics.specs.Values.{RunStats}
 use Rattle.statistics.specs.declared.channels.ChannelStats.{ChannelStats}
 use Rattle.statistics.specs.declared.cores.CoreStats.{CoreStats}
+use Rattle.run_tables.specs.declared.stats.CommandCounts.{CommandCounts}
+use Rattle.run_tables.specs.declared.stats.EntryCounts.{EntryCounts}
+use Rattle.run_tables.specs.declared.stats.QueueCounts.{QueueCounts}
+use Rattle.run_tables.specs.declared.stats.StopCounts.{StopCounts}
 use Rattle.run_tables.specs.Lines.{◌>>=◌, count_in, sum_in, cycle_in, has_text, is_header_row}
 
 -- a count, a sum and a cycle of a row
@@ -22,7 +26,7 @@ abbrev pub cycle_at : List (List (List ℕ)) → ℕ → List ℕ → ℕ → Li
 cycle_at table row scope id name = cycle_in row scope id name (slice_get table row)
 
 -- the counts of a core's entries
-unfoldable pub entries_at : List (List (List ℕ)) → ℕ → ℕ → Result (ℕ × ℕ × ℕ × ℕ × ℕ × ℕ) Fault
+unfoldable pub entries_at : List (List (List ℕ)) → ℕ → ℕ → Result EntryCounts Fault
 entries_at table row id = do
   issued ← count_at table row (codes "core") id (codes "issued")
   retired ← count_at table (row + 1) (codes "core") id (codes "retired")
@@ -30,10 +34,10 @@ entries_at table row id = do
   writes ← count_at table (row + 3) (codes "core") id (codes "writes")
   replies ← count_at table (row + 4) (codes "core") id (codes "replies")
   read_latency ← sum_at table (row + 5) (codes "core") id (codes "read_latency")
-  Ok (issued, retired, reads, writes, replies, read_latency)
+  Ok (record { issued = issued; retired = retired; reads = reads; writes = writes; replies = replies; read_latency = read_latency })
 
 -- the counts of why it stopped, and when it finished
-unfoldable pub stops_at : List (List (List ℕ)) → ℕ → ℕ → Result (ℕ × ℕ × ℕ × ℕ × ℕ × Option ℕ) Fault
+unfoldable pub stops_at : List (List (List ℕ)) → ℕ → ℕ → Result StopCounts Fault
 stops_at table row id = do
   stop_end ← count_at table row (codes "core") id (codes "stop_end")
   stop_width ← count_at table (row + 1) (codes "core") id (codes "stop_width")
@@ -41,7 +45,7 @@ stops_at table row id = do
   stop_memory ← count_at table (row + 3) (codes "core") id (codes "stop_memory")
   stop_credit ← count_at table (row + 4) (codes "core") id (codes "stop_credit")
   finish ← cycle_at table (row + 5) (codes "core") id (codes "finish")
-  Ok (stop_end, stop_width, stop_window, stop_memory, stop_credit, finish)
+  Ok (record { stop_end = stop_end; stop_width = stop_width; stop_window = stop_window; stop_memory = stop_memory; stop_credit = stop_credit; finish = finish })
 
 -- the counts of a core
 unfoldable pub core_at : List (List (List ℕ)) → ℕ → ℕ → Result CoreStats Fault
@@ -49,18 +53,18 @@ core_at table row id = do
   entries ← entries_at table row id
   stops ← stops_at table (row + 6) id
   Ok (record {
-    issued = entries.0;
-    retired = entries.1;
-    reads = entries.2;
-    writes = entries.3;
-    replies = entries.4;
-    read_latency = entries.5;
-    stop_end = stops.0;
-    stop_width = stops.1;
-    stop_window = stops.2;
-    stop_memory = stops.3;
-    stop_credit = stops.4;
-    finish = stops.5;
+    issued = entries.issued;
+    retired = entries.retired;
+    reads = entries.reads;
+    writes = entries.writes;
+    replies = entries.replies;
+    read_latency = entries.read_latency;
+    stop_end = stops.stop_end;
+    stop_width = stops.stop_width;
+    stop_window = stops.stop_window;
+    stop_memory = stops.stop_memory;
+    stop_credit = stops.stop_credit;
+    finish = stops.finish;
   })
 
 -- how many records a core has
@@ -76,7 +80,7 @@ abbrev pub draining_at : List (List (List ℕ)) → ℕ → ℕ → Result (Opti
 draining_at table row id = draining_in row id (slice_get table row)
 
 -- the counts of a channel's commands
-unfoldable pub commands_at : List (List (List ℕ)) → ℕ → ℕ → Result (ℕ × ℕ × ℕ × ℕ × ℕ × ℕ) Fault
+unfoldable pub commands_at : List (List (List ℕ)) → ℕ → ℕ → Result CommandCounts Fault
 commands_at table row id = do
   act ← count_at table row (codes "channel") id (codes "act")
   rd ← count_at table (row + 1) (codes "channel") id (codes "rd")
@@ -84,10 +88,10 @@ commands_at table row id = do
   pre ← count_at table (row + 3) (codes "channel") id (codes "pre")
   prea ← count_at table (row + 4) (codes "channel") id (codes "prea")
   refs ← count_at table (row + 5) (codes "channel") id (codes "ref")
-  Ok (act, rd, wr, pre, prea, refs)
+  Ok (record { act = act; rd = rd; wr = wr; pre = pre; prea = prea; refs = refs })
 
 -- the counts of its requests and cycles
-unfoldable pub queue_at : List (List (List ℕ)) → ℕ → ℕ → Result (ℕ × ℕ × ℕ × ℕ × ℕ × Option ℕ) Fault
+unfoldable pub queue_at : List (List (List ℕ)) → ℕ → ℕ → Result QueueCounts Fault
 queue_at table row id = do
   hits ← count_at table row (codes "channel") id (codes "hits")
   queued ← sum_at table (row + 1) (codes "channel") id (codes "queued")
@@ -95,7 +99,7 @@ queue_at table row id = do
   idle ← count_at table (row + 3) (codes "channel") id (codes "idle")
   refreshing ← count_at table (row + 4) (codes "channel") id (codes "refreshing")
   draining ← draining_at table (row + 5) id
-  Ok (hits, queued, queued_max, idle, refreshing, draining)
+  Ok (record { hits = hits; queued = queued; queued_max = queued_max; idle = idle; refreshing = refreshing; draining = draining })
 
 -- the counts of a channel
 unfoldable pub channel_at : List (List (List ℕ)) → ℕ → ℕ → Result ChannelStats Fault
@@ -103,18 +107,18 @@ channel_at table row id = do
   commands ← commands_at table row id
   queue ← queue_at table (row + 6) id
   Ok (record {
-    act = commands.0;
-    rd = commands.1;
-    wr = commands.2;
-    pre = commands.3;
-    prea = commands.4;
-    refs = commands.5;
-    hits = queue.0;
-    queued = queue.1;
-    queued_max = queue.2;
-    idle = queue.3;
-    refreshing = queue.4;
-    draining = queue.5;
+    act = commands.act;
+    rd = commands.rd;
+    wr = commands.wr;
+    pre = commands.pre;
+    prea = commands.prea;
+    refs = commands.refs;
+    hits = queue.hits;
+    queued = queue.queued;
+    queued_max = queue.queued_max;
+    idle = queue.idle;
+    refreshing = queue.refreshing;
+    draining = queue.draining;
   })
 
 -- how many records a channel has

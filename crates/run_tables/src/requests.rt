@@ -22,6 +22,24 @@ use std::alloc::Global;
 /// Each entry and each cycle of a table is below this one.
 const LIMIT: u64 = 1 << 62;
 
+/// The fields of a row that tell who asks what.
+#[derive(Clone, Copy)]
+struct AskedFields {
+    core: CoreId,
+    entry: u64,
+    access: Access,
+    channel: ChannelId,
+}
+
+/// The fields of a row that tell when it was where.
+#[derive(Clone, Copy)]
+struct TimeFields {
+    issued: Cycle,
+    arrived: Cycle,
+    served: Cycle,
+    replied: Option<Cycle>,
+}
+
 // The number in a field, if it is below a limit and written without a leading zero.
 #[tactic(auto, unfolding(crate::specs::RequestRows::exact_below))]
 fn exact_below(limit: u64, text: &[u8]) -> Option<u64>
@@ -78,26 +96,36 @@ fn hit_in(fields: &ByteRecord, k: usize) -> Option<bool>
 
 // Who asks what.
 #[tactic(auto, unfolding(crate::specs::RequestRows::asked_in))]
-fn asked_in(fields: &ByteRecord) -> Option<(CoreId, u64, Access, ChannelId)>
+fn asked_in(fields: &ByteRecord) -> Option<AskedFields>
     ensures { result ≡ asked_in (fields_of fields.now) }
 {
     let core = exact_below(256, text_at(fields, 0))?;
     let entry = exact_below(LIMIT, text_at(fields, 1))?;
     let access = access_in(fields, 2)?;
     let channel = exact_below(16, text_at(fields, 3))?;
-    Some((core as CoreId, entry, access, channel as ChannelId))
+    Some(AskedFields {
+        core: core as CoreId,
+        entry,
+        access,
+        channel: channel as ChannelId,
+    })
 }
 
 // When it was where.
 #[tactic(auto, unfolding(crate::specs::RequestRows::times_in))]
-fn times_in(fields: &ByteRecord) -> Option<(Cycle, Cycle, Cycle, Option<Cycle>)>
+fn times_in(fields: &ByteRecord) -> Option<TimeFields>
     ensures { result ≡ times_in (fields_of fields.now) }
 {
     let issued = exact_below(LIMIT, text_at(fields, 4))?;
     let arrived = exact_below(LIMIT, text_at(fields, 5))?;
     let served = exact_below(LIMIT, text_at(fields, 6))?;
     let replied = replied_in(text_at(fields, 7))?;
-    Some((issued, arrived, served, replied))
+    Some(TimeFields {
+        issued,
+        arrived,
+        served,
+        replied,
+    })
 }
 
 // Whether the reply to a request can come then.
@@ -131,18 +159,18 @@ fn in_time(row: RequestTimes) -> Option<RequestTimes>
 fn request_from(fields: &ByteRecord) -> Option<RequestTimes>
     ensures { result ≡ request_from (fields_of fields.now) }
 {
-    let (core, entry, access, channel) = asked_in(fields)?;
-    let (issued, arrived, served, replied) = times_in(fields)?;
+    let asked = asked_in(fields)?;
+    let times = times_in(fields)?;
     let hit = hit_in(fields, 8)?;
     in_time(RequestTimes {
-        core,
-        entry,
-        access,
-        channel,
-        issued,
-        arrived,
-        served,
-        replied,
+        core: asked.core,
+        entry: asked.entry,
+        access: asked.access,
+        channel: asked.channel,
+        issued: times.issued,
+        arrived: times.arrived,
+        served: times.served,
+        replied: times.replied,
         hit,
     })
 }

@@ -30,6 +30,50 @@ const CORE_RECORDS: usize = 12;
 /// The records that each channel has; one more tells how long it drained.
 const CHANNEL_RECORDS: usize = 11;
 
+/// What is counted of the entries of a core.
+#[derive(Clone, Copy)]
+struct EntryCounts {
+    issued: u64,
+    retired: u64,
+    reads: u64,
+    writes: u64,
+    replies: u64,
+    read_latency: u128,
+}
+
+/// In how many cycles a core issued no more, by the reason, and when it finished.
+#[derive(Clone, Copy)]
+struct StopCounts {
+    stop_end: u64,
+    stop_width: u64,
+    stop_window: u64,
+    stop_memory: u64,
+    stop_credit: u64,
+    finish: Option<Cycle>,
+}
+
+/// What is counted of the commands of a channel.
+#[derive(Clone, Copy)]
+struct CommandCounts {
+    act: u64,
+    rd: u64,
+    wr: u64,
+    pre: u64,
+    prea: u64,
+    refs: u64,
+}
+
+/// What is counted of the requests of a channel, of its queue and of its cycles.
+#[derive(Clone, Copy)]
+struct QueueCounts {
+    hits: u64,
+    queued: u128,
+    queued_max: u64,
+    idle: u64,
+    refreshing: u64,
+    draining: Option<u64>,
+}
+
 #[tactic(auto, unfolding(crate::specs::Lines::is_stats_header))]
 fn is_header(fields: &ByteRecord) -> bool
     ensures { result ≡ is_stats_header (fields_of fields.now) }
@@ -159,11 +203,7 @@ fn cycle_at(table: &RecordList, row: usize, unit: Unit, name: &[u8]) -> Result<O
 
 // The counts of a core's entries.
 #[tactic(auto, unfolding(crate::specs::Units::entries_at))]
-fn entries_at(
-    table: &RecordList,
-    row: usize,
-    id: u64,
-) -> Result<(u64, u64, u64, u64, u64, u128), Fault>
+fn entries_at(table: &RecordList, row: usize, id: u64) -> Result<EntryCounts, Fault>
     requires { row + 6 < 2 ^ 64 }
     ensures { result ≡ entries_at table.now row id }
 {
@@ -174,16 +214,19 @@ fn entries_at(
     let writes = count_at(table, row + 3, core, b"writes")?;
     let replies = count_at(table, row + 4, core, b"replies")?;
     let read_latency = sum_at(table, row + 5, core, b"read_latency")?;
-    Ok((issued, retired, reads, writes, replies, read_latency))
+    Ok(EntryCounts {
+        issued,
+        retired,
+        reads,
+        writes,
+        replies,
+        read_latency,
+    })
 }
 
 // The counts of why it stopped, and when it finished.
 #[tactic(auto, unfolding(crate::specs::Units::stops_at))]
-fn stops_at(
-    table: &RecordList,
-    row: usize,
-    id: u64,
-) -> Result<(u64, u64, u64, u64, u64, Option<Cycle>), Fault>
+fn stops_at(table: &RecordList, row: usize, id: u64) -> Result<StopCounts, Fault>
     requires { row + 6 < 2 ^ 64 }
     ensures { result ≡ stops_at table.now row id }
 {
@@ -194,14 +237,14 @@ fn stops_at(
     let stop_memory = count_at(table, row + 3, core, b"stop_memory")?;
     let stop_credit = count_at(table, row + 4, core, b"stop_credit")?;
     let finish = cycle_at(table, row + 5, core, b"finish")?;
-    Ok((
+    Ok(StopCounts {
         stop_end,
         stop_width,
         stop_window,
         stop_memory,
         stop_credit,
         finish,
-    ))
+    })
 }
 
 // The counts of a core, from a row on.
@@ -213,25 +256,21 @@ fn core_at(table: &RecordList, row: usize, id: u64) -> Result<CoreStats, Fault>
 {
     // tells the proof that the row can be counted
     let _few = table.len();
-    let (issued, retired, reads, writes, replies, read_latency) = entries_at(table, row, id)?;
-    let (stop_end, stop_width, stop_window, stop_memory, stop_credit, finish) = stops_at(
-        table,
-        row + 6,
-        id,
-    )?;
+    let entries = entries_at(table, row, id)?;
+    let stops = stops_at(table, row + 6, id)?;
     Ok(CoreStats {
-        issued,
-        retired,
-        reads,
-        writes,
-        replies,
-        read_latency,
-        stop_end,
-        stop_width,
-        stop_window,
-        stop_memory,
-        stop_credit,
-        finish,
+        issued: entries.issued,
+        retired: entries.retired,
+        reads: entries.reads,
+        writes: entries.writes,
+        replies: entries.replies,
+        read_latency: entries.read_latency,
+        stop_end: stops.stop_end,
+        stop_width: stops.stop_width,
+        stop_window: stops.stop_window,
+        stop_memory: stops.stop_memory,
+        stop_credit: stops.stop_credit,
+        finish: stops.finish,
     })
 }
 
@@ -287,11 +326,7 @@ fn draining_at(table: &RecordList, row: usize, id: u64) -> Result<Option<u64>, F
 
 // The counts of a channel's commands.
 #[tactic(auto, unfolding(crate::specs::Units::commands_at))]
-fn commands_at(
-    table: &RecordList,
-    row: usize,
-    id: u64,
-) -> Result<(u64, u64, u64, u64, u64, u64), Fault>
+fn commands_at(table: &RecordList, row: usize, id: u64) -> Result<CommandCounts, Fault>
     requires { row + 6 < 2 ^ 64 }
     ensures { result ≡ commands_at table.now row id }
 {
@@ -305,16 +340,19 @@ fn commands_at(
     let pre = count_at(table, row + 3, channel, b"pre")?;
     let prea = count_at(table, row + 4, channel, b"prea")?;
     let refs = count_at(table, row + 5, channel, b"ref")?;
-    Ok((act, rd, wr, pre, prea, refs))
+    Ok(CommandCounts {
+        act,
+        rd,
+        wr,
+        pre,
+        prea,
+        refs,
+    })
 }
 
 // The counts of its requests and cycles.
 #[tactic(auto, unfolding(crate::specs::Units::queue_at))]
-fn queue_at(
-    table: &RecordList,
-    row: usize,
-    id: u64,
-) -> Result<(u64, u128, u64, u64, u64, Option<u64>), Fault>
+fn queue_at(table: &RecordList, row: usize, id: u64) -> Result<QueueCounts, Fault>
     requires { row + 6 < 2 ^ 64 }
     ensures { result ≡ queue_at table.now row id }
 {
@@ -328,7 +366,14 @@ fn queue_at(
     let idle = count_at(table, row + 3, channel, b"idle")?;
     let refreshing = count_at(table, row + 4, channel, b"refreshing")?;
     let draining = draining_at(table, row + 5, id)?;
-    Ok((hits, queued, queued_max, idle, refreshing, draining))
+    Ok(QueueCounts {
+        hits,
+        queued,
+        queued_max,
+        idle,
+        refreshing,
+        draining,
+    })
 }
 
 // The counts of a channel, from a row on.
@@ -340,21 +385,21 @@ fn channel_at(table: &RecordList, row: usize, id: u64) -> Result<ChannelStats, F
 {
     // tells the proof that the row can be counted
     let _few = table.len();
-    let (act, rd, wr, pre, prea, refs) = commands_at(table, row, id)?;
-    let (hits, queued, queued_max, idle, refreshing, draining) = queue_at(table, row + 6, id)?;
+    let commands = commands_at(table, row, id)?;
+    let queue = queue_at(table, row + 6, id)?;
     Ok(ChannelStats {
-        act,
-        rd,
-        wr,
-        pre,
-        prea,
-        refs,
-        hits,
-        queued,
-        queued_max,
-        idle,
-        refreshing,
-        draining,
+        act: commands.act,
+        rd: commands.rd,
+        wr: commands.wr,
+        pre: commands.pre,
+        prea: commands.prea,
+        refs: commands.refs,
+        hits: queue.hits,
+        queued: queue.queued,
+        queued_max: queue.queued_max,
+        idle: queue.idle,
+        refreshing: queue.refreshing,
+        draining: queue.draining,
     })
 }
 

@@ -1,3 +1,4 @@
 pub mod Screen
 pub mod Banks
 pub mod Requests
+pub mod Rows

@@ -1,6 +1,7 @@
 //! The banks of a run, a line for each that a command names.
 
-ghost use Rattle.std.specs.Prelude.{IfOk, length, string_bytes};
+ghost use Rattle.std.specs.Prelude.{◌≡◌, IfOk, length, string_bytes};
+ghost use Rattle.show.specs.Rows.{bank_row};
 ghost use Rattle.show.specs.Screen.{Extends};
 ghost use Rattle.show.specs.Banks.{banks_head, AreBanksOf, AreBanks, IsBanksScreen};
 ghost use Rattle.text_builder.specs.Texts.{Puts, Grows};
@@ -30,7 +31,9 @@ fn table_of_banks() -> TableLayout<'static> {
     }
 }
 
-fn bank_row(counts: &BankCounts) -> [Number; 6] {
+fn bank_row(counts: &BankCounts) -> [Number; 6]
+    ensures { result ≡ bank_row counts.now }
+{
     let moves = u128::from(counts.reads) + u128::from(counts.writes);
     [
         Number::count(counts.acts),

@@ -3,11 +3,12 @@
 ghost use Rattle.std.specs.Prelude.{◌≡◌, ◌≤◌, length, IfOk, string_bytes};
 ghost use Rattle.measures.specs.Latency.{read_latencies};
 ghost use Rattle.show.specs.Requests.{latencies_head, waits_head, replies_of, AreRequests};
+ghost use Rattle.show.specs.Rows.{latency_row, wait_row};
 ghost use Rattle.show.specs.Screen.{Extends};
 ghost use Rattle.text_builder.specs.Texts.{Puts};
 
 use crate::options::Options;
-use crate::rows::{COLUMNS, Row, nanoseconds};
+use crate::rows::{COLUMNS, Row, time_by};
 use crate::table::TableLayout;
 use measures::number::Number;
 use measures::request_measures::latency::{
@@ -51,14 +52,6 @@ fn shown(
     }
 }
 
-// Cycles in ns, where the clock is given.
-fn time(cycles: u128, divisor: u64, khz: Option<u64>) -> Number {
-    match khz {
-        Some(khz) => nanoseconds(cycles, divisor, khz),
-        None => Number::absent(),
-    }
-}
-
 // How many replies there are.
 fn replies_of(found: Option<Latencies>) -> u64
     ensures { result ≡ replies_of found }
@@ -70,7 +63,10 @@ fn replies_of(found: Option<Latencies>) -> u64
 }
 
 // The numbers of read latencies, of which there may be none.
-fn latency_row(found: Option<Latencies>, khz: Option<u64>) -> Row {
+#[tactic(auto, unfolding(crate::specs::Rows::latency_row))]
+fn latency_row(found: Option<Latencies>, khz: Option<u64>) -> Row
+    ensures { result ≡ latency_row khz found }
+{
     let mut row = [Number::absent(); COLUMNS];
     row[0] = Number::count(replies_of(found));
     if let Some(found) = found {
@@ -78,10 +74,10 @@ fn latency_row(found: Option<Latencies>, khz: Option<u64>) -> Row {
         row[2] = Number::count(found.p95);
         row[3] = Number::count(found.p99);
         row[4] = Number::count(found.greatest);
-        row[5] = time(u128::from(found.median), 1, khz);
-        row[6] = time(u128::from(found.p95), 1, khz);
-        row[7] = time(u128::from(found.p99), 1, khz);
-        row[8] = time(u128::from(found.greatest), 1, khz);
+        row[5] = time_by(khz, u128::from(found.median), 1);
+        row[6] = time_by(khz, u128::from(found.p95), 1);
+        row[7] = time_by(khz, u128::from(found.p99), 1);
+        row[8] = time_by(khz, u128::from(found.greatest), 1);
     }
     row
 }
@@ -104,7 +100,10 @@ fn latency_rows(
 }
 
 // The numbers of a channel.
-fn wait_row(channel: ChannelId, requests: &[RequestTimes], khz: Option<u64>) -> Row {
+#[tactic(auto, unfolding(crate::specs::Rows::wait_row))]
+fn wait_row(channel: ChannelId, requests: &[RequestTimes], khz: Option<u64>) -> Row
+    ensures { result ≡ wait_row requests.now khz channel }
+{
     let Waits {
         requests: reads,
         cycles: read_cycles,
@@ -124,9 +123,9 @@ fn wait_row(channel: ChannelId, requests: &[RequestTimes], khz: Option<u64>) -> 
     row[3] = Number::mean(write_cycles, writes);
     row[4] = Number::count(hits);
     row[5] = Number::mean(hit_cycles, hits);
-    row[6] = time(read_cycles, reads, khz);
-    row[7] = time(write_cycles, writes, khz);
-    row[8] = time(hit_cycles, hits, khz);
+    row[6] = time_by(khz, read_cycles, reads);
+    row[7] = time_by(khz, write_cycles, writes);
+    row[8] = time_by(khz, hit_cycles, hits);
     row
 }
 

@@ -1,6 +1,7 @@
 //! The numbers of channels and of cores, a row for each.
 
-ghost use Rattle.std.specs.Prelude.{◌≡◌, ◌+◌, ◌^◌, ◌<◌, length, IfOk};
+ghost use Rattle.std.specs.Prelude.{◌≡◌, ◌+◌, ◌*◌, ◌^◌, ◌<◌, map, IfOk};
+ghost use Rattle.show.specs.Rows.{mean, percent, drain_of, time, time_by, data_rate, rate_by, more_of_channel, channel_row, finish, finish_time, core_row};
 
 use measures::number::{Number, NumberForm};
 use measures::rates;
@@ -74,38 +75,73 @@ fn moves(channel: &ChannelStats) -> u128
 }
 
 // What percentage of the cycles these are.
-fn share(cycles: u64, part: u64) -> Number {
+fn share(cycles: u64, part: u64) -> Number
+    ensures { result ≡ percent part cycles }
+{
     Number::percent(u128::from(part), u128::from(cycles))
 }
 
-fn draining(cycles: u64, channel: &ChannelStats) -> Number {
+fn draining(cycles: u64, channel: &ChannelStats) -> Number
+    ensures { result ≡ drain_of cycles channel.now.draining }
+{
     match channel.draining {
         Some(part) => share(cycles, part),
         None => Number::absent(),
     }
 }
 
-// What percentage of the cycles the REFs take, which is known with a configuration.
-fn refreshes(cycles: u64, channel: &ChannelStats, config: Option<&Config>) -> Number {
-    match config {
-        Some(config) => {
-            let part = u128::from(channel.refs) * u128::from(config.timing.n_rfc);
-            Number::percent(part.min(GREATEST_PART), u128::from(cycles))
-        }
-        None => Number::absent(),
-    }
+// What percentage of the cycles the REFs take, nRFC each.
+#[tactic(auto, using(crate::proofs::Numbers::capped_part))]
+fn refreshes(cycles: u64, channel: &ChannelStats, n_rfc: u32) -> Number
+    ensures { result ≡ percent (channel.now.refs * n_rfc) cycles }
+{
+    let part = u128::from(channel.refs) * u128::from(n_rfc);
+    Number::percent(part.min(GREATEST_PART), u128::from(cycles))
 }
 
 /// A greater part counts as this one.
 const GREATEST_PART: u128 = 1 << 79;
 
-fn number_of(quotient: Quotient) -> Number {
+fn number_of(quotient: Quotient) -> Number
+    ensures { result ≡ mean quotient.dividend quotient.divisor }
+{
     Number::quotient(quotient.dividend, quotient.divisor, NumberForm::Mean)
 }
 
 /// A quotient of cycles, in ns.
-pub(crate) fn nanoseconds(cycles: u128, divisor: u64, khz: u64) -> Number {
+#[tactic(auto, using(crate::proofs::Numbers::capped))]
+pub(crate) fn nanoseconds(cycles: u128, divisor: u64, khz: u64) -> Number
+    ensures { result ≡ time cycles divisor khz }
+{
     number_of(rates::nanoseconds(cycles, divisor, khz))
+}
+
+/// A quotient of cycles, in ns, where the clock is given.
+pub(crate) fn time_by(khz: Option<u64>, cycles: u128, divisor: u64) -> Number
+    ensures { result ≡ time_by khz cycles divisor }
+{
+    match khz {
+        Some(khz) => nanoseconds(cycles, divisor, khz),
+        None => Number::absent(),
+    }
+}
+
+// The data that a channel moved in so many cycles, in GB/s.
+#[tactic(auto, using(crate::proofs::Numbers::capped))]
+fn data_rate(cycles: u64, channel: &ChannelStats, khz: u64) -> Number
+    ensures { result ≡ data_rate cycles channel.now khz }
+{
+    number_of(rates::data_rate(cycles, channel, khz))
+}
+
+// The same, where the clock is given.
+fn rate_by(khz: Option<u64>, cycles: u64, channel: &ChannelStats) -> Number
+    ensures { result ≡ rate_by khz cycles channel.now }
+{
+    match khz {
+        Some(khz) => data_rate(cycles, channel, khz),
+        None => Number::absent(),
+    }
 }
 
 // The numbers that are shown with a configuration and with a clock, one behind the other.
@@ -114,23 +150,25 @@ fn more_of_channel(
     channel: &ChannelStats,
     config: Option<&Config>,
     khz: Option<u64>,
-) -> (Number, Number) {
-    let rate = match khz {
-        Some(khz) => number_of(rates::data_rate(cycles, channel, khz)),
-        None => Number::absent(),
-    };
+) -> (Number, Number)
+    ensures { result ≡ more_of_channel cycles channel.now config.entry khz }
+{
+    let rate = rate_by(khz, cycles, channel);
     match config {
-        Some(_) => (refreshes(cycles, channel, config), rate),
+        Some(config) => (refreshes(cycles, channel, config.timing.n_rfc), rate),
         None => (rate, Number::absent()),
     }
 }
 
+#[tactic(auto, unfolding(crate::specs::Rows::channel_row))]
 fn channel_row(
     cycles: u64,
     channel: &ChannelStats,
     config: Option<&Config>,
     khz: Option<u64>,
-) -> Row {
+) -> Row
+    ensures { result ≡ channel_row cycles config.entry khz channel.now }
+{
     let (tenth, eleventh) = more_of_channel(cycles, channel, config, khz);
     [
         Number::count(channel.rd),
@@ -150,6 +188,7 @@ fn channel_row(
 }
 
 /// The numbers of each channel.
+#[tactic(auto, using(std::proofs::lemmas::List::map_more))]
 pub(crate) fn channel_rows(
     alloc: Global,
     cycles: u64,
@@ -157,7 +196,8 @@ pub(crate) fn channel_rows(
     config: Option<&Config>,
     khz: Option<u64>,
 ) -> Result<Vec<Row>, AllocError>
-    ensures { IfOk result (λ rows. length rows.items ≡ length channels.now) }
+    ensures { IfOk result (λ rows. rows.items ≡ map (channel_row cycles config.entry khz)
+        channels.now) }
 {
     let mut rows = Vec::new(alloc);
     for channel in channels {
@@ -167,7 +207,9 @@ pub(crate) fn channel_rows(
 }
 
 // The cycle in which the last entry of a core retired, and the entries a cycle up to that.
-fn finish(core: &CoreStats) -> (Number, Number) {
+fn finish(core: &CoreStats) -> (Number, Number)
+    ensures { result ≡ finish core.now.retired core.now.finish }
+{
     match core.finish {
         Some(cycle) => (
             Number::count(cycle),
@@ -177,20 +219,20 @@ fn finish(core: &CoreStats) -> (Number, Number) {
     }
 }
 
-// The finish and the mean latency of a core in ns.
-fn times_of_core(core: &CoreStats, khz: Option<u64>) -> (Number, Number) {
-    let Some(khz) = khz else {
-        return (Number::absent(), Number::absent());
-    };
-    let finish = match core.finish {
-        Some(cycle) => nanoseconds(u128::from(cycle), 1, khz),
+// The finish in ns.
+fn finish_time(khz: Option<u64>, finish: Option<u64>) -> Number
+    ensures { result ≡ finish_time khz finish }
+{
+    match finish {
+        Some(cycle) => time_by(khz, u128::from(cycle), 1),
         None => Number::absent(),
-    };
-    (finish, nanoseconds(core.read_latency, core.replies, khz))
+    }
 }
 
-fn core_row(cycles: u64, core: &CoreStats, khz: Option<u64>) -> Row {
-    let (finish_time, latency_time) = times_of_core(core, khz);
+#[tactic(auto, unfolding(crate::specs::Rows::core_row))]
+fn core_row(cycles: u64, core: &CoreStats, khz: Option<u64>) -> Row
+    ensures { result ≡ core_row cycles khz core.now }
+{
     let (finish, rate) = finish(core);
     [
         Number::count(core.retired),
@@ -204,19 +246,20 @@ fn core_row(cycles: u64, core: &CoreStats, khz: Option<u64>) -> Row {
         share(cycles, core.stop_window),
         share(cycles, core.stop_memory),
         share(cycles, core.stop_credit),
-        finish_time,
-        latency_time,
+        finish_time(khz, core.finish),
+        time_by(khz, core.read_latency, core.replies),
     ]
 }
 
 /// The numbers of each core.
+#[tactic(auto, using(std::proofs::lemmas::List::map_more))]
 pub(crate) fn core_rows(
     alloc: Global,
     cycles: u64,
     cores: &[CoreStats],
     khz: Option<u64>,
 ) -> Result<Vec<Row>, AllocError>
-    ensures { IfOk result (λ rows. length rows.items ≡ length cores.now) }
+    ensures { IfOk result (λ rows. rows.items ≡ map (core_row cycles khz) cores.now) }
 {
     let mut rows = Vec::new(alloc);
     for core in cores {

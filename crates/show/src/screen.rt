@@ -1,8 +1,9 @@
 //! The screen: the cycles, a table of channels and a table of cores.
 
 ghost use Rattle.std.specs.Prelude.{IfOk, length, string_bytes};
+ghost use Rattle.show.specs.Rows.{time_text};
 ghost use Rattle.show.specs.Screen.{Extends, IsScreen, channels_head, cores_head};
-ghost use Rattle.text_builder.specs.Texts.{Puts, Grows};
+ghost use Rattle.text_builder.specs.Texts.{Puts, PutsWords};
 
 use crate::options::Options;
 use crate::rows::{
@@ -76,7 +77,7 @@ fn put_cores(alloc: Global, stats: &Stats, options: Options, out: &mut TextBuild
 
 // The cycles in ns, where the clock is given.
 fn put_time(alloc: Global, cycles: u64, khz: Option<u64>, out: &mut TextBuilder)
-    ensures { Grows out.old out.new }
+    ensures { PutsWords (time_text khz cycles) out.old out.new }
 {
     if let Some(khz) = khz {
         out.push_str("\nThe cycles take ");

@@ -1,5 +1,6 @@
 -- Texts that grow.
 use Rattle.std.specs.Prelude.{Result, Ok, Err, IfOk, false, String, string_bytes}
+use Rattle.std.specs.Result.{OkIff}
 use Rattle.std.proofs.Common.{◌≡◌, ℕ, List, [], ◌++◌, refl, sym, ap, ap₂, subst, ◌∙◌, append_assoc}
 use Rattle.std.specs.declared.alloc.Global.{Global}
 use Rattle.std.specs.declared.alloc.AllocError.{AllocError}
@@ -43,9 +44,9 @@ pushed (Ok text) put = puts_as (λ x is. tt) (put (string_bytes text) refl)
 pushed (Err fault) put = puts_as (λ x is. tt) (put [] tt)
 
 -- the whole text, in the end
-pub finished : {A : List ℕ → Type 0} (a b : TextBuilder) (result : Result (String Global) AllocError) → string_bytes a.text ≡ [] → Puts A a b → IfOk result (λ text. b.was_refused ≡ false)
-    → IfOk result (λ text. text ≡ b.text) → IfOk result (λ text. A (string_bytes text))
-finished {A} a b (Ok text) empty put going same =
-    let is : IsPut A a b = put.put going in
-    subst A (sym (ap string_bytes same ∙ is.text_is ∙ ap (λ t. t ++ is.more) empty)) is.is
-finished a b (Err fault) empty put going same = tt
+pub finished : {A : List ℕ → Type 0} (a b : TextBuilder) (result : Result (String Global) AllocError) → string_bytes a.text ≡ [] → Puts A a b → OkIff result (b.was_refused ≡ false) b.text
+    → IfOk result (λ text. A (string_bytes text))
+finished {A} a b (Ok text) empty put whole =
+    let is : IsPut A a b = put.put whole.0 in
+    subst A (sym (ap string_bytes whole.1 ∙ is.text_is ∙ ap (λ t. t ++ is.more) empty)) is.is
+finished a b (Err fault) empty put whole = tt

@@ -4,7 +4,9 @@
 --     Grows old new      any text
 --     PutsOutput output old new      what a value writes, if that is known
 --     KeepsRefusal old new      no refusal of memory is forgotten
-use Rattle.std.specs.Prelude.{◌≡◌, ⊤, false, ℕ, List, ◌++◌, Option, IfSome, string_bytes}
+--     HasRoom count builder      there is room for so many bytes more
+--     GoesOnWithRoom count old new      no memory is refused for so many bytes where there is room for them
+use Rattle.std.specs.Prelude.{◌≡◌, ◌+◌, ◌≤◌, ⊤, false, ℕ, List, ◌++◌, Option, IfSome, string_bytes, string_len, string_capacity}
 use Rattle.text_builder.specs.declared.TextBuilder.{TextBuilder}
 
 -- a text of some kind stands behind what was there, and no memory was refused before
@@ -33,3 +35,11 @@ PutsOutput output old new = IfSome output (λ words. PutsWords words old new)
 -- no memory was refused before, where none is refused now
 abbrev pub KeepsRefusal : TextBuilder → TextBuilder → Type 0
 KeepsRefusal old new = new.was_refused ≡ false → old.was_refused ≡ false
+
+-- the text has room for so many bytes more in the memory that it has
+abbrev pub HasRoom : ℕ → TextBuilder → Type 0
+HasRoom count builder = string_len builder.text + count ≤ string_capacity builder.text
+
+-- no memory is refused where none was before and the text has room for so many bytes more
+abbrev pub GoesOnWithRoom : ℕ → TextBuilder → TextBuilder → Type 0
+GoesOnWithRoom count old new = old.was_refused ≡ false → HasRoom count old → new.was_refused ≡ false

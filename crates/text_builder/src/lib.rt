@@ -3,8 +3,9 @@
 
 pub mod forms;
 
-ghost use Rattle.std.specs.Prelude.{◌≡◌, ◌==◌, ◌||◌, not, List, ℕ, true, false, [], IfOk, string_bytes, string_len, encode_utf8};
-ghost use Rattle.text_builder.specs.Texts.{PutsWords, PutsOutput, KeepsRefusal};
+ghost use Rattle.std.specs.Prelude.{◌≡◌, ◌==◌, ◌||◌, not, List, ℕ, true, false, [], IfOk, length, string_bytes, string_len, encode_utf8};
+ghost use Rattle.std.specs.Result.{OkIff};
+ghost use Rattle.text_builder.specs.Texts.{PutsWords, PutsOutput, KeepsRefusal, GoesOnWithRoom};
 
 use std::alloc::{AllocError, Global};
 use std::fmt::Display;
@@ -52,16 +53,18 @@ impl TextBuilder {
         self.was_refused = true;
     }
 
-    /// Appends words.
+    /// Appends words. No memory is refused where the text has room for them.
     pub fn push_str(&mut self, words: &str)
-        ensures { PutsWords words.now self.old self.new }
+        ensures words { PutsWords words.now self.old self.new }
+        ensures room { GoesOnWithRoom (length words.now) self.old self.new }
     {
         self.was_refused |= self.text.push_str(words).is_err();
     }
 
-    /// Appends a character.
+    /// Appends a character. No memory is refused where the text has room for it.
     pub fn push_char(&mut self, character: char)
-        ensures { PutsWords (encode_utf8 character) self.old self.new }
+        ensures words { PutsWords (encode_utf8 character) self.old self.new }
+        ensures room { GoesOnWithRoom (length (encode_utf8 character)) self.old self.new }
     {
         self.was_refused |= self.text.push(character).is_err();
     }
@@ -74,10 +77,12 @@ impl TextBuilder {
         self.was_refused |= self.text.write(value).is_err();
     }
 
-    /// Appends a text, unless memory was refused for it.
+    /// Appends a text, unless memory was refused for it. No memory is refused where the text so far has room for it.
     pub fn push(&mut self, made: Result<String, AllocError>)
-        ensures { (words : List ℕ) → IfOk made (λ text. string_bytes text ≡ words)
+        ensures words { (words : List ℕ) → IfOk made (λ text. string_bytes text ≡ words)
             → PutsWords words self.old self.new }
+        ensures room { IfOk made (λ text. GoesOnWithRoom (length (string_bytes text))
+            self.old self.new) }
     {
         match made {
             Ok(words) => self.push_str(words.as_str()),
@@ -85,10 +90,9 @@ impl TextBuilder {
         }
     }
 
-    /// The whole text, unless memory was refused for a part of it.
+    /// The whole text if memory was refused for no part of it, and else `AllocError`.
     pub fn finish(self) -> Result<String, AllocError>
-        ensures whole { IfOk result (λ text. self.was_refused ≡ false) }
-        ensures text { IfOk result (λ text. text ≡ self.text) }
+        ensures { OkIff result (self.was_refused ≡ false) self.text }
     {
         if self.was_refused {
             return Err(AllocError);

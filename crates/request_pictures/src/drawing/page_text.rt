@@ -1,8 +1,9 @@
 //! The text of a page in the making.
 
-ghost use Rattle.std.specs.Prelude.{◌≡◌, true, false, [], IfOk, string_bytes};
+ghost use Rattle.std.specs.Prelude.{◌≡◌, true, false, [], length, string_bytes};
+ghost use Rattle.std.specs.Result.{OkIff};
 ghost use Rattle.text_builder.specs.Filled.{IsFilled};
-ghost use Rattle.text_builder.specs.Texts.{Grows, Puts, PutsWords};
+ghost use Rattle.text_builder.specs.Texts.{GoesOnWithRoom, Grows, Puts, PutsWords};
 ghost use Rattle.request_pictures.specs.Legends.{legend_text};
 ghost use Rattle.request_pictures.specs.Pieces.{IsPieceText};
 
@@ -42,9 +43,10 @@ impl Markup {
         self.text.fill(form, pieces);
     }
 
-    /// Appends words, or markup.
+    /// Appends words, or markup. No memory is refused where the text has room for them.
     pub fn push_str(&mut self, words: &str)
-        ensures { PutsWords words.now self.old.text self.new.text }
+        ensures words { PutsWords words.now self.old.text self.new.text }
+        ensures room { GoesOnWithRoom (length words.now) self.old.text self.new.text }
     {
         self.text.push_str(words);
     }
@@ -70,10 +72,9 @@ impl Markup {
         put_value_ticks(quantity, top, &mut self.text);
     }
 
-    /// The whole text, unless memory was refused for a part of it.
+    /// The whole text if memory was refused for no part of it, and else `AllocError`.
     pub fn finish(self) -> Result<String, AllocError>
-        ensures whole { IfOk result (λ text. self.text.was_refused ≡ false) }
-        ensures text { IfOk result (λ text. text ≡ self.text.text) }
+        ensures { OkIff result (self.text.was_refused ≡ false) self.text.text }
     {
         self.text.finish()
     }

@@ -1,6 +1,7 @@
 //! Shares, and the scales of axes.
 
 ghost use Rattle.std.specs.Prelude.{◌≡◌, ◌<◌, ◌≤◌, ◌+◌, ◌-◌, ◌*◌, ◌/◌, ◌^◌, min};
+ghost use Rattle.request_pictures.specs.Scales.{IsTickStep, IsAxisEnd};
 
 /// `part` of `whole`, in units of which `whole` has `units`, rounded half up: 1000 for tenths of a percent. It is 0 for
 /// a whole of 0, and saturates at 2^64 - 1.
@@ -18,36 +19,35 @@ pub fn share_of(part: u128, whole: u64, units: u64) -> u64
     u64::try_from(share).unwrap_or(u64::MAX)
 }
 
-/// A distance between ticks, which is 1, 2 or 5 times a power of ten: with it a span has at most `most` ticks, not
-/// counting the first.
+/// The distance between ticks: the least of 1, 2 and 5 times a power of ten with which a span has at most `most` ticks,
+/// not counting the first.
 pub fn tick_step(span: u64, most: u64) -> u64
     requires { 0 < most }
     ensures some { 0 < result }
-    ensures few { span / result ≤ most }
+    ensures exact { IsTickStep span most result }
 {
     let mut power = 1u64;
-    'powers: for _ in 0..19 {
-        let double = power.saturating_mul(2);
-        let fivefold = power.saturating_mul(5);
+    'powers: for _place in 0..19u32 {
         if span / power <= most {
             return power;
         }
-        if span / double <= most {
-            return double;
+        if span / (2 * power) <= most {
+            return 2 * power;
         }
-        if span / fivefold <= most {
-            return fivefold;
+        if span / (5 * power) <= most {
+            return 5 * power;
         }
-        power = power.saturating_mul(10);
+        power *= 10;
     }
-    u64::MAX
+    power
 }
 
-/// The least multiple of the distance between its ticks that is not less than a value: where an axis for this value
-/// ends.
+/// Where an axis for a value ends: the least multiple of the distance between its ticks that is not less than the value.
+/// It saturates at 2^64 - 1.
 pub fn axis_end(value: u64, most: u64) -> u64
     requires { 0 < most }
-    ensures { value ≤ result }
+    ensures above { value ≤ result }
+    ensures exact { IsAxisEnd value most result }
 {
     let step = tick_step(value, most);
     value.div_ceil(step).saturating_mul(step)

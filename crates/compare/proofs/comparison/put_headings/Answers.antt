@@ -16,4 +16,4 @@ unfolding headings_text
 returns c =
     let all : c.loop-place.place ≡ c.args.others = omega arith in
     words_as (ap (λ n. (cell_text c.args.layout 12 (codes "run 1") ++ flat_map (λ place. heading_text c.args.layout (place + 2)) (below n)) ++ codes "\n") all)
-    (words_both c.loop-place.invariant c.push_str.ensures)
+    (words_both c.loop-place.invariant c.push_str.ensures.words)

@@ -12,7 +12,7 @@ pub loop-place-preserved : goal.loop-place-preserved
 loop-place-preserved c =
     let number_is = sym (append_assoc (codes "run ") (decimal (c.loop-place.place + 1)) (codes ": ")) in
     words_as (sym (names_more c.args.names.now c.loop-place.place _ c.loop-place-test.true))
-    (words_both c.loop-place.invariant (words_both (words_both (words_as number_is c.write.ensures.output) c.push_str.ensures) c.push_str-in-loop-place.ensures))
+    (words_both c.loop-place.invariant (words_both (words_both (words_as number_is c.write.ensures.output) c.push_str.ensures.words) c.push_str-in-loop-place.ensures.words))
 
 pub returns : goal.returns
 unfolding names_text

@@ -7,4 +7,4 @@ pub returns : goal.returns
 unfolding line_text
 returns c =
     parts_closed (cells_text c.args.layout c.args.base.now c.args.measure) c.args.others.now c.loop-run.run-index (beginning_text c.args.layout c.args.base.now c.args.measure) (codes "\n")
-    c.loop-run-test.false c.loop-run.invariant c.push_str.ensures
+    c.loop-run-test.false c.loop-run.invariant c.push_str.ensures.words

@@ -16,4 +16,4 @@ pub returns : goal.returns
 unfolding tail_line_text
 returns c =
     parts_closed (tail_cells_text c.args.layout c.args.base) c.args.others.now c.loop-tail.tail-index (label_text c.args.layout (codes "read latency p99") ++ tail_text c.args.layout c.args.base) (codes "\n")
-    c.loop-tail-test.false c.loop-tail.invariant c.push_str.ensures
+    c.loop-tail-test.false c.loop-tail.invariant c.push_str.ensures.words

@@ -9,4 +9,4 @@ use Rattle.compare.proofs.texts.put_label.Goals as goal
 pub returns-in-Screen : goal.returns-in-Screen
 returns-in-Screen c =
     words_as (ap (λ layout. label_text layout c.args.label.now) (sym c.in-Screen.is))
-    (words_as (ap (λ n. c.args.label.now ++ repeat n (codes " ")) c.saturating_sub.ensures) (words_both c.push_str.ensures (c.push.ensures _ c.repeat.ensures.bytes)))
+    (words_as (ap (λ n. c.args.label.now ++ repeat n (codes " ")) c.saturating_sub.ensures) (words_both c.push_str.ensures.words (c.push.ensures.words _ c.repeat.ensures.bytes)))

@@ -17,4 +17,4 @@ returns c =
       text_is = refl;
     })
     c.put_screen.ensures c.put_channels.ensures)
-    c.finish.ensures.whole c.finish.ensures.text
+    c.finish.ensures

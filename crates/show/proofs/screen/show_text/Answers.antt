@@ -2,4 +2,4 @@ use Rattle.text_builder.proofs.Texts.{finished}
 use Rattle.show.proofs.screen.show_text.Goals as goal
 
 pub returns : goal.returns
-returns c = finished c.new-text.result c.put_screen.new.out c.finish.result c.new-text.ensures.empty c.put_screen.ensures c.finish.ensures.whole c.finish.ensures.text
+returns c = finished c.new-text.result c.put_screen.new.out c.finish.result c.new-text.ensures.empty c.put_screen.ensures c.finish.ensures

@@ -13,4 +13,4 @@ loop-piece-preserved g c = (
 )
 
 pub returns : goal.returns
-returns g c = leads_to g.P.Append.appends c.args.form.now c.args.pieces.now c.loop-piece.rest.now c.loop-piece.piece-index c.loop-piece-test.false c.loop-piece.invariant.0 c.push_str.ensures
+returns g c = leads_to g.P.Append.appends c.args.form.now c.args.pieces.now c.loop-piece.rest.now c.loop-piece.piece-index c.loop-piece-test.false c.loop-piece.invariant.0 c.push_str.ensures.words

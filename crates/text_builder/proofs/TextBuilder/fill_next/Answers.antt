@@ -6,7 +6,7 @@ use Rattle.text_builder.proofs.TextBuilder.fill_next.Goals as goal
 pub returns-in-Some : goal.returns-in-Some
 returns-in-Some g c =
     let cut = is_cut c.args.form.now (c.in-Some.words, c.in-Some.rest) c.in-Some.ensures.cases in
-    fills_one c.args.form.now c.in-Some.words.now c.in-Some.rest.now cut c.push_str.ensures c.append_to.ensures
+    fills_one c.args.form.now c.in-Some.words.now c.in-Some.rest.now cut c.push_str.ensures.words c.append_to.ensures
 
 pub returns-in-None : goal.returns-in-None
 returns-in-None g c = fills_none c.args.form.now c.args.form.now c.args.self.now c.in-None.ensures.cases refl

@@ -6,4 +6,4 @@ use Rattle.request_pictures.proofs.drawing.markup.put_entry.Goals as goal
 pub returns : goal.returns
 unfolding entry_text
 returns c =
-    words_both (words_both (words_both (words_both c.push_str.ensures c.push_str-2.ensures) c.push_str-3.ensures) c.push_str-4.ensures) c.push_str-5.ensures
+    words_both (words_both (words_both (words_both c.push_str.ensures.words c.push_str-2.ensures.words) c.push_str-3.ensures.words) c.push_str-4.ensures.words) c.push_str-5.ensures.words

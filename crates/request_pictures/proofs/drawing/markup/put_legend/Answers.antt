@@ -16,4 +16,4 @@ pub returns : goal.returns
 unfolding legend_text
 returns c =
     words_as (ap (λ entries. codes "<ul class=\"legend\">" ++ flat_map entry_text entries ++ codes "</ul>\n") (take_all c.loop-entry.entry-index c.args.entries.now c.loop-entry-test.false))
-    (words_both c.loop-entry.invariant c.push_str-2.ensures)
+    (words_both c.loop-entry.invariant c.push_str-2.ensures.words)

@@ -5,7 +5,7 @@ pub loop-heading-init : goal.loop-heading-init
 loop-heading-init c = c.put_cell.ensures
 
 pub loop-heading-preserved : goal.loop-heading-preserved
-loop-heading-preserved c = grows_on (grows_on c.loop-heading.invariant c.push_str.ensures) c.put_cell-in-loop-heading.ensures
+loop-heading-preserved c = grows_on (grows_on c.loop-heading.invariant c.push_str.ensures.words) c.put_cell-in-loop-heading.ensures
 
 pub returns : goal.returns
-returns c = grows_on c.loop-heading.invariant c.push_str-2.ensures
+returns c = grows_on c.loop-heading.invariant c.push_str-2.ensures.words
