@@ -1,4 +1,22 @@
--- Which rules a row of a table breaks after the rows before it. Each rule has its number.
+-- Which rules a row of a table breaks after the rows before it. Each rule has its number, as in docs/RULES.md; in the
+-- words of JESD79-4 they are:
+--      1      the order of rows, which is this project's
+--      2      the state of banks: idle for ACT and for REF, active with the row for RD and WR
+--      3      tRCD, ACT to internal read or write delay time
+--      4      tRAS, ACT to PRE command period
+--      5      tRC, ACT to ACT command period
+--      6      tRP, PRE command period
+--      7      tRTP, internal READ command to PRECHARGE command delay
+--      8      tWR, write recovery time, from the end of the data on
+--      9, 10      tRRD_L and tRRD_S, ACT to ACT command delay to the same and to a different bank group
+--     11, 12      tCCD_L and tCCD_S, CAS to CAS command delay for the same and for a different bank group
+--     13, 14      tWTR_L and tWTR_S, internal write to internal read of the same and of a different bank group
+--     15      READ to WRITE command delay, by a number of this project
+--     16      tFAW, four activate window
+--     17      tRFC, REF command period
+--     18      tREFI, average periodic refresh interval; how long a REF may be postponed is this project's
+--     19, 20, 21      the data bus from one rank to another: READ to READ and WRITE to WRITE, READ to WRITE, WRITE to READ
+--
 --     rows_on channel rows      the rows of a channel
 --     breaks_order rows row      rule 1: rows ascend by cycle and then by channel
 --     breaks_distance t number history row      rules 3 to 15, 17 and 19 to 21: distances from earlier commands
@@ -60,7 +78,8 @@ is_overdue s history now rank = nat_lt ((count_by (λ i. refreshes rank i.comman
 abbrev pub breaks_refresh : Config → List IssuedCommand → IssuedCommand → Bool
 breaks_refresh s history row = nat_lt 0 s.timing.n_refi && list_any (is_overdue s history row.cycle) (below s.ranks)
 
--- a row breaks a rule of its channel, after the rows of the channel before it
+-- A row breaks a rule of its channel, after the rows of the channel before it: the state of banks (2), the four activate
+-- window (16), the refresh interval (18), or a distance between two commands.
 abbrev pub breaks_in_channel : Config → List IssuedCommand → IssuedCommand → ℕ → Bool
 breaks_in_channel s history row number =
     if number == 2 then not (finds_its_banks s history row.command)
@@ -68,7 +87,7 @@ breaks_in_channel s history row number =
     else (if number == 18 then breaks_refresh s history row
     else breaks_distance s.timing number history row))
 
--- a row breaks the rule with this number, after all rows before it
+-- a row breaks the rule with this number, after all rows before it: the order of rows (1), or a rule of its channel
 unfoldable pub breaks : Config → List IssuedCommand → IssuedCommand → ℕ → Bool
 breaks s rows row number = if number == 1 then breaks_order rows row else breaks_in_channel s (rows_on row.channel rows) row number
 

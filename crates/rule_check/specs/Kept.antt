@@ -253,7 +253,8 @@ kept_finds_banks s banks (Ref rank) = not (has_kept_open s banks rank)
 kept_finds_banks s banks (Pre bank source) = true
 kept_finds_banks s banks (Prea rank) = true
 
--- a row breaks a rule of its channel, by what is kept
+-- A row breaks a rule of its channel, by what is kept: the state of banks (2), the four activate window (16), the refresh
+-- interval (18), or a distance between two commands.
 unfoldable pub kept_breaks : Config → List Rule → Channel → IssuedCommand → ℕ → Bool
 kept_breaks s table c row number =
     if number == 2 then not (kept_finds_banks s c.banks.items row.command)

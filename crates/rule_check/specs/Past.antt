@@ -18,7 +18,7 @@ pub record IsPast (past : Past) (s : Config) (rows : List IssuedCommand) : Type 
   pub channel_count : length past.channels.items ≡ s.channels
   pub channels : (k : ℕ) (d : Channel) → k < s.channels → IsKept (slice_index_or past.channels.items k d) s (rows_on k rows)
 
--- which rules a row breaks, by what is kept
+-- which rules a row breaks, by what is kept: the order of rows (1), or a rule of its channel
 abbrev pub past_breaks : Config → List Rule → Option IssuedCommand → Channel → IssuedCommand → ℕ → Bool
 past_breaks s table last c row number = if number == 1 then stands_wrongly last row else kept_breaks s table c row number
 

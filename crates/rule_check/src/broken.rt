@@ -8,6 +8,7 @@ ghost use Rattle.rule_check.specs.Kept.{kept_breaks_distance, kept_breaks_window
 ghost use Rattle.rule_check.specs.Kept.{kept_row, has_kept_open_in_group, has_kept_open, kept_finds_banks, kept_breaks, comes_too_soon, keeps_each};
 
 use crate::around::{around_command, bank_at, is_ahead_by, rank_at};
+use crate::rule_numbers::{BANK_STATE, FOUR_ACTIVATE_WINDOW, REFRESH_INTERVAL};
 use crate::state::{Bank, Channel, Rank};
 use sim_base::command::{Command, IssuedCommand, Kind};
 use sim_base::config::Config;
@@ -136,11 +137,11 @@ pub(crate) fn breaks(
 ) -> bool
     ensures { result ≡ kept_breaks config.now table.now channel.now row number }
 {
-    if number == 2 {
+    if number == BANK_STATE {
         !finds_banks(config, &channel.banks, row.command)
-    } else if number == 16 {
+    } else if number == FOUR_ACTIVATE_WINDOW {
         breaks_window(channel, row)
-    } else if number == 18 {
+    } else if number == REFRESH_INTERVAL {
         breaks_refresh(config, channel, row)
     } else {
         breaks_distance(table, channel, row, number)

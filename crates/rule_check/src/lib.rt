@@ -10,6 +10,7 @@ pub mod limits;
 pub mod numbers;
 mod past;
 pub mod reading;
+mod rule_numbers;
 mod state;
 mod table;
 mod verdict;

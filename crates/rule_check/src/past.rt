@@ -8,6 +8,7 @@ ghost use Rattle.rule_check.specs.Broken.{stands_before, stands_wrongly, lowest_
 ghost use Rattle.rule_check.specs.Kept.{IsKept};
 ghost use Rattle.rule_check.specs.Past.{IsPast, past_breaks, lowest_by};
 
+use crate::rule_numbers::{LAST_RULE, ROW_ORDER};
 use crate::state::{Channel, Past};
 use crate::{broken, channel};
 use sim_base::command::IssuedCommand;
@@ -69,7 +70,7 @@ fn breaks(
     ensures { result ≡ past_breaks config.now table.now before.now.last before.now.channel.now
         row number }
 {
-    if number == 1 {
+    if number == ROW_ORDER {
         stands_wrongly(before.last, row)
     } else {
         broken::breaks(config, table, before.channel, row, number)
@@ -79,7 +80,7 @@ fn breaks(
 fn lowest_by(config: &Config, table: &[Rule], before: &Before<'_>, row: IssuedCommand) -> Option<u8>
     ensures { result ≡ lowest_by config.now table.now before.now.last before.now.channel.now row }
 {
-    (1u8..22).find(move |number| breaks(config, table, before, row, u32::from(*number)))
+    (1..LAST_RULE + 1).find(move |number| breaks(config, table, before, row, u32::from(*number)))
 }
 
 // Most rows break no rule, which takes only one pass to find out.

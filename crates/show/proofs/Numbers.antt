@@ -1,6 +1,5 @@
 -- Numbers with a greatest dividend.
-use Rattle.std.proofs.Common.{◌≡◌, ℕ, ◌-◌, ◌*◌, ◌/◌, ◌^◌, ◌==◌, min, Some, None, cond, ap, arith, if◌then◌else◌}
-use Rattle.std.specs.Prelude.{Option}
+use Rattle.std.proofs.Common.{◌≡◌, ℕ, ◌-◌, ◌*◌, ◌/◌, ◌^◌, ◌==◌, min, Some, None, ap, arith, if◌then◌else◌}
 use Rattle.measures.specs.Number.{halves_of}
 
 -- a dividend of 128 bits is above the greatest that counts

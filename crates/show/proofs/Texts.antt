@@ -1,12 +1,17 @@
 -- Texts below their heads.
-use Rattle.std.proofs.Common.{ℕ, ◌+◌, List, ◌++◌, length, refl, sym, ap, ap₂, subst, ◌∙◌, add-one, append_assoc}
-use Rattle.text_builder.specs.Texts.{Puts, PutsWords}
+use Rattle.std.specs.Prelude.{Result, Ok, Err, IfOk, String, Vec, string_bytes}
+use Rattle.std.specs.declared.alloc.AllocError.{AllocError}
+use Rattle.std.specs.declared.alloc.Global.{Global}
+use Rattle.std.proofs.Common.{◌≡◌, ℕ, ◌+◌, List, [], ◌++◌, length, refl, sym, ap, ap₂, subst, ◌∙◌, add-one, append_assoc}
+use Rattle.text_builder.specs.Texts.{Grows, Puts, PutsWords}
 use Rattle.text_builder.specs.declared.TextBuilder.{TextBuilder}
-use Rattle.text_builder.proofs.Texts.{puts_both}
+use Rattle.text_builder.proofs.Texts.{puts_as, puts_both}
+use Rattle.show.specs.Strings.{IsText}
 use Rattle.show.specs.Screen.{Extends, IsScreen, channels_head, cores_head}
 use Rattle.show.specs.Banks.{AreBanksOf, AreBanks}
 use Rattle.show.specs.Requests.{latencies_head, waits_head, AreRequests}
 use Rattle.measures.specs.Latency.{read_latencies}
+use Rattle.measures.specs.declared.number.Number.{Number}
 use Rattle.request_table.specs.declared.times.RequestTimes.{RequestTimes}
 use Rattle.sim_base.specs.declared.command.IssuedCommand.{IssuedCommand}
 use Rattle.statistics.specs.Values.{RunStats}
@@ -45,3 +50,14 @@ requests_of requests above below upper lower = record {
       ap₂ (λ s t. s ++ t) upper.1 lower.1
       ∙ sym (append_assoc (latencies_head (length (read_latencies requests)) ++ upper.0) (waits_head (length requests)) lower.0);
 }
+
+-- the line of a row was put, unless memory was refused for its label
+pub labelled : (line : List ℕ → List ℕ) {a b : TextBuilder} (label : Result (String Global) AllocError) → ((words : List ℕ) → IfOk label (IsText words) → PutsWords (line words) a b) → Grows a b
+labelled line (Ok text) put = puts_as (λ x is. tt) (put (string_bytes text) refl)
+labelled line (Err fault) put = puts_as (λ x is. tt) (put [] tt)
+
+-- a table was put, unless memory was refused for its rows
+pub tabled : (table : List (List Number) → List ℕ → Type 0) {a b : TextBuilder} (rows : Result (Vec (List Number) Global) AllocError)
+    → ((found : List (List Number)) → IfOk rows (λ rows. rows.items ≡ found) → Puts (table found) a b) → Grows a b
+tabled table (Ok rows) put = puts_as (λ x is. tt) (put rows.items refl)
+tabled table (Err fault) put = puts_as (λ x is. tt) (put [] tt)

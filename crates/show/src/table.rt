@@ -1,6 +1,10 @@
 //! Tables of text: a line of headings, and below it a line for each row, with each column flush right.
 
-ghost use Rattle.text_builder.specs.Texts.{Grows};
+ghost use Rattle.std.specs.Prelude.{◌≡◌, List, ℕ, IfOk, string_bytes};
+ghost use Rattle.measures.specs.declared.number.Number.{Number};
+ghost use Rattle.text_builder.specs.Texts.{Puts, PutsWords};
+ghost use Rattle.show.specs.Strings.{IsText};
+ghost use Rattle.show.specs.Tables.{cell_text, width_of, column_text, headings_text, number_at, row_text, summary_label, label_text, lines_text, IsTable};
 
 use crate::rows::{Row, summary_rows};
 use measures::number::Number;
@@ -17,39 +21,57 @@ const LABEL_WIDTH: usize = 8;
 const NUMBER_WIDTH: usize = 5;
 
 // The width of a column of numbers, in characters.
-fn width_of(heading: &str) -> usize {
+fn width_of(heading: &str) -> usize
+    ensures { result ≡ width_of heading.now }
+{
     heading.len().max(NUMBER_WIDTH)
 }
 
-// What stands before a row: the number of its unit, or which of three rows of a summary it is.
-fn label_of(alloc: Global, row: usize, summarized: bool) -> Result<String, AllocError> {
-    if !summarized {
-        return format!(in alloc; "{row}");
-    }
-    let label = match row {
+// Which of three rows of a summary a row is.
+fn summary_label(row: usize) -> &'static str
+    ensures { result.now ≡ summary_label row }
+{
+    match row {
         0 => "least",
         1 => "median",
         _ => "greatest",
-    };
-    String::from_str(alloc, label)
+    }
+}
+
+// What stands before a row: the number of its unit, or which of three rows of a summary it is.
+fn label_of(alloc: Global, row: usize, summarized: bool) -> Result<String, AllocError>
+    ensures { IfOk result (λ text. string_bytes text ≡ label_text summarized row) }
+{
+    if summarized {
+        String::from_str(alloc, summary_label(row))
+    } else {
+        format!(in alloc; "{row}")
+    }
 }
 
 // Appends a cell, padded on the left.
 fn put_cell(text: &str, width: usize, out: &mut TextBuilder)
-    ensures { Grows out.old out.new }
+    ensures { PutsWords (cell_text width text.now) out.old out.new }
 {
-    for _ in text.len()..width {
-        out.push_str(" ");
-    }
+    out.push(" ".repeat(out.alloc(), width.saturating_sub(text.len())));
     out.push_str(text);
 }
 
-// Appends a cell, unless memory was refused for its text.
-fn put_made(text: Result<String, AllocError>, width: usize, out: &mut TextBuilder)
-    ensures { Grows out.old out.new }
+// Appends a cell of a column of numbers.
+fn put_column(heading: &str, text: &str, out: &mut TextBuilder)
+    ensures { PutsWords (column_text heading.now text.now) out.old out.new }
+{
+    out.push_str("  ");
+    put_cell(text, width_of(heading), out);
+}
+
+// Appends a cell of a column of numbers, unless memory was refused for its text.
+fn put_made(heading: &str, text: Result<String, AllocError>, out: &mut TextBuilder)
+    ensures { (words : List ℕ) → IfOk text (IsText words)
+        → PutsWords (column_text heading.now words) out.old out.new }
 {
     match text {
-        Ok(text) => put_cell(text.as_str(), width, out),
+        Ok(text) => put_column(heading, text.as_str(), out),
         Err(AllocError) => out.refuse(),
     }
 }
@@ -66,17 +88,38 @@ pub(crate) struct TableLayout<'a> {
 impl TableLayout<'_> {
     /// Appends the line of headings.
     pub(crate) fn put_headings(&self, out: &mut TextBuilder)
-        ensures { Grows out.old out.new }
+        ensures { PutsWords (headings_text self.now.label.now self.now.headings.now)
+            out.old out.new }
     {
         put_cell(self.label, LABEL_WIDTH, out);
         for heading in self.headings {
-            out.push_str("  ");
-            put_cell(heading, width_of(heading), out);
+            put_column(heading, heading, out);
         }
         out.push_str("\n");
     }
 
-    /// Appends the line of a row, behind a label.
+    // Appends the number below a heading, where there are both.
+    fn put_number(&self, alloc: Global, row: &[Number], place: usize, out: &mut TextBuilder)
+        ensures { PutsWords (number_at self.now.headings.now row.now place) out.old out.new }
+    {
+        match (self.headings.get(place), row.get(place)) {
+            (Some(heading), Some(number)) => put_made(heading, number.text(alloc), out),
+            _ => {}
+        }
+    }
+
+    // Appends the line of a row, behind a label.
+    fn put_line(&self, alloc: Global, label: &str, row: &[Number], out: &mut TextBuilder)
+        ensures { PutsWords (row_text self.now.headings.now label.now row.now) out.old out.new }
+    {
+        put_cell(label, LABEL_WIDTH, out);
+        for place in 0..self.headings.len() {
+            self.put_number(alloc, row, place, out);
+        }
+        out.push_str("\n");
+    }
+
+    /// Appends the line of a row, behind a label, unless memory was refused for that.
     pub(crate) fn put_row(
         &self,
         alloc: Global,
@@ -84,28 +127,28 @@ impl TableLayout<'_> {
         row: &[Number],
         out: &mut TextBuilder,
     )
-        ensures { Grows out.old out.new }
+        ensures { (words : List ℕ) → IfOk label (IsText words)
+            → PutsWords (row_text self.now.headings.now words row.now) out.old out.new }
     {
-        put_made(label, LABEL_WIDTH, out);
-        for (heading, number) in self.headings.iter().zip(row) {
-            out.push_str("  ");
-            put_made(number.text(alloc), width_of(heading), out);
+        match label {
+            Ok(label) => self.put_line(alloc, label.as_str(), row, out),
+            Err(AllocError) => out.refuse(),
         }
-        out.push_str("\n");
     }
 
     fn put_lines(&self, alloc: Global, rows: &[Row], summarized: bool, out: &mut TextBuilder)
-        ensures { Grows out.old out.new }
+        ensures { PutsWords (lines_text self.now summarized rows.now) out.old out.new }
     {
         self.put_headings(out);
-        for (place, row) in rows.iter().enumerate() {
+        for place in 0..rows.len() {
+            let row = &rows[place];
             self.put_row(alloc, label_of(alloc, place, summarized), &row[..], out);
         }
     }
 
     // Appends the table of rows, or of their summary.
     fn put_rows(&self, alloc: Global, rows: &[Row], out: &mut TextBuilder)
-        ensures { Grows out.old out.new }
+        ensures { Puts (IsTable self.now rows.now) out.old out.new }
     {
         if rows.len() <= MOST_LINES || self.all {
             return self.put_lines(alloc, rows, false, out);
@@ -124,7 +167,8 @@ impl TableLayout<'_> {
         rows: Result<Vec<Row>, AllocError>,
         out: &mut TextBuilder,
     )
-        ensures { Grows out.old out.new }
+        ensures { (found : List (List Number)) → IfOk rows (λ rows. rows.items ≡ found)
+            → Puts (IsTable self.now found) out.old out.new }
     {
         match rows {
             Ok(rows) => self.put_rows(alloc, &rows, out),

@@ -10,4 +10,4 @@ returns c =
     let cycles_is : c.stats.inside.cycles ≡ c.args.stats.now.cycles = search rules in
     let channels_is : c.len-channels.result ≡ length c.args.stats.now.channels = search rules in
     let first = words_as {words = (channels_head c.stats.inside.cycles c.len-channels.result)} (simp append_assoc refl) c.write.ensures.output in
-    headed (channels_head c.args.stats.now.cycles (length c.args.stats.now.channels)) (puts_as (λ put is. is ∙ ap₂ channels_head cycles_is channels_is) first) c.put.ensures
+    headed (channels_head c.args.stats.now.cycles (length c.args.stats.now.channels)) (puts_as (λ put is. is ∙ ap₂ channels_head cycles_is channels_is) first) (c.put.ensures _ c.channel_rows-rows.ensures)
