@@ -125,7 +125,8 @@ fn page_in<F: FileSet>(
     view: View,
 ) -> Result<Page, Reason>
     requires { HasOwnCommands found.now }
-    ensures requests { OnOk result (FindsSomeRequests F.FileSet files.old dir.now found.now.run.stats) }
+    ensures requests { let stats = found.now.run.stats in
+        OnOk result (FindsSomeRequests F.FileSet files.old dir.now stats) }
     ensures document { IfOk result (λ page. IsDocument page.text.items) }
     ensures warned { IfOk result (λ page. IsWarningOf page.text.items page.warning) }
     ensures fault { IfErr result (BarsPageOf F.FileSet files.old dir.now found.now) }
