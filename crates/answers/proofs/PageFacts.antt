@@ -1,5 +1,6 @@
--- What a file in its place leaves alone, and why a page is refused, from the steps.
-use Rattle.std.proofs.Common.{List, ℕ, ◌≡◌, ◌⊎◌, inl, inr, refl, ◌∙◌}
+-- What a file in its place leaves alone, what it holds, and why a page is refused, from the steps.
+use Rattle.std.proofs.Common.{List, [], ◌++◌, ℕ, Some, ◌≡◌, ◌⊎◌, inl, inr, refl, sym, ap, subst, ◌∙◌}
+use Rattle.page.specs.Document.{IsDocument, WritesDocument}
 use Rattle.sim_base.specs.declared.fault.Fault.{Fault}
 use Rattle.sim_base.specs.declared.fault.Fault.TheVariants.{Memory, Write}
 use Rattle.statistics.specs.Values.{RunStats}
@@ -20,6 +21,10 @@ unwritten_from tells path a b c x y z same unopened h t =
       | inl all ↦ inl (record { same = λ p. all.same p ∙ same t p; unopened = all.unopened ∙ unopened t })
       | inr gone ↦ inr (record { no_part = gone.no_part; others = λ p other. gone.others p other ∙ same t p })
     ]
+
+-- what a writer has got that held nothing is a whole document
+pub whole_document : (old new : List ℕ) → old ≡ [] → WritesDocument (Some old) (Some new) → IsDocument new
+whole_document old new empty h = subst IsDocument (sym (h.written ∙ ap (λ xs. xs ++ h.text) empty)) h.whole
 
 -- the text of a page is refused, for memory or by its writer, where something is right
 pub text_unwritten : {A : Type 0} (tells : Type 0) (held : Held) (path : List ℕ) (stats : RunStats) (fault : Fault) → IsWriteFault fault → A

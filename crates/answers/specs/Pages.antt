@@ -1,4 +1,4 @@
--- The page of a run. What stands in its text is not specified here, but covered by tests.
+-- The page of a run. Its text is a whole document; what is drawn in it is not specified here, but covered by tests.
 --     AreTablesIn stats_table commands_table stats commands      what the two tables hold
 --     AreTablesAt stats_path commands_path held stats commands      the same for what two files hold
 --     HoldsCommandsOf table stats      a table holds commands of the run
@@ -14,6 +14,7 @@ use Rattle.rule_check.specs.Verdict.{records_of}
 use Rattle.run_tables.specs.Commands.{IsCommandTable, HoldsCommands}
 use Rattle.run_tables.specs.Records.{IsRefusedFor}
 use Rattle.statistics.specs.Values.{RunStats}
+use Rattle.page.specs.Document.{IsDocument}
 use Rattle.page.specs.Rows.{IsOfRun, IsOfRunAt}
 use Rattle.refusal.specs.Warnings.{IsWarningOf}
 use Rattle.refusal.specs.declared.warning.LargePage.{LargePage}
@@ -64,8 +65,8 @@ abbrev pub IsNoCommands : List ℕ → RunStats → Fault → Type 0
 IsNoCommands table stats fault = IsRefusedFor HoldsCommands (records_of table) fault ⊎ HasStranger table stats fault
 
 -- the folder has the tables of a run, a configuration that is named is one that it fits, each command is of the run, so
--- is a table of requests, where there is one, the file is a new one, nothing else has changed, and a page of more than
--- 50 MB is warned of
+-- is a table of requests, where there is one, the file is a new one that holds a whole document, nothing else has
+-- changed, and a page of more than 50 MB is warned of
 pub record IsPageDone (dir file : List ℕ) (config : Option (List ℕ)) (warning : Option LargePage) (old new : Held) : Type 0 where
   pub stats : RunStats
   pub commands : List IssuedCommand
@@ -75,5 +76,6 @@ pub record IsPageDone (dir file : List ℕ) (config : Option (List ℕ)) (warnin
   pub configured : IsConfigured config old stats
   pub requests_are : AreRequestsAt (old (requests_path dir)) stats requests
   pub of_run : (place : ℕ) → IsOfRunAt stats commands place
+  pub document : IsDocument text
   pub written : IsWhole file text old new
   pub warned : IsWarningOf text warning

@@ -1,6 +1,7 @@
 -- Why an answer is refused, from what the files hold that it is made of. What is tested comes in this order: whether
--- each file can be read; what these files hold, a configuration before all else, then the statistics, then the commands;
--- what the table of requests holds, where a folder has one; and last, whether the answer can be written.
+-- each file can be read; what these files hold, a configuration before all else, then the statistics, then the
+-- commands; what the table of requests holds, where a folder has one; and last, whether the answer can be written.
+-- Memory may be refused at any time.
 --     LacksOne tells held paths      one of the files is not there
 --     AreTexts tells held paths texts      they hold these texts
 --     IsTableFault, IsMapFault texts fault      what is wrong with the texts of a check and of a map

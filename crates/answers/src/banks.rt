@@ -42,7 +42,8 @@ fn screen_in<F: FileSet>(
     options: Options,
 ) -> Result<String, Reason>
     ensures screen { IfOk result (IsBanksScreenIn F.FileSet files.old dir.now found.now) }
-    ensures requests { OnOk result (FindsSomeRequests F.FileSet files.old dir.now found.now.run.stats) }
+    ensures requests { let stats = found.now.run.stats in
+        OnOk result (FindsSomeRequests F.FileSet files.old dir.now stats) }
     ensures fault { IfErr result (BarsRequestsIn F.FileSet files.old dir.now found.now.run.stats) }
     ensures same { F.tells → SameFiles (F.held files.old) (F.held files.new) }
     ensures unopened { F.tells → F.opened files.new ≡ F.opened files.old }

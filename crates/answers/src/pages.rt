@@ -1,6 +1,7 @@
-//! The page of a run, from the tables in its folder. What stands in it is covered by tests, not by a contract.
+//! The page of a run, from the tables in its folder. What is drawn in it is covered by tests, not by a contract.
 
 ghost use Rattle.std.specs.Prelude.{◌≡◌, ◌⊎◌, IfOk, IfErr, OnOk, OnErr, IsOk, IsOkAnd, IsErrAnd};
+ghost use Rattle.page.specs.Document.{IsDocument};
 ghost use Rattle.refusal.specs.Warnings.{IsWarningOf};
 ghost use Rattle.whole_files.specs.Files.{SameFiles, IsWriteFault};
 ghost use Rattle.whole_files.specs.WholeFile.{part_of};
@@ -48,7 +49,8 @@ fn rows_of(requests: &Option<Vec<RequestTimes>>) -> Option<&[RequestTimes]> {
 // The text of the page, which is made before a file is opened.
 fn page_text(alloc: Global, found: &RunTables, shown: Shown<'_>) -> Result<Vec<u8>, Reason>
     requires { HasOwnCommands found.now }
-    ensures { IfErr result IsWriteFault }
+    ensures document { IfOk result (λ text. IsDocument text.items) }
+    ensures fault { IfErr result IsWriteFault }
 {
     let mut text = Vec::new(alloc);
     let run = RunCommands {
@@ -123,7 +125,9 @@ fn page_in<F: FileSet>(
     view: View,
 ) -> Result<Page, Reason>
     requires { HasOwnCommands found.now }
-    ensures requests { OnOk result (FindsSomeRequests F.FileSet files.old dir.now found.now.run.stats) }
+    ensures requests { let stats = found.now.run.stats in
+        OnOk result (FindsSomeRequests F.FileSet files.old dir.now stats) }
+    ensures document { IfOk result (λ page. IsDocument page.text.items) }
     ensures warned { IfOk result (λ page. IsWarningOf page.text.items page.warning) }
     ensures fault { IfErr result (BarsPageOf F.FileSet files.old dir.now found.now) }
     ensures same { F.tells → SameFiles (F.held files.old) (F.held files.new) }

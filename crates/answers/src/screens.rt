@@ -95,8 +95,8 @@ fn screen_in<F: FileSet>(
 ///
 /// The first of these: `Fault::Read` of a file; the first fault of the configuration; `Fault::CheckRow` of the first
 /// wrong record of the statistics; `Fault::ConfigRange` of `cores` or `channels` where the configuration has another
-/// number of them than the run; `Fault::CheckRow` of the first wrong record of the requests, or of the row in which they
-/// stop being of the run; `Fault::Write` where the answer cannot be written. `Fault::Memory` may come at any time.
+/// number of them than the run; `Fault::CheckRow` of the first wrong record of the requests, or of the row in which
+/// they stop being of the run; `Fault::Write` where the answer cannot be written. `Fault::Memory` may come at any time.
 pub fn perform_show<F: FileSet, P: Write>(
     alloc: Global,
     files: &mut F,

@@ -118,7 +118,8 @@ fn tables_at<F: FileSet>(
     ensures fits { IfOk result (λ found. RunFits F.FileSet files.old config.entry found.run) }
     ensures of_run { IfOk result HasOwnCommands }
     ensures ready { IfOk result (CanPage F.FileSet files.old config.entry stats.now commands.now) }
-    ensures fault { IfErr result (BarsPage F.FileSet files.old config.entry stats.now commands.now) }
+    ensures fault { IfErr result
+        (BarsPage F.FileSet files.old config.entry stats.now commands.now) }
     ensures same { F.tells → SameFiles (F.held files.old) (F.held files.new) }
     ensures unopened { F.tells → F.opened files.new ≡ F.opened files.old }
 {

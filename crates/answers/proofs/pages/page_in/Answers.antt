@@ -13,6 +13,16 @@ returns-clause-warned g c = rw c.deref.ensures.value at c.warning_of-warning.ens
 pub returns-in_err-requests-clause-requests : goal.returns-in_err-requests-clause-requests
 returns-in_err-requests-clause-requests g c = IfOk-from_err c.from_residual.result _ c.from_residual.ensures.0
 
+pub returns-clause-document : goal.returns-clause-document
+returns-clause-document g c = c.in_ok-text.ensures.document
+
+pub returns-in_err-requests-clause-document : goal.returns-in_err-requests-clause-document
+returns-in_err-requests-clause-document g c = IfOk-from_err c.from_residual.result _ c.from_residual.ensures.0
+
+pub returns-in_err-text-clause-document : goal.returns-in_err-text-clause-document
+returns-in_err-text-clause-document g c =
+    IfOk-from_err c.from_residual-in_err-text.result _ c.from_residual-in_err-text.ensures.0
+
 pub returns-in_err-requests-clause-warned : goal.returns-in_err-requests-clause-warned
 returns-in_err-requests-clause-warned g c = IfOk-from_err c.from_residual.result _ c.from_residual.ensures.0
 
@@ -36,7 +46,7 @@ returns-in_err-text-clause-warned g c =
 
 pub returns-in_err-text-clause-fault : goal.returns-in_err-text-clause-fault
 returns-in_err-text-clause-fault g c =
-    rw (same_fault c.from_residual-in_err-text.result _ c.from_residual-in_err-text.ensures) (text_unwritten _ _ _ _ _ c.in_err-text.ensures
+    rw (same_fault c.from_residual-in_err-text.result _ c.from_residual-in_err-text.ensures) (text_unwritten _ _ _ _ _ c.in_err-text.ensures.fault
     (λ t. record { requests = option_map (λ r. r.items) c.in_ok-requests.requests; requests_are = c.in_ok-requests.ensures.found t }))
 
 pub returns-in_err-text-clause-same : goal.returns-in_err-text-clause-same

@@ -3,16 +3,18 @@ use Rattle.whole_files.specs.WholeFile.{part_of}
 use Rattle.config_reader.proofs.Refusing.{same_fault}
 use Rattle.std.proofs.Common.{inl, inr, ◌∙◌, sym, subst, ap, ◌++◌, ◌∷◌, []}
 use Rattle.std.proofs.lemmas.Result.{IfOk-weaker, IfErr-weaker, on_err_weaker, IfOk-from_err, on_ok_weaker}
+use Rattle.page.specs.Document.{IsDocument}
 use Rattle.refusal.specs.Warnings.{IsWarningOf}
 use Rattle.answers.specs.Refused.{IsPageFault, HoldRunTables}
-use Rattle.answers.proofs.NamedFacts.{ok_with, ok_so, when_ok, err_with}
+use Rattle.answers.proofs.NamedFacts.{both_ok, ok_with, ok_so, when_ok, err_with}
 use Rattle.answers.proofs.PageFacts.{whole_from, unwritten_from, write_refused}
 use Rattle.answers.proofs.RequestFacts.{requests_before, texts_refused, beside_refused, right_beside}
 use Rattle.answers.proofs.pages.perform_page.Goals as goal
 
 pub returns-clause-done : goal.returns-clause-done
 returns-clause-done g c = IfOk-weaker c.put_page.result _ _ (λ warning given tells.
-    let made = ok_with c.page_in-page.result _ _ c.page_in-page.ensures.warned given in
+    let page = both_ok c.page_in-page.result _ _ _ (λ page warned document. (warned, document)) c.page_in-page.ensures.warned c.page_in-page.ensures.document in
+    let made = ok_with c.page_in-page.result (λ page. IsWarningOf page.text.items page.warning × IsDocument page.text.items) _ page given in
     let at = ok_so c.page_in-page.result _ c.page_in-page.ensures.requests given tells in
     record {
       stats = c.in_ok-found.found.run.stats;
@@ -24,7 +26,8 @@ returns-clause-done g c = IfOk-weaker c.put_page.result _ _ (λ warning given te
       requests_are = requests_before _ _ _ _ _ _ c.in_ok-found.ensures.same (λ t. at.requests_are) tells;
       of_run = c.in_ok-found.ensures.of_run;
       written = whole_from _ _ _ _ _ (λ path. c.page_in-page.ensures.same tells path ∙ c.in_ok-found.ensures.same tells path) (made.2.1 tells);
-      warned = subst (IsWarningOf made.0.text.items) (sym made.2.0) made.1;
+      warned = subst (IsWarningOf made.0.text.items) (sym made.2.0) made.1.0;
+      document = made.1.1;
     }) c.put_page.ensures.put
 
 pub returns-clause-refused : goal.returns-clause-refused
