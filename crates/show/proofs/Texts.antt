@@ -7,7 +7,7 @@ use Rattle.text_builder.specs.Texts.{Grows, Puts, PutsWords}
 use Rattle.text_builder.specs.declared.TextBuilder.{TextBuilder}
 use Rattle.text_builder.proofs.Texts.{puts_as, puts_both}
 use Rattle.show.specs.Strings.{IsText}
-use Rattle.show.specs.Screen.{Extends, IsScreen, channels_head, cores_head}
+use Rattle.show.specs.Screen.{EndsWith, Extends, IsScreen, channels_head, cores_head}
 use Rattle.show.specs.Banks.{AreBanksOf, AreBanks}
 use Rattle.show.specs.Requests.{latencies_head, waits_head, AreRequests}
 use Rattle.measures.specs.Latency.{read_latencies}
@@ -22,6 +22,10 @@ headed head first second = puts_both (λ x y h k. (y, ap (λ t. t ++ y) h)) firs
 
 pub headed_on : {B : List ℕ → Type 0} (head : List ℕ) {a b c : TextBuilder} → Puts (Extends head) a b → Puts B b c → Puts (Extends head) a c
 headed_on head first second = puts_both (λ x y h k. (h.0 ++ y, ap (λ t. t ++ y) h.1 ∙ append_assoc head h.0 y)) first second
+
+-- words were put at the end
+pub ended : {A : List ℕ → Type 0} (last : List ℕ) {a b c : TextBuilder} → Puts A a b → PutsWords last b c → Puts (EndsWith last) a c
+ended last first second = puts_both (λ x y h k. (x, ap (λ t. x ++ t) k)) first second
 
 -- a screen, from its parts
 pub screen_of : (stats : RunStats) (above below : List ℕ) → Extends (channels_head stats.cycles (length stats.channels)) above → Extends (cores_head (length stats.cores)) below

@@ -1,5 +1,6 @@
 -- What the screen has.
 --     Extends old new      a text followed by more
+--     EndsWith last text      a text whose end is this one
 --     channels_head cycles count, cores_head count      the lines above the two tables
 --     IsScreen stats text      the screen of a run
 use Rattle.std.specs.Prelude.{◌≡◌, ℕ, List, ◌++◌, length, codes, decimal}
@@ -8,6 +9,10 @@ use Rattle.statistics.specs.Values.{RunStats}
 -- a text followed by more
 abbrev pub Extends : List ℕ → List ℕ → Type 0
 Extends old new = (more : List ℕ) × (new ≡ old ++ more)
+
+-- a text whose end is this one
+abbrev pub EndsWith : List ℕ → List ℕ → Type 0
+EndsWith last text = (before : List ℕ) × (text ≡ before ++ last)
 
 -- the lines above the table of channels
 abbrev pub channels_head : ℕ → ℕ → List ℕ

@@ -2,7 +2,7 @@
 
 ghost use Rattle.std.specs.Prelude.{IfOk, length, string_bytes};
 ghost use Rattle.show.specs.Rows.{time_text};
-ghost use Rattle.show.specs.Screen.{Extends, IsScreen, channels_head, cores_head};
+ghost use Rattle.show.specs.Screen.{EndsWith, Extends, IsScreen, channels_head, cores_head};
 ghost use Rattle.text_builder.specs.Texts.{Puts, PutsWords};
 
 use crate::options::Options;
@@ -94,7 +94,8 @@ pub(crate) fn put_screen(
     config: Option<&Config>,
     out: &mut TextBuilder,
 )
-    ensures { Puts (IsScreen stats.now) out.old out.new }
+    ensures screen { Puts (IsScreen stats.now) out.old out.new }
+    ensures time { Puts (EndsWith (time_text options.khz stats.now.cycles)) out.old out.new }
 {
     put_channels(alloc, stats, options, config, out);
     put_cores(alloc, stats, options, out);
@@ -125,7 +126,9 @@ pub fn show_text(
     options: Options,
     config: Option<&Config>,
 ) -> Result<String, AllocError>
-    ensures { IfOk result (λ text. IsScreen stats.now (string_bytes text)) }
+    ensures screen { IfOk result (λ text. IsScreen stats.now (string_bytes text)) }
+    ensures time { IfOk result (λ text.
+        EndsWith (time_text options.khz stats.now.cycles) (string_bytes text)) }
 {
     let mut text = TextBuilder::new(alloc);
     put_screen(alloc, stats, options, config, &mut text);

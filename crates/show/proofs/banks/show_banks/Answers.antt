@@ -16,5 +16,5 @@ returns c =
       banks_are = subst (λ n. AreBanks c.args.commands.now n banks) count_is are;
       text_is = refl;
     })
-    c.put_screen.ensures c.put_channels.ensures)
+    c.put_screen.ensures.screen c.put_channels.ensures)
     c.finish.ensures
