@@ -1,6 +1,7 @@
 -- Traces read one after the other.
 use Rattle.std.proofs.Common.{◌≡◌, ℕ, ◌+◌, ◌<◌, ◌≤◌, ◌^◌, Bool, true, false, cond, leb, List, [], ◌∷◌, ◌++◌, length, map, get_or, drop, Result, Ok, Err, ◌⊎◌, inl, inr, refl, sym, ap, subst, ◌∙◌, arith, add-one, append_assoc, drop-cons}
 use Rattle.std.specs.Borrow.{Bor}
+use Rattle.std.specs.Prelude.{Option}
 use Rattle.std.proofs.Math.ListN.{drop_of_length-le, length-append}
 use Rattle.std.proofs.Math.Seq.{get_or-append_seam}
 use Rattle.std.proofs.lemmas.Bool.{cases_lt}
@@ -9,7 +10,16 @@ use Rattle.sim_base.specs.declared.fault.Fault.{Fault}
 use Rattle.sim_base.specs.declared.trace.Entry.{Entry}
 use Rattle.sim_base.specs.declared.fault.Fault.TheVariants.{TraceTooLong}
 use Rattle.sim_base.specs.TraceText.{◌>>=◌, BadLine, in_trace, limited, trace_answer, trace_entries}
-use Rattle.simulation.specs.Runs.{traces_of, AreRead}
+use Rattle.simulation.specs.Runs.{traces_of}
+use Rattle.simulation.specs.Traces.{text_of, len_to_read, bytes_to_read, trace_in, IsTraceFor}
+use Rattle.simulation.specs.declared.input.CoreTrace.{CoreTrace}
+use Rattle.simulation.specs.declared.input.CoreTrace.TheVariants.{Own, SharedWith}
+
+-- each of these traces is what the text of its core means
+abbrev pub AreRead : List (List ℕ) → List (List Entry) → Type 0
+AreRead texts traces =
+    (k : ℕ) (text : List ℕ) (trace : List Entry) → k < length traces
+    → trace_answer k (get_or texts k text) ≡ Ok (get_or traces k trace)
 
 -- the traces so far, and then those of the rest
 abbrev pub prepend : List (List Entry) → Result (List (List Entry)) Fault → Result (List (List Entry)) Fault
@@ -19,6 +29,10 @@ prepend xs (Err e) = Err e
 -- the texts from a number on
 abbrev pub texts_from : List (Bor (List ℕ)) → ℕ → List (List ℕ)
 texts_from texts i = map (λ t. t.now) (drop i texts)
+
+pub prepend_none : (r : Result (List (List Entry)) Fault) → r ≡ prepend [] r
+prepend_none (Ok ys) = refl
+prepend_none (Err e) = refl
 
 prepend_one : (ts : List (List Entry)) (t : List Entry) (r : Result (List (List Entry)) Fault) → prepend ts (r >>= (λ others. Ok (t ∷ others))) ≡ prepend (ts ++ t ∷ []) r
 prepend_one ts t (Ok ys) = ap Ok (sym (append_assoc ts (t ∷ []) ys))
@@ -43,6 +57,21 @@ answer-any a b text trace e = by (trace_entries text) e
     by : (r : Result (List Entry) BadLine) → (in_trace a r >>= limited a) ≡ Ok trace → (in_trace b r >>= limited b) ≡ Ok trace
     by (Ok entries) e = limited-any a b (leb (length entries) (2 ^ 62)) entries trace e
     by (Err bad) e = cc e
+
+-- the bytes of the next text that are read, and of those behind it
+pub bytes-next : (texts : List (Bor (List ℕ))) (sources : List (Option ℕ)) (i : ℕ) (d : Bor (List ℕ)) (none : Option ℕ) → i < length texts → i < length sources
+    → bytes_to_read (texts_from texts i) (drop i sources) ≡ len_to_read (get_or texts i d).now (get_or sources i none) + bytes_to_read (texts_from texts (i + 1)) (drop (i + 1) sources)
+bytes-next texts sources i d none l m = rw (drop-cons texts i d l, drop-cons sources i none m, add-one i) refl
+
+pub bytes-end : (texts : List (Bor (List ℕ))) (sources : List (Option ℕ)) (i : ℕ) → length texts ≤ i → bytes_to_read (texts_from texts i) (drop i sources) ≡ 0
+bytes-end texts sources i l = rw (drop_of_length-le texts l) refl
+
+-- the trace of a core is what its text means, be it its own or that of an earlier core
+pub answer-found : (texts : List (List ℕ)) (traces : List (List Entry)) (found : CoreTrace) → AreRead texts traces → IsTraceFor texts (length traces) found
+    → trace_answer (length traces) (text_of texts (length traces)) ≡ Ok (trace_in traces found)
+answer-found texts traces (Own trace) known is_for = is_for
+answer-found texts traces (SharedWith first) known is_for =
+    answer-any first (length traces) (text_of texts (length traces)) (trace_in traces (SharedWith first)) (ap (trace_answer first) (sym is_for.1) ∙ known first [] [] is_for.0)
 
 -- with one trace more each is still what its text means
 pub each-more : (texts : List (List ℕ)) (traces : List (List Entry)) (trace : List Entry) (d : List ℕ) → AreRead texts traces → length traces < length texts

@@ -2,7 +2,6 @@
 --     texts_in texts      what stands in texts
 --     IsTextOf texts text core      the text of a core
 --     traces_of core texts      the entries of traces, of which the first is that of this core
---     AreRead texts traces      the traces of the first cores are what their texts mean
 --     limits_of cores texts cycles workers      whether there is one trace per core, and so on
 --     input_of config texts cycles workers      the entries of all traces, or the first fault of a run's input
 --     IsTraceFault core text fault, IsTracesFault texts fault      why a trace, or one of them, is refused
@@ -19,7 +18,7 @@
 --     IsLegalRun s traces n      `check` finds the table of the commands of a run legal
 --     IsJudgedLegal config texts cycles workers tables outcome      it finds that of this run legal
 --     IsRun, IsLegal, Keeps law, IsRefused      the same of an input with its options
-use Rattle.std.specs.Prelude.{◌≡◌, ◌≢◌, ◌⊎◌, ℕ, ◌+◌, ◌<◌, ◌≤◌, ◌==◌, nat_le, Bool, ◌&&◌, List, [], ◌∷◌, length, map, slice_index_or, Result, Ok, Err, IsOk, if◌then◌else◌}
+use Rattle.std.specs.Prelude.{◌≡◌, ◌≢◌, ◌⊎◌, ℕ, ◌+◌, ◌≤◌, ◌==◌, nat_le, Bool, ◌&&◌, List, [], ◌∷◌, length, map, slice_index_or, Result, Ok, Err, IsOk, if◌then◌else◌}
 use Rattle.std.specs.Borrow.{Bor}
 use Rattle.sim_base.specs.declared.config.Config.{Config}
 use Rattle.sim_base.specs.declared.fault.Fault.{Fault}
@@ -55,12 +54,6 @@ traces_of core (text ∷ texts) = do
   first ← trace_answer core text
   others ← traces_of (core + 1) texts
   Ok (first ∷ others)
-
--- each of these traces is what the text of its core means
-abbrev pub AreRead : List (List ℕ) → List (List Entry) → Type 0
-AreRead texts traces =
-    (k : ℕ) (text : List ℕ) (trace : List Entry) → k < length traces
-    → trace_answer k (slice_index_or texts k text) ≡ Ok (slice_index_or traces k trace)
 
 -- what is tested between the configuration and the traces: one trace per core, 1 to 64 workers, and at most 10^12
 -- cycles

@@ -1,18 +1,21 @@
 //! The input of a run, read and tested.
 
-ghost use Rattle.std.specs.Prelude.{◌≡◌, ◌≤◌, ◌<◌, ◌^◌, ◌==◌, ◌&&◌, nat_le, length, vec_len, Ok, IfOk, IfErr, IfSome};
+ghost use Rattle.std.specs.Prelude.{◌≡◌, ◌≤◌, ◌<◌, ◌^◌, ◌==◌, ◌&&◌, ◌↔◌, nat_le, length, vec_len, IsTrue, Ok, IfOk, IfErr, IfSome};
+ghost use Rattle.std.specs.List.{AllZip, range_with_len};
 ghost use Rattle.config_reader.specs.Document.{document_of};
 ghost use Rattle.sim_base.specs.TraceText.{trace_answer};
 ghost use Rattle.sim_base.specs.Values.{values_of};
-ghost use Rattle.simulation.specs.Runs.{unless, limits_of, texts_in, traces_of, AreRead, IsTextOf, IsTraceFault, IsTracesFault, IsInputFault, PassesTests};
+ghost use Rattle.simulation.specs.Runs.{unless, limits_of, texts_in, traces_of, IsTextOf, IsTraceFault, IsTracesFault, IsInputFault, PassesTests};
+ghost use Rattle.simulation.specs.Traces.{text_of, len_to_read, bytes_to_read, trace_in, AreSources, IsTraceFor, IsFound, IsBefore};
 
 use config_reader::read_config;
 use cpu_trace::reader::read_trace;
 use cpu_trace::trace::Trace;
+use rayon::prelude::*;
 use sim_base::config::Config;
 use sim_base::fault::Fault;
 use sim_base::message::{CoreId, Cycle};
-use std::alloc::Global;
+use std::alloc::{AllocError, Global};
 use std::thread::Threads;
 
 /// The greatest limit of a run, in cycles.
@@ -81,23 +84,117 @@ fn earlier(texts: &[&[u8]], core: usize, text: &[u8]) -> Option<usize>
     None
 }
 
-// The trace of the next core, which it shares with an earlier one that is given the same text.
-fn next_trace<R: Threads + Sync>(
+// For each core an earlier one that is given the same text, its source, if there is one.
+fn find_sources(alloc: Global, texts: &[&[u8]]) -> Result<Vec<Option<usize>>, AllocError>
+    ensures count { IfOk result (λ sources. length sources.items ≡ length texts.now) }
+    ensures sources { IfOk result (λ sources. AreSources (texts_in texts.now) sources.items) }
+{
+    let mut sources: Vec<Option<usize>> = Vec::new(alloc);
+    for text in texts {
+        let source = earlier(texts, sources.len(), text);
+        sources.push(source)?;
+    }
+    Ok(sources)
+}
+
+// How many bytes of a core's text are read: all, or none if the core has a source.
+fn len_to_read(text: &[u8], source: Option<usize>) -> usize
+    ensures { result ≡ len_to_read text.now source }
+{
+    match source {
+        Some(_) => 0,
+        None => text.len(),
+    }
+}
+
+// More bytes than this are worth several threads.
+const FEW_BYTES: usize = 1 << 18;
+
+// Whether more than `FEW_BYTES` bytes of texts are read.
+fn are_long(texts: &[&[u8]], sources: &[Option<usize>]) -> bool
+    requires { length sources.now ≡ length texts.now }
+    ensures { IsTrue result ↔ (2 ^ 18 < bytes_to_read (texts_in texts.now) sources.now) }
+{
+    let mut left = FEW_BYTES;
+    for core in 0..texts.len() {
+        let len = len_to_read(texts[core], sources[core]);
+        if left < len {
+            return true;
+        }
+        left -= len;
+    }
+    false
+}
+
+// The trace of a core: one of its own, or that of its source.
+#[derive(Drop)]
+enum CoreTrace {
+    Own(Trace),
+    SharedWith(usize),
+}
+
+// The trace of a core, for which no other trace has to be read.
+fn find_trace<R: Threads + Sync>(
     rt: &R,
     alloc: Global,
     texts: &[&[u8]],
-    traces: &[Trace],
-    text: &[u8],
-) -> Result<Trace, Fault>
-    requires few { length traces.now < 256 }
-    requires read { AreRead (texts_in texts.now) traces.now }
-    ensures answer { IfOk result (λ trace. trace_answer (length traces.now) text.now ≡ Ok trace) }
-    ensures refused { IfErr result (IsTraceFault (length traces.now) text.now) }
+    sources: &[Option<usize>],
+    core: usize,
+) -> Result<CoreTrace, Fault>
+    requires core { (core < length texts.now) × (core < length sources.now) }
+    requires few { length texts.now ≤ 256 }
+    requires sources { AreSources (texts_in texts.now) sources.now }
+    ensures found { IfOk result (IsTraceFor (texts_in texts.now) core) }
+    ensures refused { IfErr result (IsTraceFault core (text_of (texts_in texts.now) core)) }
 {
-    let core = traces.len();
-    match earlier(texts, core, text) {
-        Some(first) => Ok(traces[first].copy()?),
-        None => read_trace(rt, alloc, core as CoreId, text),
+    match sources[core] {
+        Some(first) => Ok(CoreTrace::SharedWith(first)),
+        None => match read_trace(rt, alloc, core as CoreId, texts[core]) {
+            Ok(trace) => Ok(CoreTrace::Own(trace)),
+            Err(fault) => Err(fault),
+        },
+    }
+}
+
+// The traces of all cores, by core. If many bytes are read, then in as many threads as there are processors.
+fn find_traces<R: Threads + Sync>(
+    rt: &R,
+    alloc: Global,
+    texts: &[&[u8]],
+    sources: &[Option<usize>],
+) -> Result<Vec<Result<CoreTrace, Fault>>, AllocError>
+    requires few { length texts.now ≤ 256 }
+    requires count { length sources.now ≡ length texts.now }
+    requires sources { AreSources (texts_in texts.now) sources.now }
+    ensures { IfOk result (λ found. AllZip (IsFound (texts_in texts.now))
+        (range_with_len 0 (length texts.now)) found.items) }
+{
+    let least = if are_long(texts, sources) {
+        1
+    } else {
+        texts.len()
+    };
+    (0..texts.len())
+        .into_par_iter()
+        .with_min_len(least)
+        .map(
+            |core: usize| -> Result<CoreTrace, Fault>
+                requires { (core < length texts.now) × (core < length sources.now)
+                    × (length texts.now ≤ 256) × AreSources (texts_in texts.now) sources.now }
+                ensures { IsFound (texts_in texts.entry.now) core result }
+            { find_trace(rt, alloc, texts, sources, core) },
+        )
+        .collect(rt, alloc)
+}
+
+// The trace that was found for the next core, where these are those of the cores before it.
+fn next_trace(traces: &[Trace], found: CoreTrace) -> Result<Trace, AllocError>
+    requires { IsBefore (length traces.now) found }
+    ensures { IfOk result (λ trace. trace ≡ trace_in traces.now found) }
+{
+    match found {
+        CoreTrace::Own(trace) => Ok(trace),
+        CoreTrace::SharedWith(first) => traces[first].copy(),
     }
 }
 
@@ -112,12 +209,14 @@ fn read_traces<R: Threads + Sync>(
     ensures count { IfOk result (λ v. vec_len v ≡ length texts.now) }
     ensures refused { IfErr result (IsTracesFault (texts_in texts.now)) }
 {
-    let mut traces = Vec::new(alloc);
-    for text in texts {
-        let trace = match next_trace(rt, alloc, texts, &traces, text) {
-            Ok(trace) => trace,
+    let sources = find_sources(alloc, texts)?;
+    let mut traces: Vec<Trace> = Vec::new(alloc);
+    for found in find_traces(rt, alloc, texts, &sources)? {
+        let found = match found {
+            Ok(found) => found,
             Err(fault) => return Err(fault),
         };
+        let trace = next_trace(&traces, found)?;
         let Ok(()) = traces.push(trace) else {
             return Err(Fault::Memory);
         };
