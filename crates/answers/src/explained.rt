@@ -17,7 +17,6 @@ use refusal::reason::Reason;
 use rule_check::{Verdict, check};
 use run_tables::{read_commands, read_stats};
 use sim_base::config::Config;
-use sim_base::fault::Fault;
 use statistics::stats::Stats;
 use std::alloc::Global;
 
