@@ -1,5 +1,8 @@
 //! The numbers of tables: what is counted of a core and of a channel.
 
+ghost use Rattle.std.specs.Prelude.{◌≡◌, ◌∷◌, []};
+ghost use Rattle.page.specs.Cells.{count, absent, percent, quotient, drain_of, rate, data_rate, time, finish_time};
+
 use crate::run_pictures::activity::BURST;
 use measures::rates;
 use measures::rates::Quotient;
@@ -18,7 +21,7 @@ pub(crate) enum CellForm {
 
 impl CellForm {
     /// A number of this form, or a dash where there is none.
-    pub(crate) fn piece_of(self, number: Option<u64>) -> Piece {
+    fn piece_of(self, number: Option<u64>) -> Piece {
         match (self, number) {
             (_, None) => Piece::Text("–"),
             (CellForm::Count, Some(number)) => Piece::Grouped(number),
@@ -37,42 +40,78 @@ pub(crate) struct RunScale {
     pub(crate) khz: Option<u64>,
 }
 
-/// A number of a table, with the form of its column.
-pub(crate) type Cell = (CellForm, Option<u64>);
+/// A number of a table, if it is there, with the form of its column.
+#[derive(Clone, Copy)]
+pub(crate) struct Cell {
+    pub(crate) form: CellForm,
+    pub(crate) number: Option<u64>,
+}
 
-fn count(number: u64) -> Cell {
-    (CellForm::Count, Some(number))
+impl Cell {
+    /// The number, or a dash where there is none.
+    pub(crate) fn piece(self) -> Piece {
+        self.form.piece_of(self.number)
+    }
+}
+
+fn count(number: u64) -> Cell
+    ensures { result ≡ count number }
+{
+    Cell {
+        form: CellForm::Count,
+        number: Some(number),
+    }
+}
+
+// A number that is not there.
+fn absent(form: CellForm) -> Cell
+    ensures { result ≡ absent form }
+{
+    Cell { form, number: None }
 }
 
 // A quotient, if there is something to divide by: of each hundred, in tenths.
-fn percent(part: u64, whole: u64) -> Cell {
+fn percent(part: u64, whole: u64) -> Cell
+    ensures { result ≡ percent part whole }
+{
     quotient(CellForm::Tenths, u128::from(part), whole, 1_000)
 }
 
 // A quotient, if there is something to divide by; one has `units` of the last digit.
-fn quotient(form: CellForm, part: u128, whole: u64, units: u64) -> Cell {
+fn quotient(form: CellForm, part: u128, whole: u64, units: u64) -> Cell
+    ensures { result ≡ quotient form part whole units }
+{
     if whole == 0 {
-        return (form, None);
+        return absent(form);
     }
-    (form, Some(share_of(part, whole, units)))
+    Cell {
+        form,
+        number: Some(share_of(part, whole, units)),
+    }
 }
 
 // The cycles in which a channel drained its writes, in percent, where they are counted.
-fn drain_of(cycles: u64, channel: &ChannelStats) -> Cell {
+fn drain_of(cycles: u64, channel: &ChannelStats) -> Cell
+    ensures { result ≡ drain_of cycles channel.now.draining }
+{
     match channel.draining {
         Some(drained) => percent(drained, cycles),
-        None => (CellForm::Tenths, None),
+        None => absent(CellForm::Tenths),
     }
 }
 
 // A rate or a time, if there is something to divide by.
-fn rate_cell(form: CellForm, rate: Quotient, units: u64) -> Cell {
-    let whole = u64::try_from(rate.divisor).unwrap_or(u64::MAX);
-    quotient(form, rate.dividend, whole, units)
+fn rate_cell(form: CellForm, found: Quotient, units: u64) -> Cell
+    ensures { result ≡ rate form found.dividend found.divisor units }
+{
+    let whole = u64::try_from(found.divisor).unwrap_or(u64::MAX);
+    quotient(form, found.dividend, whole, units)
 }
 
 /// The data that a channel moved in a run of `cycles` cycles, in GB/s.
-pub(crate) fn data_rate(cycles: u64, channel: &ChannelStats, khz: u64) -> Cell {
+pub(crate) fn data_rate(cycles: u64, channel: &ChannelStats, khz: u64) -> Cell
+    ensures { result ≡ data_rate cycles channel.now khz }
+{
     rate_cell(
         CellForm::Hundredths,
         rates::data_rate(cycles, channel, khz),
@@ -108,7 +147,9 @@ fn rate_to_finish(core: &CoreStats) -> Cell {
 }
 
 // A quotient of cycles, in tenths of a ns.
-fn nanoseconds(cycles: u128, divisor: u64, khz: u64) -> Cell {
+fn nanoseconds(cycles: u128, divisor: u64, khz: u64) -> Cell
+    ensures { result ≡ time cycles divisor khz }
+{
     rate_cell(
         CellForm::Tenths,
         rates::nanoseconds(cycles, divisor, khz),
@@ -117,12 +158,24 @@ fn nanoseconds(cycles: u128, divisor: u64, khz: u64) -> Cell {
 }
 
 /// The finish and the mean read latency of a core, in ns.
-pub(crate) fn core_times(core: &CoreStats, khz: u64) -> [Cell; 2] {
-    let finish = match core.finish {
+pub(crate) fn core_times(core: &CoreStats, khz: u64) -> [Cell; 2]
+    ensures { result ≡ finish_time core.now.finish khz
+        ∷ time core.now.read_latency core.now.replies khz ∷ [] }
+{
+    [
+        finish_time(core.finish, khz),
+        nanoseconds(core.read_latency, core.replies, khz),
+    ]
+}
+
+// The finish of a core in ns, if it has finished.
+fn finish_time(finish: Option<u64>, khz: u64) -> Cell
+    ensures { result ≡ finish_time finish khz }
+{
+    match finish {
         Some(cycle) => nanoseconds(u128::from(cycle), 1, khz),
-        None => (CellForm::Tenths, None),
-    };
-    [finish, nanoseconds(core.read_latency, core.replies, khz)]
+        None => absent(CellForm::Tenths),
+    }
 }
 
 /// The numbers of a core in a run of `cycles` cycles, in the order of their columns.
@@ -130,7 +183,10 @@ pub(crate) fn core_cells(cycles: u64, core: &CoreStats) -> [Cell; 11] {
     [
         count(core.retired),
         quotient(CellForm::Hundredths, u128::from(core.retired), cycles, 100),
-        (CellForm::Count, core.finish),
+        Cell {
+            form: CellForm::Count,
+            number: core.finish,
+        },
         rate_to_finish(core),
         count(core.reads),
         quotient(CellForm::Tenths, core.read_latency, core.replies, 10),

@@ -10,8 +10,8 @@ use statistics::cores::CoreStats;
 use std::alloc::{AllocError, Global};
 
 fn put_cells(cells: &[Cell], out: &mut Markup) {
-    for (form, number) in cells {
-        out.fill("<td>{}</td>", &[form.piece_of(*number)]);
+    for cell in cells {
+        out.fill("<td>{}</td>", &[cell.piece()]);
     }
 }
 
@@ -101,9 +101,9 @@ fn summary_of(
     let mut known = Vec::new(alloc);
     let mut form = CellForm::Count;
     for core in cores {
-        if let Some((column_form, number)) = core_cell(scale, core, column) {
-            form = column_form;
-            if let Some(number) = number {
+        if let Some(cell) = core_cell(scale, core, column) {
+            form = cell.form;
+            if let Some(number) = cell.number {
                 known.push(number)?;
             }
         }
@@ -111,9 +111,18 @@ fn summary_of(
     known.sort_unstable();
     let middle = known.len().saturating_sub(1) / 2;
     Ok([
-        (form, known.first().copied()),
-        (form, known.get(middle).copied()),
-        (form, known.last().copied()),
+        Cell {
+            form,
+            number: known.first().copied(),
+        },
+        Cell {
+            form,
+            number: known.get(middle).copied(),
+        },
+        Cell {
+            form,
+            number: known.last().copied(),
+        },
     ])
 }
 
