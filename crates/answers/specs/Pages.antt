@@ -2,10 +2,9 @@
 --     AreTablesIn stats_table commands_table stats commands      what the two tables hold
 --     AreTablesAt stats_path commands_path held stats commands      the same for what two files hold
 --     HoldsCommandsOf table stats      a table holds commands of the run
---     IsFirstStranger stats commands place      the first command that is not of the run
 --     IsNoCommands table stats fault      why a table holds no commands of the run
 --     IsPageDone dir file config warning old new      the page is in its place, and this is warned of
-use Rattle.std.specs.Prelude.{◌≡◌, ◌⊎◌, ℕ, ◌+◌, ◌<◌, List, ◌∷◌, slice_get, IsSomeAnd, Option, Some}
+use Rattle.std.specs.Prelude.{◌≡◌, ◌⊎◌, ℕ, ◌+◌, List, ◌∷◌, Option, Some}
 use Rattle.sim_base.specs.declared.command.IssuedCommand.{IssuedCommand}
 use Rattle.sim_base.specs.declared.fault.Fault.{Fault}
 use Rattle.sim_base.specs.declared.fault.Fault.TheVariants.{CheckRow}
@@ -15,7 +14,7 @@ use Rattle.run_tables.specs.Commands.{IsCommandTable, HoldsCommands}
 use Rattle.run_tables.specs.Records.{IsRefusedFor}
 use Rattle.statistics.specs.Values.{RunStats}
 use Rattle.page.specs.Document.{IsDocument}
-use Rattle.page.specs.Rows.{IsOfRun, IsOfRunAt}
+use Rattle.page.specs.Rows.{IsOfRunAt, IsFirstStranger}
 use Rattle.refusal.specs.Warnings.{IsWarningOf}
 use Rattle.refusal.specs.declared.warning.LargePage.{LargePage}
 use Rattle.whole_files.specs.Files.{Held}
@@ -43,11 +42,6 @@ pub record HoldsCommandsOf (table : List ℕ) (stats : RunStats) : Type 0 where
   pub commands : List IssuedCommand
   pub commands_are : IsCommandTable (records_of table) commands
   pub of_run : (place : ℕ) → IsOfRunAt stats commands place
-
--- the command at this place is not of the run, and those before it are
-pub record IsFirstStranger (stats : RunStats) (commands : List IssuedCommand) (place : ℕ) : Type 0 where
-  pub before : (k : ℕ) → k < place → IsOfRunAt stats commands k
-  pub stranger : IsSomeAnd (slice_get commands place) (λ command. ¬ IsOfRun stats command)
 
 -- a fault names the first command that is not of the run, by its row, where 0 is the header
 abbrev pub NamesStranger : RunStats → List IssuedCommand → Fault → Type 0

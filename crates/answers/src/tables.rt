@@ -1,17 +1,15 @@
 //! The tables of a run, its statistics and its commands, from the files of its folder.
 
-ghost use Rattle.std.specs.Prelude.{◌≡◌, ◌+◌, ◌<◌, ◌↔◌, ℕ, length, IsTrue, IfNone, IfSome, IfOk, IfErr, OnOk};
-ghost use Rattle.page.specs.Rows.{IsOfRun, IsOfRunAt};
+ghost use Rattle.std.specs.Prelude.{◌≡◌, ◌+◌, ◌<◌, length, IfOk, IfErr, OnOk};
 ghost use Rattle.whole_files.specs.Files.{SameFiles};
-ghost use Rattle.answers.specs.Pages.{IsFirstStranger};
 ghost use Rattle.answers.specs.Inputs.{HoldTables, IsRunUnder, text_of, HasOwnCommands, HasStrangers, AreNoTables, AreTablesOf, RunFits, CanPage, BarsPage, AreTablesInFolder, CanPageIn, BarsPageIn};
 
 use crate::described::{FileText, RunRecord, described, document_at};
 use crate::explained::commands_of;
 use crate::folder::RunFolder;
 use command_table::list::CommandList;
+use page::rows::first_stranger;
 use refusal::reason::Reason;
-use sim_base::command::IssuedCommand;
 use sim_base::fault::Fault;
 use statistics::stats::Stats;
 use std::alloc::{AllocError, Global};
@@ -23,28 +21,6 @@ use whole_files::moves::path_of;
 pub(crate) struct RunTables {
     pub(crate) run: RunRecord,
     pub(crate) commands: CommandList,
-}
-
-// Whether the run has the channel and the cycle of a command.
-fn is_of_run(stats: &Stats, command: &IssuedCommand) -> bool
-    ensures { IsTrue result ↔ IsOfRun stats.now command.now }
-{
-    command.cycle < stats.cycles && (command.channel as usize) < stats.channels.len()
-}
-
-// The place of the first command that is not of the run.
-fn first_stranger(stats: &Stats, commands: &CommandList) -> Option<usize>
-    ensures none { IfNone result ((place : ℕ) → IsOfRunAt stats.now commands.now place) }
-    ensures first { IfSome result (IsFirstStranger stats.now commands.now) }
-{
-    'rows: for place in 0..commands.len() {
-        if let Some(command) = commands.get(place)
-            && !is_of_run(stats, &command)
-        {
-            return Some(place);
-        }
-    }
-    None
 }
 
 // The row of a command in its table, where 0 is the header.

@@ -1,7 +1,7 @@
 //! Whether commands are those of a run.
 
-ghost use Rattle.std.specs.Prelude.{◌↔◌, ℕ, IsTrue, IfErr, OnOk};
-ghost use Rattle.page.specs.Rows.{IsOfRun, IsOfRunAt, IsReason};
+ghost use Rattle.std.specs.Prelude.{◌↔◌, ℕ, IsTrue, IfNone, IfSome, IfErr, OnOk};
+ghost use Rattle.page.specs.Rows.{IsFirstStranger, IsOfRun, IsOfRunAt, IsReason};
 
 use crate::fault::PageFault;
 use command_table::list::CommandList;
@@ -15,21 +15,32 @@ fn is_of_run(stats: &Stats, row: &IssuedCommand) -> bool
     row.cycle < stats.cycles && (row.channel as usize) < stats.channels.len()
 }
 
-/// Whether each command is of a channel and of a cycle of the run.
-///
-/// # Errors
-///
-/// `PageFault::Command` with the place of a command that is not.
-pub fn check_rows(stats: &Stats, commands: &CommandList) -> Result<(), PageFault>
-    ensures all { OnOk result ((place : ℕ) → IsOfRunAt stats.now commands.now place) }
-    ensures stranger { IfErr result (IsReason stats.now commands.now) }
+/// The place of the first command that is not of the run: of a channel or of a cycle that this does not have.
+pub fn first_stranger(stats: &Stats, commands: &CommandList) -> Option<usize>
+    ensures none { IfNone result ((place : ℕ) → IsOfRunAt stats.now commands.now place) }
+    ensures first { IfSome result (IsFirstStranger stats.now commands.now) }
 {
     'rows: for place in 0..commands.len() {
         if let Some(row) = commands.get(place)
             && !is_of_run(stats, &row)
         {
-            return Err(PageFault::Command(place));
+            return Some(place);
         }
     }
-    Ok(())
+    None
+}
+
+/// Whether each command is of a channel and of a cycle of the run.
+///
+/// # Errors
+///
+/// `PageFault::Command` with the place of the first command that is not.
+pub(crate) fn check_rows(stats: &Stats, commands: &CommandList) -> Result<(), PageFault>
+    ensures all { OnOk result ((place : ℕ) → IsOfRunAt stats.now commands.now place) }
+    ensures stranger { IfErr result (IsReason stats.now commands.now) }
+{
+    match first_stranger(stats, commands) {
+        None => Ok(()),
+        Some(place) => Err(PageFault::Command(place)),
+    }
 }

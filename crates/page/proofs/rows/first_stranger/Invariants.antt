@@ -1,6 +1,6 @@
 use Rattle.std.proofs.Common.{ℕ, ◌<◌}
 use Rattle.page.specs.Rows.{IsOfRunAt}
-use Rattle.answers.proofs.tables.first_stranger.Given as goal
+use Rattle.page.proofs.rows.first_stranger.Given as goal
 
 -- each command so far is of the run
 abbrev pub invariant-rows : goal.invariant-rows
