@@ -14,8 +14,8 @@ use Rattle.links.specs.InFlight.{InFlight, is_due, receiver_of}
 use Rattle.span_laws.specs.Flight.{left_after}
 use Rattle.span_laws.proofs.Flights.{any-and}
 use Rattle.span_laws.proofs.Flights as flights
-use Rattle.horizon_laws.proofs.Bringing.{unit-overdue}
-use Rattle.horizon_laws.proofs.Flights.{flights-meet}
+use Rattle.span_laws.proofs.Bringing.{unit-overdue}
+use Rattle.span_laws.proofs.FlightsInTurns.{flights-meet}
 use Rattle.units.specs.declared.machine.Machine.{Machine}
 use Rattle.units.specs.Runs.{flight_at}
 use Rattle.units.specs.Flight.{goes_among, among}

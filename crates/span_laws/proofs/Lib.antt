@@ -13,3 +13,11 @@ pub mod Over
 pub mod Lasting
 pub mod Idle
 pub mod Silent
+pub mod Late
+pub mod Requesting
+pub mod Knowing
+pub mod FlightsInTurns
+pub mod Leasts
+pub mod Taking
+pub mod Jumps
+pub mod Bringing

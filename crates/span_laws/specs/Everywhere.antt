@@ -2,6 +2,7 @@
 --     InEachRun P      it holds of each machine and its traces
 --     InEachCycle P      and before each cycle of the run
 --     InEachSpan P      and over each span of it
+--     InEachTurn P      it holds where the cores stand at one cycle and the channels at another, and one kind goes on up to a third
 use Rattle.std.specs.Prelude.{ℕ, List}
 use Rattle.sim_base.specs.declared.config.Config.{Config}
 use Rattle.sim_base.specs.declared.trace.Entry.{Entry}
@@ -17,3 +18,8 @@ InEachCycle P = (s : Config) (traces : List (List Entry)) (now : ℕ) → P s tr
 -- it holds over each span of each run, from one cycle on and before another
 abbrev pub InEachSpan : (Config → List (List Entry) → ℕ → ℕ → Type 0) → Type 0
 InEachSpan P = (s : Config) (traces : List (List Entry)) (from until : ℕ) → P s traces from until
+
+-- it holds of each run where the cores stand at a cycle and the channels at a cycle, and the units of one kind go on up
+-- to a third
+abbrev pub InEachTurn : (Config → List (List Entry) → ℕ → ℕ → ℕ → Type 0) → Type 0
+InEachTurn P = (s : Config) (traces : List (List Entry)) (cores_at channels_at until : ℕ) → P s traces cores_at channels_at until

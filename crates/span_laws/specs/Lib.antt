@@ -7,3 +7,8 @@ pub mod Tables
 pub mod Ends
 pub mod Quiet
 pub mod Units
+pub mod Sent
+pub mod Known
+pub mod FlightInTurns
+pub mod Latencies
+pub mod Turns

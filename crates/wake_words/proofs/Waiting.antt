@@ -31,8 +31,8 @@ use Rattle.span_laws.specs.Mail.{arriving, mail_before, mail_in}
 use Rattle.span_laws.specs.Quiet.{RestsAlone, IsSilent}
 use Rattle.statistics.proofs.Messages.{arrived-sooner}
 use Rattle.span_laws.proofs.Arrivals.{arriving-arrived, mail-settled}
-use Rattle.horizon_laws.proofs.Flights.{flights-meet}
-use Rattle.horizon_laws.proofs.Bringing.{unit-due}
+use Rattle.span_laws.proofs.FlightsInTurns.{flights-meet}
+use Rattle.span_laws.proofs.Bringing.{unit-due}
 use Rattle.span_laws.proofs.Silent.{silent-sooner, none-part, none-first, silent-sent}
 use Rattle.span_laws.proofs.Idle.{rest-messages, rests-sooner}
 use Rattle.span_laws.specs.Units.{Exists}
