@@ -7,7 +7,7 @@ use Rattle.sim_base.specs.declared.trace.Entry.{Entry}
 use Rattle.statistics.specs.Values.{RunOutcome}
 use Rattle.statistics.specs.declared.tables.Tables.{Tables}
 use Rattle.simulation.specs.Runs.{HoldsOfInput, IsRunOf, IsJudgedLegal}
-use Rattle.workers.specs.Runs.{IsRefusedTo}
+use Rattle.simulation.specs.MachineRuns.{IsRefusedTo}
 use Rattle.whole_files.specs.Files.{Held}
 use Rattle.answers.specs.Refused.{AreTexts, IsReady, IsAnswerFault}
 use Rattle.program.specs.Answered.{IsInputOf, IsOutcome}

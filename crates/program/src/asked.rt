@@ -8,8 +8,8 @@ use compare::layout::Layout;
 use page::window::{View, Window};
 use show::options::Options;
 use sim_base::message::Cycle;
+use simulation::sharing::{Sharing, Workers};
 use statistics::tables::Tables;
-use workers::sharing::{Sharing, Workers};
 
 /// What a run is asked to be: the file of its configuration, the cycles after which it ends at the latest, its workers,
 /// the tables that are asked for, the folder in which these are to be, and the files of its traces, one for each core.

@@ -2,7 +2,7 @@
 
 ghost use Rattle.std.specs.Prelude.{◌≡◌, ◌≤◌, ◌^◌, length, vec_len, IsOk, IfOk, IfErr, OnOk};
 ghost use Rattle.program.specs.Runs.{HasWorkers, IsInputIn, IsInputRefusal, EndsInput, EndsLegally};
-ghost use Rattle.workers.specs.Runs.{IsRefusedTo};
+ghost use Rattle.simulation.specs.MachineRuns.{IsRefusedTo};
 
 use crate::asked::RunAsk;
 use crate::host::Host;
@@ -12,15 +12,15 @@ use explain::{RunNumbers, of_config, of_host, of_numbers, of_traces};
 use refusal::reason::Reason;
 use sim_base::config::Config;
 use sim_base::fault::Fault;
+use simulation::gate::Open;
 use simulation::input::{InputTexts, read_input};
+use simulation::options::{Hooks, MachineInput, RunOptions};
 use simulation::runs::run_input;
+use simulation::watch::Watch;
 use statistics::outcome::Outcome;
 use std::alloc::{AllocError, Global};
 use std::sync::Wait;
 use std::thread::Threads;
-use workers::gate::Open;
-use workers::input::{Hooks, MachineInput, RunOptions};
-use workers::watch::Watch;
 
 /// A run, and what its files hold: that of its configuration, and those of its traces.
 #[derive(Clone, Copy)]

@@ -1,6 +1,6 @@
 //! What a run takes from its host beside files and streams.
 
-use workers::watch::Watch;
+use simulation::watch::Watch;
 
 /// The threads that serve as a run's workers, and who is told how far the run is.
 #[derive(Drop)]

@@ -18,12 +18,12 @@ use refusal::lines::write_lines;
 use refusal::refusal::Refusal;
 use refusal::status::REFUSED;
 use refusal::warning::write_warning;
+use simulation::watch::Watch;
 use std::alloc::Global;
 use std::io::Write;
 use std::sync::Wait;
 use std::thread::Threads;
 use whole_files::files::FileSet;
-use workers::watch::Watch;
 
 // Does what is asked.
 fn answer<R: Threads + Wait + Sync, W: Watch, F: FileSet, P: Write>(

@@ -15,13 +15,13 @@ use refusal::refusal::Refusal;
 use reports::TableThreads;
 use sim_base::config::Config;
 use sim_base::fault::Fault;
+use simulation::watch::Watch;
 use statistics::outcome::Outcome;
 use std::alloc::{AllocError, Global};
 use std::sync::Wait;
 use std::thread::Threads;
 use whole_files::files::FileSet;
 use whole_files::tables::write_tables;
-use workers::watch::Watch;
 
 // An earlier place with the same path.
 fn earlier(paths: &[&str], place: usize, path: &str) -> Option<usize>

@@ -7,11 +7,11 @@ use program::host::Host;
 use program::perform::perform;
 use program::streams::Streams;
 use refusal::error_stream::ErrorStream;
+use simulation::watch::Unwatched;
 use std::alloc::Global;
 use std::process::Abort;
 use std::sync::Wait;
 use std::thread::Threads;
-use workers::watch::Unwatched;
 
 /// What the program says: its status, and what it writes on its two streams.
 #[derive(Drop)]

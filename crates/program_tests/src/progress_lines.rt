@@ -6,6 +6,7 @@ use progress::line::line_of;
 use progress::pace::next_stretch;
 use progress::watcher::ProgressLine;
 use sim_base::message::Cycle;
+use simulation::watch::{Stage, Watch};
 use std::alloc::Global;
 use std::cell::Cell;
 use std::io;
@@ -13,7 +14,6 @@ use std::io::ErrorKind;
 use std::process::Abort;
 use std::rt::Clock;
 use std::time::Duration;
-use workers::watch::{Stage, Watch};
 
 /// Figures, and the text that tells them.
 static TEXTS: [(Figures, &str); 4] = [

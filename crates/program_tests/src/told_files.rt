@@ -12,12 +12,12 @@ use program::streams::Streams;
 use refusal::error_stream::ErrorStream;
 use refusal::reason::Reason;
 use sim_base::fault::Fault;
+use simulation::watch::Unwatched;
 use std::alloc::{AllocError, Global};
 use std::collections::BTreeMap;
 use std::sync::Wait;
 use std::thread::Threads;
 use whole_files::files::FileSet;
-use workers::watch::Unwatched;
 
 /// Files in memory, where what is written is there once the file is closed.
 #[derive(Drop)]

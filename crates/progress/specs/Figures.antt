@@ -7,7 +7,7 @@
 --     figures_of stage millis      all that is told of a run that has gone on for `millis` milliseconds
 use Rattle.std.specs.Prelude.{ℕ, ◌-◌, ◌*◌, ◌/◌, ◌^◌, ◌==◌, min, Bool, true, false, Option, Some, None, option_and_then, if◌then◌else◌}
 use Rattle.progress.specs.declared.figures.Figures.{Figures}
-use Rattle.workers.specs.declared.watch.Stage.{Stage}
+use Rattle.simulation.specs.declared.watch.Stage.{Stage}
 
 abbrev pub quotient : ℕ → ℕ → Option ℕ
 quotient dividend divisor = if divisor == 0 then None else Some (dividend / divisor)

@@ -5,8 +5,8 @@ ghost use Rattle.std.specs.Duration.{as_nanos};
 ghost use Rattle.progress.specs.Figures.{quotient, percent_of, left_by, sooner_of, left_of, figures_of};
 
 use sim_base::message::Cycle;
+use simulation::watch::Stage;
 use std::time::Duration;
-use workers::watch::Stage;
 
 /// A greater count counts as this one.
 const MOST: u128 = 1 << 80;

@@ -6,11 +6,11 @@ use crate::figures::Figures;
 use crate::line::line_of;
 use crate::pace::{FIRST_STRETCH, next_stretch};
 use sim_base::message::Cycle;
+use simulation::watch::{Stage, Watch};
 use std::alloc::{AllocError, Global};
 use std::io::Write;
 use std::rt::Clock;
 use std::time::Instant;
-use workers::watch::{Stage, Watch};
 
 /// Nothing is drawn of a run until it has gone on for this many milliseconds.
 const QUIET: u128 = 1_000;

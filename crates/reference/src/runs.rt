@@ -6,10 +6,10 @@ ghost use Rattle.simulation.specs.Runs.{texts_in, IsInputFault, IsRun, IsLegal};
 use one_clock::machine::run_plain;
 use sim_base::fault::Fault;
 use simulation::input::{InputTexts, read_input};
+use simulation::options::RunOptions;
 use statistics::outcome::Outcome;
 use std::alloc::Global;
 use std::thread::Threads;
-use workers::input::RunOptions;
 
 /// The run of `simulation::runs::simulate` by the one-clock machine, one cycle after the other, with no workers: their
 /// number is only tested, and threads are used only to read long traces. Tests compare with it.

@@ -6,13 +6,13 @@ use crate::outcomes::{Texts, always, outcome_of, plain_outcome};
 use sim_base::fault::{Fault, LineCause};
 use sim_base::key::Key;
 use sim_base::message::Cycle;
+use simulation::gate::Open;
+use simulation::options::Hooks;
+use simulation::watch::Unwatched;
 use std::alloc::Global;
 use std::process::Abort;
 use std::sync::Wait;
 use std::thread::Threads;
-use workers::gate::Open;
-use workers::input::Hooks;
-use workers::watch::Unwatched;
 
 /// One cycle more than a run may have.
 const TOO_LONG: Cycle = 1_000_000_000_001;

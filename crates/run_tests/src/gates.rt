@@ -8,16 +8,16 @@ use crate::expect::expect_at;
 use crate::outcomes::{Texts, always, assert_tables, auto, outcome_of, plain_tables};
 use shards::job::JobName;
 use sim_base::message::Cycle;
+use simulation::gate::Gate;
+use simulation::options::Hooks;
+use simulation::sharing::Workers;
+use simulation::watch::Unwatched;
 use std::alloc::Global;
 use std::process::Abort;
 use std::sync::Wait;
 use std::sync::atomic::{AtomicU64, Ordering};
 use std::thread;
 use std::thread::Threads;
-use workers::gate::Gate;
-use workers::input::Hooks;
-use workers::sharing::Workers;
-use workers::watch::Unwatched;
 
 /// How often a job that is held looks whether it may go on, where something is wrong.
 const TURNS: u64 = 20_000_000;

@@ -3,13 +3,13 @@
 use crate::expect::expect_at;
 use crate::gates::Counting;
 use crate::outcomes::{Run, Texts, always, assert_same, assert_tables, auto, plain_tables};
+use simulation::options::Hooks;
+use simulation::sharing::{Sharing, Workers};
+use simulation::watch::Unwatched;
 use std::alloc::Global;
 use std::process::Abort;
 use std::sync::Wait;
 use std::thread::Threads;
-use workers::input::Hooks;
-use workers::sharing::{Sharing, Workers};
-use workers::watch::Unwatched;
 
 #[test]
 fn generated_machines(rt: HostRuntime) {

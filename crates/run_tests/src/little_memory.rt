@@ -7,16 +7,16 @@ use fixtures::one_read::{CHANNELS, CORES};
 use fixtures::small::SMALL;
 use sim_base::command::Kind;
 use sim_base::fault::Fault;
+use simulation::gate::Open;
 use simulation::input::InputTexts;
+use simulation::options::{Hooks, RunOptions};
 use simulation::runs::simulate;
+use simulation::watch::Unwatched;
 use statistics::outcome::Outcome;
 use statistics::tables::Tables;
 use std::alloc::Global;
 use std::sync::Wait;
 use std::thread::Threads;
-use workers::gate::Open;
-use workers::input::{Hooks, RunOptions};
-use workers::watch::Unwatched;
 
 /// Whether these are the commands of one core that reads one line: an ACT in cycle 2 and an RD in cycle 5. Where the
 /// list of them is refused memory, that is not known.

@@ -9,18 +9,18 @@ use reports::{write_commands, write_final, write_requests, write_stats};
 use sim_base::command::IssuedCommand;
 use sim_base::fault::Fault;
 use sim_base::message::Cycle;
+use simulation::gate::{Gate, Open};
 use simulation::input::InputTexts;
+use simulation::options::{Hooks, RunOptions};
 use simulation::runs::simulate;
+use simulation::sharing::{Sharing, Workers};
+use simulation::watch::{Unwatched, Watch};
 use statistics::outcome::Outcome;
 use statistics::tables::Tables;
 use std::alloc::{AllocError, Global};
 use std::process::Abort;
 use std::sync::Wait;
 use std::thread::Threads;
-use workers::gate::{Gate, Open};
-use workers::input::{Hooks, RunOptions};
-use workers::sharing::{Sharing, Workers};
-use workers::watch::{Unwatched, Watch};
 
 /// This number of workers, which share each machine out.
 pub(crate) fn always(count: u64) -> Workers {

@@ -7,11 +7,11 @@ use crate::shared_out::{LONGEST, run_up_to, started};
 use shards::job::{Done, Job};
 use sim_base::fault::Fault;
 use sim_base::message::Cycle;
+use simulation::gate::Open;
+use simulation::runner::{Runner, Serial};
 use std::alloc::Global;
 use std::process::Abort;
 use std::thread::Threads;
-use workers::gate::Open;
-use workers::runner::{Runner, Serial};
 
 /// The cycles of a phase, from one on and before another.
 type Span = (Cycle, Cycle);

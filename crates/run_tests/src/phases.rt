@@ -17,16 +17,16 @@ use crew::work::{DoneOf, Work};
 use fixtures::small::RANK_FIELD;
 use sim_base::command::IssuedCommand;
 use sim_base::message::Cycle;
+use simulation::gate::{Gate, Open};
+use simulation::options::Hooks;
+use simulation::sharing::{Sharing, Workers};
+use simulation::watch::Unwatched;
 use statistics::outcome::Outcome;
 use std::alloc::{AllocError, Global};
 use std::marker::Brand;
 use std::process::Abort;
 use std::sync::Wait;
 use std::thread::Threads;
-use workers::gate::{Gate, Open};
-use workers::input::Hooks;
-use workers::sharing::{Sharing, Workers};
-use workers::watch::Unwatched;
 
 /// Four cores and two channels.
 static FOUR_CORES: [&str; 3] = [RANK_FIELD, "cores = 4", "channels = 2"];

@@ -10,13 +10,13 @@ use crate::outcomes::{Texts, always, outcome_of};
 use request_table::table::RequestTable;
 use request_table::times::RequestTimes;
 use sim_base::message::{Access, Cycle};
+use simulation::gate::Open;
+use simulation::options::Hooks;
+use simulation::watch::Unwatched;
 use std::alloc::Global;
 use std::process::Abort;
 use std::sync::Wait;
 use std::thread::Threads;
-use workers::gate::Open;
-use workers::input::Hooks;
-use workers::watch::Unwatched;
 
 const FIRST: RequestTimes = RequestTimes {
     core: 0,

@@ -12,13 +12,13 @@ use fixtures::texts::traces_of;
 use shards::job::{Done, Job};
 use sim_base::fault::Fault;
 use sim_base::message::Cycle;
+use simulation::gate::Open;
+use simulation::machine::run_with;
+use simulation::runner::{Runner, Serial};
 use std::alloc::Global;
 use std::process::Abort;
 use std::thread::Threads;
 use units::sim::Sim;
-use workers::gate::Open;
-use workers::machine::run_with;
-use workers::runner::{Runner, Serial};
 
 /// The limit of the longest run.
 pub(crate) const LONGEST: Cycle = 1_000_000_000_000;

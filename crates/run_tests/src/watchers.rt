@@ -3,13 +3,13 @@
 use crate::expect::expect_at;
 use crate::outcomes::{Run, Texts, always, assert_tables, outcome_of, plain_tables};
 use sim_base::message::Cycle;
+use simulation::gate::Open;
+use simulation::options::Hooks;
+use simulation::watch::{Stage, Watch};
 use std::alloc::Global;
 use std::process::Abort;
 use std::sync::Wait;
 use std::thread::Threads;
-use workers::gate::Open;
-use workers::input::Hooks;
-use workers::watch::{Stage, Watch};
 
 /// A cycle, and how many entries have retired before it, of how many.
 type Told = (Cycle, Option<u128>, u128);

@@ -9,7 +9,7 @@ use Rattle.sim_base.specs.TraceText.{◌>>=◌}
 use Rattle.std.proofs.Common.{arith}
 use Rattle.std.specs.Prelude.{◌≢◌, IsOk, IfErr}
 use Rattle.sim_base.specs.declared.trace.Entry.{Entry}
-use Rattle.workers.specs.Runs.{IsRefusedTo}
+use Rattle.simulation.specs.MachineRuns.{IsRefusedTo}
 use Rattle.simulation.specs.Runs.{unless, limits_of, traces_of, input_of, IsRefusal}
 
 pub input_config : (config : List ℕ) (texts : List (List ℕ)) (cycles workers : ℕ) (fault : Fault)

@@ -7,8 +7,8 @@ use Rattle.sim_base.specs.declared.config.Config.{Config}
 use Rattle.sim_base.specs.Values.{values_of}
 use Rattle.config_reader.specs.Document.{document_of}
 use Rattle.statistics.specs.Values.{RunOutcome}
-use Rattle.workers.specs.declared.input.MachineInput.{MachineInput}
-use Rattle.workers.specs.declared.input.RunOptions.{RunOptions}
+use Rattle.simulation.specs.declared.options.MachineInput.{MachineInput}
+use Rattle.simulation.specs.declared.options.RunOptions.{RunOptions}
 
 -- a law holds of an outcome, under the configuration that the document states
 pub record HoldsUnder (config : List ℕ) (law : Config → RunOutcome → Type 0) (outcome : RunOutcome) : Type 0 where

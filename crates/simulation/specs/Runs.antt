@@ -33,8 +33,8 @@ use Rattle.statistics.specs.Outcomes.{outcome_of}
 use Rattle.statistics.specs.Values.{RunOutcome}
 use Rattle.statistics.specs.declared.tables.Tables.{Tables}
 use Rattle.simulation.specs.declared.input.InputTexts.{InputTexts}
-use Rattle.workers.specs.declared.input.MachineInput.{MachineInput}
-use Rattle.workers.specs.declared.input.RunOptions.{RunOptions}
+use Rattle.simulation.specs.declared.options.MachineInput.{MachineInput}
+use Rattle.simulation.specs.declared.options.RunOptions.{RunOptions}
 use Rattle.reports.specs.Commands.{commands_text}
 use Rattle.rule_check.specs.Verdict.{records_of, verdict}
 use Rattle.rule_check.specs.declared.verdict.Verdict.TheVariants.{Legal}

@@ -4,18 +4,18 @@ ghost use Rattle.std.specs.Prelude.{◌≡◌, ◌≤◌, ◌^◌, length, IfOk,
 ghost use Rattle.simulation.specs.Runs.{IsRun, IsLegal, Keeps, IsRefused, IsRunOfInput, IsJudgedOfInput, HoldsOfRead};
 ghost use Rattle.simulation.specs.Outcomes.{HoldsUnder, HoldsUnderRead};
 ghost use Rattle.table_laws.specs.Outcomes.{OwnsDataBus, IsRefreshed, HasBoundedQueues, HoldsFewCredits, KeepsCreditsUntil};
-ghost use Rattle.workers.specs.Runs.{IsRefusedTo};
+ghost use Rattle.simulation.specs.MachineRuns.{IsRefusedTo};
 
+use crate::gate::Gate;
 use crate::input::{InputTexts, read_input};
+use crate::machine::run_machine;
+use crate::options::{Hooks, MachineInput, RunOptions};
+use crate::watch::Watch;
 use sim_base::fault::Fault;
 use statistics::outcome::Outcome;
 use std::alloc::Global;
 use std::sync::Wait;
 use std::thread::Threads;
-use workers::gate::Gate;
-use workers::input::{Hooks, MachineInput, RunOptions};
-use workers::machine::run_machine;
-use workers::watch::Watch;
 
 /// Runs the machine of an input that was read, for at most `options.cycles` cycles, as `simulate` says. Whatever texts
 /// the input was read from, the outcome is that of their run, so that a caller need not hold them while the machine
