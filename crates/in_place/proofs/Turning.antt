@@ -35,13 +35,13 @@ use Rattle.units.proofs.Standing.{core-at_place, channel-at_place}
 use Rattle.units.proofs.Travelling.{Added, core-added, channel-added}
 use Rattle.in_place.specs.Turns.{AreByKind, AreInTurns, all_units, all_words}
 use Rattle.in_place.specs.declared.taking_turns.UnitsByKind.{UnitsByKind}
-use Rattle.wake_words.specs.Wakes.{Sleeper, Waits, WaitAll, IsBrought, AllBrought, AreLowered, IsAsleep, units_from, links_after, sleeper, sleeper_at}
-use Rattle.wake_words.specs.declared.timed_unit.TimedUnit.{TimedUnit}
-use Rattle.wake_words.proofs.Going.{units-places}
-use Rattle.wake_words.proofs.Jumping.{some-unit}
+use Rattle.units.specs.Wakes.{Sleeper, Waits, WaitAll, IsBrought, AllBrought, AreLowered, IsAsleep, units_from, links_after, sleeper, sleeper_at}
+use Rattle.units.specs.declared.timed_unit.TimedUnit.{TimedUnit}
+use Rattle.units.proofs.Going.{units-places}
+use Rattle.units.proofs.Jumping.{some-unit}
 use Rattle.units.specs.declared.machine.Machine.{Machine}
 use Rattle.units.specs.Runs.{run_of, sent_at}
-use Rattle.wake_words.proofs.Sharing.{among-all}
+use Rattle.units.proofs.Sharing.{among-all}
 
 core-at : (s : Config) (core : ℕ) → core < s.cores → unit_at s (0 + core) ≡ Core core
 core-at s core l = let e : 0 + core ≡ core = omega arith in ap (unit_at s) e ∙ core-at_place s core l

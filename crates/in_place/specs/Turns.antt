@@ -13,8 +13,8 @@ use Rattle.span_laws.specs.FlightInTurns.{flight_of}
 use Rattle.span_laws.specs.Sent.{RequestsTravelFor, AnswersTakeFor}
 use Rattle.units.specs.Units.{unit_count}
 use Rattle.units.specs.declared.machine.Machine.{Machine}
-use Rattle.wake_words.specs.Wakes.{IsAsleep, Waits, sleeper_at}
-use Rattle.wake_words.specs.declared.timed_unit.TimedUnit.{TimedUnit}
+use Rattle.units.specs.Wakes.{IsAsleep, Waits, sleeper_at}
+use Rattle.units.specs.declared.timed_unit.TimedUnit.{TimedUnit}
 use Rattle.in_place.specs.declared.taking_turns.TurnCycles.{TurnCycles}
 use Rattle.in_place.specs.declared.taking_turns.UnitsByKind.{UnitsByKind}
 

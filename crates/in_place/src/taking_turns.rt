@@ -11,10 +11,10 @@ use sim_base::message::Cycle;
 use span_laws::latencies::{least_request_latency, least_way_back};
 use std::alloc::AllocError;
 use units::machine::Machine;
-use wake_words::lane_scan::{first_below, least};
-use wake_words::timed_unit::{Span, Traffic};
-use wake_words::waking::{UnitRange, go_on};
-use wake_words::words::lower_all;
+use units::lane_scan::{first_below, least};
+use units::timed_unit::{Span, Traffic};
+use units::waking::{UnitRange, go_on};
+use units::words::lower_all;
 
 /// The units of a machine: its cores, and its channels, whose places come after theirs.
 #[derive(Drop)]

@@ -4,7 +4,7 @@ ghost use Rattle.std.specs.Prelude.{◌≡◌, ◌≤◌, ◌^◌, IfOk, length,
 ghost use Rattle.units.specs.Parts.{StandAt};
 ghost use Rattle.units.specs.Units.{unit_count};
 ghost use Rattle.units.specs.Views.{HasReached};
-ghost use Rattle.wake_words.specs.Wakes.{AreTimedUnits, WaitAll};
+ghost use Rattle.units.specs.Wakes.{AreTimedUnits, WaitAll};
 ghost use Rattle.in_place.specs.Turns.{AreByKind, all_units, all_words};
 
 use crate::taking_turns::{UnitsByKind, run_to};
@@ -16,8 +16,8 @@ use units::machine::Machine;
 use units::mail::Mail;
 use units::part::UnitState;
 use units::sim::Sim;
-use wake_words::timed_unit::Traffic;
-use wake_words::waking::{UnitRange, bring_up, timed_units};
+use units::timed_unit::Traffic;
+use units::waking::{UnitRange, bring_up, timed_units};
 
 /// A simulator whose units stand at cycles of their own, each with its wake word: a turn touches only those that
 /// wake in it.

@@ -5,7 +5,7 @@ ghost use Rattle.std.specs.Prelude.{◌≡◌, length};
 use crate::expect::expect;
 use std::alloc::Global;
 use std::process::Abort;
-use wake_words::lane_scan::{first_below, least};
+use units::lane_scan::{first_below, least};
 
 /// A column with the first word of a pair at one place, if the place is in it, and with the second elsewhere.
 fn column(rt: &impl Abort, alloc: Global, len: usize, place: usize, pair: (u64, u64)) -> Vec<u64>

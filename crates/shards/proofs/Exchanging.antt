@@ -20,8 +20,8 @@ use Rattle.units.specs.Flight.{is_at_places, goes_among}
 use Rattle.shards.specs.Lists.{bound, lists_of}
 use Rattle.shards.specs.Shards.{IsSplit}
 use Rattle.units.specs.Units.{unit_at, unit_count}
-use Rattle.wake_words.specs.Wakes.{AreLowered}
-use Rattle.wake_words.proofs.Sharing.{at-places, there}
+use Rattle.units.specs.Wakes.{AreLowered}
+use Rattle.units.proofs.Sharing.{at-places, there}
 use Rattle.units.proofs.Standing.{core-at_place, channel-at_place}
 
 -- a later shard begins no sooner

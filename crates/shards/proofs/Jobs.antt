@@ -18,15 +18,15 @@ use Rattle.shards.specs.Lists.{AreSortedByShard, bound, lists_of}
 use Rattle.shards.specs.Shards.{HasGone, IsUpTo, sent_of_shard}
 use Rattle.shards.specs.Jobs.{IsJob, IsDone}
 use Rattle.units.specs.Units.{unit_at, unit_count}
-use Rattle.wake_words.specs.Wakes.{AreLowered, HaveGone, IsAsleep, WaitAll, sent_in, sleeper_at}
+use Rattle.units.specs.Wakes.{AreLowered, HaveGone, IsAsleep, WaitAll, sent_in, sleeper_at}
 use Rattle.units.specs.declared.machine.Machine.{Machine}
 use Rattle.shards.specs.declared.shard.Shard.{Shard}
-use Rattle.wake_words.specs.declared.timed_unit.TimedUnit.{TimedUnit}
+use Rattle.units.specs.declared.timed_unit.TimedUnit.{TimedUnit}
 use Rattle.shards.specs.declared.job.JobName.{JobName}
 use Rattle.units.proofs.Joining.{fresh-late}
-use Rattle.wake_words.proofs.Jumping.{some-unit, still-waits}
-use Rattle.wake_words.proofs.Lowering.{lowered-wait_all}
-use Rattle.wake_words.proofs.Sharing.{among-joins}
+use Rattle.units.proofs.Jumping.{some-unit, still-waits}
+use Rattle.units.proofs.Lowering.{lowered-wait_all}
+use Rattle.units.proofs.Sharing.{among-joins}
 
 -- what was sent to the units of a shard arrives no sooner than what was sent to all
 pub inbound-later : (machine : Machine) (bounds : List ℕ) (index now : ℕ) (shard : Shard) (inbound : List (Vec Message Global)) → IsUpTo machine bounds index now shard inbound

@@ -27,15 +27,15 @@ use Rattle.shards.specs.Jobs.{job_at, jobs_at}
 use Rattle.shards.specs.Phases.{PhaseView, IsPhase, AreUnloaded}
 use Rattle.units.specs.Parts.{late}
 use Rattle.units.specs.Units.{unit_at, unit_count}
-use Rattle.wake_words.specs.Wakes.{Sleeper, HaveGone, IsAsleep, IsStill, Waits, sent_in, sleeper_at}
+use Rattle.units.specs.Wakes.{Sleeper, HaveGone, IsAsleep, IsStill, Waits, sent_in, sleeper_at}
 use Rattle.shards.specs.declared.shard.Shard.{Shard}
-use Rattle.wake_words.specs.declared.timed_unit.TimedUnit.{TimedUnit}
+use Rattle.units.specs.declared.timed_unit.TimedUnit.{TimedUnit}
 use Rattle.units.proofs.Joining.{flat-split, fresh-is}
 use Rattle.units.proofs.Due.{flight-each}
-use Rattle.wake_words.proofs.Jumping.{AllRest, all-none, asleep-until, sleep-on, some-unit}
+use Rattle.units.proofs.Jumping.{AllRest, all-none, asleep-until, sleep-on, some-unit}
 use Rattle.units.proofs.Travelling.{Goes}
-use Rattle.wake_words.proofs.Lowering.{lowered-waits}
-use Rattle.wake_words.proofs.Waiting.{none-due}
+use Rattle.units.proofs.Lowering.{lowered-waits}
+use Rattle.units.proofs.Waiting.{none-due}
 
 some-of : {X : Type 0} (xs : List X) → 0 < length xs → X
 some-of [] l = absurd (omega (arith, l))

@@ -16,7 +16,7 @@ use Rattle.shards.specs.Jobs.{JobView, IsJob, IsOwnJob, job_view}
 use Rattle.shards.specs.Phases.{PhaseView, MayGo, MayStop, job_of, name_of}
 use Rattle.units.specs.declared.machine.Machine.{Machine}
 use Rattle.units.specs.Units.{unit_count}
-use Rattle.wake_words.specs.Wakes.{AreLowered, IsAsleep}
+use Rattle.units.specs.Wakes.{AreLowered, IsAsleep}
 use Rattle.shards.specs.declared.shard.Shard.{Shard}
 use Rattle.shards.specs.declared.job.JobName.{JobName}
 use Rattle.shards.proofs.Jobs.{taken-up}

@@ -23,11 +23,11 @@ use Rattle.units.specs.Parts.{late}
 use Rattle.units.specs.Units.{unit_at}
 use Rattle.units.proofs.Due.{flight-each}
 use Rattle.units.proofs.Filters.{filter-filter}
-use Rattle.wake_words.specs.Wakes.{AllBrought, HaveGone, IsAsleep, IsBrought, WaitAll, units_from, links_after}
-use Rattle.wake_words.specs.declared.timed_unit.TimedUnit.{TimedUnit}
-use Rattle.wake_words.proofs.Going.{units-places}
-use Rattle.wake_words.proofs.Sharing.{due-among}
-use Rattle.wake_words.proofs.Waiting.{due-flight, known-phase}
+use Rattle.units.specs.Wakes.{AllBrought, HaveGone, IsAsleep, IsBrought, WaitAll, units_from, links_after}
+use Rattle.units.specs.declared.timed_unit.TimedUnit.{TimedUnit}
+use Rattle.units.proofs.Going.{units-places}
+use Rattle.units.proofs.Sharing.{due-among}
+use Rattle.units.proofs.Waiting.{due-flight, known-phase}
 
 -- nothing in flight is overdue
 none-in_flight : (machine : Machine) (now : ℕ) (u : MachineUnit) → filter (is_due machine.config.channels u 0 now) (flight_at machine now) ≡ []

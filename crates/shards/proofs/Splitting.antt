@@ -30,15 +30,15 @@ use Rattle.units.specs.Flight.{is_at_places, goes_among, among}
 use Rattle.shards.specs.Shards.{AllAwake, AreShards, IsShard, IsSplit, Sleeps, links_among}
 use Rattle.units.specs.Parts.{IsPart, StandAt}
 use Rattle.units.specs.Units.{unit_count, unit_at}
-use Rattle.wake_words.specs.Wakes.{AreTimedUnits, IsAsleep, Waits, sleeper}
+use Rattle.units.specs.Wakes.{AreTimedUnits, IsAsleep, Waits, sleeper}
 use Rattle.units.specs.declared.part.UnitState.{UnitState}
 use Rattle.shards.specs.declared.shard.Shard.{Shard}
-use Rattle.wake_words.specs.declared.timed_unit.TimedUnit.{TimedUnit}
+use Rattle.units.specs.declared.timed_unit.TimedUnit.{TimedUnit}
 use Rattle.units.proofs.Due.{place_of_unit, at-place, place-within}
 use Rattle.units.proofs.Filters.{filter-filter}
-use Rattle.wake_words.proofs.Sharing.{flight-sorted}
+use Rattle.units.proofs.Sharing.{flight-sorted}
 use Rattle.units.proofs.Standing.{seam-within}
-use Rattle.wake_words.proofs.Waiting.{awake-waits}
+use Rattle.units.proofs.Waiting.{awake-waits}
 use Rattle.statistics.proofs.ChannelChoices.{passes}
 
 -- bounds that begin with 0, never fall, and end with a number

@@ -20,7 +20,7 @@ use Rattle.sim_base.specs.declared.config.Config.{Config}
 use Rattle.sim_base.specs.declared.message.Message.{Message}
 use Rattle.links.specs.InFlight.{InFlight, with_sent}
 use Rattle.units.specs.Flight.{among}
-use Rattle.wake_words.specs.Wakes.{AreLowered}
+use Rattle.units.specs.Wakes.{AreLowered}
 
 -- where the shard with a number begins; behind the last, the number of units
 abbrev pub bound : List ℕ → ℕ → ℕ

@@ -40,9 +40,9 @@ use Rattle.units.specs.Units.{unit_at, unit_count}
 use Rattle.units.specs.declared.machine.Machine.{Machine}
 use Rattle.units.specs.declared.mail.Mail.{Mail}
 use Rattle.units.specs.declared.part.UnitState.{UnitState}
-use Rattle.wake_words.specs.Wakes.{IsStill, HaveGone, IsAsleep, Waits, sent_in, sleeper}
-use Rattle.wake_words.specs.declared.timed_unit.TimedUnit.{TimedUnit}
-use Rattle.wake_words.specs.declared.waking.UnitRange.{UnitRange}
+use Rattle.units.specs.Wakes.{IsStill, HaveGone, IsAsleep, Waits, sent_in, sleeper}
+use Rattle.units.specs.declared.timed_unit.TimedUnit.{TimedUnit}
+use Rattle.units.specs.declared.waking.UnitRange.{UnitRange}
 use Rattle.shards.specs.declared.shard.Shard.{Shard}
 use Rattle.shards.specs.Lists.{bound, lists_of, AreSortedByShard, LowersAll}
 

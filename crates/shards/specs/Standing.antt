@@ -16,7 +16,7 @@ use Rattle.links.specs.InFlight.{InFlight}
 use Rattle.units.specs.Parts.{StandAt}
 use Rattle.units.specs.Runs.{flight_at}
 use Rattle.units.specs.declared.part.UnitState.{UnitState}
-use Rattle.wake_words.specs.declared.timed_unit.TimedUnit.{TimedUnit}
+use Rattle.units.specs.declared.timed_unit.TimedUnit.{TimedUnit}
 use Rattle.shards.specs.declared.shard.Shard.{Shard}
 use Rattle.shards.specs.declared.split.Snapshot.{Snapshot}
 use Rattle.shards.specs.declared.split.Standing.{Standing}

@@ -11,7 +11,7 @@ use sim_base::config::Config;
 use sim_base::message::Message;
 use std::alloc::{AllocError, Global};
 use std::mem;
-use wake_words::words::receiver_place;
+use units::words::receiver_place;
 
 /// The shard that has the unit at a place.
 fn shard_at(bounds: &[usize], place: usize) -> usize

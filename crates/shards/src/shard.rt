@@ -5,7 +5,7 @@ ghost use Rattle.std.specs.Arc.{arc_value};
 ghost use Rattle.sim_base.specs.Locality.{TravelsFor};
 ghost use Rattle.links.specs.InFlight.{NoneBefore, with_sent};
 ghost use Rattle.units.specs.Units.{unit_count};
-ghost use Rattle.wake_words.specs.Wakes.{AreLowered};
+ghost use Rattle.units.specs.Wakes.{AreLowered};
 ghost use Rattle.shards.specs.Lists.{AllEmpty, LowersAll, with_lists};
 ghost use Rattle.shards.specs.Shards.{ChangesOnlyMail, HasGone, HasRangeGone, HasSent, HaveSent, HoldWhatWasSent, IsRangeAsleep, IsSplit, IsWithin, LowersWords, Sleeps};
 
@@ -15,10 +15,10 @@ use sim_base::message::{Cycle, Message};
 use std::alloc::AllocError;
 use std::sync::Arc;
 use units::machine::Machine;
-use wake_words::lane_scan::least;
-use wake_words::timed_unit::{Span, Traffic};
-use wake_words::waking::{UnitRange, go_on};
-use wake_words::words::lower_all;
+use units::lane_scan::least;
+use units::timed_unit::{Span, Traffic};
+use units::waking::{UnitRange, go_on};
+use units::words::lower_all;
 
 /// Units at consecutive places, with the wake word of each, and the messages in flight to them.
 #[derive(Drop)]

@@ -22,9 +22,9 @@ use units::machine::Machine;
 use units::mail::Mail;
 use units::part::UnitState;
 use units::sim::Sim;
-use wake_words::timed_unit::{TimedUnit, Traffic};
-use wake_words::waking::{UnitRange, bring_up, timed_units};
-use wake_words::words::receiver_place;
+use units::timed_unit::{TimedUnit, Traffic};
+use units::waking::{UnitRange, bring_up, timed_units};
+use units::words::receiver_place;
 
 /// How many of the units are in the first `parts` of `count` parts, which are as equal as possible.
 fn share_of(units: usize, parts: usize, count: usize) -> usize

@@ -12,3 +12,12 @@ pub mod Resting
 pub mod Stopping
 pub mod Requested
 pub mod Keeping
+pub mod Waiting
+pub mod Lowering
+pub mod Jumping
+pub mod Going
+pub mod Passing
+pub mod Sharing
+pub mod Vectors
+pub mod FirstBelow
+pub mod LeastWord

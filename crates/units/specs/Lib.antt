@@ -9,3 +9,6 @@ pub mod Drained
 pub mod Quiet
 pub mod Stops
 pub mod Kept
+pub mod Wakes
+pub mod GoingOn
+pub mod Scans

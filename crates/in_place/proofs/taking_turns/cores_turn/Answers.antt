@@ -6,7 +6,7 @@ use Rattle.sim_base.specs.History.{insert_by_age}
 use Rattle.links.specs.InFlight.{InFlight}
 use Rattle.units.specs.Flight.{sent_by}
 use Rattle.in_place.specs.Turns.{AreInTurns, all_units, all_words}
-use Rattle.wake_words.specs.Wakes.{WaitAll, AllBrought, AreLowered, links_after}
+use Rattle.units.specs.Wakes.{WaitAll, AllBrought, AreLowered, links_after}
 use Rattle.in_place.proofs.Turning.{cores-brought, cores-wait_all, cores-turned, channel-words_many}
 use Rattle.in_place.proofs.taking_turns.cores_turn.Goals as goal
 

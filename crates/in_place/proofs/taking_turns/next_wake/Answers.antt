@@ -1,5 +1,5 @@
 use Rattle.std.proofs.Common.{arith}
-use Rattle.wake_words.proofs.LeastWord.{least-all, least-since}
+use Rattle.units.proofs.LeastWord.{least-all, least-since}
 use Rattle.in_place.proofs.taking_turns.next_wake.Goals as goal
 
 pub returns-clause-sleep : goal.returns-clause-sleep

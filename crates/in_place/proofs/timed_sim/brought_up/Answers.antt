@@ -1,7 +1,7 @@
 use Rattle.std.proofs.Common.{◌≡◌, length, sym, ap, subst, ◌∙◌, length-append, arith}
 use Rattle.units.specs.Parts.{StandAt}
 use Rattle.units.proofs.Standing.{stand-none}
-use Rattle.wake_words.specs.Wakes.{WaitAll}
+use Rattle.units.specs.Wakes.{WaitAll}
 use Rattle.in_place.proofs.Turning.{cores-wait, channels-wait}
 use Rattle.in_place.proofs.timed_sim.brought_up.Goals as goal
 

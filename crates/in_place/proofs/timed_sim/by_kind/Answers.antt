@@ -3,8 +3,8 @@ use Rattle.std.proofs.Common.{◌≡◌, ◌+◌, ◌++◌, length, replicate, s
 use Rattle.std.specs.declared.vec.Vec.{Vec}
 use Rattle.std.specs.declared.alloc.Global.{Global}
 use Rattle.std.proofs.lemmas.List.{length-replicate, replicate-append-replicate, take-append-drop}
-use Rattle.wake_words.specs.Wakes.{AreTimedUnits}
-use Rattle.wake_words.specs.declared.timed_unit.TimedUnit.{TimedUnit}
+use Rattle.units.specs.Wakes.{AreTimedUnits}
+use Rattle.units.specs.declared.timed_unit.TimedUnit.{TimedUnit}
 use Rattle.in_place.proofs.timed_sim.by_kind.Goals as goal
 
 pub split_off-requires : goal.split_off-requires

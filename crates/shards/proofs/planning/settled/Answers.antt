@@ -8,7 +8,7 @@ use Rattle.sim_base.proofs.Added.{length-push_suc}
 use Rattle.links.specs.InFlight.{InFlight}
 use Rattle.shards.specs.Lists.{lists_of, with_lists}
 use Rattle.shards.specs.Shards.{IsShard, IsWithin}
-use Rattle.wake_words.specs.Wakes.{AreLowered}
+use Rattle.units.specs.Wakes.{AreLowered}
 use Rattle.shards.specs.declared.shard.Shard.{Shard}
 use Rattle.shards.proofs.Setting.{left-next, seam-stop, stop-within, stops}
 use Rattle.shards.proofs.Splitting.{AreMade, made-push}

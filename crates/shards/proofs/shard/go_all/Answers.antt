@@ -1,5 +1,5 @@
 use Rattle.std.proofs.Common.{sym, subst, arith}
-use Rattle.wake_words.specs.Wakes.{HaveGone, WaitAll}
+use Rattle.units.specs.Wakes.{HaveGone, WaitAll}
 use Rattle.shards.proofs.Spanning.{phase-brought, phase-gone}
 use Rattle.shards.proofs.shard.go_all.Goals as goal
 

@@ -6,7 +6,7 @@ use Rattle.sim_base.specs.History.{insert_by_age}
 use Rattle.sim_base.specs.declared.message.Message.{Message}
 use Rattle.links.specs.InFlight.{InFlight}
 use Rattle.shards.specs.Lists.{lists_of}
-use Rattle.wake_words.specs.Wakes.{AreLowered}
+use Rattle.units.specs.Wakes.{AreLowered}
 use Rattle.shards.proofs.Exchanging.{lowered-more, lists-more, taken-more}
 use Rattle.shards.proofs.shard.take_up_all.Goals as goal
 

@@ -6,7 +6,7 @@ use Rattle.std.specs.declared.alloc.Global.{Global}
 use Rattle.sim_base.specs.declared.message.Message.{Message}
 use Rattle.sim_base.specs.History.{insert_by_age}
 use Rattle.shards.specs.Lists.{lists_of}
-use Rattle.wake_words.specs.Wakes.{AreLowered}
+use Rattle.units.specs.Wakes.{AreLowered}
 use Rattle.shards.proofs.shard.take_up_all.Given as goal
 
 abbrev pub invariant-loop-list : goal.invariant-loop-list

@@ -6,7 +6,7 @@ use Rattle.units.specs.Parts.{StandAt}
 use Rattle.units.specs.Runs.{flight_at}
 use Rattle.shards.specs.Lists.{bound}
 use Rattle.shards.specs.Shards.{SleepsAt, flight_to}
-use Rattle.wake_words.proofs.Sharing.{among-all}
+use Rattle.units.proofs.Sharing.{among-all}
 use Rattle.shards.proofs.Splitting.{among-nothing, shard-seam}
 use Rattle.units.proofs.Standing.{stand-none, all-yielded}
 use Rattle.shards.proofs.split.join_all.Goals as goal

@@ -4,7 +4,7 @@ use Rattle.links.specs.InFlight.{InFlight, with_sent}
 use Rattle.units.specs.Parts.{StandAt}
 use Rattle.units.specs.Units.{unit_count}
 use Rattle.units.specs.declared.machine.Machine.{Machine}
-use Rattle.wake_words.specs.Wakes.{WaitAll}
+use Rattle.units.specs.Wakes.{WaitAll}
 use Rattle.shards.specs.Shards.{flight_to}
 use Rattle.shards.specs.declared.shard.Shard.{Shard}
 use Rattle.shards.proofs.Splitting.{flight-next}

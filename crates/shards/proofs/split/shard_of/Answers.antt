@@ -6,8 +6,8 @@ use Rattle.links.specs.InFlight.{InFlight}
 use Rattle.units.specs.Units.{unit_count}
 use Rattle.shards.specs.Shards.{Sleeps, links_among}
 use Rattle.units.specs.declared.machine.Machine.{Machine}
-use Rattle.wake_words.specs.Wakes.{IsAsleep}
-use Rattle.wake_words.specs.declared.timed_unit.TimedUnit.{TimedUnit}
+use Rattle.units.specs.Wakes.{IsAsleep}
+use Rattle.units.specs.declared.timed_unit.TimedUnit.{TimedUnit}
 use Rattle.shards.proofs.Splitting.{split-within, shard-asleep}
 use Rattle.shards.proofs.split.shard_of.Goals as goal
 

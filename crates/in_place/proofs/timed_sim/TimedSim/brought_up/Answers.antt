@@ -5,9 +5,9 @@ use Rattle.units.specs.Flight.{among}
 use Rattle.units.specs.Parts.{StandAt}
 use Rattle.units.specs.Runs.{flight_at}
 use Rattle.units.specs.Units.{unit_count}
-use Rattle.wake_words.specs.Wakes.{WaitAll}
+use Rattle.units.specs.Wakes.{WaitAll}
 use Rattle.units.specs.declared.machine.Machine.{Machine}
-use Rattle.wake_words.proofs.Sharing.{among-all}
+use Rattle.units.proofs.Sharing.{among-all}
 use Rattle.in_place.specs.Turns.{AreByKind, all_units, all_words}
 use Rattle.in_place.proofs.timed_sim.TimedSim.brought_up.Goals as goal
 

@@ -2,7 +2,7 @@ use Rattle.std.proofs.Common.{◌≡◌, length, sym, subst, ◌∙◌}
 use Rattle.std.specs.Arc.{arc_value}
 use Rattle.units.specs.Units.{unit_count}
 use Rattle.units.specs.declared.machine.Machine.{Machine}
-use Rattle.wake_words.proofs.Jumping.{awake-sim}
+use Rattle.units.proofs.Jumping.{awake-sim}
 use Rattle.in_place.specs.Turns.{AreByKind, all_units, all_words}
 use Rattle.in_place.proofs.timed_sim.TimedSim.of.Goals as goal
 

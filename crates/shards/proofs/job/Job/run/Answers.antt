@@ -10,7 +10,7 @@ use Rattle.sim_base.specs.Locality.{TravelsFor}
 use Rattle.shards.specs.Lists.{AllEmpty, AreSortedByShard, lists_of, with_lists}
 use Rattle.shards.specs.Shards.{HasGone, HoldWhatWasSent, IsSplit, IsWithin, Sleeps, sent_of_shard}
 use Rattle.shards.specs.Jobs.{IsDone, JobView}
-use Rattle.wake_words.specs.Wakes.{AreLowered}
+use Rattle.units.specs.Wakes.{AreLowered}
 use Rattle.units.specs.declared.machine.Machine.{Machine}
 use Rattle.shards.specs.declared.shard.Shard.{Shard}
 use Rattle.shards.proofs.Jobs.{taken-up, job-ends}

@@ -1,7 +1,7 @@
 use Rattle.std.proofs.Common.{◌≡◌, ◌<◌, ◌≤◌, ℕ, length, get_or, sym, subst, ◌∙◌, arith}
 use Rattle.std.specs.Arc.{arc_value}
 use Rattle.std.specs.Prelude.{All}
-use Rattle.wake_words.proofs.LeastWord.{least-all, least-since}
+use Rattle.units.proofs.LeastWord.{least-all, least-since}
 use Rattle.sim_base.specs.declared.message.Message.{Message}
 use Rattle.units.specs.Flight.{sent_by}
 use Rattle.units.specs.declared.machine.Machine.{Machine}

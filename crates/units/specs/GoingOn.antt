@@ -1,0 +1,101 @@
+-- Units of a kind that go on over a span, while those that send to them stand.
+--     WaitsAt machine place span sleeper      the unit at a place waits where the span begins
+--     WaitsNow machine place now sleeper      it waits where all units stand
+--     IsBroughtTo machine place span links      the links hold what arrives at it up to the end of the span
+--     MayBeWoken machine place span unit      a unit waits there with some word
+--     MayBeBroughtUp machine place now unit      so does one where all units stand
+--     links_taken machine place span links      the links when it has taken what arrives at it in the span
+--     GoesOnOver machine place span sleeper old new      it has gone on, and what it sent is put at the end of a list
+--     WaitAllAt, WaitAllPast, AllBroughtTo, links_taken_by, sent_over      the same of units at places from one on
+--     NothingArrives links unit from until      no message in flight arrives at a unit in a span
+--     IsReceiver s link place, HasNoReceiver s link      the place of the unit that a link leads to; and that there is none
+--     GrowsBy count old new      so many elements are put at the end of a list
+use Rattle.std.specs.Prelude.{◌≡◌, ℕ, ◌+◌, ◌<◌, ◌≤◌, false, List, [], length, filter, not}
+use Rattle.sim_base.specs.declared.config.Config.{Config}
+use Rattle.sim_base.specs.declared.message.Message.{Message}
+use Rattle.sim_base.specs.declared.message.Unit.{Unit as MachineUnit}
+use Rattle.sim_base.specs.History.{is_unit}
+use Rattle.links.specs.InFlight.{InFlight, is_due, receiver_of}
+use Rattle.units.specs.Flight.{sent_by}
+use Rattle.units.specs.Units.{unit_at, unit_count}
+use Rattle.units.specs.declared.machine.Machine.{Machine}
+use Rattle.units.specs.Wakes.{Sleeper, Waits, WaitAll, IsBrought, AllBrought, AddsWhatItSent, links_after, sleeper}
+use Rattle.units.specs.declared.timed_unit.TimedUnit.{TimedUnit}
+use Rattle.units.specs.declared.timed_unit.Span.{Span}
+use Rattle.units.specs.declared.waking.UnitRange.{UnitRange}
+
+-- the unit at a place waits where a span begins
+abbrev pub WaitsAt : Machine → ℕ → Span → Sleeper → Type 0
+WaitsAt machine place span sleeper = Waits machine (unit_at machine.config place) span.here span.there sleeper
+
+-- the unit at a place waits where all units stand
+abbrev pub WaitsNow : Machine → ℕ → ℕ → Sleeper → Type 0
+WaitsNow machine place now sleeper = Waits machine (unit_at machine.config place) now now sleeper
+
+-- the unit at a place waits where a span begins, with some word
+pub record MayBeWoken (machine : Machine) (place : ℕ) (span : Span) (unit : TimedUnit) : Type 0 where
+  pub word : ℕ
+  pub waits : WaitsAt machine place span (sleeper unit word)
+
+-- the unit at a place waits where all units stand, with some word
+pub record MayBeBroughtUp (machine : Machine) (place now : ℕ) (unit : TimedUnit) : Type 0 where
+  pub word : ℕ
+  pub waits : WaitsNow machine place now (sleeper unit word)
+
+-- the links hold what arrives at the unit at a place up to the end of a span
+abbrev pub IsBroughtTo : Machine → ℕ → Span → InFlight → Type 0
+IsBroughtTo machine place span links =
+    IsBrought machine span.here span.there span.until (unit_at machine.config place) links
+
+-- the links when the unit at a place has taken what arrives at it in a span
+abbrev pub links_taken : Machine → ℕ → Span → InFlight → InFlight
+links_taken machine place span links =
+    let taken = is_due machine.config.channels (unit_at machine.config place) span.here span.until in
+    record links { messages = filter (λ m. not (taken m)) links.messages }
+
+-- the unit at a place has gone on over a span, and what it sent is put at the end of a list
+abbrev pub GoesOnOver : Machine → ℕ → Span → Sleeper → List Message → List Message → Type 0
+GoesOnOver machine place span sleeper old new =
+    AddsWhatItSent machine (unit_at machine.config place) span.here span.there span.until sleeper old new
+
+-- units wait where a span begins
+abbrev pub WaitAllAt : Machine → Span → UnitRange → Type 0
+WaitAllAt machine span range =
+    WaitAll machine range.first span.here span.there range.units.items range.words.items
+
+-- units wait at the end of a span
+abbrev pub WaitAllPast : Machine → Span → UnitRange → Type 0
+WaitAllPast machine span range =
+    WaitAll machine range.first span.until span.there range.units.items range.words.items
+
+-- the links hold what arrives at units up to the end of a span
+abbrev pub AllBroughtTo : Machine → Span → UnitRange → InFlight → Type 0
+AllBroughtTo machine span range links =
+    AllBrought machine range.first (length range.units.items) span.here span.there span.until links
+
+-- the links when units have taken what arrives at them in a span
+abbrev pub links_taken_by : Machine → Span → UnitRange → InFlight → InFlight
+links_taken_by machine span range links =
+    links_after machine.config span.here span.until range.first (length range.units.items) links
+
+-- what units send in a span
+abbrev pub sent_over : Machine → Span → UnitRange → List Message
+sent_over machine span range = sent_by machine span.here span.until range.first (length range.units.items)
+
+-- no message in flight arrives at a unit from a cycle on and before another
+abbrev pub NothingArrives : InFlight → MachineUnit → ℕ → ℕ → Type 0
+NothingArrives links unit from until =
+    (word : ℕ) → word ≤ until → filter (is_due links.channels unit from word) links.messages ≡ []
+
+-- the unit that a link leads to stands at a place
+abbrev pub IsReceiver : Config → ℕ → ℕ → Type 0
+IsReceiver s link place = (place < unit_count s) × (unit_at s place ≡ receiver_of s.channels link)
+
+-- a link leads to no unit of the machine
+abbrev pub HasNoReceiver : Config → ℕ → Type 0
+HasNoReceiver s link =
+    (place : ℕ) → place < unit_count s → is_unit (receiver_of s.channels link) (unit_at s place) ≡ false
+
+-- so many elements are put at the end of a list
+abbrev pub GrowsBy : {A : Type 0} → ℕ → List A → List A → Type 0
+GrowsBy count old new = length new ≡ length old + count

@@ -1,9 +1,0 @@
-pub mod Waiting
-pub mod Lowering
-pub mod Jumping
-pub mod Going
-pub mod Passing
-pub mod Sharing
-pub mod Vectors
-pub mod FirstBelow
-pub mod LeastWord

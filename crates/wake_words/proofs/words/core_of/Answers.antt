@@ -1,6 +1,0 @@
--- The number of channels is a power of two.
-use Rattle.std.proofs.Common.{◌/◌, ap, sym}
-use Rattle.wake_words.proofs.words.core_of.Goals as goal
-
-pub returns : goal.returns
-returns c = ap (λ n. c.args.link / 3 / n) (sym c.requires.channels)

@@ -1,3 +1,0 @@
-pub mod Wakes
-pub mod GoingOn
-pub mod Scans
