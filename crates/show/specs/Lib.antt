@@ -3,4 +3,5 @@ pub mod Banks
 pub mod Requests
 pub mod Rows
 pub mod Strings
+pub mod Summary
 pub mod Tables
