@@ -4,9 +4,9 @@ use Rattle.std.specs.List.{flat_map}
 use Rattle.std.proofs.lemmas.List.{append_assoc, take_all}
 use Rattle.sim_base.specs.History.{below}
 use Rattle.sim_base.proofs.Lists.{flat_map_below-more}
-use Rattle.text_builder.specs.Texts.{PutsWords}
-use Rattle.text_builder.specs.declared.TextBuilder.{TextBuilder}
-use Rattle.text_builder.proofs.Texts.{words_as, words_both}
+use Rattle.measures.specs.Texts.{PutsWords}
+use Rattle.measures.specs.declared.text_builder.TextBuilder.{TextBuilder}
+use Rattle.measures.proofs.Texts.{words_as, words_both}
 
 -- a text whose parts are all there, and what closes it
 pub parts_closed : {A : Type 0} (f : A → List ℕ) (xs : List A) (i : ℕ) (head close : List ℕ) {a b c : TextBuilder} → length xs ≤ i → PutsWords (head ++ flat_map f (take i xs)) a b

@@ -1,15 +1,15 @@
 //! Values and changes as texts.
 
 ghost use Rattle.std.specs.Prelude.{◌≡◌, ◌^◌, ◌<◌, ◌≤◌, List, ℕ, IfOk, IfSome, string_bytes};
-ghost use Rattle.text_builder.specs.Texts.{PutsWords};
+ghost use Rattle.measures.specs.Texts.{PutsWords};
 ghost use Rattle.compare.specs.Strings.{IsText};
 ghost use Rattle.compare.specs.Texts.{rounded, tenths_text, thousandths_text, fixed_text, missing_text, value_text, signed_text, change_text, cell_text, label_text};
 
 use crate::changes::Change;
 use crate::layout::Layout;
 use crate::measures::Decimals;
+use measures::text_builder::TextBuilder;
 use std::alloc::{AllocError, Global};
-use text_builder::TextBuilder;
 
 /// The width of the labels, in characters: that of the longest one.
 const LABEL_WIDTH: usize = 22;

@@ -3,3 +3,5 @@ pub mod Ordered
 pub mod Kept
 pub mod Acts
 pub mod Powers
+pub mod Filled
+pub mod Texts

@@ -3,9 +3,9 @@ use Rattle.std.proofs.Common.{◌≡◌, ℕ, ◌+◌, ◌<◌, List, [], ◌∷
 use Rattle.std.specs.List.{flat_map}
 use Rattle.std.proofs.lemmas.Grind.{flat_map-append}
 use Rattle.std.proofs.lemmas.List.{append-nil, take_more}
-use Rattle.text_builder.specs.Texts.{PutsWords}
-use Rattle.text_builder.specs.declared.TextBuilder.{TextBuilder}
-use Rattle.text_builder.proofs.Texts.{words_as, words_both}
+use Rattle.measures.specs.Texts.{PutsWords}
+use Rattle.measures.specs.declared.text_builder.TextBuilder.{TextBuilder}
+use Rattle.measures.proofs.Texts.{words_as, words_both}
 
 -- the part of one more item, behind a head
 pub one_more : {A : Type 0} (part : A → List ℕ) (items : List A) (place : ℕ) (item : A) (head : List ℕ) {a b c : TextBuilder} → place < length items

@@ -4,7 +4,7 @@ ghost use Rattle.std.specs.Prelude.{◌≡◌, IfOk, length, string_bytes};
 ghost use Rattle.show.specs.Rows.{bank_row};
 ghost use Rattle.show.specs.Screen.{Extends};
 ghost use Rattle.show.specs.Banks.{banks_head, AreBanksOf, AreBanks, IsBanksScreen};
-ghost use Rattle.text_builder.specs.Texts.{Puts, Grows};
+ghost use Rattle.measures.specs.Texts.{Puts, Grows};
 
 use crate::options::Options;
 use crate::screen::put_screen;
@@ -13,11 +13,11 @@ use command_table::list::CommandList;
 use measures::bank_counts::channel_counts;
 use measures::bank_counts::counts::BankCounts;
 use measures::number::Number;
+use measures::text_builder::TextBuilder;
 use sim_base::config::Config;
 use sim_base::place::BankId;
 use statistics::stats::Stats;
 use std::alloc::{AllocError, Global};
-use text_builder::TextBuilder;
 
 /// The headings of a bank's numbers.
 static BANK_HEADINGS: [&str; 6] = ["act", "rd", "wr", "pre", "hits %", "conflicts"];

@@ -3,17 +3,17 @@
 ghost use Rattle.std.specs.Prelude.{IfOk, length, string_bytes};
 ghost use Rattle.show.specs.Rows.{time_text};
 ghost use Rattle.show.specs.Screen.{EndsWith, Extends, IsScreen, channels_head, cores_head};
-ghost use Rattle.text_builder.specs.Texts.{Puts, PutsWords};
+ghost use Rattle.measures.specs.Texts.{Puts, PutsWords};
 
 use crate::options::Options;
 use crate::rows::{
     CHANNEL_HEADINGS, CLOCKED_CHANNEL_HEADINGS, CORE_HEADINGS, channel_rows, core_rows, nanoseconds,
 };
 use crate::table::TableLayout;
+use measures::text_builder::TextBuilder;
 use sim_base::config::Config;
 use statistics::stats::Stats;
 use std::alloc::{AllocError, Global};
-use text_builder::TextBuilder;
 
 // The headings of the channels.
 fn channel_headings(config: Option<&Config>, khz: Option<u64>) -> &'static [&'static str] {

@@ -2,14 +2,14 @@
 
 ghost use Rattle.std.specs.Prelude.{◌≡◌, List, ℕ, IfOk, string_bytes};
 ghost use Rattle.measures.specs.declared.number.Number.{Number};
-ghost use Rattle.text_builder.specs.Texts.{Puts, PutsWords};
+ghost use Rattle.measures.specs.Texts.{Puts, PutsWords};
 ghost use Rattle.show.specs.Strings.{IsText};
 ghost use Rattle.show.specs.Tables.{cell_text, width_of, column_text, headings_text, number_at, row_text, summary_label, label_text, lines_text, IsTable};
 
 use crate::rows::{Row, summary_rows};
 use measures::number::Number;
+use measures::text_builder::TextBuilder;
 use std::alloc::{AllocError, Global};
-use text_builder::TextBuilder;
 
 /// A table with more lines than this is shown in three, unless all are asked for.
 const MOST_LINES: usize = 16;

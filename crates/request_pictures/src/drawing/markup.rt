@@ -1,11 +1,11 @@
 //! Text of a page, put together from pieces.
 
-ghost use Rattle.text_builder.specs.Texts.{Puts, PutsWords};
+ghost use Rattle.measures.specs.Texts.{Puts, PutsWords};
 ghost use Rattle.request_pictures.specs.Legends.{entry_text, legend_text};
 ghost use Rattle.request_pictures.specs.Pieces.{IsGrouped, IsPieceText, group_text, hundredths};
 
-use text_builder::TextBuilder;
-use text_builder::forms::Append;
+use measures::text_builder::TextBuilder;
+use measures::text_builder::forms::Append;
 
 /// A piece of text.
 #[derive(Clone, Copy)]

@@ -1,7 +1,7 @@
 -- The head, and the lines below it.
 use Rattle.std.proofs.Common.{length, append_assoc, refl}
 use Rattle.show.specs.Banks.{banks_head}
-use Rattle.text_builder.proofs.Texts.{words_as}
+use Rattle.measures.proofs.Texts.{words_as}
 use Rattle.show.proofs.Texts.{headed, headed_on}
 use Rattle.show.proofs.banks.put_banks.Goals as goal
 

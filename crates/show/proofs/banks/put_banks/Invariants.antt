@@ -2,7 +2,7 @@
 use Rattle.std.proofs.Common.{length}
 use Rattle.show.specs.Banks.{banks_head}
 use Rattle.show.specs.Screen.{Extends}
-use Rattle.text_builder.specs.Texts.{Puts}
+use Rattle.measures.specs.Texts.{Puts}
 use Rattle.show.proofs.banks.put_banks.Given as goal
 
 abbrev pub invariant-loop-counts : goal.invariant-loop-counts

@@ -1,5 +1,5 @@
 -- The banks of one more channel.
-use Rattle.text_builder.proofs.Texts.{puts_both}
+use Rattle.measures.proofs.Texts.{puts_both}
 use Rattle.show.proofs.Texts.{one_more_channel}
 use Rattle.show.proofs.banks.put_channels.Goals as goal
 

@@ -1,6 +1,6 @@
 -- The banks of the channels so far.
 use Rattle.show.specs.Banks.{AreBanks}
-use Rattle.text_builder.specs.Texts.{Puts}
+use Rattle.measures.specs.Texts.{Puts}
 use Rattle.show.proofs.banks.put_channels.Given as goal
 
 abbrev pub invariant-loop-channel : goal.invariant-loop-channel

@@ -1,7 +1,7 @@
 -- The screen, and the banks below it.
 use Rattle.std.proofs.Common.{◌≡◌, length, refl, subst, rules}
 use Rattle.show.specs.Banks.{AreBanks, IsBanksScreen}
-use Rattle.text_builder.proofs.Texts.{finished, puts_both}
+use Rattle.measures.proofs.Texts.{finished, puts_both}
 use Rattle.show.proofs.banks.show_banks.Goals as goal
 
 pub returns : goal.returns

@@ -1,7 +1,7 @@
 -- The head, and the table and its last line below it.
 use Rattle.std.proofs.Common.{ap, ◌∙◌, append_assoc, refl}
 use Rattle.show.specs.Requests.{latencies_head, replies_of}
-use Rattle.text_builder.proofs.Texts.{words_as, puts_as}
+use Rattle.measures.proofs.Texts.{words_as, puts_as}
 use Rattle.show.proofs.Texts.{headed, headed_on, labelled, tabled}
 use Rattle.show.proofs.requests.put_latencies.Goals as goal
 

@@ -1,6 +1,6 @@
 -- The read latencies, and the waits below them.
 use Rattle.show.specs.Requests.{AreRequests}
-use Rattle.text_builder.proofs.Texts.{finished, puts_both}
+use Rattle.measures.proofs.Texts.{finished, puts_both}
 use Rattle.show.proofs.Texts.{requests_of}
 use Rattle.show.proofs.requests.show_requests.Goals as goal
 

@@ -1,7 +1,7 @@
 -- The head, and the table below it.
 use Rattle.std.proofs.Common.{◌≡◌, ◌∙◌, ap, length, append_assoc, refl, rules}
 use Rattle.show.specs.Screen.{cores_head}
-use Rattle.text_builder.proofs.Texts.{words_as, puts_as}
+use Rattle.measures.proofs.Texts.{words_as, puts_as}
 use Rattle.show.proofs.Texts.{headed}
 use Rattle.show.proofs.screen.put_cores.Goals as goal
 

@@ -2,7 +2,7 @@
 use Rattle.std.proofs.Common.{◌≡◌, ap, length, rules}
 use Rattle.show.specs.Rows.{time_text}
 use Rattle.show.specs.Screen.{cores_head}
-use Rattle.text_builder.proofs.Texts.{grows_on, puts_both, words_as}
+use Rattle.measures.proofs.Texts.{grows_on, puts_both, words_as}
 use Rattle.show.proofs.Texts.{ended, headed_on, screen_of}
 use Rattle.show.proofs.screen.put_screen.Goals as goal
 

@@ -1,6 +1,6 @@
 use Rattle.show.specs.Rows.{time_text}
 use Rattle.show.specs.Screen.{EndsWith}
-use Rattle.text_builder.proofs.Texts.{finished}
+use Rattle.measures.proofs.Texts.{finished}
 use Rattle.show.proofs.screen.show_text.Goals as goal
 
 pub returns-clause-screen : goal.returns-clause-screen

@@ -2,7 +2,7 @@
 use Rattle.std.proofs.Common.{ap, ◌++◌}
 use Rattle.std.specs.Prelude.{codes}
 use Rattle.std.specs.List.{repeat}
-use Rattle.text_builder.proofs.Texts.{words_as, words_both}
+use Rattle.measures.proofs.Texts.{words_as, words_both}
 use Rattle.show.proofs.table.put_cell.Goals as goal
 
 pub returns : goal.returns

@@ -3,7 +3,7 @@ use Rattle.std.proofs.Common.{◌++◌, ap}
 use Rattle.std.proofs.lemmas.List.{take_all}
 use Rattle.std.specs.Prelude.{codes}
 use Rattle.std.specs.List.{flat_map}
-use Rattle.text_builder.proofs.Texts.{words_as, words_both}
+use Rattle.measures.proofs.Texts.{words_as, words_both}
 use Rattle.request_pictures.proofs.Listed.{one_more}
 use Rattle.request_pictures.specs.Legends.{entry_text, legend_text}
 use Rattle.request_pictures.proofs.drawing.markup.put_legend.Goals as goal

@@ -1,7 +1,7 @@
 -- The headings so far.
 use Rattle.std.proofs.Common.{◌++◌, take}
 use Rattle.std.specs.List.{flat_map}
-use Rattle.text_builder.specs.Texts.{PutsWords}
+use Rattle.measures.specs.Texts.{PutsWords}
 use Rattle.show.specs.Tables.{cell_text, heading_text}
 use Rattle.show.proofs.table.TableLayout.put_headings.Given as goal
 

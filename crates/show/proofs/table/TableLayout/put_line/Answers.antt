@@ -3,7 +3,7 @@ use Rattle.std.proofs.Common.{◌≡◌, ◌++◌, ap, length, arith}
 use Rattle.std.specs.Prelude.{codes}
 use Rattle.std.specs.List.{flat_map}
 use Rattle.sim_base.specs.History.{below}
-use Rattle.text_builder.proofs.Texts.{words_as, words_both}
+use Rattle.measures.proofs.Texts.{words_as, words_both}
 use Rattle.show.specs.Tables.{cell_text, number_at, row_text}
 use Rattle.show.proofs.Parts.{part_below_more}
 use Rattle.show.proofs.table.TableLayout.put_line.Goals as goal

@@ -2,7 +2,7 @@
 use Rattle.std.proofs.Common.{◌++◌}
 use Rattle.std.specs.List.{flat_map}
 use Rattle.sim_base.specs.History.{below}
-use Rattle.text_builder.specs.Texts.{PutsWords}
+use Rattle.measures.specs.Texts.{PutsWords}
 use Rattle.show.specs.Tables.{cell_text, number_at}
 use Rattle.show.proofs.table.TableLayout.put_line.Given as goal
 

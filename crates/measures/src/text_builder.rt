@@ -1,11 +1,10 @@
 //! Builds a text part by part, and keeps whether memory was refused for one of them: then there is no text in the end.
-#![tactic(auto)]
 
 pub mod forms;
 
 ghost use Rattle.std.specs.Prelude.{◌≡◌, ◌==◌, ◌||◌, not, List, ℕ, true, false, [], IfOk, length, string_bytes, string_len, encode_utf8};
 ghost use Rattle.std.specs.Result.{OkIff};
-ghost use Rattle.text_builder.specs.Texts.{PutsWords, PutsOutput, KeepsRefusal, GoesOnWithRoom};
+ghost use Rattle.measures.specs.Texts.{PutsWords, PutsOutput, KeepsRefusal, GoesOnWithRoom};
 
 use std::alloc::{AllocError, Global};
 use std::fmt::Display;

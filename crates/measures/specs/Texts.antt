@@ -7,7 +7,7 @@
 --     HasRoom count builder      there is room for so many bytes more
 --     GoesOnWithRoom count old new      no memory is refused for so many bytes where there is room for them
 use Rattle.std.specs.Prelude.{◌≡◌, ◌+◌, ◌≤◌, ⊤, false, ℕ, List, ◌++◌, Option, IfSome, string_bytes, string_len, string_capacity}
-use Rattle.text_builder.specs.declared.TextBuilder.{TextBuilder}
+use Rattle.measures.specs.declared.text_builder.TextBuilder.{TextBuilder}
 
 -- a text of some kind stands behind what was there, and no memory was refused before
 pub record IsPut (kind : List ℕ → Type 0) (old new : TextBuilder) : Type 0 where
