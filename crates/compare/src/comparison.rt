@@ -2,8 +2,8 @@
 
 ghost use Rattle.std.specs.Prelude.{◌^◌, ◌<◌, IfOk};
 ghost use Rattle.compare.specs.Comparison.{names_text, head_text, heading_text, headings_text, comparison_text};
-ghost use Rattle.measures.specs.Texts.{PutsWords};
-ghost use Rattle.compare.specs.Strings.{IsText, texts};
+ghost use Rattle.measures.specs.Texts.{IsText, PutsWords};
+ghost use Rattle.compare.specs.Strings.{texts};
 
 use crate::layout::Layout;
 use crate::lines::{CHANGE_WIDTH, VALUE_WIDTH, put_lines};

@@ -4,4 +4,5 @@ pub mod Kept
 pub mod Acts
 pub mod Powers
 pub mod Filled
+pub mod Parts
 pub mod Texts

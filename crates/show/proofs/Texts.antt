@@ -3,10 +3,9 @@ use Rattle.std.specs.Prelude.{Result, Ok, Err, IfOk, String, Vec, string_bytes}
 use Rattle.std.specs.declared.alloc.AllocError.{AllocError}
 use Rattle.std.specs.declared.alloc.Global.{Global}
 use Rattle.std.proofs.Common.{◌≡◌, ℕ, ◌+◌, List, [], ◌++◌, length, refl, sym, ap, ap₂, subst, ◌∙◌, add-one, append_assoc}
-use Rattle.measures.specs.Texts.{Grows, Puts, PutsWords}
+use Rattle.measures.specs.Texts.{Grows, IsText, Puts, PutsWords}
 use Rattle.measures.specs.declared.text_builder.TextBuilder.{TextBuilder}
 use Rattle.measures.proofs.Texts.{puts_as, puts_both}
-use Rattle.show.specs.Strings.{IsText}
 use Rattle.show.specs.Screen.{EndsWith, Extends, IsScreen, channels_head, cores_head}
 use Rattle.show.specs.Banks.{AreBanksOf, AreBanks}
 use Rattle.show.specs.Requests.{latencies_head, waits_head, AreRequests}

@@ -2,5 +2,4 @@ pub mod Screen
 pub mod Banks
 pub mod Requests
 pub mod Rows
-pub mod Strings
 pub mod Tables

@@ -1,20 +1,15 @@
 -- Tables of text: a line of headings, and below it a line for each row, with each column flush right.
---     cell_text width text      a cell, padded on the left
 --     headings_text label headings      the line of headings
 --     row_text headings label row      the line of a row
 --     lines_text layout summarized rows      both, with a line for each row
 --     IsTable layout rows text      a table, which has a line for each row where there are few, or where all are asked for
-use Rattle.std.specs.Prelude.{◌≡◌, ℕ, ◌-◌, ◌==◌, nat_le, max, Bool, true, false, ◌||◌, List, [], ◌++◌, codes, decimal, length, flat_map, slice_get, slice_index_or, Option, Some, if◌then◌else◌}
-use Rattle.std.specs.List.{repeat}
+use Rattle.std.specs.Prelude.{◌≡◌, ℕ, ◌==◌, nat_le, max, Bool, true, false, ◌||◌, List, [], ◌++◌, codes, decimal, length, flat_map, slice_get, slice_index_or, Option, Some, if◌then◌else◌}
 use Rattle.std.specs.Borrow.{Bor}
 use Rattle.sim_base.specs.History.{below}
 use Rattle.measures.specs.Number.{number_text}
+use Rattle.measures.specs.Texts.{flush_right}
 use Rattle.measures.specs.declared.number.Number.{Number}
 use Rattle.show.specs.declared.table.TableLayout.{TableLayout}
-
--- a cell of so many characters, padded on the left
-abbrev pub cell_text : ℕ → List ℕ → List ℕ
-cell_text width text = repeat (width - length text) (codes " ") ++ text
 
 -- the width of a column of numbers: that of its heading, and at least five
 abbrev pub width_of : List ℕ → ℕ
@@ -22,14 +17,14 @@ width_of heading = max (length heading) 5
 
 -- a cell of a column of numbers
 abbrev pub column_text : List ℕ → List ℕ → List ℕ
-column_text heading text = codes "  " ++ cell_text (width_of heading) text
+column_text heading text = codes "  " ++ flush_right (width_of heading) text
 
 abbrev pub heading_text : Bor (List ℕ) → List ℕ
 heading_text heading = column_text heading.now heading.now
 
 -- the line of headings, the first of which says what each line is about
 unfoldable pub headings_text : List ℕ → List (Bor (List ℕ)) → List ℕ
-headings_text label headings = cell_text 8 label ++ flat_map heading_text headings ++ codes "\n"
+headings_text label headings = flush_right 8 label ++ flat_map heading_text headings ++ codes "\n"
 
 -- a number below its heading, where there are both
 abbrev pub number_below : Option (Bor (List ℕ)) → Option Number → List ℕ
@@ -41,7 +36,7 @@ number_at headings row place = number_below (slice_get headings place) (slice_ge
 
 -- the line of a row: a number below each heading
 unfoldable pub row_text : List (Bor (List ℕ)) → List ℕ → List Number → List ℕ
-row_text headings label row = cell_text 8 label ++ flat_map (number_at headings row) (below (length headings)) ++ codes "\n"
+row_text headings label row = flush_right 8 label ++ flat_map (number_at headings row) (below (length headings)) ++ codes "\n"
 
 -- what stands before a row of a summary
 abbrev pub summary_label : ℕ → List ℕ

@@ -4,7 +4,7 @@ use Rattle.std.specs.Prelude.{codes}
 use Rattle.compare.specs.Tails.{tail_text, tail_cells_text, tail_line_text}
 use Rattle.compare.specs.Texts.{label_text}
 use Rattle.measures.proofs.Texts.{words_as, words_both}
-use Rattle.compare.proofs.Parts.{parts_closed}
+use Rattle.measures.proofs.Parts.{parts_closed}
 use Rattle.compare.proofs.tails.put_tail_line.Goals as goal
 
 pub loop-tail-init : goal.loop-tail-init

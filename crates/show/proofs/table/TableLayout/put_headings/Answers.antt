@@ -1,15 +1,16 @@
 -- One heading after the other, and the end of the line.
 use Rattle.std.specs.Prelude.{codes}
-use Rattle.show.specs.Tables.{cell_text, heading_text, headings_text}
-use Rattle.show.proofs.Parts.{part_more, parts_closed}
+use Rattle.measures.specs.Texts.{flush_right}
+use Rattle.show.specs.Tables.{heading_text, headings_text}
+use Rattle.measures.proofs.Parts.{part_more, parts_closed}
 use Rattle.show.proofs.table.TableLayout.put_headings.Goals as goal
 
 pub loop-heading-preserved : goal.loop-heading-preserved
 loop-heading-preserved c =
-    part_more heading_text c.args.self.now.headings.now c.loop-heading.heading-index _ (cell_text 8 c.args.self.now.label.now) c.loop-heading-test.true c.loop-heading.invariant c.put_column.ensures
+    part_more heading_text c.args.self.now.headings.now c.loop-heading.heading-index _ (flush_right 8 c.args.self.now.label.now) c.loop-heading-test.true c.loop-heading.invariant c.put_column.ensures
 
 pub returns : goal.returns
 unfolding headings_text
 returns c =
-    parts_closed heading_text c.args.self.now.headings.now c.loop-heading.heading-index (cell_text 8 c.args.self.now.label.now) (codes "\n") c.loop-heading-test.false c.loop-heading.invariant
+    parts_closed heading_text c.args.self.now.headings.now c.loop-heading.heading-index (flush_right 8 c.args.self.now.label.now) (codes "\n") c.loop-heading-test.false c.loop-heading.invariant
     c.push_str.ensures.words
