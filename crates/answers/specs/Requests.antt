@@ -10,7 +10,7 @@
 --     IsFolderRefused tells held dirs runs fault      the first folder whose requests are refused
 --     IsTailAt found stats tail      the 99th percentile of the read latencies that a path holds
 --     AreTails dirs held runs tails      the same of each folder, or none
-use Rattle.std.specs.Prelude.{◌≡◌, ◌⊎◌, ℕ, ◌<◌, ⊤, List, [], ◌++◌, length, codes, slice_get, Option, Some, None, MatchOption}
+use Rattle.std.specs.Prelude.{min, ◌≡◌, ◌⊎◌, ℕ, ◌<◌, ⊤, List, [], ◌++◌, length, codes, slice_get, Option, Some, None, MatchOption}
 use Rattle.sim_base.specs.declared.command.IssuedCommand.{IssuedCommand}
 use Rattle.sim_base.specs.declared.fault.Fault.{Fault}
 use Rattle.sim_base.specs.declared.fault.Fault.TheVariants.{CheckRow, Memory}

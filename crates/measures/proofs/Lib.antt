@@ -4,3 +4,6 @@ pub mod Places
 pub mod Kept
 pub mod Acts
 pub mod Powers
+pub mod Filled
+pub mod Parts
+pub mod Texts

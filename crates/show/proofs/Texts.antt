@@ -1,9 +1,9 @@
 -- Texts below their heads.
 use Rattle.std.specs.Prelude.{Bool}
 use Rattle.std.proofs.Common.{◌≡◌, ℕ, List, ◌++◌, length, sym, ap, subst, ◌∙◌, append_assoc, Option, Some, None}
-use Rattle.text_builder.specs.Texts.{Puts, PutsWords}
-use Rattle.text_builder.specs.declared.TextBuilder.{TextBuilder}
-use Rattle.text_builder.proofs.Texts.{puts_both}
+use Rattle.measures.specs.Texts.{Puts, PutsWords}
+use Rattle.measures.specs.declared.text_builder.TextBuilder.{TextBuilder}
+use Rattle.measures.proofs.Texts.{puts_both}
 use Rattle.measures.specs.Latency.{read_latencies, AreLatenciesOf}
 use Rattle.measures.specs.declared.request_measures.latency.Latencies.{Latencies}
 use Rattle.request_table.specs.declared.times.RequestTimes.{RequestTimes}

@@ -1,22 +1,17 @@
 -- Tables of text: a line of headings, and below it a line for each row, with each column flush right.
---     cell_text width text      a cell, padded on the left
 --     headings_text label headings      the line of headings
 --     row_text headings label row      the line of a row
 --     lines_text label headings summarized rows      both, with a line for each row
 --     IsTable label headings all rows text      a table, which has a line for each row where there are few, or where all are asked for
 --     headings_of layout, IsTableOf layout rows text      the headings of a layout, and a table of it
 --     IsLayout label headings all layout      a layout with these headings
-use Rattle.std.specs.Prelude.{◌≡◌, ℕ, ◌-◌, ◌==◌, nat_le, max, Bool, true, false, ◌||◌, List, [], ◌++◌, codes, decimal, length, map, flat_map, slice_get, slice_index_or, Option, Some, if◌then◌else◌}
-use Rattle.std.specs.List.{repeat}
+use Rattle.std.specs.Prelude.{◌≡◌, ℕ, ◌==◌, nat_le, max, Bool, true, false, ◌||◌, List, [], ◌++◌, codes, decimal, length, map, flat_map, slice_get, slice_index_or, Option, Some, if◌then◌else◌}
 use Rattle.sim_base.specs.History.{below}
 use Rattle.measures.specs.Number.{number_text}
+use Rattle.measures.specs.Texts.{flush_right}
 use Rattle.measures.specs.declared.number.Number.{Number}
 use Rattle.show.specs.Summary.{IsSummary}
 use Rattle.show.specs.declared.table.TableLayout.{TableLayout}
-
--- a cell of so many characters, padded on the left
-abbrev pub cell_text : ℕ → List ℕ → List ℕ
-cell_text width text = repeat (width - length text) (codes " ") ++ text
 
 -- the width of a column of numbers: that of its heading, and at least five
 abbrev pub width_of : List ℕ → ℕ
@@ -24,7 +19,7 @@ width_of heading = max (length heading) 5
 
 -- a cell of a column of numbers
 abbrev pub column_text : List ℕ → List ℕ → List ℕ
-column_text heading text = codes "  " ++ cell_text (width_of heading) text
+column_text heading text = codes "  " ++ flush_right (width_of heading) text
 
 -- a heading, below which its numbers stand
 abbrev pub heading_text : List ℕ → List ℕ
@@ -32,7 +27,7 @@ heading_text heading = column_text heading heading
 
 -- the line of headings, the first of which says what each line is about
 unfoldable pub headings_text : List ℕ → List (List ℕ) → List ℕ
-headings_text label headings = cell_text 8 label ++ flat_map heading_text headings ++ codes "\n"
+headings_text label headings = flush_right 8 label ++ flat_map heading_text headings ++ codes "\n"
 
 -- a number below its heading, where there are both
 abbrev pub number_below : Option (List ℕ) → Option Number → List ℕ
@@ -44,7 +39,7 @@ number_at headings row place = number_below (slice_get headings place) (slice_ge
 
 -- the line of a row: a number below each heading
 unfoldable pub row_text : List (List ℕ) → List ℕ → List Number → List ℕ
-row_text headings label row = cell_text 8 label ++ flat_map (number_at headings row) (below (length headings)) ++ codes "\n"
+row_text headings label row = flush_right 8 label ++ flat_map (number_at headings row) (below (length headings)) ++ codes "\n"
 
 -- what stands before a row of a summary
 abbrev pub summary_label : ℕ → List ℕ

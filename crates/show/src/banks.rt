@@ -5,7 +5,7 @@ ghost use Rattle.measures.specs.Banks.{channel_counts};
 ghost use Rattle.show.specs.Rows.{bank_headings, bank_row, machine_in};
 ghost use Rattle.show.specs.Banks.{bank_label, bank_line, banks_text, all_banks_text, IsBanksScreen};
 ghost use Rattle.show.specs.Tables.{IsLayout};
-ghost use Rattle.text_builder.specs.Texts.{Puts, PutsWords};
+ghost use Rattle.measures.specs.Texts.{Puts, PutsWords};
 
 use crate::options::Options;
 use crate::screen::put_screen;
@@ -18,7 +18,7 @@ use sim_base::config::Config;
 use sim_base::place::BankId;
 use statistics::stats::Stats;
 use std::alloc::{AllocError, Global};
-use text_builder::TextBuilder;
+use measures::text_builder::TextBuilder;
 
 /// The headings of a bank's numbers.
 static BANK_HEADINGS: [&str; 6] = ["act", "rd", "wr", "pre", "hits %", "conflicts"];

@@ -7,7 +7,7 @@ ghost use Rattle.measures.specs.Latency.{read_latencies, AreLatenciesOf};
 ghost use Rattle.show.specs.Requests.{latencies_head, waits_head, replies_of, AreLatencyRows, AreLatencyLines, AreWaitLines, AreRequests};
 ghost use Rattle.show.specs.Rows.{latency_headings, latency_row, wait_headings, wait_row};
 ghost use Rattle.show.specs.Screen.{IsBelow};
-ghost use Rattle.text_builder.specs.Texts.{Puts};
+ghost use Rattle.measures.specs.Texts.{Puts};
 
 use crate::options::Options;
 use crate::rows::{COLUMNS, Row, time_by};
@@ -20,7 +20,7 @@ use measures::request_measures::waiting::{Class, Waits, channel_waits};
 use request_table::times::RequestTimes;
 use sim_base::message::{ChannelId, CoreId};
 use std::alloc::{AllocError, Global};
-use text_builder::TextBuilder;
+use measures::text_builder::TextBuilder;
 
 /// The headings of a core's read latency; the last four are shown with a clock only.
 static LATENCY_HEADINGS: [&str; 9] = [

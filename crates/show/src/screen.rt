@@ -3,7 +3,7 @@
 ghost use Rattle.std.specs.Prelude.{◌≡◌, IfOk, length, map, string_bytes};
 ghost use Rattle.show.specs.Rows.{channel_headings, core_headings, machine_in, time_text};
 ghost use Rattle.show.specs.Screen.{IsBelow, AreChannels, AreCores, IsScreen, channels_head, cores_head};
-ghost use Rattle.text_builder.specs.Texts.{Puts, PutsWords};
+ghost use Rattle.measures.specs.Texts.{Puts, PutsWords};
 
 use crate::options::Options;
 use crate::rows::{
@@ -13,7 +13,7 @@ use crate::table::TableLayout;
 use sim_base::config::Config;
 use statistics::stats::Stats;
 use std::alloc::{AllocError, Global};
-use text_builder::TextBuilder;
+use measures::text_builder::TextBuilder;
 
 // The headings of the channels.
 fn channel_headings(config: Option<&Config>, khz: Option<u64>) -> &'static [&'static str]

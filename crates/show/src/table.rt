@@ -2,14 +2,13 @@
 
 ghost use Rattle.std.specs.Prelude.{◌≡◌, List, ℕ, IfOk, string_bytes};
 ghost use Rattle.measures.specs.declared.number.Number.{Number};
-ghost use Rattle.text_builder.specs.Texts.{Puts, PutsWords};
-ghost use Rattle.show.specs.Strings.{IsText};
-ghost use Rattle.show.specs.Tables.{cell_text, width_of, column_text, headings_text, number_at, row_text, summary_label, label_text, lines_text, headings_of, IsTableOf};
+ghost use Rattle.measures.specs.Texts.{IsText, Puts, PutsWords};
+ghost use Rattle.show.specs.Tables.{width_of, column_text, headings_text, number_at, row_text, summary_label, label_text, lines_text, headings_of, IsTableOf};
 
 use crate::rows::{Row, summary_rows};
 use measures::number::Number;
 use std::alloc::{AllocError, Global};
-use text_builder::TextBuilder;
+use measures::text_builder::TextBuilder;
 
 /// A table with more lines than this is shown in three, unless all are asked for.
 const MOST_LINES: usize = 16;
@@ -49,20 +48,12 @@ fn label_of(alloc: Global, row: usize, summarized: bool) -> Result<String, Alloc
     }
 }
 
-// Appends a cell, padded on the left.
-fn put_cell(text: &str, width: usize, out: &mut TextBuilder)
-    ensures { PutsWords (cell_text width text.now) out.old out.new }
-{
-    out.push(" ".repeat(out.alloc(), width.saturating_sub(text.len())));
-    out.push_str(text);
-}
-
 // Appends a cell of a column of numbers.
 fn put_column(heading: &str, text: &str, out: &mut TextBuilder)
     ensures { PutsWords (column_text heading.now text.now) out.old out.new }
 {
     out.push_str("  ");
-    put_cell(text, width_of(heading), out);
+    out.push_flush_right(width_of(heading), text);
 }
 
 // Appends a cell of a column of numbers, unless memory was refused for its text.
@@ -91,7 +82,7 @@ impl TableLayout<'_> {
         ensures { PutsWords (headings_text self.now.label.now (headings_of self.now))
             out.old out.new }
     {
-        put_cell(self.label, LABEL_WIDTH, out);
+        out.push_flush_right(LABEL_WIDTH, self.label);
         for heading in self.headings {
             put_column(heading, heading, out);
         }
@@ -112,7 +103,7 @@ impl TableLayout<'_> {
     fn put_line(&self, alloc: Global, label: &str, row: &[Number], out: &mut TextBuilder)
         ensures { PutsWords (row_text (headings_of self.now) label.now row.now) out.old out.new }
     {
-        put_cell(label, LABEL_WIDTH, out);
+        out.push_flush_right(LABEL_WIDTH, label);
         for place in 0..self.headings.len() {
             self.put_number(alloc, row, place, out);
         }

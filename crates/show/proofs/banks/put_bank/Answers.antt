@@ -1,6 +1,6 @@
 -- The label and the numbers, below the headings of banks.
 use Rattle.std.proofs.Common.{ap₂}
-use Rattle.text_builder.proofs.Texts.{words_as}
+use Rattle.measures.proofs.Texts.{words_as}
 use Rattle.show.specs.Banks.{bank_label}
 use Rattle.show.specs.Tables.{row_text}
 use Rattle.show.proofs.banks.put_bank.Goals as goal

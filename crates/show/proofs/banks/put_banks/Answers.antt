@@ -4,8 +4,8 @@ use Rattle.std.specs.Prelude.{codes}
 use Rattle.show.specs.Banks.{banks_head, banks_text, bank_line}
 use Rattle.show.specs.Rows.{bank_headings}
 use Rattle.show.specs.Tables.{headings_text}
-use Rattle.text_builder.proofs.Texts.{words_as, words_both}
-use Rattle.show.proofs.Parts.{part_more, parts_all}
+use Rattle.measures.proofs.Texts.{words_as, words_both}
+use Rattle.measures.proofs.Parts.{part_more, parts_all}
 use Rattle.show.proofs.banks.put_banks.Goals as goal
 
 pub loop-counts-init : goal.loop-counts-init

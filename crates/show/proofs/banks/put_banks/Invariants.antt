@@ -5,7 +5,7 @@ use Rattle.std.specs.List.{flat_map}
 use Rattle.show.specs.Banks.{banks_head, bank_line}
 use Rattle.show.specs.Rows.{bank_headings}
 use Rattle.show.specs.Tables.{headings_text}
-use Rattle.text_builder.specs.Texts.{PutsWords}
+use Rattle.measures.specs.Texts.{PutsWords}
 use Rattle.show.proofs.banks.put_banks.Given as goal
 
 abbrev pub invariant-loop-counts : goal.invariant-loop-counts

@@ -2,8 +2,8 @@
 use Rattle.std.proofs.Common.{[], ap, arith, ◌≡◌}
 use Rattle.show.specs.Banks.{all_banks_text, banks_text}
 use Rattle.measures.specs.Banks.{channel_counts}
-use Rattle.text_builder.proofs.Texts.{words_as}
-use Rattle.show.proofs.Parts.{part_below_more}
+use Rattle.measures.proofs.Texts.{words_as}
+use Rattle.measures.proofs.Parts.{part_below_more}
 use Rattle.show.proofs.banks.put_channels.Goals as goal
 
 pub loop-channel-preserved : goal.loop-channel-preserved

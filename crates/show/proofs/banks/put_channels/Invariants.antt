@@ -1,6 +1,6 @@
 -- The banks of the channels so far.
 use Rattle.show.specs.Banks.{all_banks_text}
-use Rattle.text_builder.specs.Texts.{PutsWords}
+use Rattle.measures.specs.Texts.{PutsWords}
 use Rattle.show.proofs.banks.put_channels.Given as goal
 
 abbrev pub invariant-loop-channel : goal.invariant-loop-channel

@@ -2,7 +2,7 @@
 use Rattle.std.proofs.Common.{◌≡◌, ◌++◌, ◌∙◌, ap, length, rules}
 use Rattle.show.specs.Banks.{all_banks_text, IsBanksScreen}
 use Rattle.show.specs.Rows.{machine_in}
-use Rattle.text_builder.proofs.Texts.{finished, puts_both}
+use Rattle.measures.proofs.Texts.{finished, puts_both}
 use Rattle.show.proofs.banks.show_banks.Goals as goal
 
 pub returns : goal.returns

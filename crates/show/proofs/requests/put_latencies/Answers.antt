@@ -4,7 +4,7 @@ use Rattle.std.specs.Prelude.{codes}
 use Rattle.show.specs.Requests.{latencies_head, replies_of, AreLatencyLines}
 use Rattle.show.specs.Rows.{latency_row}
 use Rattle.show.specs.Tables.{row_text}
-use Rattle.text_builder.proofs.Texts.{words_as, puts_as, puts_both}
+use Rattle.measures.proofs.Texts.{words_as, puts_as, puts_both}
 use Rattle.show.proofs.Texts.{put_below, table_as}
 use Rattle.show.proofs.requests.put_latencies.Goals as goal
 

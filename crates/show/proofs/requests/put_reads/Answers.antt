@@ -1,6 +1,6 @@
 -- As many replies came as there are read latencies.
 use Rattle.std.proofs.Common.{◌≡◌, subst, sym}
-use Rattle.text_builder.specs.Texts.{Puts}
+use Rattle.measures.specs.Texts.{Puts}
 use Rattle.show.specs.Requests.{latencies_head, AreLatencyRows, AreLatencyLines}
 use Rattle.show.specs.Screen.{IsBelow}
 use Rattle.measures.specs.Latency.{AreLatenciesOf}

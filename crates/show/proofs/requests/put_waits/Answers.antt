@@ -1,7 +1,7 @@
 -- The head, and the table below it.
 use Rattle.std.proofs.Common.{length, append_assoc, refl}
 use Rattle.show.specs.Requests.{waits_head}
-use Rattle.text_builder.proofs.Texts.{words_as, puts_as}
+use Rattle.measures.proofs.Texts.{words_as, puts_as}
 use Rattle.show.proofs.Texts.{put_below, table_as}
 use Rattle.show.proofs.requests.put_waits.Goals as goal
 

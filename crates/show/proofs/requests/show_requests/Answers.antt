@@ -1,7 +1,7 @@
 -- The read latencies, and the waits below them.
 use Rattle.std.proofs.Common.{refl}
 use Rattle.show.specs.Requests.{AreRequests}
-use Rattle.text_builder.proofs.Texts.{finished, puts_both}
+use Rattle.measures.proofs.Texts.{finished, puts_both}
 use Rattle.show.proofs.requests.show_requests.Goals as goal
 
 pub returns : goal.returns

@@ -2,7 +2,7 @@
 use Rattle.std.proofs.Common.{◌≡◌, ◌∙◌, ap, ap₂, length, map, append_assoc, refl, rules}
 use Rattle.show.specs.Rows.{core_row}
 use Rattle.show.specs.Screen.{cores_head}
-use Rattle.text_builder.proofs.Texts.{words_as, puts_as}
+use Rattle.measures.proofs.Texts.{words_as, puts_as}
 use Rattle.show.proofs.Texts.{put_below, table_as}
 use Rattle.show.proofs.screen.put_cores.Goals as goal
 

@@ -1,7 +1,7 @@
 -- The channels, the cores below them, and the time below those.
 use Rattle.std.proofs.Common.{◌≡◌, ap, rules}
 use Rattle.show.specs.Rows.{machine_in, time_text}
-use Rattle.text_builder.proofs.Texts.{puts_both, words_as}
+use Rattle.measures.proofs.Texts.{puts_both, words_as}
 use Rattle.show.proofs.Texts.{IsBottom, bottom_of, screen_of}
 use Rattle.show.proofs.screen.put_screen.Goals as goal
 

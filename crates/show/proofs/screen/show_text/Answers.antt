@@ -1,6 +1,6 @@
 use Rattle.show.specs.Rows.{machine_in}
 use Rattle.show.specs.Screen.{IsScreen}
-use Rattle.text_builder.proofs.Texts.{finished}
+use Rattle.measures.proofs.Texts.{finished}
 use Rattle.show.proofs.screen.show_text.Goals as goal
 
 pub returns : goal.returns

@@ -2,9 +2,9 @@
 use Rattle.std.proofs.Common.{◌≡◌, ◌++◌, ap, length, arith}
 use Rattle.std.specs.List.{flat_map}
 use Rattle.sim_base.specs.History.{below}
-use Rattle.text_builder.proofs.Texts.{words_as}
+use Rattle.measures.proofs.Texts.{words_as}
 use Rattle.show.specs.Tables.{headings_text, line_text, lines_text, headings_of}
-use Rattle.show.proofs.Parts.{part_below_more}
+use Rattle.measures.proofs.Parts.{part_below_more}
 use Rattle.show.proofs.table.TableLayout.put_lines.Goals as goal
 
 pub loop-place-preserved : goal.loop-place-preserved

@@ -2,7 +2,7 @@
 use Rattle.std.proofs.Common.{◌++◌}
 use Rattle.std.specs.List.{flat_map}
 use Rattle.sim_base.specs.History.{below}
-use Rattle.text_builder.specs.Texts.{PutsWords}
+use Rattle.measures.specs.Texts.{PutsWords}
 use Rattle.show.specs.Tables.{headings_text, line_text, headings_of}
 use Rattle.show.proofs.table.TableLayout.put_lines.Given as goal
 

@@ -1,11 +1,10 @@
 //! Builds a text part by part, and keeps whether memory was refused for one of them: then there is no text in the end.
-#![tactic(auto)]
 
 pub mod forms;
 
 ghost use Rattle.std.specs.Prelude.{◌≡◌, ◌==◌, ◌||◌, not, List, ℕ, true, false, [], IfOk, length, string_bytes, string_len, encode_utf8};
 ghost use Rattle.std.specs.Result.{OkIff};
-ghost use Rattle.text_builder.specs.Texts.{PutsWords, PutsOutput, KeepsRefusal, GoesOnWithRoom};
+ghost use Rattle.measures.specs.Texts.{PutsWords, PutsOutput, KeepsRefusal, GoesOnWithRoom, flush_right};
 
 use std::alloc::{AllocError, Global};
 use std::fmt::Display;
@@ -88,6 +87,14 @@ impl TextBuilder {
             Ok(words) => self.push_str(words.as_str()),
             Err(AllocError) => self.refuse(),
         }
+    }
+
+    /// Appends words, with blanks before them where they are shorter than the width.
+    pub fn push_flush_right(&mut self, width: usize, words: &str)
+        ensures { PutsWords (flush_right width words.now) self.old self.new }
+    {
+        self.push(" ".repeat(self.alloc, width.saturating_sub(words.len())));
+        self.push_str(words);
     }
 
     /// The whole text if memory was refused for no part of it, and else `AllocError`.

@@ -1,16 +1,13 @@
 -- Texts with one part more.
-use Rattle.std.proofs.Common.{◌≡◌, ℕ, ◌+◌, ◌<◌, ◌≤◌, List, [], ◌∷◌, ◌++◌, length, take, get_or, refl, sym, ap, ◌∙◌}
+use Rattle.std.proofs.Common.{◌≡◌, ℕ, ◌+◌, ◌<◌, ◌≤◌, List, [], ◌∷◌, ◌++◌, length, take, get_or, sym, ap, ◌∙◌}
 use Rattle.std.specs.List.{flat_map}
-use Rattle.std.specs.Prelude.{map}
-use Rattle.std.specs.Borrow.{Bor}
 use Rattle.std.proofs.lemmas.Grind.{flat_map-append}
 use Rattle.std.proofs.lemmas.List.{append_assoc, append-nil, take_all, take_more}
 use Rattle.sim_base.specs.History.{below}
 use Rattle.sim_base.proofs.Lists.{flat_map_below-more}
-use Rattle.show.specs.Tables.{heading_text}
-use Rattle.text_builder.specs.Texts.{PutsWords}
-use Rattle.text_builder.specs.declared.TextBuilder.{TextBuilder}
-use Rattle.text_builder.proofs.Texts.{words_as, words_both}
+use Rattle.measures.specs.Texts.{PutsWords}
+use Rattle.measures.specs.declared.text_builder.TextBuilder.{TextBuilder}
+use Rattle.measures.proofs.Texts.{words_as, words_both}
 
 -- the part of one more item, behind a head
 pub part_more : {A : Type 0} (part : A → List ℕ) (items : List A) (place : ℕ) (item : A) (head : List ℕ) {a b c : TextBuilder} → place < length items
@@ -37,12 +34,3 @@ pub part_below_more : (part : ℕ → List ℕ) (n : ℕ) (head : List ℕ) {a b
     → PutsWords (head ++ flat_map part (below (n + 1))) a c
 part_below_more part n head sooner later =
     words_as (append_assoc head (flat_map part (below n)) (part n) ∙ ap (λ text. head ++ text) (sym (flat_map_below-more part n))) (words_both sooner later)
-
--- what stands for a heading
-abbrev pub heading_at : Bor (List ℕ) → List ℕ
-heading_at heading = heading_text heading.now
-
--- what stands for all of them
-pub headings_are : (headings : List (Bor (List ℕ))) → flat_map heading_at headings ≡ flat_map heading_text (map (λ heading. heading.now) headings)
-headings_are [] = refl
-headings_are (heading ∷ rest) = ap (λ texts. heading_text heading.now ++ texts) (headings_are rest)

@@ -1,10 +1,10 @@
 //! Forms, which have a `{}` for each piece that is filled in.
 
 ghost use Rattle.std.specs.Prelude.{ℕ, List};
-ghost use Rattle.text_builder.specs.Texts.{Puts};
-ghost use Rattle.text_builder.specs.Filled.{FillsNext, IsFilled};
+ghost use Rattle.measures.specs.Texts.{Puts};
+ghost use Rattle.measures.specs.Filled.{FillsNext, IsFilled};
 
-use crate::TextBuilder;
+use crate::text_builder::TextBuilder;
 
 /// What may stand in place of a `{}` of a form.
 pub trait Append: Copy {

@@ -2,9 +2,9 @@
 use denote.Shadow.{shadow}
 use denote.Text.{Utf8}
 use Rattle.std.proofs.Common.{drop}
-use Rattle.text_builder.specs.Texts.{Puts}
-use Rattle.text_builder.proofs.Filled.{Leads}
-use Rattle.text_builder.proofs.TextBuilder.fill.Given as goal
+use Rattle.measures.specs.Texts.{Puts}
+use Rattle.measures.proofs.Filled.{Leads}
+use Rattle.measures.proofs.text_builder.TextBuilder.fill.Given as goal
 
 abbrev pub invariant-loop-piece : goal.invariant-loop-piece
 invariant-loop-piece g l = Puts (Leads g.P.Append.appends l.fn.form l.pieces l.rest (drop l.piece-index l.pieces)) l.fn.self l.self × shadow (Utf8 l.rest)

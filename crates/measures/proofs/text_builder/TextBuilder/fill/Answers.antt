@@ -1,6 +1,6 @@
 -- A piece more for each placeholder, and the rest of the form in the end.
-use Rattle.text_builder.proofs.Filled.{leads_from, leads_on, leads_to}
-use Rattle.text_builder.proofs.TextBuilder.fill.Goals as goal
+use Rattle.measures.proofs.Filled.{leads_from, leads_on, leads_to}
+use Rattle.measures.proofs.text_builder.TextBuilder.fill.Goals as goal
 
 pub loop-piece-init : goal.loop-piece-init
 loop-piece-init g c = (leads_from g.P.Append.appends c.args.form.now c.args.pieces.now c.args.self.now, c.utf8.form)

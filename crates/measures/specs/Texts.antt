@@ -6,8 +6,12 @@
 --     KeepsRefusal old new      no refusal of memory is forgotten
 --     HasRoom count builder      there is room for so many bytes more
 --     GoesOnWithRoom count old new      no memory is refused for so many bytes where there is room for them
-use Rattle.std.specs.Prelude.{◌≡◌, ◌+◌, ◌≤◌, ⊤, false, ℕ, List, ◌++◌, Option, IfSome, string_bytes, string_len, string_capacity}
-use Rattle.text_builder.specs.declared.TextBuilder.{TextBuilder}
+--     IsText wanted text      a `String` has this text
+--     flush_right width words      words with blanks before them, up to a width
+use Rattle.std.specs.Prelude.{◌≡◌, ◌+◌, ◌-◌, ◌≤◌, ⊤, false, ℕ, List, ◌++◌, length, codes, Option, IfSome, String, string_bytes, string_len, string_capacity}
+use Rattle.std.specs.List.{repeat}
+use Rattle.std.specs.declared.alloc.Global.{Global}
+use Rattle.measures.specs.declared.text_builder.TextBuilder.{TextBuilder}
 
 -- a text of some kind stands behind what was there, and no memory was refused before
 pub record IsPut (kind : List ℕ → Type 0) (old new : TextBuilder) : Type 0 where
@@ -43,3 +47,11 @@ HasRoom count builder = string_len builder.text + count ≤ string_capacity buil
 -- no memory is refused where none was before and the text has room for so many bytes more
 abbrev pub GoesOnWithRoom : ℕ → TextBuilder → TextBuilder → Type 0
 GoesOnWithRoom count old new = old.was_refused ≡ false → HasRoom count old → new.was_refused ≡ false
+
+-- a `String` has this text
+abbrev pub IsText : List ℕ → String Global → Type 0
+IsText wanted text = string_bytes text ≡ wanted
+
+-- words with blanks before them where they are shorter than a width
+abbrev pub flush_right : ℕ → List ℕ → List ℕ
+flush_right width words = repeat (width - length words) (codes " ") ++ words

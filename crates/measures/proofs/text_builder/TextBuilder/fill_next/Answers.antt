@@ -1,7 +1,7 @@
 -- A piece in place of the first placeholder, or nothing where there is none.
 use Rattle.std.proofs.Common.{refl}
-use Rattle.text_builder.proofs.Filled.{fills_none, fills_one, is_cut}
-use Rattle.text_builder.proofs.TextBuilder.fill_next.Goals as goal
+use Rattle.measures.proofs.Filled.{fills_none, fills_one, is_cut}
+use Rattle.measures.proofs.text_builder.TextBuilder.fill_next.Goals as goal
 
 pub returns-in-Some : goal.returns-in-Some
 returns-in-Some g c =

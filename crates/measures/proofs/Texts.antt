@@ -4,8 +4,8 @@ use Rattle.std.specs.Result.{OkIff}
 use Rattle.std.proofs.Common.{◌≡◌, ℕ, List, [], ◌++◌, refl, sym, ap, ap₂, subst, ◌∙◌, append_assoc}
 use Rattle.std.specs.declared.alloc.Global.{Global}
 use Rattle.std.specs.declared.alloc.AllocError.{AllocError}
-use Rattle.text_builder.specs.Texts.{IsPut, Puts, PutsWords, Grows}
-use Rattle.text_builder.specs.declared.TextBuilder.{TextBuilder}
+use Rattle.measures.specs.Texts.{IsPut, Puts, PutsWords, Grows}
+use Rattle.measures.specs.declared.text_builder.TextBuilder.{TextBuilder}
 
 -- what was put may be said in other words
 pub puts_as : {A B : List ℕ → Type 0} {a b : TextBuilder} → ((x : List ℕ) → A x → B x) → Puts A a b → Puts B a b

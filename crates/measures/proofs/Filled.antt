@@ -4,10 +4,10 @@ use Rattle.std.proofs.Common.{◌≡◌, ℕ, ◌+◌, ◌<◌, ◌≤◌, Bor, 
 use Rattle.std.specs.Str.Pattern.{FindsText}
 use Rattle.std.proofs.lemmas.List.{append-nil, drop_all, drop_at, drop_more}
 use Rattle.std.proofs.lemmas.Str.Pattern.{split_text_parts}
-use Rattle.text_builder.specs.Filled.{IsCut, FillsNext, IsFilled}
-use Rattle.text_builder.specs.Texts.{Puts, PutsWords}
-use Rattle.text_builder.specs.declared.TextBuilder.{TextBuilder}
-use Rattle.text_builder.proofs.Texts.{puts_both}
+use Rattle.measures.specs.Filled.{IsCut, FillsNext, IsFilled}
+use Rattle.measures.specs.Texts.{Puts, PutsWords}
+use Rattle.measures.specs.declared.text_builder.TextBuilder.{TextBuilder}
+use Rattle.measures.proofs.Texts.{puts_both}
 
 -- a text, with any behind it that the rest of a form makes with the pieces that are left, is of the form
 abbrev pub Leads : {P : Type 0} → (P → List ℕ → Type 0) → List ℕ → List P → List ℕ → List P → List ℕ → Type 0
