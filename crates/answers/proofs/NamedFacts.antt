@@ -65,11 +65,12 @@ two_unread tells old mid config one two paths is_fault fault same (inr none) =
 -- ---- what they hold
 
 pub configured_from : (tells : Type 0) (held : Held) (config document : Option (List ℕ)) (stats : RunStats) (machine : Option Config) → IsNamedText tells held config document
-    → IsConfiguredBy document stats machine → tells → IsConfigured config held stats
-configured_from tells held None document stats machine named is t = tt
+    → IsConfiguredBy document stats machine → tells → IsConfigured config held stats machine
+configured_from tells held None None stats None named is t = tt
+configured_from tells held None None stats (Some machine) named is t = absurd is
+configured_from tells held None (Some text) stats machine named is t = absurd named
 configured_from tells held (Some path) (Some text) stats (Some machine) named is t = record {
   document = text;
-  machine = machine;
   document_is = named t;
   configured = is.0;
   fits = is.1;

@@ -24,6 +24,7 @@ use Rattle.rule_check.specs.declared.verdict.Verdict.{Verdict}
 use Rattle.rule_check.specs.declared.verdict.Verdict.TheVariants.{Legal, Broken}
 use Rattle.compare.specs.Comparison.{comparison_text}
 use Rattle.compare.specs.declared.layout.Layout.{Layout}
+use Rattle.show.specs.declared.options.Options.{Options}
 use Rattle.whole_files.specs.Files.{Held}
 use Rattle.whole_files.specs.Tables.{path_in, stats_name}
 use Rattle.request_table.specs.declared.times.RequestTimes.{RequestTimes}
@@ -84,14 +85,15 @@ pub record IsStatsOf (path : List ℕ) (held : Held) (stats : RunStats) : Type 0
 
 -- a folder has the table of statistics, a configuration that is named is one that they fit, and their screen was
 -- printed, with that of the requests where the folder has their table too
-pub record IsShown (dir : List ℕ) (config : Option (List ℕ)) (held : Held) (is_printed : List ℕ → Type 0) : Type 0 where
+pub record IsShown (dir : List ℕ) (config : Option (List ℕ)) (options : Options) (held : Held) (is_printed : List ℕ → Type 0) : Type 0 where
   pub stats : RunStats
+  pub machine : Option Config
   pub requests : Option (List RequestTimes)
   pub text : List ℕ
   pub stats_are : IsStatsOf (path_in dir stats_name) held stats
-  pub configured : IsConfigured config held stats
+  pub configured : IsConfigured config held stats machine
   pub requests_are : AreRequestsAt (held (requests_path dir)) stats requests
-  pub screen : IsRunScreen stats requests text
+  pub screen : IsRunScreen stats options machine requests text
   pub printed : is_printed text
 
 -- the file of the statistics in a folder

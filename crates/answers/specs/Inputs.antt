@@ -27,6 +27,7 @@ use Rattle.sim_base.specs.declared.place.Place.{Place}
 use Rattle.statistics.specs.Values.{RunStats}
 use Rattle.whole_files.specs.Tables.{path_in, commands_name}
 use Rattle.whole_files.specs.WholeFile.{IsUnwritten, IsWhole}
+use Rattle.show.specs.declared.options.Options.{Options}
 use Rattle.whole_files.specs.declared.files.FileSet.{Ghosts as Files}
 use Rattle.answers.specs.Answers.{IsVerdict, IsChecked, IsPlace, IsMapped, IsStatsOf, IsShown, stats_path, stats_table, AreStatsOf, IsCompared}
 use Rattle.answers.specs.Banks.{IsShownWithBanks}
@@ -202,8 +203,8 @@ abbrev pub FindsSomeRequests : {S O : Type 0} → Files S O → S → List ℕ �
 FindsSomeRequests set files dir stats = set.tells → HoldsSomeRequests (set.held files (requests_path dir)) stats
 
 -- a screen has got what there is to say of requests
-abbrev pub GetsRequests : Option (Vec RequestTimes Global) → String Global → String Global → Type 0
-GetsRequests requests old new = AddsRequests (rows_in requests) (string_bytes old) (string_bytes new)
+abbrev pub GetsRequests : RunStats → Options → Option (Vec RequestTimes Global) → String Global → String Global → Type 0
+GetsRequests stats options requests old new = AddsRequests stats options (rows_in requests) (string_bytes old) (string_bytes new)
 
 -- ---- show
 
@@ -213,7 +214,7 @@ IsRunAt set files path run = set.tells → IsStatsOf path (set.held files) run.s
 
 -- a run fits the configuration that a file holds, where one is named
 abbrev pub RunFits : {S O : Type 0} → Files S O → S → Option (Bor (List ℕ)) → RunRecord → Type 0
-RunFits set files config run = set.tells → IsConfigured (path_of config) (set.held files) run.stats
+RunFits set files config run = set.tells → IsConfigured (path_of config) (set.held files) run.stats run.config
 
 -- the table of a run's statistics can be read, and is right, and so is the configuration that is named, if one is
 abbrev pub CanShow : {S O : Type 0} → Files S O → S → Option (Bor (List ℕ)) → List ℕ → RunRecord → Type 0
@@ -232,16 +233,16 @@ abbrev pub BarsShowIn : {S O : Type 0} → Files S O → S → RunFolder → Fau
 BarsShowIn set files folder fault = BarsShow set files folder.config (stats_path folder.dir.now) fault
 
 -- the screen of a run, with what there is to say of its requests
-abbrev pub IsScreenOf : RunRecord → Option (Vec RequestTimes Global) → String Global → Type 0
-IsScreenOf run requests text = IsRunScreen run.stats (rows_in requests) (string_bytes text)
+abbrev pub IsScreenOf : RunRecord → Options → Option (Vec RequestTimes Global) → String Global → Type 0
+IsScreenOf run options requests text = IsRunScreen run.stats options run.config (rows_in requests) (string_bytes text)
 
 -- the screen of the run in a folder, with what there is to say of its requests
-abbrev pub IsScreenIn : {S O : Type 0} → Files S O → S → List ℕ → RunRecord → String Global → Type 0
-IsScreenIn set files dir run text = set.tells → IsScreenAt (set.held files (requests_path dir)) run.stats (string_bytes text)
+abbrev pub IsScreenIn : {S O : Type 0} → Files S O → S → List ℕ → RunRecord → Options → String Global → Type 0
+IsScreenIn set files dir run options text = set.tells → IsScreenAt (set.held files (requests_path dir)) run.stats options run.config (string_bytes text)
 
 -- the screen of the run in a folder was printed
-abbrev pub Shows : {S O : Type 0} → Files S O → S → RunFolder → (List ℕ → Type 0) → Type 0
-Shows set files folder printed = set.tells → IsShown folder.dir.now (path_of folder.config) (set.held files) printed
+abbrev pub Shows : {S O : Type 0} → Files S O → S → RunFolder → Options → (List ℕ → Type 0) → Type 0
+Shows set files folder options printed = set.tells → IsShown folder.dir.now (path_of folder.config) options (set.held files) printed
 
 -- why no screen of a run is printed
 abbrev pub RefusesShow : {S O : Type 0} → Files S O → S → RunFolder → Fault → Type 0
@@ -277,13 +278,14 @@ abbrev pub BarsPageIn : {S O : Type 0} → Files S O → S → RunFolder → Fau
 BarsPageIn set files folder fault = BarsPage set files folder.config (stats_path folder.dir.now) (commands_path folder.dir.now) fault
 
 -- the screen of a run and its banks, with what there is to say of its requests
-abbrev pub IsBanksScreenOf : RunTables → Option (Vec RequestTimes Global) → String Global → Type 0
-IsBanksScreenOf found requests text = IsRunBanksScreen found.run.stats found.commands (rows_in requests) (string_bytes text)
+abbrev pub IsBanksScreenOf : RunTables → Options → Option (Vec RequestTimes Global) → String Global → Type 0
+IsBanksScreenOf found options requests text =
+    IsRunBanksScreen found.run.stats found.commands options found.run.config (rows_in requests) (string_bytes text)
 
 -- the screen of the run in a folder and its banks, with what there is to say of its requests
-abbrev pub IsBanksScreenIn : {S O : Type 0} → Files S O → S → List ℕ → RunTables → String Global → Type 0
-IsBanksScreenIn set files dir found text =
-    set.tells → IsBanksScreenAt (set.held files (requests_path dir)) found.run.stats found.commands (string_bytes text)
+abbrev pub IsBanksScreenIn : {S O : Type 0} → Files S O → S → List ℕ → RunTables → Options → String Global → Type 0
+IsBanksScreenIn set files dir found options text =
+    set.tells → IsBanksScreenAt (set.held files (requests_path dir)) found.run.stats found.commands options found.run.config (string_bytes text)
 
 -- why no page is made of the tables of the run in a folder: its requests are refused; or they are not, and a writer is
 abbrev pub BarsPageOf : {S O : Type 0} → Files S O → S → List ℕ → RunTables → Fault → Type 0
@@ -295,8 +297,8 @@ abbrev pub PutsPage : {S O : Type 0} → Files S O → S → S → List ℕ → 
 PutsPage set old new file warning page = (warning ≡ page.warning) × (set.tells → IsWhole file page.text.items (set.held old) (set.held new))
 
 -- the screen of the run in a folder and its banks was printed
-abbrev pub ShowsBanks : {S O : Type 0} → Files S O → S → RunFolder → (List ℕ → Type 0) → Type 0
-ShowsBanks set files folder printed = set.tells → IsShownWithBanks folder.dir.now (path_of folder.config) (set.held files) printed
+abbrev pub ShowsBanks : {S O : Type 0} → Files S O → S → RunFolder → Options → (List ℕ → Type 0) → Type 0
+ShowsBanks set files folder options printed = set.tells → IsShownWithBanks folder.dir.now (path_of folder.config) options (set.held files) printed
 
 -- the page of the run in a folder is in its place, with this warning of its length
 abbrev pub MakesPage : {S O : Type 0} → Files S O → S → S → RunFolder → List ℕ → Option LargePage → Type 0

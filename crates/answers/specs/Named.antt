@@ -3,7 +3,7 @@
 --     IsNamedText tells held config document      what it holds, where it is named
 --     Fits machine stats      the run can be one of this machine
 --     IsConfiguredBy document stats machine      the machine that its text describes, where it is named; the run fits it
---     IsConfigured config held stats      the same of what a file holds
+--     IsConfigured config held stats machine      the same of what a file holds
 use Rattle.std.specs.Prelude.{◌≡◌, ℕ, ⊤, List, ◌∷◌, length, Option, Some, None, Ok}
 use Rattle.sim_base.specs.declared.config.Config.{Config}
 use Rattle.sim_base.specs.Values.{values_of}
@@ -32,15 +32,15 @@ IsConfiguredBy None stats None = ⊤
 IsConfiguredBy (Some document) stats (Some machine) = (document_of document ≡ Ok (values_of machine)) × Fits machine stats
 IsConfiguredBy _ stats _ = ⊥
 
--- a file holds a configuration that the run fits
-pub record IsConfigOf (path : List ℕ) (held : Held) (stats : RunStats) : Type 0 where
+-- a file holds the configuration of a machine that the run fits
+pub record IsConfigOf (path : List ℕ) (held : Held) (stats : RunStats) (machine : Config) : Type 0 where
   pub document : List ℕ
-  pub machine : Config
   pub document_is : held path ≡ Some document
   pub configured : document_of document ≡ Ok (values_of machine)
   pub fits : Fits machine stats
 
--- the file of a configuration holds one that the run fits, where one is named
-abbrev pub IsConfigured : Option (List ℕ) → Held → RunStats → Type 0
-IsConfigured None held stats = ⊤
-IsConfigured (Some path) held stats = IsConfigOf path held stats
+-- the file of a configuration holds that of a machine that the run fits, where one is named
+abbrev pub IsConfigured : Option (List ℕ) → Held → RunStats → Option Config → Type 0
+IsConfigured None held stats None = ⊤
+IsConfigured (Some path) held stats (Some machine) = IsConfigOf path held stats machine
+IsConfigured _ held stats _ = ⊥

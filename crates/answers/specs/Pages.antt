@@ -12,6 +12,7 @@ use Rattle.reports.specs.Stats.{stats_header, stats_rows}
 use Rattle.rule_check.specs.Verdict.{records_of}
 use Rattle.run_tables.specs.Commands.{IsCommandTable, HoldsCommands}
 use Rattle.run_tables.specs.Records.{IsRefusedFor}
+use Rattle.sim_base.specs.declared.config.Config.{Config}
 use Rattle.statistics.specs.Values.{RunStats}
 use Rattle.page.specs.Document.{IsDocument}
 use Rattle.page.specs.Rows.{IsOfRunAt, IsFirstStranger}
@@ -67,7 +68,8 @@ pub record IsPageDone (dir file : List ℕ) (config : Option (List ℕ)) (warnin
   pub requests : Option (List RequestTimes)
   pub text : List ℕ
   pub tables : AreTablesAt (path_in dir stats_name) (path_in dir commands_name) old stats commands
-  pub configured : IsConfigured config old stats
+  pub machine : Option Config
+  pub configured : IsConfigured config old stats machine
   pub requests_are : AreRequestsAt (old (requests_path dir)) stats requests
   pub of_run : (place : ℕ) → IsOfRunAt stats commands place
   pub document : IsDocument text

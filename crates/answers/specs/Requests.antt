@@ -10,7 +10,7 @@
 --     IsFolderRefused tells held dirs runs fault      the first folder whose requests are refused
 --     IsTailAt found stats tail      the 99th percentile of the read latencies that a path holds
 --     AreTails dirs held runs tails      the same of each folder, or none
-use Rattle.std.specs.Prelude.{◌≡◌, ◌⊎◌, ℕ, ◌<◌, ⊤, List, [], ◌++◌, length, codes, slice_get, Option, Some, None, MatchOption}
+use Rattle.std.specs.Prelude.{min, ◌≡◌, ◌⊎◌, ℕ, ◌<◌, ⊤, List, [], ◌++◌, length, codes, slice_get, Option, Some, None, MatchOption}
 use Rattle.sim_base.specs.declared.command.IssuedCommand.{IssuedCommand}
 use Rattle.sim_base.specs.declared.fault.Fault.{Fault}
 use Rattle.sim_base.specs.declared.fault.Fault.TheVariants.{CheckRow, Memory}
@@ -22,6 +22,8 @@ use Rattle.request_table.specs.declared.times.RequestTimes.{RequestTimes}
 use Rattle.rule_check.specs.Verdict.{records_of}
 use Rattle.run_tables.specs.Records.{IsFirstWrong}
 use Rattle.run_tables.specs.Requests.{IsRequestTable, HoldsRequests}
+use Rattle.sim_base.specs.declared.config.Config.{Config}
+use Rattle.show.specs.declared.options.Options.{Options}
 use Rattle.show.specs.Banks.{IsBanksScreen}
 use Rattle.show.specs.Requests.{AreRequests}
 use Rattle.show.specs.Screen.{IsScreen}
@@ -70,42 +72,45 @@ pub record AreRequestsRefused (tells : Type 0) (held : Held) (path : List ℕ) (
   pub found_is : tells → held path ≡ found
   pub fault_is : IsRequestsFault found stats fault
 
--- what a screen has of requests, where there are any
-abbrev pub AreShown : Option (List RequestTimes) → List ℕ → Type 0
-AreShown None text = text ≡ []
-AreShown (Some requests) text = AreRequests requests text
+-- what a screen has of the requests of a run, where there are any: of at most 65,535 cores and 4,294,967,295 channels
+abbrev pub AreShown : RunStats → Options → Option (List RequestTimes) → List ℕ → Type 0
+AreShown stats options None text = text ≡ []
+AreShown stats options (Some requests) text =
+    AreRequests requests options (min (length stats.cores) 65535) (min (length stats.channels) 4294967295) text
 
 -- it was put behind a text
-abbrev pub AddsRequests : Option (List RequestTimes) → List ℕ → List ℕ → Type 0
-AddsRequests requests old new = (more : List ℕ) × (new ≡ old ++ more) × AreShown requests more
+abbrev pub AddsRequests : RunStats → Options → Option (List RequestTimes) → List ℕ → List ℕ → Type 0
+AddsRequests stats options requests old new = (more : List ℕ) × (new ≡ old ++ more) × AreShown stats options requests more
 
 -- the screen of a run, and behind it what there is to say of its requests
-pub record IsRunScreen (stats : RunStats) (requests : Option (List RequestTimes)) (text : List ℕ) : Type 0 where
+pub record IsRunScreen (stats : RunStats) (options : Options) (machine : Option Config) (requests : Option (List RequestTimes)) (text : List ℕ) : Type 0 where
   pub above : List ℕ
   pub below : List ℕ
-  pub screen : IsScreen stats above
-  pub requests_shown : AreShown requests below
+  pub screen : IsScreen stats options machine above
+  pub requests_shown : AreShown stats options requests below
   pub text_is : text ≡ above ++ below
 
 -- the screen of a run, and behind it what there is to say of the requests that a path holds
-pub record IsScreenAt (found : Option (List ℕ)) (stats : RunStats) (text : List ℕ) : Type 0 where
+pub record IsScreenAt (found : Option (List ℕ)) (stats : RunStats) (options : Options) (machine : Option Config) (text : List ℕ) : Type 0 where
   pub requests : Option (List RequestTimes)
   pub requests_are : AreRequestsAt found stats requests
-  pub screen : IsRunScreen stats requests text
+  pub screen : IsRunScreen stats options machine requests text
 
 -- the screen of a run and its banks, and behind it what there is to say of its requests
-pub record IsRunBanksScreen (stats : RunStats) (commands : List IssuedCommand) (requests : Option (List RequestTimes)) (text : List ℕ) : Type 0 where
+pub record IsRunBanksScreen
+    (stats : RunStats) (commands : List IssuedCommand) (options : Options) (machine : Option Config) (requests : Option (List RequestTimes)) (text : List ℕ)
+    : Type 0 where
   pub above : List ℕ
   pub below : List ℕ
-  pub screen : IsBanksScreen stats commands above
-  pub requests_shown : AreShown requests below
+  pub screen : IsBanksScreen stats commands options machine above
+  pub requests_shown : AreShown stats options requests below
   pub text_is : text ≡ above ++ below
 
 -- the screen of a run and its banks, and behind it what there is to say of the requests that a path holds
-pub record IsBanksScreenAt (found : Option (List ℕ)) (stats : RunStats) (commands : List IssuedCommand) (text : List ℕ) : Type 0 where
+pub record IsBanksScreenAt (found : Option (List ℕ)) (stats : RunStats) (commands : List IssuedCommand) (options : Options) (machine : Option Config) (text : List ℕ) : Type 0 where
   pub requests : Option (List RequestTimes)
   pub requests_are : AreRequestsAt found stats requests
-  pub screen : IsRunBanksScreen stats commands requests text
+  pub screen : IsRunBanksScreen stats commands options machine requests text
 
 -- a path holds the requests of a run, or none
 pub record HoldsSomeRequests (found : Option (List ℕ)) (stats : RunStats) : Type 0 where

@@ -24,7 +24,7 @@ fn screen_of(
     requests: &Option<Vec<RequestTimes>>,
     options: Options,
 ) -> Result<String, Reason>
-    ensures screen { IfOk result (IsBanksScreenOf found.now requests.now) }
+    ensures screen { IfOk result (IsBanksScreenOf found.now options requests.now) }
     ensures fault { IfErr result (λ e. e ≡ Fault.Memory) }
 {
     let config = found.run.config.as_ref();
@@ -41,7 +41,8 @@ fn screen_in<F: FileSet>(
     found: &RunTables,
     options: Options,
 ) -> Result<String, Reason>
-    ensures screen { IfOk result (IsBanksScreenIn F.FileSet files.old dir.now found.now) }
+    ensures screen { IfOk result (
+        IsBanksScreenIn F.FileSet files.old dir.now found.now options) }
     ensures requests { let stats = found.now.run.stats in
         OnOk result (FindsSomeRequests F.FileSet files.old dir.now stats) }
     ensures fault { IfErr result (BarsRequestsIn F.FileSet files.old dir.now found.now.run.stats) }
@@ -71,7 +72,7 @@ pub fn perform_show_banks<F: FileSet, P: Write>(
     options: Options,
 ) -> Result<(), Reason>
     ensures shown { let printed = Prints P.Write output.old output.new in
-        OnOk result (ShowsBanks F.FileSet files.old folder.now printed) }
+        OnOk result (ShowsBanks F.FileSet files.old folder.now options printed) }
     ensures fault { IfErr result (RefusesPage F.FileSet files.old folder.now) }
     ensures same { F.tells → SameFiles (F.held files.old) (F.held files.new) }
     ensures unopened { F.tells → F.opened files.new ≡ F.opened files.old }

@@ -164,7 +164,8 @@ pub(crate) fn add_requests(
     options: Options,
     screen: &mut String,
 ) -> Result<(), AllocError>
-    ensures { OnOk result (GetsRequests requests.now screen.old screen.new) }
+    ensures { OnOk result (
+        GetsRequests stats.now options requests.now screen.old screen.new) }
 {
     let Some(requests) = requests else {
         return Ok(());

@@ -62,7 +62,7 @@ fn screen_of(
     requests: &Option<Vec<RequestTimes>>,
     options: Options,
 ) -> Result<String, Reason>
-    ensures screen { IfOk result (IsScreenOf run.now requests.now) }
+    ensures screen { IfOk result (IsScreenOf run.now options requests.now) }
     ensures fault { IfErr result (λ e. e ≡ Fault.Memory) }
 {
     let mut screen = show_text(alloc, &run.stats, options, run.config.as_ref())?;
@@ -78,7 +78,7 @@ fn screen_in<F: FileSet>(
     run: &RunRecord,
     options: Options,
 ) -> Result<String, Reason>
-    ensures screen { IfOk result (IsScreenIn F.FileSet files.old dir.now run.now) }
+    ensures screen { IfOk result (IsScreenIn F.FileSet files.old dir.now run.now options) }
     ensures requests { OnOk result (FindsSomeRequests F.FileSet files.old dir.now run.now.stats) }
     ensures fault { IfErr result (BarsRequestsIn F.FileSet files.old dir.now run.now.stats) }
     ensures same { F.tells → SameFiles (F.held files.old) (F.held files.new) }
@@ -105,7 +105,7 @@ pub fn perform_show<F: FileSet, P: Write>(
     options: Options,
 ) -> Result<(), Reason>
     ensures shown { let printed = Prints P.Write output.old output.new in
-        OnOk result (Shows F.FileSet files.old folder.now printed) }
+        OnOk result (Shows F.FileSet files.old folder.now options printed) }
     ensures fault { IfErr result (RefusesShow F.FileSet files.old folder.now) }
     ensures same { F.tells → SameFiles (F.held files.old) (F.held files.new) }
     ensures unopened { F.tells → F.opened files.new ≡ F.opened files.old }

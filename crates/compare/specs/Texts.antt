@@ -3,8 +3,10 @@
 --     value_text layout decimals value      a value with so many decimals
 --     change_text layout change      a change in percent
 --     cell_text layout width text, label_text layout label      a cell, and the first one of a line
-use Rattle.std.specs.Prelude.{ℕ, ◌+◌, ◌-◌, ◌/◌, ◌%◌, ◌==◌, List, [], ◌++◌, codes, decimal, length, Option, Some, None, if◌then◌else◌}
+use Rattle.std.specs.Prelude.{ℕ, ◌+◌, ◌-◌, ◌/◌, ◌==◌, List, [], ◌++◌, codes, decimal, length, Option, Some, None, if◌then◌else◌}
 use Rattle.std.specs.List.{repeat}
+use Rattle.measures.specs.Number.{tenths_text, thousandths_text}
+use Rattle.measures.specs.Texts.{flush_right}
 use Rattle.compare.specs.declared.changes.Change.{Change}
 use Rattle.compare.specs.declared.changes.Change.TheVariants.{Rise, Fall}
 use Rattle.compare.specs.declared.layout.Layout.{Layout}
@@ -15,15 +17,6 @@ use Rattle.compare.specs.declared.measures.Decimals.TheVariants.{Zero, One, Thre
 -- a number of billionths as one of units, which are some billionths each, rounded half up
 abbrev pub rounded : ℕ → ℕ → ℕ
 rounded value unit = (value + unit / 2) / unit
-
--- a number of tenths, as `12.3`
-abbrev pub tenths_text : ℕ → List ℕ
-tenths_text tenths = decimal (tenths / 10) ++ codes "." ++ decimal (tenths % 10)
-
--- a number of thousandths, as `1.234`
-abbrev pub thousandths_text : ℕ → List ℕ
-thousandths_text thousandths =
-    decimal (thousandths / 1000) ++ codes "." ++ decimal (thousandths / 100 % 10) ++ decimal (thousandths / 10 % 10) ++ decimal (thousandths % 10)
 
 -- a value with so many decimals
 abbrev pub fixed_text : Decimals → ℕ → List ℕ
@@ -52,7 +45,7 @@ change_text layout None = missing_text layout
 
 -- a cell behind others: flush right in a column of a screen, or behind a comma
 abbrev pub cell_text : Layout → ℕ → List ℕ → List ℕ
-cell_text Screen width text = codes "  " ++ repeat (width - length text) (codes " ") ++ text
+cell_text Screen width text = codes "  " ++ flush_right width text
 cell_text Csv width text = codes "," ++ text
 
 -- the first cell of a line: flush left in a column of 22 characters, or as it is

@@ -2,16 +2,16 @@
 
 ghost use Rattle.std.specs.Prelude.{◌^◌, ◌<◌, IfOk};
 ghost use Rattle.compare.specs.Comparison.{names_text, head_text, heading_text, headings_text, comparison_text};
-ghost use Rattle.text_builder.specs.Texts.{PutsWords};
-ghost use Rattle.compare.specs.Strings.{IsText, texts};
+ghost use Rattle.measures.specs.Texts.{IsText, PutsWords};
+ghost use Rattle.compare.specs.Strings.{texts};
 
 use crate::layout::Layout;
 use crate::lines::{CHANGE_WIDTH, VALUE_WIDTH, put_lines};
 use crate::texts::{put_cell, put_label, put_words};
+use measures::text_builder::TextBuilder;
 use sim_base::message::Cycle;
 use statistics::stats::Stats;
 use std::alloc::{AllocError, Global};
-use text_builder::TextBuilder;
 
 // The names of the runs, a line for each.
 fn put_names(names: &[&str], out: &mut TextBuilder)

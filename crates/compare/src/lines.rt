@@ -2,16 +2,16 @@
 
 ghost use Rattle.std.specs.Prelude.{flat_map};
 ghost use Rattle.compare.specs.Lines.{cells_text, beginning_text, line_text, lines_text};
-ghost use Rattle.text_builder.specs.Texts.{PutsWords};
+ghost use Rattle.measures.specs.Texts.{PutsWords};
 
 use crate::cells::cell_of;
 use crate::layout::Layout;
 use crate::measures::{FIRST_MEASURES, LAST_MEASURES, Measure, decimals_of, label_of, value_of};
 use crate::tails::put_tails;
 use crate::texts::{change_text, put_cell, put_label, value_text};
+use measures::text_builder::TextBuilder;
 use sim_base::message::Cycle;
 use statistics::stats::Stats;
-use text_builder::TextBuilder;
 
 /// The width of a value, in characters.
 pub(crate) const VALUE_WIDTH: usize = 12;

@@ -1,7 +1,7 @@
 //! The line of the 99th percentile of read latency.
 
 ghost use Rattle.std.specs.Prelude.{◌≡◌, ◌^◌, ◌<◌, IfSome};
-ghost use Rattle.text_builder.specs.Texts.{PutsWords};
+ghost use Rattle.measures.specs.Texts.{PutsWords};
 ghost use Rattle.compare.specs.Tails.{tail_value, tail_text, tail_cells_text, tail_line_text, tails_text};
 
 use crate::changes::change_of;
@@ -10,8 +10,8 @@ use crate::lines::{CHANGE_WIDTH, VALUE_WIDTH};
 use crate::measures::Decimals;
 use crate::quotients::quotient;
 use crate::texts::{change_text, put_cell, put_label, value_text};
+use measures::text_builder::TextBuilder;
 use sim_base::message::Cycle;
-use text_builder::TextBuilder;
 
 // The p99 of a run, in billionths, where one of its reads was answered.
 fn tail_value(tail: Option<Cycle>) -> Option<u128>

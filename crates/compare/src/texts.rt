@@ -1,15 +1,15 @@
 //! Values and changes as texts.
 
 ghost use Rattle.std.specs.Prelude.{◌≡◌, ◌^◌, ◌<◌, ◌≤◌, List, ℕ, IfOk, IfSome, string_bytes};
-ghost use Rattle.text_builder.specs.Texts.{PutsWords};
-ghost use Rattle.compare.specs.Strings.{IsText};
-ghost use Rattle.compare.specs.Texts.{rounded, tenths_text, thousandths_text, fixed_text, missing_text, value_text, signed_text, change_text, cell_text, label_text};
+ghost use Rattle.measures.specs.Texts.{IsText, PutsWords};
+ghost use Rattle.compare.specs.Texts.{rounded, fixed_text, missing_text, value_text, signed_text, change_text, cell_text, label_text};
 
 use crate::changes::Change;
 use crate::layout::Layout;
 use crate::measures::Decimals;
+use measures::number::{tenths_text, thousandths_text};
+use measures::text_builder::TextBuilder;
 use std::alloc::{AllocError, Global};
-use text_builder::TextBuilder;
 
 /// The width of the labels, in characters: that of the longest one.
 const LABEL_WIDTH: usize = 22;
@@ -24,25 +24,6 @@ fn rounded(value: u128, unit: u128) -> u128
     (value + unit / 2) / unit
 }
 
-fn tenths_text(alloc: Global, tenths: u128) -> Result<String, AllocError>
-    ensures { IfOk result (λ text. string_bytes text ≡ tenths_text tenths) }
-{
-    let (whole, tenth) = (tenths / 10, tenths % 10);
-    format!(in alloc; "{whole}.{tenth}")
-}
-
-fn thousandths_text(alloc: Global, thousandths: u128) -> Result<String, AllocError>
-    ensures { IfOk result (λ text. string_bytes text ≡ thousandths_text thousandths) }
-{
-    let whole = thousandths / 1_000;
-    let (tenth, hundredth, last) = (
-        thousandths / 100 % 10,
-        thousandths / 10 % 10,
-        thousandths % 10,
-    );
-    format!(in alloc; "{whole}.{tenth}{hundredth}{last}")
-}
-
 // A value with so many decimals, rounded half up.
 fn fixed_text(alloc: Global, decimals: Decimals, value: u128) -> Result<String, AllocError>
     requires { value < 2 ^ 116 }
@@ -50,8 +31,8 @@ fn fixed_text(alloc: Global, decimals: Decimals, value: u128) -> Result<String, 
 {
     match decimals {
         Decimals::Zero => rounded(value, 1_000_000_000).to_string(alloc),
-        Decimals::One => tenths_text(alloc, rounded(value, 100_000_000)),
-        Decimals::Three => thousandths_text(alloc, rounded(value, 1_000_000)),
+        Decimals::One => tenths_text(alloc, rounded(value, 100_000_000), ""),
+        Decimals::Three => thousandths_text(alloc, rounded(value, 1_000_000), ""),
     }
 }
 
@@ -86,7 +67,7 @@ fn signed_text(alloc: Global, sign: &str, tenths: u128) -> Result<String, AllocE
     ensures { IfOk result (λ text. string_bytes text ≡ signed_text sign.now tenths) }
 {
     if tenths == 0 {
-        return tenths_text(alloc, tenths);
+        return tenths_text(alloc, tenths, "");
     }
     let (whole, tenth) = (tenths / 10, tenths % 10);
     format!(in alloc; "{sign}{whole}.{tenth}")
@@ -114,8 +95,7 @@ pub(crate) fn put_words(layout: Layout, width: usize, text: &str, out: &mut Text
     match layout {
         Layout::Screen => {
             out.push_str("  ");
-            out.push(" ".repeat(out.alloc(), width.saturating_sub(text.len())));
-            out.push_str(text);
+            out.push_flush_right(width, text);
         }
         Layout::Csv => {
             out.push_str(",");

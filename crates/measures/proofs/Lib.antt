@@ -1,5 +1,9 @@
 pub mod Ranks
 pub mod Ordered
+pub mod Places
 pub mod Kept
 pub mod Acts
 pub mod Powers
+pub mod Filled
+pub mod Parts
+pub mod Texts

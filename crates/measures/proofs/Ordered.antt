@@ -6,7 +6,7 @@ use Rattle.std.specs.List.Sorted.{IsPermutation}
 use Rattle.std.proofs.lemmas.List.Recursion.{is_count_by}
 use Rattle.std.proofs.lemmas.List.Sums.{sum_by-cons}
 use Rattle.std.proofs.lemmas.List.Sorted.{Contains-permutation, IsPermutation-sym, length_permutation, sum_by-IsPermutation}
-use Rattle.measures.specs.Percentile.{IsPercentile}
+use Rattle.measures.specs.Percentile.{IsPercentile, IsLeast}
 use Rattle.measures.specs.Latency.{AreLatencies}
 use Rattle.measures.specs.declared.request_measures.latency.Latencies.{Latencies}
 
@@ -38,6 +38,13 @@ percentile_same xs ys percent value same found =
           found.least other (Contains-permutation xs ys other same member) (omega (arith, most, all, share));
     }
 
+-- and so is their least
+least_same : (xs ys : List ℕ) (value : ℕ) → IsPermutation xs ys → IsLeast ys value → IsLeast xs value
+least_same xs ys value same found = record {
+  is_one = Contains-permutation ys xs value (IsPermutation-sym xs ys same) found.is_one;
+  least = λ other member. found.least other (Contains-permutation xs ys other same member);
+}
+
 -- and so are all of them
 pub latencies_same : (xs ys : List ℕ) (found : Latencies) → IsPermutation xs ys → AreLatencies ys found → AreLatencies xs found
 latencies_same xs ys found same sorted = record {
@@ -60,3 +67,14 @@ none_same xs ys same none = none_if xs ys (sym (length_permutation xs ys same)) 
 pub summary_same : (all xs ys : List ℕ) (found : Option Latencies) → xs ≡ all → IsPermutation xs ys → MatchOption found (ys ≡ []) (AreLatencies ys) → MatchOption found (all ≡ []) (AreLatencies all)
 summary_same all xs ys None is same sorted = sym is ∙ none_same xs ys same sorted
 summary_same all xs ys (Some found) is same sorted = subst (λ values. AreLatencies values found) is (latencies_same xs ys found same sorted)
+
+-- a percentile that may be there, of the same values in another order
+pub some_percentile : (xs ys : List ℕ) (percent : ℕ) (found : Option ℕ) → IsPermutation xs ys → MatchOption found (ys ≡ []) (IsPercentile ys percent)
+    → MatchOption found (xs ≡ []) (IsPercentile xs percent)
+some_percentile xs ys percent None same found = none_same xs ys same found
+some_percentile xs ys percent (Some value) same found = percentile_same xs ys percent value same found
+
+-- and their least
+pub some_least : (xs ys : List ℕ) (found : Option ℕ) → IsPermutation xs ys → MatchOption found (ys ≡ []) (IsLeast ys) → MatchOption found (xs ≡ []) (IsLeast xs)
+some_least xs ys None same found = none_same xs ys same found
+some_least xs ys (Some value) same found = least_same xs ys value same found

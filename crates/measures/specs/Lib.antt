@@ -6,3 +6,5 @@ pub mod Agreement
 pub mod Banks
 pub mod Hits
 pub mod Number
+pub mod Filled
+pub mod Texts

@@ -123,14 +123,15 @@ fn power_of(form: NumberForm, halves: u128) -> u32
     }
 }
 
-// A number of tenths, of hundredths and of thousandths, each with a unit behind it.
-fn tenths_text(alloc: Global, tenths: u128, unit: &str) -> Result<String, AllocError>
+/// A number of tenths with a unit behind it: 456 is `45.6`. The only error is out of memory.
+pub fn tenths_text(alloc: Global, tenths: u128, unit: &str) -> Result<String, AllocError>
     ensures { IfOk result (λ text. string_bytes text ≡ tenths_text tenths ++ unit.now) }
 {
     let (whole, tenth) = (tenths / 10, tenths % 10);
     format!(in alloc; "{whole}.{tenth}{unit}")
 }
 
+// A number of hundredths with a unit behind it: 456 is `4.56`.
 fn hundredths_text(alloc: Global, hundredths: u128, unit: &str) -> Result<String, AllocError>
     ensures { IfOk result (λ text. string_bytes text ≡ hundredths_text hundredths ++ unit.now) }
 {
@@ -138,7 +139,8 @@ fn hundredths_text(alloc: Global, hundredths: u128, unit: &str) -> Result<String
     format!(in alloc; "{whole}.{tenth}{last}{unit}")
 }
 
-fn thousandths_text(alloc: Global, thousandths: u128, unit: &str) -> Result<String, AllocError>
+/// A number of thousandths with a unit behind it: 456 is `0.456`. The only error is out of memory.
+pub fn thousandths_text(alloc: Global, thousandths: u128, unit: &str) -> Result<String, AllocError>
     ensures { IfOk result (λ text. string_bytes text ≡ thousandths_text thousandths ++ unit.now) }
 {
     let whole = thousandths / 1_000;

@@ -1,10 +1,18 @@
 //! Percentiles by the nearest rank.
 
-ghost use Rattle.std.specs.Prelude.{◌≡◌, ◌↔◌, ◌<◌, ◌≤◌, ◌+◌, ◌*◌, ◌/◌, [], None, IfSome};
+ghost use Rattle.std.specs.Prelude.{◌≡◌, ◌↔◌, ◌<◌, ◌≤◌, ◌+◌, ◌*◌, ◌/◌, [], None, IfSome, slice_get};
 ghost use Rattle.std.specs.List.Sorted.{IsPermutation};
-ghost use Rattle.measures.specs.Percentile.{at_rank, IsPercentile};
+ghost use Rattle.measures.specs.Percentile.{at_rank, IsPercentile, IsSummary};
 
 use std::marker::Model;
+
+/// The least, the median and the greatest of some values; each none of no values.
+#[derive(Clone, Copy)]
+pub struct Summary {
+    pub least: Option<u128>,
+    pub median: Option<u128>,
+    pub greatest: Option<u128>,
+}
 
 /// Values in ascending order.
 #[derive(Drop)]
@@ -63,5 +71,28 @@ impl SortedValues {
         ensures exact { IfSome result (IsPercentile self.now percent) }
     {
         at_rank(&self.values, rank_of(percent, self.values.len()))
+    }
+}
+
+fn value_at(values: &[u128], place: usize) -> Option<u128>
+    ensures { result ≡ slice_get values.now place }
+{
+    values.get(place).copied()
+}
+
+impl Summary {
+    /// The least, the median and the greatest of these values. The median of an even count is the lower of the two in
+    /// the middle.
+    pub fn of(values: Vec<u128>) -> Summary
+        ensures { IsSummary values.items result }
+    {
+        let mut sorted = values;
+        sorted.sort_unstable();
+        let last = sorted.len().saturating_sub(1);
+        Summary {
+            least: value_at(&sorted, 0),
+            median: value_at(&sorted, last / 2),
+            greatest: value_at(&sorted, last),
+        }
     }
 }

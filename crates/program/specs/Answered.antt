@@ -31,6 +31,8 @@ use Rattle.rule_check.specs.declared.verdict.Verdict.TheVariants.{Legal, Broken}
 use Rattle.answers.specs.Answers.{IsChecked, IsMapped, IsShown, IsCompared}
 use Rattle.compare.specs.declared.layout.Layout.{Layout}
 use Rattle.compare.specs.declared.layout.Layout.TheVariants.{Screen, Csv}
+use Rattle.show.specs.declared.options.Options.{Options}
+use Rattle.command_line.specs.declared.words.ShowArguments.{ShowArguments}
 use Rattle.answers.specs.Banks.{IsShownWithBanks}
 use Rattle.answers.specs.Pages.{IsPageDone}
 use Rattle.refusal.specs.declared.refusal.Refusal.{Refusal}
@@ -114,16 +116,20 @@ pub record IsMapAnswer (config : List ℕ) (address status : ℕ) (old new : See
   pub mapped : IsMapped config address old.held (Appends old.printed new.printed)
   pub untouched : IsUntouched old.held new.held old.opened new.opened
 
+-- what a screen shows, and by which clock
+abbrev pub options_of : ShowArguments → Options
+options_of show = record { all = show.all; khz = show.khz }
+
 -- a run has been shown
-pub record IsShowAnswer (dir : List ℕ) (config : Option (List ℕ)) (status : ℕ) (old new : Seen) : Type 0 where
+pub record IsShowAnswer (dir : List ℕ) (config : Option (List ℕ)) (options : Options) (status : ℕ) (old new : Seen) : Type 0 where
   pub status_is : status ≡ 0
-  pub shown : IsShown dir config old.held (Appends old.printed new.printed)
+  pub shown : IsShown dir config options old.held (Appends old.printed new.printed)
   pub untouched : IsUntouched old.held new.held old.opened new.opened
 
 -- a run has been shown with its banks
-pub record IsBanksAnswer (dir : List ℕ) (config : Option (List ℕ)) (status : ℕ) (old new : Seen) : Type 0 where
+pub record IsBanksAnswer (dir : List ℕ) (config : Option (List ℕ)) (options : Options) (status : ℕ) (old new : Seen) : Type 0 where
   pub status_is : status ≡ 0
-  pub shown : IsShownWithBanks dir config old.held (Appends old.printed new.printed)
+  pub shown : IsShownWithBanks dir config options old.held (Appends old.printed new.printed)
   pub untouched : IsUntouched old.held new.held old.opened new.opened
 
 -- a page has been made: it prints nothing, and opens just one file
@@ -160,8 +166,8 @@ IsAnswer (Run run) done old new =
     IsRunAnswer run.config.now run.cycles run.workers run.tables run.out.now (map (λ t. t.now) run.traces.items) done.status old new
 IsAnswer (Check config commands) done old new = IsCheckAnswer config.now commands.now done.status old new
 IsAnswer (Map config address) done old new = IsMapAnswer config.now address done.status old new
-IsAnswer (Show show) done old new = IsShowAnswer show.dir.now (option_map (λ c. c.now) show.config) done.status old new
-IsAnswer (ShowBanks show) done old new = IsBanksAnswer show.dir.now (option_map (λ c. c.now) show.config) done.status old new
+IsAnswer (Show show) done old new = IsShowAnswer show.dir.now (option_map (λ c. c.now) show.config) (options_of show) done.status old new
+IsAnswer (ShowBanks show) done old new = IsBanksAnswer show.dir.now (option_map (λ c. c.now) show.config) (options_of show) done.status old new
 IsAnswer (Page page) done old new = IsPageAnswer page.dir.now page.file.now (option_map (λ c. c.now) page.config) done old new
 IsAnswer (Compare dirs csv) done old new = IsCompareAnswer (map (λ d. d.now) dirs.items) csv done.status old new
 IsAnswer (Help text) done old new = IsHelpAnswer (string_bytes text) done.status old new

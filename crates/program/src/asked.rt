@@ -1,7 +1,7 @@
 //! What is asked, in the terms of what answers it.
 
 ghost use Rattle.std.specs.Prelude.{◌≡◌};
-ghost use Rattle.program.specs.Answered.{layout_of};
+ghost use Rattle.program.specs.Answered.{layout_of, options_of};
 
 use command_line::words::{PageArguments, RunArguments, Share, ShowArguments};
 use compare::layout::Layout;
@@ -62,8 +62,7 @@ pub(crate) fn layout_of(csv: bool) -> Layout
 
 /// What a screen shows, and by which clock.
 pub(crate) fn options_of(show: &ShowArguments<'_>) -> Options
-    ensures all { result.all ≡ show.now.all }
-    ensures clock { result.khz ≡ show.now.khz }
+    ensures { result ≡ options_of show.now }
 {
     Options {
         all: show.all,

@@ -1,3 +1,2 @@
-pub mod Listed
 pub mod Sections
 pub mod TickSteps

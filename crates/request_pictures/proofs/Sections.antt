@@ -5,9 +5,9 @@ use Rattle.std.specs.List.{Contains}
 use Rattle.measures.specs.Latency.{AreLatenciesOf, read_latencies}
 use Rattle.measures.specs.declared.request_measures.latency.Latencies.{Latencies}
 use Rattle.request_table.specs.declared.times.RequestTimes.{RequestTimes}
-use Rattle.text_builder.specs.Texts.{Grows, Puts, PutsWords}
-use Rattle.text_builder.specs.declared.TextBuilder.{TextBuilder}
-use Rattle.text_builder.proofs.Texts.{puts_both}
+use Rattle.measures.specs.Texts.{Grows, Puts, PutsWords}
+use Rattle.measures.specs.declared.text_builder.TextBuilder.{TextBuilder}
+use Rattle.measures.proofs.Texts.{puts_both}
 use Rattle.request_pictures.specs.Section.{Begins, IsSection, latency_heading, histograms_head}
 
 no_item : {A : Type 0} (x : A) → Contains [] x → ⊥

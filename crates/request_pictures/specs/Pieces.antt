@@ -1,19 +1,11 @@
 -- What stands on a page for a piece.
---     tenths number, hundredths number      a number of tenths, as `12.3`, and of hundredths, as `1.23`
 --     group_text group      a group of three digits that is not the first one, as `,067`
 --     IsGrouped number text      a number in groups of three digits, as `1,234,067`
 --     IsPieceText piece text      the text of a piece
 use Rattle.std.specs.Prelude.{◌≡◌, ℕ, ◌/◌, ◌%◌, ◌<◌, ◌≤◌, List, ◌++◌, codes, decimal}
+use Rattle.measures.specs.Number.{tenths_text, hundredths_text}
 use Rattle.request_pictures.specs.declared.drawing.markup.Piece.{Piece}
 use Rattle.request_pictures.specs.declared.drawing.markup.Piece.TheVariants.{Text, Number, Grouped, Tenths, Hundredths}
-
--- a number of tenths, as `12.3`
-abbrev pub tenths : ℕ → List ℕ
-tenths number = decimal (number / 10) ++ codes "." ++ decimal (number % 10)
-
--- a number of hundredths, as `1.23`
-abbrev pub hundredths : ℕ → List ℕ
-hundredths number = tenths (number / 10) ++ decimal (number % 10)
 
 -- a comma and three digits, as `,067`
 abbrev pub group_text : ℕ → List ℕ
@@ -29,5 +21,5 @@ abbrev pub IsPieceText : Piece → List ℕ → Type 0
 IsPieceText (Text words) text = text ≡ words.now
 IsPieceText (Number number) text = text ≡ decimal number
 IsPieceText (Grouped number) text = IsGrouped number text
-IsPieceText (Tenths number) text = text ≡ tenths number
-IsPieceText (Hundredths number) text = text ≡ hundredths number
+IsPieceText (Tenths number) text = text ≡ tenths_text number
+IsPieceText (Hundredths number) text = text ≡ hundredths_text number

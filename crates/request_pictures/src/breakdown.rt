@@ -1,6 +1,6 @@
 //! Where the time of the reads of each channel went, as bars. A bar's unit is a hundredth of a cycle.
 
-ghost use Rattle.text_builder.specs.Texts.{Grows};
+ghost use Rattle.measures.specs.Texts.{Grows};
 
 use crate::drawing::markup::{LegendEntry, Piece};
 use crate::drawing::page_text::Markup;

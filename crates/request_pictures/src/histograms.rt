@@ -1,6 +1,6 @@
 //! A histogram of the read latency of each core, all on the same axes.
 
-ghost use Rattle.text_builder.specs.Texts.{Grows, Puts};
+ghost use Rattle.measures.specs.Texts.{Grows, Puts};
 ghost use Rattle.request_pictures.specs.Section.{Begins, histograms_head};
 
 use crate::drawing::axes::Quantity;

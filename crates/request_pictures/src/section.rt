@@ -1,6 +1,6 @@
 //! What a page shows of requests.
 
-ghost use Rattle.text_builder.specs.Texts.{Puts};
+ghost use Rattle.measures.specs.Texts.{Puts};
 ghost use Rattle.request_pictures.specs.Section.{IsSection};
 
 use crate::breakdown::put_breakdown;

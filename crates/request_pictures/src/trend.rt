@@ -1,7 +1,7 @@
 //! The median and the 99th percentile of read latency over the run, in steps of equal length, the last of which may be
 //! shorter.
 
-ghost use Rattle.text_builder.specs.Texts.{Grows};
+ghost use Rattle.measures.specs.Texts.{Grows};
 
 use crate::drawing::axes::Quantity;
 use crate::drawing::markup::{LegendEntry, Piece};

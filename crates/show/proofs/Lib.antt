@@ -1,3 +1,4 @@
+pub mod Headings
+pub mod Across
 pub mod Numbers
-pub mod Parts
 pub mod Texts

@@ -1,67 +1,54 @@
 -- Texts below their heads.
-use Rattle.std.specs.Prelude.{Result, Ok, Err, IfOk, String, Vec, string_bytes}
-use Rattle.std.specs.declared.alloc.AllocError.{AllocError}
-use Rattle.std.specs.declared.alloc.Global.{Global}
-use Rattle.std.proofs.Common.{◌≡◌, ℕ, ◌+◌, List, [], ◌++◌, length, refl, sym, ap, ap₂, subst, ◌∙◌, add-one, append_assoc}
-use Rattle.text_builder.specs.Texts.{Grows, Puts, PutsWords}
-use Rattle.text_builder.specs.declared.TextBuilder.{TextBuilder}
-use Rattle.text_builder.proofs.Texts.{puts_as, puts_both}
-use Rattle.show.specs.Strings.{IsText}
-use Rattle.show.specs.Screen.{EndsWith, Extends, IsScreen, channels_head, cores_head}
-use Rattle.show.specs.Banks.{AreBanksOf, AreBanks}
-use Rattle.show.specs.Requests.{latencies_head, waits_head, AreRequests}
-use Rattle.measures.specs.Latency.{read_latencies}
-use Rattle.measures.specs.declared.number.Number.{Number}
+use Rattle.std.specs.Prelude.{Bool}
+use Rattle.std.proofs.Common.{◌≡◌, ℕ, List, ◌++◌, length, sym, ap, subst, ◌∙◌, append_assoc, Option, Some, None}
+use Rattle.measures.specs.Texts.{Puts, PutsWords}
+use Rattle.measures.specs.declared.text_builder.TextBuilder.{TextBuilder}
+use Rattle.measures.proofs.Texts.{puts_both}
+use Rattle.measures.specs.Latency.{read_latencies, AreLatenciesOf}
+use Rattle.measures.specs.declared.request_measures.latency.Latencies.{Latencies}
 use Rattle.request_table.specs.declared.times.RequestTimes.{RequestTimes}
-use Rattle.sim_base.specs.declared.command.IssuedCommand.{IssuedCommand}
+use Rattle.show.specs.Requests.{replies_of}
+use Rattle.show.specs.Rows.{time_text}
+use Rattle.show.specs.Screen.{IsBelow, AreChannels, AreCores, IsScreen, channels_head, cores_head}
+use Rattle.show.specs.declared.options.Options.{Options}
+use Rattle.sim_base.specs.declared.config.Config.{Config}
 use Rattle.statistics.specs.Values.{RunStats}
+use Rattle.show.specs.Tables.{IsTable}
+use Rattle.measures.specs.declared.number.Number.{Number}
 
--- more was put behind a head
-pub headed : {B : List ℕ → Type 0} (head : List ℕ) {a b c : TextBuilder} → PutsWords head a b → Puts B b c → Puts (Extends head) a c
-headed head first second = puts_both (λ x y h k. (y, ap (λ t. t ++ y) h)) first second
+-- a text of some kind was put below a head
+pub put_below : {B : List ℕ → Type 0} (head : List ℕ) {a b c : TextBuilder} → PutsWords head a b → Puts B b c → Puts (IsBelow head B) a c
+put_below head first second = puts_both (λ x y h k. record { lines = y; is = k; text_is = ap (λ t. t ++ y) h }) first second
 
-pub headed_on : {B : List ℕ → Type 0} (head : List ℕ) {a b c : TextBuilder} → Puts (Extends head) a b → Puts B b c → Puts (Extends head) a c
-headed_on head first second = puts_both (λ x y h k. (h.0 ++ y, ap (λ t. t ++ y) h.1 ∙ append_assoc head h.0 y)) first second
+-- a table in other words
+pub table_as : {label label' : List ℕ} {headings headings' : List (List ℕ)} {rows rows' : List (List Number)} (all : Bool) (text : List ℕ) → label ≡ label' → headings ≡ headings' → rows ≡ rows'
+    → IsTable label headings all rows text → IsTable label' headings' all rows' text
+table_as {label} {label'} {headings} {headings'} {rows} {rows'} all text l h r table =
+    subst (λ x. IsTable x headings' all rows' text) l (subst (λ x. IsTable label x all rows' text) h (subst (λ x. IsTable label headings all x text) r table))
 
--- words were put at the end
-pub ended : {A : List ℕ → Type 0} (last : List ℕ) {a b c : TextBuilder} → Puts A a b → PutsWords last b c → Puts (EndsWith last) a c
-ended last first second = puts_both (λ x y h k. (x, ap (λ t. x ++ t) k)) first second
+-- the cores of a run, and the time of its cycles
+pub record IsBottom (stats : RunStats) (options : Options) (text : List ℕ) : Type 0 where
+  pub cores : List ℕ
+  pub cores_are : IsBelow (cores_head (length stats.cores)) (AreCores stats options) cores
+  pub text_is : text ≡ cores ++ time_text options.khz stats.cycles
+
+pub bottom_of : (stats : RunStats) (options : Options) (cores time : List ℕ) → IsBelow (cores_head (length stats.cores)) (AreCores stats options) cores
+    → time ≡ time_text options.khz stats.cycles → IsBottom stats options (cores ++ time)
+bottom_of stats options cores time are is = record { cores = cores; cores_are = are; text_is = ap (λ t. cores ++ t) is }
 
 -- a screen, from its parts
-pub screen_of : (stats : RunStats) (above below : List ℕ) → Extends (channels_head stats.cycles (length stats.channels)) above → Extends (cores_head (length stats.cores)) below
-    → IsScreen stats (above ++ below)
-screen_of stats above below upper lower = record {
-  channel_lines = upper.0;
-  core_lines = lower.0;
-  text_is =
-      ap₂ (λ s t. s ++ t) upper.1 lower.1
-      ∙ sym (append_assoc (channels_head stats.cycles (length stats.channels) ++ upper.0) (cores_head (length stats.cores)) lower.0);
+pub screen_of : (stats : RunStats) (options : Options) (machine : Option Config) (channels bottom : List ℕ)
+    → IsBelow (channels_head stats.cycles (length stats.channels)) (AreChannels stats options machine) channels → IsBottom stats options bottom
+    → IsScreen stats options machine (channels ++ bottom)
+screen_of stats options machine channels bottom are is = record {
+  channels = channels;
+  cores = is.cores;
+  channels_are = are;
+  cores_are = is.cores_are;
+  text_is = ap (λ t. channels ++ t) is.text_is ∙ sym (append_assoc channels is.cores (time_text options.khz stats.cycles));
 }
 
--- the banks of one more channel
-pub one_more_channel : (commands : List IssuedCommand) (channel : ℕ) (old more : List ℕ) → AreBanks commands channel old → AreBanksOf commands channel more
-    → AreBanks commands (channel + 1) (old ++ more)
-one_more_channel commands channel old more before after =
-    subst (λ n. AreBanks commands n (old ++ more)) (sym (add-one channel)) (record { old = old; more = more; before_is = before; after_is = after; text_is = refl })
-
--- what the screen has of requests, from its parts
-pub requests_of : (requests : List RequestTimes) (above below : List ℕ) → Extends (latencies_head (length (read_latencies requests))) above → Extends (waits_head (length requests)) below
-    → AreRequests requests (above ++ below)
-requests_of requests above below upper lower = record {
-  latency_lines = upper.0;
-  wait_lines = lower.0;
-  text_is =
-      ap₂ (λ s t. s ++ t) upper.1 lower.1
-      ∙ sym (append_assoc (latencies_head (length (read_latencies requests)) ++ upper.0) (waits_head (length requests)) lower.0);
-}
-
--- the line of a row was put, unless memory was refused for its label
-pub labelled : (line : List ℕ → List ℕ) {a b : TextBuilder} (label : Result (String Global) AllocError) → ((words : List ℕ) → IfOk label (IsText words) → PutsWords (line words) a b) → Grows a b
-labelled line (Ok text) put = puts_as (λ x is. tt) (put (string_bytes text) refl)
-labelled line (Err fault) put = puts_as (λ x is. tt) (put [] tt)
-
--- a table was put, unless memory was refused for its rows
-pub tabled : (table : List (List Number) → List ℕ → Type 0) {a b : TextBuilder} (rows : Result (Vec (List Number) Global) AllocError)
-    → ((found : List (List Number)) → IfOk rows (λ rows. rows.items ≡ found) → Puts (table found) a b) → Grows a b
-tabled table (Ok rows) put = puts_as (λ x is. tt) (put rows.items refl)
-tabled table (Err fault) put = puts_as (λ x is. tt) (put [] tt)
+-- as many replies came as there are read latencies
+pub replies_are : (requests : List RequestTimes) (found : Option Latencies) → AreLatenciesOf requests found → replies_of found ≡ length (read_latencies requests)
+replies_are requests None none = sym (ap length none)
+replies_are requests (Some found) are = are.count

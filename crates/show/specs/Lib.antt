@@ -2,5 +2,5 @@ pub mod Screen
 pub mod Banks
 pub mod Requests
 pub mod Rows
-pub mod Strings
+pub mod Summary
 pub mod Tables

@@ -1,9 +1,11 @@
 -- The numbers of channels, of cores and of banks, a row for each.
+--     machine_in config      a machine that may be given
 --     count number, mean sum count, percent part whole, absent      numbers of a screen
 --     time cycles divisor khz, data_rate cycles channel khz      cycles in ns, and data in GB/s, by the clock in kHz
 --     time_text khz cycles      the cycles of a run in ns, where the clock is given
 --     channel_row, core_row, latency_row, wait_row, bank_row      the numbers of a row, in the order of their headings
-use Rattle.std.specs.Prelude.{ℕ, ◌+◌, ◌-◌, ◌*◌, ◌^◌, min, List, [], ◌∷◌, ◌++◌, codes, replicate, Option, Some, None}
+--     channel_headings, core_headings, latency_headings, wait_headings, bank_headings      the headings
+use Rattle.std.specs.Prelude.{ℕ, ◌+◌, ◌-◌, ◌*◌, ◌^◌, min, List, [], ◌∷◌, ◌++◌, codes, replicate, Option, Some, None, option_map}
 use Rattle.std.specs.Borrow.{Bor}
 use Rattle.sim_base.specs.declared.config.Config.{Config}
 use Rattle.statistics.specs.declared.channels.ChannelStats.{ChannelStats}
@@ -17,6 +19,10 @@ use Rattle.measures.specs.declared.number.NumberForm.TheVariants as form
 use Rattle.measures.specs.declared.request_measures.latency.Latencies.{Latencies}
 use Rattle.measures.specs.declared.request_measures.waiting.Class.TheVariants.{Reads, Writes, Hits}
 use Rattle.measures.specs.declared.request_measures.waiting.Waits.{Waits}
+
+-- a machine that may be given
+abbrev pub machine_in : Option (Bor Config) → Option Config
+machine_in config = option_map (λ machine. machine.now) config
 
 abbrev pub count : ℕ → Number
 count number = record { halves = Some (2000 * number); form = form.Count }
@@ -59,16 +65,26 @@ drain_of cycles None = absent
 
 -- the last two numbers of a channel, which are there with a configuration and with a clock: the cycles that its REFs
 -- take, nRFC each, and its data rate
-abbrev pub more_of_channel : ℕ → ChannelStats → Option (Bor Config) → Option ℕ → Number × Number
-more_of_channel cycles channel (Some config) khz = (percent (channel.refs * config.now.timing.n_rfc) cycles, rate_by khz cycles channel)
+abbrev pub more_of_channel : ℕ → ChannelStats → Option Config → Option ℕ → Number × Number
+more_of_channel cycles channel (Some machine) khz = (percent (channel.refs * machine.timing.n_rfc) cycles, rate_by khz cycles channel)
 more_of_channel cycles channel None khz = (rate_by khz cycles channel, absent)
 
+-- headings that are there where the clock is given
+abbrev pub where_clocked : Option ℕ → List (List ℕ) → List (List ℕ)
+where_clocked (Some khz) headings = headings
+where_clocked None headings = []
+
+-- the headings of the last two numbers of a channel
+abbrev pub more_headings : Option Config → Option ℕ → List (List ℕ)
+more_headings (Some machine) khz = codes "ref %" ∷ where_clocked khz (codes "GB/s" ∷ [])
+more_headings None khz = where_clocked khz (codes "GB/s" ∷ [])
+
 -- the numbers of a channel; the data bus is taken for four cycles by each RD and WR
-unfoldable pub channel_row : ℕ → Option (Bor Config) → Option ℕ → ChannelStats → List Number
-channel_row cycles config khz channel =
+unfoldable pub channel_row : ℕ → Option Config → Option ℕ → ChannelStats → List Number
+channel_row cycles machine khz channel =
     count channel.rd ∷ count channel.wr ∷ percent channel.hits (channel.rd + channel.wr) ∷ percent (4 * (channel.rd + channel.wr)) cycles
     ∷ mean channel.queued cycles ∷ count channel.queued_max ∷ percent channel.idle cycles ∷ percent channel.refreshing cycles
-    ∷ drain_of cycles channel.draining ∷ (more_of_channel cycles channel config khz).0 ∷ (more_of_channel cycles channel config khz).1 ∷ absent ∷ absent ∷ []
+    ∷ drain_of cycles channel.draining ∷ (more_of_channel cycles channel machine khz).0 ∷ (more_of_channel cycles channel machine khz).1 ∷ absent ∷ absent ∷ []
 
 -- the cycle in which the last entry of a core retired, and the entries a cycle up to that, where it has finished; more
 -- cycles than 2^64 - 1 count as that
@@ -123,3 +139,31 @@ bank_row counts =
 abbrev pub time_text : Option ℕ → ℕ → List ℕ
 time_text (Some khz) cycles = codes "\nThe cycles take " ++ number_text (time cycles 1 khz) ++ codes " ns\n"
 time_text None cycles = []
+
+-- the headings of a channel's numbers
+abbrev pub channel_headings : Option Config → Option ℕ → List (List ℕ)
+channel_headings machine khz =
+    codes "rd" ∷ codes "wr" ∷ codes "hits %" ∷ codes "bus %" ∷ codes "queue mean" ∷ codes "queue max" ∷ codes "idle %" ∷ codes "refresh due %" ∷ codes "drain %"
+    ∷ more_headings machine khz
+
+-- the headings of a core's numbers
+abbrev pub core_headings : Option ℕ → List (List ℕ)
+core_headings khz =
+    codes "retired" ∷ codes "per cycle" ∷ codes "finish" ∷ codes "by then" ∷ codes "reads" ∷ codes "latency" ∷ codes "end" ∷ codes "width"
+    ∷ codes "window" ∷ codes "memory" ∷ codes "credit" ∷ where_clocked khz (codes "finish ns" ∷ codes "latency ns" ∷ [])
+
+-- the headings of read latencies
+abbrev pub latency_headings : Option ℕ → List (List ℕ)
+latency_headings khz =
+    codes "replies" ∷ codes "p50" ∷ codes "p95" ∷ codes "p99" ∷ codes "max"
+    ∷ where_clocked khz (codes "p50 ns" ∷ codes "p95 ns" ∷ codes "p99 ns" ∷ codes "max ns" ∷ [])
+
+-- the headings of waits
+abbrev pub wait_headings : Option ℕ → List (List ℕ)
+wait_headings khz =
+    codes "reads" ∷ codes "mean wait" ∷ codes "writes" ∷ codes "mean wait" ∷ codes "hits" ∷ codes "mean wait"
+    ∷ where_clocked khz (codes "reads ns" ∷ codes "writes ns" ∷ codes "hits ns" ∷ [])
+
+-- the headings of a bank's numbers
+abbrev pub bank_headings : List (List ℕ)
+bank_headings = codes "act" ∷ codes "rd" ∷ codes "wr" ∷ codes "pre" ∷ codes "hits %" ∷ codes "conflicts" ∷ []

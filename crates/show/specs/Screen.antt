@@ -1,18 +1,20 @@
 -- What the screen has.
---     Extends old new      a text followed by more
---     EndsWith last text      a text whose end is this one
+--     IsBelow head kind text      a text of some kind below a head
 --     channels_head cycles count, cores_head count      the lines above the two tables
---     IsScreen stats text      the screen of a run
-use Rattle.std.specs.Prelude.{◌≡◌, ℕ, List, ◌++◌, length, codes, decimal}
+--     AreChannels, AreCores stats options .. text      the two tables
+--     IsScreen stats options machine text      the screen of a run
+use Rattle.std.specs.Prelude.{◌≡◌, ℕ, List, ◌++◌, length, map, codes, decimal, Option}
+use Rattle.sim_base.specs.declared.config.Config.{Config}
 use Rattle.statistics.specs.Values.{RunStats}
+use Rattle.show.specs.Rows.{channel_headings, channel_row, core_headings, core_row, time_text}
+use Rattle.show.specs.Tables.{IsTable}
+use Rattle.show.specs.declared.options.Options.{Options}
 
--- a text followed by more
-abbrev pub Extends : List ℕ → List ℕ → Type 0
-Extends old new = (more : List ℕ) × (new ≡ old ++ more)
-
--- a text whose end is this one
-abbrev pub EndsWith : List ℕ → List ℕ → Type 0
-EndsWith last text = (before : List ℕ) × (text ≡ before ++ last)
+-- a text of some kind below a head
+pub record IsBelow (head : List ℕ) (kind : List ℕ → Type 0) (text : List ℕ) : Type 0 where
+  pub lines : List ℕ
+  pub is : kind lines
+  pub text_is : text ≡ head ++ lines
 
 -- the lines above the table of channels
 abbrev pub channels_head : ℕ → ℕ → List ℕ
@@ -23,8 +25,21 @@ channels_head cycles count =
 abbrev pub cores_head : ℕ → List ℕ
 cores_head count = codes "\nCores (" ++ decimal count ++ codes "): finish and latency in cycles, why no more was issued in % of the cycles\n"
 
--- the screen of a run: how many cycles, channels and cores there are, and lines below each head
-pub record IsScreen (stats : RunStats) (text : List ℕ) : Type 0 where
-  pub channel_lines : List ℕ
-  pub core_lines : List ℕ
-  pub text_is : text ≡ channels_head stats.cycles (length stats.channels) ++ channel_lines ++ cores_head (length stats.cores) ++ core_lines
+-- the table of channels
+abbrev pub AreChannels : RunStats → Options → Option Config → List ℕ → Type 0
+AreChannels stats options machine text =
+    IsTable (codes "channel") (channel_headings machine options.khz) options.all (map (channel_row stats.cycles machine options.khz) stats.channels) text
+
+-- the table of cores
+abbrev pub AreCores : RunStats → Options → List ℕ → Type 0
+AreCores stats options text =
+    IsTable (codes "core") (core_headings options.khz) options.all (map (core_row stats.cycles options.khz) stats.cores) text
+
+-- the screen of a run: its cycles, its channels and its cores, and the time that the cycles take, where the clock is
+-- given
+pub record IsScreen (stats : RunStats) (options : Options) (machine : Option Config) (text : List ℕ) : Type 0 where
+  pub channels : List ℕ
+  pub cores : List ℕ
+  pub channels_are : IsBelow (channels_head stats.cycles (length stats.channels)) (AreChannels stats options machine) channels
+  pub cores_are : IsBelow (cores_head (length stats.cores)) (AreCores stats options) cores
+  pub text_is : text ≡ channels ++ cores ++ time_text options.khz stats.cycles

@@ -1,10 +1,11 @@
 //! The banks of a run, a line for each that a command names.
 
-ghost use Rattle.std.specs.Prelude.{◌≡◌, IfOk, length, string_bytes};
-ghost use Rattle.show.specs.Rows.{bank_row};
-ghost use Rattle.show.specs.Screen.{Extends};
-ghost use Rattle.show.specs.Banks.{banks_head, AreBanksOf, AreBanks, IsBanksScreen};
-ghost use Rattle.text_builder.specs.Texts.{Puts, Grows};
+ghost use Rattle.std.specs.Prelude.{◌≡◌, codes, true, IfOk, length, string_bytes};
+ghost use Rattle.measures.specs.Banks.{channel_counts};
+ghost use Rattle.show.specs.Rows.{bank_headings, bank_row, machine_in};
+ghost use Rattle.show.specs.Banks.{bank_label, bank_line, banks_text, all_banks_text, IsBanksScreen};
+ghost use Rattle.show.specs.Tables.{IsLayout};
+ghost use Rattle.measures.specs.Texts.{Puts, PutsWords};
 
 use crate::options::Options;
 use crate::screen::put_screen;
@@ -17,13 +18,15 @@ use sim_base::config::Config;
 use sim_base::place::BankId;
 use statistics::stats::Stats;
 use std::alloc::{AllocError, Global};
-use text_builder::TextBuilder;
+use measures::text_builder::TextBuilder;
 
 /// The headings of a bank's numbers.
 static BANK_HEADINGS: [&str; 6] = ["act", "rd", "wr", "pre", "hits %", "conflicts"];
 
 // The table of the banks, each of which has a line, however many there are.
-fn table_of_banks() -> TableLayout<'static> {
+fn table_of_banks() -> TableLayout<'static>
+    ensures { IsLayout (codes "bank") bank_headings true result }
+{
     TableLayout {
         label: "bank",
         headings: &BANK_HEADINGS[..],
@@ -45,18 +48,25 @@ fn bank_row(counts: &BankCounts) -> [Number; 6]
     ]
 }
 
+// What stands before the numbers of a bank.
+fn bank_label(alloc: Global, id: BankId) -> Result<String, AllocError>
+    ensures { IfOk result (λ text. string_bytes text ≡ bank_label id) }
+{
+    let BankId { rank, group, bank } = id;
+    format!(in alloc; "r{rank} g{group} b{bank}")
+}
+
 // Appends the line of a bank.
 fn put_bank(alloc: Global, counts: &BankCounts, out: &mut TextBuilder)
-    ensures { Grows out.old out.new }
+    ensures { PutsWords (bank_line counts.now) out.old out.new }
 {
-    let BankId { rank, group, bank } = counts.bank;
-    let label = format!(in alloc; "r{rank} g{group} b{bank}");
+    let label = bank_label(alloc, counts.bank);
     table_of_banks().put_row(alloc, label, &bank_row(counts), out);
 }
 
 // Appends the banks of a channel.
 fn put_banks(alloc: Global, channel: usize, banks: &[BankCounts], out: &mut TextBuilder)
-    ensures { Puts (Extends (banks_head channel (length banks.now))) out.old out.new }
+    ensures { PutsWords (banks_text channel banks.now) out.old out.new }
 {
     let count = banks.len();
     write!(
@@ -71,7 +81,7 @@ fn put_banks(alloc: Global, channel: usize, banks: &[BankCounts], out: &mut Text
 
 // Appends the banks of a channel, by its commands.
 fn put_channel(alloc: Global, channel: usize, commands: &CommandList, out: &mut TextBuilder)
-    ensures { Puts (AreBanksOf commands.now channel) out.old out.new }
+    ensures { PutsWords (banks_text channel (channel_counts channel commands.now)) out.old out.new }
 {
     match channel_counts(alloc, channel, commands) {
         Ok(banks) => put_banks(alloc, channel, &banks, out),
@@ -81,7 +91,7 @@ fn put_channel(alloc: Global, channel: usize, commands: &CommandList, out: &mut 
 
 // Appends the banks of so many channels.
 fn put_channels(alloc: Global, channels: usize, commands: &CommandList, out: &mut TextBuilder)
-    ensures { Puts (AreBanks commands.now channels) out.old out.new }
+    ensures { PutsWords (all_banks_text commands.now channels) out.old out.new }
 {
     for channel in 0..channels {
         put_channel(alloc, channel, commands, out);
@@ -100,7 +110,8 @@ pub fn show_banks(
     options: Options,
     config: Option<&Config>,
 ) -> Result<String, AllocError>
-    ensures { IfOk result (λ text. IsBanksScreen stats.now commands.now (string_bytes text)) }
+    ensures { IfOk result (λ text.
+        IsBanksScreen stats.now commands.now options (machine_in config.entry) (string_bytes text)) }
 {
     let mut text = TextBuilder::new(alloc);
     put_screen(alloc, stats, options, config, &mut text);

@@ -1,11 +1,13 @@
 //! How long reads took and how long requests waited, below the screen of a run.
 
-ghost use Rattle.std.specs.Prelude.{◌≡◌, ◌≤◌, length, IfOk, string_bytes};
-ghost use Rattle.measures.specs.Latency.{read_latencies};
-ghost use Rattle.show.specs.Requests.{latencies_head, waits_head, replies_of, AreRequests};
-ghost use Rattle.show.specs.Rows.{latency_row, wait_row};
-ghost use Rattle.show.specs.Screen.{Extends};
-ghost use Rattle.text_builder.specs.Texts.{Puts};
+ghost use Rattle.std.specs.Prelude.{◌≡◌, ℕ, List, length, map, IfOk, string_bytes};
+ghost use Rattle.sim_base.specs.History.{below};
+ghost use Rattle.request_table.specs.declared.times.RequestTimes.{RequestTimes};
+ghost use Rattle.measures.specs.Latency.{read_latencies, AreLatenciesOf};
+ghost use Rattle.show.specs.Requests.{latencies_head, waits_head, replies_of, AreLatencyRows, AreLatencyLines, AreWaitLines, AreRequests};
+ghost use Rattle.show.specs.Rows.{latency_headings, latency_row, wait_headings, wait_row};
+ghost use Rattle.show.specs.Screen.{IsBelow};
+ghost use Rattle.measures.specs.Texts.{Puts};
 
 use crate::options::Options;
 use crate::rows::{COLUMNS, Row, time_by};
@@ -18,7 +20,7 @@ use measures::request_measures::waiting::{Class, Waits, channel_waits};
 use request_table::times::RequestTimes;
 use sim_base::message::{ChannelId, CoreId};
 use std::alloc::{AllocError, Global};
-use text_builder::TextBuilder;
+use measures::text_builder::TextBuilder;
 
 /// The headings of a core's read latency; the last four are shown with a clock only.
 static LATENCY_HEADINGS: [&str; 9] = [
@@ -38,17 +40,23 @@ static WAIT_HEADINGS: [&str; 9] = [
     "hits ns",
 ];
 
-// The first so many headings without a clock, and all of them with one.
-fn shown(
-    headings: &'static [&'static str; 9],
-    khz: Option<u64>,
-    without: usize,
-) -> &'static [&'static str]
-    requires { without ≤ 9 }
+// The headings of read latencies.
+fn latency_headings(khz: Option<u64>) -> &'static [&'static str]
+    ensures { map (λ heading. heading.now) result.now ≡ latency_headings khz }
 {
     match khz {
-        Some(_) => &headings[..],
-        None => &headings[..without],
+        Some(_) => &LATENCY_HEADINGS[..],
+        None => &LATENCY_HEADINGS[..5],
+    }
+}
+
+// The headings of waits.
+fn wait_headings(khz: Option<u64>) -> &'static [&'static str]
+    ensures { map (λ heading. heading.now) result.now ≡ wait_headings khz }
+{
+    match khz {
+        Some(_) => &WAIT_HEADINGS[..],
+        None => &WAIT_HEADINGS[..6],
     }
 }
 
@@ -89,7 +97,7 @@ fn latency_rows(
     requests: &[RequestTimes],
     khz: Option<u64>,
 ) -> Result<Vec<Row>, AllocError>
-    ensures { IfOk result (λ rows. length rows.items ≡ cores) }
+    ensures { IfOk result (λ rows. AreLatencyRows khz requests.now cores rows.items) }
 {
     let mut rows = Vec::new(alloc);
     for core in 0..cores {
@@ -136,7 +144,7 @@ fn wait_rows(
     requests: &[RequestTimes],
     khz: Option<u64>,
 ) -> Result<Vec<Row>, AllocError>
-    ensures { IfOk result (λ rows. length rows.items ≡ channels) }
+    ensures { IfOk result (λ rows. rows.items ≡ map (wait_row requests.now khz) (below channels)) }
 {
     let mut rows = Vec::new(alloc);
     for channel in 0..channels {
@@ -148,12 +156,16 @@ fn wait_rows(
 // The read latencies of each core, and last those of all.
 fn put_latencies(
     alloc: Global,
-    rows: Result<Vec<Row>, AllocError>,
+    rows: &[Row],
     all: Option<Latencies>,
     options: Options,
     out: &mut TextBuilder,
 )
-    ensures { Puts (Extends (latencies_head (replies_of all))) out.old out.new }
+    ensures { (requests : List RequestTimes) (cores : ℕ)
+        → AreLatencyRows options.khz requests cores rows.now
+        → AreLatenciesOf requests all
+        → Puts (IsBelow (latencies_head (replies_of all)) (AreLatencyLines requests options cores))
+        out.old out.new }
 {
     let replies = replies_of(all);
     write!(
@@ -162,10 +174,10 @@ fn put_latencies(
     );
     let table = TableLayout {
         label: "core",
-        headings: shown(&LATENCY_HEADINGS, options.khz, 5),
+        headings: latency_headings(options.khz),
         all: options.all,
     };
-    table.put(alloc, rows, out);
+    table.put_rows(alloc, rows, out);
     let label = String::from_str(alloc, "all");
     table.put_row(alloc, label, &latency_row(all, options.khz), out);
 }
@@ -178,13 +190,14 @@ fn put_reads(
     options: Options,
     out: &mut TextBuilder,
 )
-    ensures { Puts (Extends (latencies_head (length (read_latencies requests.now))))
-        out.old out.new }
+    ensures { Puts (IsBelow (latencies_head (length (read_latencies requests.now)))
+        (AreLatencyLines requests.now options cores)) out.old out.new }
 {
     let rows = latency_rows(alloc, cores, requests, options.khz);
-    match latency_percentiles(alloc, requests) {
-        Ok(all) => put_latencies(alloc, rows, all, options, out),
-        Err(AllocError) => out.refuse(),
+    let all = latency_percentiles(alloc, requests);
+    match (rows, all) {
+        (Ok(rows), Ok(all)) => put_latencies(alloc, &rows, all, options, out),
+        _ => out.refuse(),
     }
 }
 
@@ -196,7 +209,8 @@ fn put_waits(
     options: Options,
     out: &mut TextBuilder,
 )
-    ensures { Puts (Extends (waits_head (length requests.now))) out.old out.new }
+    ensures { Puts (IsBelow (waits_head (length requests.now))
+        (AreWaitLines requests.now options channels)) out.old out.new }
 {
     let count = requests.len();
     write!(
@@ -205,7 +219,7 @@ fn put_waits(
     );
     let table = TableLayout {
         label: "channel",
-        headings: shown(&WAIT_HEADINGS, options.khz, 6),
+        headings: wait_headings(options.khz),
         all: options.all,
     };
     table.put(
@@ -232,7 +246,8 @@ pub fn show_requests(
     requests: &[RequestTimes],
     options: Options,
 ) -> Result<String, AllocError>
-    ensures { IfOk result (λ text. AreRequests requests.now (string_bytes text)) }
+    ensures { IfOk result (λ text.
+        AreRequests requests.now options cores channels (string_bytes text)) }
 {
     let mut text = TextBuilder::new(alloc);
     put_reads(alloc, cores, requests, options, &mut text);

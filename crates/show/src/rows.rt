@@ -1,9 +1,11 @@
 //! The numbers of channels and of cores, a row for each.
 
-ghost use Rattle.std.specs.Prelude.{◌≡◌, ◌+◌, ◌*◌, ◌^◌, ◌<◌, map, IfOk};
-ghost use Rattle.show.specs.Rows.{mean, percent, drain_of, time, time_by, data_rate, rate_by, more_of_channel, channel_row, finish, finish_time, core_row};
+ghost use Rattle.std.specs.Prelude.{◌≡◌, ◌+◌, ◌*◌, ◌^◌, ◌<◌, map, length, slice_get, IfOk};
+ghost use Rattle.show.specs.Rows.{mean, percent, drain_of, time, time_by, data_rate, rate_by, more_of_channel, channel_row, finish, finish_time, core_row, machine_in};
+ghost use Rattle.show.specs.Summary.{halves_at, known_in, form_at, form_in, IsSummaryOf, AreSummaries, IsRowAcross, IsSummary};
 
 use measures::number::{Number, NumberForm};
+use measures::percentiles::Summary;
 use measures::rates;
 use measures::rates::Quotient;
 use sim_base::config::Config;
@@ -50,7 +52,7 @@ pub(crate) static CLOCKED_CHANNEL_HEADINGS: [&str; 10] = [
 ];
 
 /// The headings of a core's numbers; the last two are shown with a clock only.
-pub(crate) static CORE_HEADINGS: [&str; COLUMNS] = [
+pub(crate) static CORE_HEADINGS: [&str; 13] = [
     "retired",
     "per cycle",
     "finish",
@@ -151,7 +153,7 @@ fn more_of_channel(
     config: Option<&Config>,
     khz: Option<u64>,
 ) -> (Number, Number)
-    ensures { result ≡ more_of_channel cycles channel.now config.entry khz }
+    ensures { result ≡ more_of_channel cycles channel.now (machine_in config.entry) khz }
 {
     let rate = rate_by(khz, cycles, channel);
     match config {
@@ -167,7 +169,7 @@ fn channel_row(
     config: Option<&Config>,
     khz: Option<u64>,
 ) -> Row
-    ensures { result ≡ channel_row cycles config.entry khz channel.now }
+    ensures { result ≡ channel_row cycles (machine_in config.entry) khz channel.now }
 {
     let (tenth, eleventh) = more_of_channel(cycles, channel, config, khz);
     [
@@ -196,8 +198,8 @@ pub(crate) fn channel_rows(
     config: Option<&Config>,
     khz: Option<u64>,
 ) -> Result<Vec<Row>, AllocError>
-    ensures { IfOk result (λ rows. rows.items ≡ map (channel_row cycles config.entry khz)
-        channels.now) }
+    ensures { IfOk result (λ rows. rows.items ≡ map (channel_row cycles
+        (machine_in config.entry) khz) channels.now) }
 {
     let mut rows = Vec::new(alloc);
     for channel in channels {
@@ -268,45 +270,107 @@ pub(crate) fn core_rows(
     Ok(rows)
 }
 
+// A number of a row, in halves of a thousandth, if it is there.
+fn halves_at(row: &Row, column: usize) -> Option<u128>
+    ensures { result ≡ halves_at column row.now }
+{
+    row.get(column)?.halves
+}
+
+// The numbers of a column that are there.
+fn known_in(alloc: Global, rows: &[Row], column: usize) -> Result<Vec<u128>, AllocError>
+    ensures { IfOk result (λ known. known.items ≡ known_in column rows.now) }
+{
+    rows.iter()
+        .filter_map(move |row| halves_at(row, column))
+        .collect(alloc)
+}
+
+// The form of a number, where it is there, or else that of the ones before it.
+fn form_at(before: NumberForm, number: Option<Number>) -> NumberForm
+    ensures { result ≡ form_at before number }
+{
+    match number {
+        Some(number) if number.halves.is_some() => number.form,
+        _ => before,
+    }
+}
+
+// The form of a number of a row.
+fn form_after(before: NumberForm, row: &Row, column: usize) -> NumberForm
+    ensures { result ≡ form_at before (slice_get row.now column) }
+{
+    form_at(before, row.get(column).copied())
+}
+
+// The form of the numbers of a column that are there.
+fn form_in(rows: &[Row], column: usize) -> NumberForm
+    ensures { result ≡ form_in column rows.now }
+{
+    rows.iter().fold(NumberForm::Count, move |before, row| {
+        form_after(before, row, column)
+    })
+}
+
 // The least, the median and the greatest of the numbers in a column that are there. The median of an even count is the
 // lower of the two in the middle.
-fn summary_of(alloc: Global, rows: &[Row], column: usize) -> Result<[Number; 3], AllocError> {
-    let mut known = Vec::new(alloc);
-    let mut form = NumberForm::Count;
-    for row in rows {
-        if let Some(number) = row.get(column)
-            && let Some(halves) = number.halves
-        {
-            form = number.form;
-            known.push(halves)?;
-        }
-    }
-    known.sort_unstable();
-    let middle = known.len().saturating_sub(1) / 2;
+fn summary_of(alloc: Global, rows: &[Row], column: usize) -> Result<[Number; 3], AllocError>
+    ensures { IfOk result (λ three. IsSummaryOf rows.now column three) }
+{
+    let Summary {
+        least,
+        median,
+        greatest,
+    } = Summary::of(known_in(alloc, rows, column)?);
+    let form = form_in(rows, column);
     Ok([
         Number {
-            halves: known.first().copied(),
+            halves: least,
             form,
         },
         Number {
-            halves: known.get(middle).copied(),
+            halves: median,
             form,
         },
         Number {
-            halves: known.last().copied(),
+            halves: greatest,
             form,
         },
     ])
 }
 
-/// The least, the median and the greatest number of each column, as three rows.
-pub(crate) fn summary_rows(alloc: Global, rows: &[Row]) -> Result<[Row; 3], AllocError> {
-    let mut lines = [[Number::absent(); COLUMNS]; 3];
+// The least, the median and the greatest of each column.
+fn summary_columns(alloc: Global, rows: &[Row]) -> Result<Vec<[Number; 3]>, AllocError>
+    ensures { IfOk result (λ columns. AreSummaries rows.now COLUMNS columns.items) }
+{
+    let mut columns = Vec::with_capacity(alloc, COLUMNS)?;
     for column in 0..COLUMNS {
-        let [least, median, greatest] = summary_of(alloc, rows, column)?;
-        lines[0][column] = least;
-        lines[1][column] = median;
-        lines[2][column] = greatest;
+        columns.push(summary_of(alloc, rows, column)?)?;
     }
-    Ok(lines)
+    Ok(columns)
+}
+
+// One of the three numbers of each column.
+fn row_across(columns: &[[Number; 3]], place: usize) -> Row
+    requires place { place < 3 }
+    requires count { length columns.now ≡ 13 }
+    ensures { IsRowAcross columns.now place result }
+{
+    let mut row = [Number::absent(); COLUMNS];
+    for column in 0..COLUMNS {
+        row[column] = columns[column][place];
+    }
+    row
+}
+
+/// The least, the median and the greatest number of each column, as three rows.
+pub(crate) fn summary_rows(alloc: Global, rows: &[Row]) -> Result<[Row; 3], AllocError>
+    ensures { IfOk result (λ summary. IsSummary rows.now summary) }
+{
+    let columns = summary_columns(alloc, rows)?;
+    Ok([
+        row_across(&columns, 0),
+        row_across(&columns, 1),
+        row_across(&columns, 2),
+    ])
 }

@@ -1,9 +1,9 @@
 //! The screen: the cycles, a table of channels and a table of cores.
 
-ghost use Rattle.std.specs.Prelude.{IfOk, length, string_bytes};
-ghost use Rattle.show.specs.Rows.{time_text};
-ghost use Rattle.show.specs.Screen.{EndsWith, Extends, IsScreen, channels_head, cores_head};
-ghost use Rattle.text_builder.specs.Texts.{Puts, PutsWords};
+ghost use Rattle.std.specs.Prelude.{◌≡◌, IfOk, length, map, string_bytes};
+ghost use Rattle.show.specs.Rows.{channel_headings, core_headings, machine_in, time_text};
+ghost use Rattle.show.specs.Screen.{IsBelow, AreChannels, AreCores, IsScreen, channels_head, cores_head};
+ghost use Rattle.measures.specs.Texts.{Puts, PutsWords};
 
 use crate::options::Options;
 use crate::rows::{
@@ -13,10 +13,13 @@ use crate::table::TableLayout;
 use sim_base::config::Config;
 use statistics::stats::Stats;
 use std::alloc::{AllocError, Global};
-use text_builder::TextBuilder;
+use measures::text_builder::TextBuilder;
 
 // The headings of the channels.
-fn channel_headings(config: Option<&Config>, khz: Option<u64>) -> &'static [&'static str] {
+fn channel_headings(config: Option<&Config>, khz: Option<u64>) -> &'static [&'static str]
+    ensures { map (λ heading. heading.now) result.now
+        ≡ channel_headings (machine_in config.entry) khz }
+{
     match (config, khz) {
         (Some(_), Some(_)) => &CHANNEL_HEADINGS[..],
         (Some(_), None) => &CHANNEL_HEADINGS[..10],
@@ -25,7 +28,9 @@ fn channel_headings(config: Option<&Config>, khz: Option<u64>) -> &'static [&'st
     }
 }
 
-fn core_headings(khz: Option<u64>) -> &'static [&'static str] {
+fn core_headings(khz: Option<u64>) -> &'static [&'static str]
+    ensures { map (λ heading. heading.now) result.now ≡ core_headings khz }
+{
     match khz {
         Some(_) => &CORE_HEADINGS[..],
         None => &CORE_HEADINGS[..11],
@@ -40,8 +45,8 @@ fn put_channels(
     config: Option<&Config>,
     out: &mut TextBuilder,
 )
-    ensures { Puts (Extends (channels_head stats.now.cycles (length stats.now.channels)))
-        out.old out.new }
+    ensures { Puts (IsBelow (channels_head stats.now.cycles (length stats.now.channels))
+        (AreChannels stats.now options (machine_in config.entry))) out.old out.new }
 {
     let (cycles, channels) = (stats.cycles, stats.channels.len());
     write!(
@@ -59,7 +64,8 @@ fn put_channels(
 
 // The cores of a run.
 fn put_cores(alloc: Global, stats: &Stats, options: Options, out: &mut TextBuilder)
-    ensures { Puts (Extends (cores_head (length stats.now.cores))) out.old out.new }
+    ensures { Puts (IsBelow (cores_head (length stats.now.cores)) (AreCores stats.now options))
+        out.old out.new }
 {
     let cores = stats.cores.len();
     write!(
@@ -94,8 +100,7 @@ pub(crate) fn put_screen(
     config: Option<&Config>,
     out: &mut TextBuilder,
 )
-    ensures screen { Puts (IsScreen stats.now) out.old out.new }
-    ensures time { Puts (EndsWith (time_text options.khz stats.now.cycles)) out.old out.new }
+    ensures { Puts (IsScreen stats.now options (machine_in config.entry)) out.old out.new }
 {
     put_channels(alloc, stats, options, config, out);
     put_cores(alloc, stats, options, out);
@@ -126,9 +131,8 @@ pub fn show_text(
     options: Options,
     config: Option<&Config>,
 ) -> Result<String, AllocError>
-    ensures screen { IfOk result (λ text. IsScreen stats.now (string_bytes text)) }
-    ensures time { IfOk result (λ text.
-        EndsWith (time_text options.khz stats.now.cycles) (string_bytes text)) }
+    ensures screen { IfOk result (λ text.
+        IsScreen stats.now options (machine_in config.entry) (string_bytes text)) }
 {
     let mut text = TextBuilder::new(alloc);
     put_screen(alloc, stats, options, config, &mut text);

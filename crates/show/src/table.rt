@@ -2,14 +2,13 @@
 
 ghost use Rattle.std.specs.Prelude.{◌≡◌, List, ℕ, IfOk, string_bytes};
 ghost use Rattle.measures.specs.declared.number.Number.{Number};
-ghost use Rattle.text_builder.specs.Texts.{Puts, PutsWords};
-ghost use Rattle.show.specs.Strings.{IsText};
-ghost use Rattle.show.specs.Tables.{cell_text, width_of, column_text, headings_text, number_at, row_text, summary_label, label_text, lines_text, IsTable};
+ghost use Rattle.measures.specs.Texts.{IsText, Puts, PutsWords};
+ghost use Rattle.show.specs.Tables.{width_of, column_text, headings_text, number_at, row_text, summary_label, label_text, lines_text, headings_of, IsTableOf};
 
 use crate::rows::{Row, summary_rows};
 use measures::number::Number;
 use std::alloc::{AllocError, Global};
-use text_builder::TextBuilder;
+use measures::text_builder::TextBuilder;
 
 /// A table with more lines than this is shown in three, unless all are asked for.
 const MOST_LINES: usize = 16;
@@ -49,20 +48,12 @@ fn label_of(alloc: Global, row: usize, summarized: bool) -> Result<String, Alloc
     }
 }
 
-// Appends a cell, padded on the left.
-fn put_cell(text: &str, width: usize, out: &mut TextBuilder)
-    ensures { PutsWords (cell_text width text.now) out.old out.new }
-{
-    out.push(" ".repeat(out.alloc(), width.saturating_sub(text.len())));
-    out.push_str(text);
-}
-
 // Appends a cell of a column of numbers.
 fn put_column(heading: &str, text: &str, out: &mut TextBuilder)
     ensures { PutsWords (column_text heading.now text.now) out.old out.new }
 {
     out.push_str("  ");
-    put_cell(text, width_of(heading), out);
+    out.push_flush_right(width_of(heading), text);
 }
 
 // Appends a cell of a column of numbers, unless memory was refused for its text.
@@ -88,10 +79,10 @@ pub(crate) struct TableLayout<'a> {
 impl TableLayout<'_> {
     /// Appends the line of headings.
     pub(crate) fn put_headings(&self, out: &mut TextBuilder)
-        ensures { PutsWords (headings_text self.now.label.now self.now.headings.now)
+        ensures { PutsWords (headings_text self.now.label.now (headings_of self.now))
             out.old out.new }
     {
-        put_cell(self.label, LABEL_WIDTH, out);
+        out.push_flush_right(LABEL_WIDTH, self.label);
         for heading in self.headings {
             put_column(heading, heading, out);
         }
@@ -100,7 +91,7 @@ impl TableLayout<'_> {
 
     // Appends the number below a heading, where there are both.
     fn put_number(&self, alloc: Global, row: &[Number], place: usize, out: &mut TextBuilder)
-        ensures { PutsWords (number_at self.now.headings.now row.now place) out.old out.new }
+        ensures { PutsWords (number_at (headings_of self.now) row.now place) out.old out.new }
     {
         match (self.headings.get(place), row.get(place)) {
             (Some(heading), Some(number)) => put_made(heading, number.text(alloc), out),
@@ -110,9 +101,9 @@ impl TableLayout<'_> {
 
     // Appends the line of a row, behind a label.
     fn put_line(&self, alloc: Global, label: &str, row: &[Number], out: &mut TextBuilder)
-        ensures { PutsWords (row_text self.now.headings.now label.now row.now) out.old out.new }
+        ensures { PutsWords (row_text (headings_of self.now) label.now row.now) out.old out.new }
     {
-        put_cell(label, LABEL_WIDTH, out);
+        out.push_flush_right(LABEL_WIDTH, label);
         for place in 0..self.headings.len() {
             self.put_number(alloc, row, place, out);
         }
@@ -128,7 +119,7 @@ impl TableLayout<'_> {
         out: &mut TextBuilder,
     )
         ensures { (words : List ℕ) → IfOk label (IsText words)
-            → PutsWords (row_text self.now.headings.now words row.now) out.old out.new }
+            → PutsWords (row_text (headings_of self.now) words row.now) out.old out.new }
     {
         match label {
             Ok(label) => self.put_line(alloc, label.as_str(), row, out),
@@ -137,7 +128,8 @@ impl TableLayout<'_> {
     }
 
     fn put_lines(&self, alloc: Global, rows: &[Row], summarized: bool, out: &mut TextBuilder)
-        ensures { PutsWords (lines_text self.now summarized rows.now) out.old out.new }
+        ensures { PutsWords (lines_text self.now.label.now (headings_of self.now) summarized rows.now)
+            out.old out.new }
     {
         self.put_headings(out);
         for place in 0..rows.len() {
@@ -146,9 +138,9 @@ impl TableLayout<'_> {
         }
     }
 
-    // Appends the table of rows, or of their summary.
-    fn put_rows(&self, alloc: Global, rows: &[Row], out: &mut TextBuilder)
-        ensures { Puts (IsTable self.now rows.now) out.old out.new }
+    /// Appends the table of rows, or of their summary: the headings, and a line for each row.
+    pub(crate) fn put_rows(&self, alloc: Global, rows: &[Row], out: &mut TextBuilder)
+        ensures { Puts (IsTableOf self.now rows.now) out.old out.new }
     {
         if rows.len() <= MOST_LINES || self.all {
             return self.put_lines(alloc, rows, false, out);
@@ -168,7 +160,7 @@ impl TableLayout<'_> {
         out: &mut TextBuilder,
     )
         ensures { (found : List (List Number)) → IfOk rows (λ rows. rows.items ≡ found)
-            → Puts (IsTable self.now found) out.old out.new }
+            → Puts (IsTableOf self.now found) out.old out.new }
     {
         match rows {
             Ok(rows) => self.put_rows(alloc, &rows, out),

@@ -5,10 +5,10 @@ use crate::explain_text::lines::{Position, line_at};
 use crate::explain_text::links::put_links;
 use crate::explain_text::relations::put_relation;
 use crate::explain_text::section::Section;
+use measures::text_builder::TextBuilder;
 use sim_base::fault::Fault;
 use sim_base::key::{DOCUMENT_KEYS, Key};
 use std::alloc::{AllocError, Global};
-use text_builder::TextBuilder;
 use toml::Table;
 
 // What is wrong at a place of a document, and the line of that place.

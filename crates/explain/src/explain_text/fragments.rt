@@ -1,12 +1,12 @@
 //! Texts, put together of fragments.
 
 ghost use Rattle.explain.specs.Fragments.{IsFragmentText};
-ghost use Rattle.text_builder.specs.Texts.{Grows};
+ghost use Rattle.measures.specs.Texts.{Grows};
 
+use measures::text_builder::TextBuilder;
+use measures::text_builder::forms::Append;
 use sim_base::key::Key;
 use std::alloc::AllocError;
-use text_builder::TextBuilder;
-use text_builder::forms::Append;
 use toml::Value;
 
 /// How many characters of a foreign text are shown.

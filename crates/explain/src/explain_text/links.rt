@@ -3,8 +3,8 @@
 use crate::explain_text::fragments::Fragment::{Number, Words};
 use crate::explain_text::keys::{ITEM_KEYS, is_in_range, range_of};
 use crate::explain_text::section::Section;
+use measures::text_builder::TextBuilder;
 use sim_base::key::Key;
-use text_builder::TextBuilder;
 use toml::value::Array;
 use toml::{Table, Value};
 

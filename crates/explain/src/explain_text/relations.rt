@@ -3,10 +3,10 @@
 use crate::explain_text::fragments::Fragment::{Entry, Number, Words};
 use crate::explain_text::keys::key_named;
 use crate::explain_text::links::{id_of, integer_at, items_of};
+use measures::text_builder::TextBuilder;
+use measures::text_builder::forms::Append;
 use sim_base::key::{DOCUMENT_KEYS, Key};
 use std::alloc::{AllocError, Global};
-use text_builder::TextBuilder;
-use text_builder::forms::Append;
 use toml::Table;
 use toml::value::Array;
 

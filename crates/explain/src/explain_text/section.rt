@@ -3,9 +3,9 @@
 use crate::explain_text::fragments::Fragment::{Entry, Foreign, Place, Words};
 use crate::explain_text::keys::{is_known, range_of, type_of};
 use crate::explain_text::nearest::nearest;
+use measures::text_builder::TextBuilder;
 use sim_base::key::Key;
 use std::alloc::{AllocError, Global};
-use text_builder::TextBuilder;
 use toml::{Table, Value};
 
 /// The table of a document, or of an item of `link`.

@@ -2,8 +2,8 @@
 
 use crate::explain_text::fragments::Fragment::{Foreign, Number};
 use csv::{ByteRecord, Reader, ReaderBuilder};
+use measures::text_builder::TextBuilder;
 use std::alloc::{AllocError, Global};
-use text_builder::TextBuilder;
 
 /// The tables that a row may stand in.
 #[derive(Clone, Copy)]

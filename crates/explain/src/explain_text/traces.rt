@@ -3,9 +3,9 @@
 use crate::explain_text::fragments::Fragment::{Foreign, Number, Words};
 use crate::explain_text::lines::line_at;
 use cpu_trace::number::read_number;
+use measures::text_builder::TextBuilder;
 use sim_base::fault::LineCause;
 use std::alloc::{AllocError, Global};
-use text_builder::TextBuilder;
 
 /// The first bytes of a file that gzip wrote.
 static GZIP: [u8; 2] = [0x1F, 0x8B];

@@ -1,11 +1,11 @@
 //! The ticks of axes, as lines across a picture with a label beside it. All labels of an axis are in one unit.
 
 ghost use Rattle.std.specs.Prelude.{◌<◌};
-ghost use Rattle.text_builder.specs.Texts.{Grows};
+ghost use Rattle.measures.specs.Texts.{Grows};
 
 use crate::drawing::markup::Piece;
 use crate::drawing::scales::{share_of, tick_step};
-use text_builder::TextBuilder;
+use measures::text_builder::TextBuilder;
 
 /// What an axis of values counts.
 #[derive(Clone, Copy)]

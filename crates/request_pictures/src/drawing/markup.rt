@@ -1,11 +1,12 @@
 //! Text of a page, put together from pieces.
 
-ghost use Rattle.text_builder.specs.Texts.{Puts, PutsWords};
+ghost use Rattle.measures.specs.Number.{hundredths_text};
+ghost use Rattle.measures.specs.Texts.{Puts, PutsWords};
 ghost use Rattle.request_pictures.specs.Legends.{entry_text, legend_text};
-ghost use Rattle.request_pictures.specs.Pieces.{IsGrouped, IsPieceText, group_text, hundredths};
+ghost use Rattle.request_pictures.specs.Pieces.{IsGrouped, IsPieceText, group_text};
 
-use text_builder::TextBuilder;
-use text_builder::forms::Append;
+use measures::text_builder::TextBuilder;
+use measures::text_builder::forms::Append;
 
 /// A piece of text.
 #[derive(Clone, Copy)]
@@ -42,10 +43,9 @@ fn put_grouped(number: u64, out: &mut TextBuilder)
 
 // A number of hundredths.
 fn put_hundredths(number: u64, out: &mut TextBuilder)
-    ensures { PutsWords (hundredths number) out.old out.new }
+    ensures { PutsWords (hundredths_text number) out.old out.new }
 {
-    let (tenths, last) = (number / 10, number % 10);
-    write!(out, "{}.{}{last}", tenths / 10, tenths % 10);
+    write!(out, "{}.{}{}", number / 100, number / 10 % 10, number % 10);
 }
 
 impl Append for Piece {

@@ -2,15 +2,15 @@
 
 ghost use Rattle.std.specs.Prelude.{◌≡◌, true, false, [], length, string_bytes};
 ghost use Rattle.std.specs.Result.{OkIff};
-ghost use Rattle.text_builder.specs.Filled.{IsFilled};
-ghost use Rattle.text_builder.specs.Texts.{GoesOnWithRoom, Grows, Puts, PutsWords};
+ghost use Rattle.measures.specs.Filled.{IsFilled};
+ghost use Rattle.measures.specs.Texts.{GoesOnWithRoom, Grows, Puts, PutsWords};
 ghost use Rattle.request_pictures.specs.Legends.{legend_text};
 ghost use Rattle.request_pictures.specs.Pieces.{IsPieceText};
 
 use crate::drawing::axes::{Quantity, put_cycle_ticks, put_value_ticks};
 use crate::drawing::markup::{LegendEntry, Piece, put_legend};
+use measures::text_builder::TextBuilder;
 use std::alloc::{AllocError, Global};
-use text_builder::TextBuilder;
 
 /// The text of a page in the making. It keeps whether memory was refused for a part of it: then it comes to no end.
 #[derive(Drop)]

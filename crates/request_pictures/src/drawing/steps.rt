@@ -1,6 +1,6 @@
 //! Plots over a run in steps of equal length, the last of which may be shorter.
 
-ghost use Rattle.text_builder.specs.Texts.{Grows};
+ghost use Rattle.measures.specs.Texts.{Grows};
 
 use crate::drawing::markup::Piece;
 use crate::drawing::page_text::Markup;

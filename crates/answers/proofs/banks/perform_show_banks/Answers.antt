@@ -13,6 +13,7 @@ returns-clause-shown g c = on_ok_weaker c.print_answer.result (λ given tells.
     let at = made.1 tells in
     record {
       stats = c.in_ok-found.found.run.stats;
+      machine = c.in_ok-found.found.run.config;
       commands = c.in_ok-found.found.commands;
       requests = at.requests;
       text = _;

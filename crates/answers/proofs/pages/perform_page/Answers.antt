@@ -18,6 +18,7 @@ returns-clause-done g c = IfOk-weaker c.put_page.result _ _ (λ warning given te
     let at = ok_so c.page_in-page.result _ c.page_in-page.ensures.requests given tells in
     record {
       stats = c.in_ok-found.found.run.stats;
+      machine = c.in_ok-found.found.run.config;
       commands = c.in_ok-found.found.commands;
       requests = at.requests;
       text = made.0.text.items;

@@ -13,6 +13,7 @@ returns-clause-shown g c = on_ok_weaker c.print_answer.result (λ given tells.
     let at = made.1 tells in
     record {
       stats = c.in_ok-run.run'.stats;
+      machine = c.in_ok-run.run'.config;
       requests = at.requests;
       text = _;
       stats_are = c.in_ok-run.ensures.stats tells;

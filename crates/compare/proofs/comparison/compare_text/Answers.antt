@@ -1,4 +1,4 @@
-use Rattle.text_builder.proofs.Texts.{finished}
+use Rattle.measures.proofs.Texts.{finished}
 use Rattle.compare.proofs.comparison.compare_text.Goals as goal
 
 pub returns : goal.returns

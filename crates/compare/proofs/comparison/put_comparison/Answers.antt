@@ -2,7 +2,7 @@
 use Rattle.std.proofs.Common.{ap, sym}
 use Rattle.compare.specs.Comparison.{comparison_text, runs_text}
 use Rattle.compare.specs.Strings.{texts}
-use Rattle.text_builder.proofs.Texts.{words_as, words_both}
+use Rattle.measures.proofs.Texts.{words_as, words_both}
 use Rattle.compare.proofs.comparison.put_comparison.Goals as goal
 
 pub returns-in-Some : goal.returns-in-Some

@@ -2,7 +2,7 @@
 use Rattle.std.proofs.Common.{append_assoc}
 use Rattle.std.proofs.lemmas.Result.{IfOk-weaker}
 use Rattle.compare.specs.Comparison.{heading_text}
-use Rattle.text_builder.proofs.Texts.{words_both}
+use Rattle.measures.proofs.Texts.{words_both}
 use Rattle.compare.proofs.comparison.put_heading.Goals as goal
 
 pub returns : goal.returns

@@ -4,8 +4,8 @@ use Rattle.std.specs.List.{flat_map}
 use Rattle.sim_base.specs.History.{below}
 use Rattle.compare.specs.Texts.{cell_text}
 use Rattle.compare.specs.Comparison.{heading_text, headings_text}
-use Rattle.text_builder.proofs.Texts.{words_as, words_both}
-use Rattle.compare.proofs.Parts.{part_below_more}
+use Rattle.measures.proofs.Texts.{words_as, words_both}
+use Rattle.measures.proofs.Parts.{part_below_more}
 use Rattle.compare.proofs.comparison.put_headings.Goals as goal
 
 pub loop-place-preserved : goal.loop-place-preserved

@@ -4,7 +4,7 @@ use Rattle.std.specs.List.{flat_map}
 use Rattle.sim_base.specs.History.{below}
 use Rattle.compare.specs.Comparison.{heading_text}
 use Rattle.compare.specs.Texts.{cell_text}
-use Rattle.text_builder.specs.Texts.{PutsWords}
+use Rattle.measures.specs.Texts.{PutsWords}
 use Rattle.compare.proofs.comparison.put_headings.Given as goal
 
 abbrev pub invariant-loop-place : goal.invariant-loop-place

@@ -5,7 +5,7 @@ use Rattle.std.specs.List.{flat_map}
 use Rattle.sim_base.specs.History.{below}
 use Rattle.compare.specs.Comparison.{name_text, names_text}
 use Rattle.compare.proofs.More.{names_more}
-use Rattle.text_builder.proofs.Texts.{words_as, words_both}
+use Rattle.measures.proofs.Texts.{words_as, words_both}
 use Rattle.compare.proofs.comparison.put_names.Goals as goal
 
 pub loop-place-preserved : goal.loop-place-preserved

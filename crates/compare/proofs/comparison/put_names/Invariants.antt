@@ -3,7 +3,7 @@ use Rattle.std.proofs.Common.{◌+◌, [], get_or, map}
 use Rattle.std.specs.List.{flat_map}
 use Rattle.sim_base.specs.History.{below}
 use Rattle.compare.specs.Comparison.{name_text}
-use Rattle.text_builder.specs.Texts.{PutsWords}
+use Rattle.measures.specs.Texts.{PutsWords}
 use Rattle.compare.proofs.comparison.put_names.Given as goal
 
 abbrev pub invariant-loop-place : goal.invariant-loop-place

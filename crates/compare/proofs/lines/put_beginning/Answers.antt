@@ -2,7 +2,7 @@
 use Rattle.std.proofs.Common.{ap, ap₂}
 use Rattle.compare.specs.Lines.{beginning_text}
 use Rattle.compare.specs.Texts.{cell_text, label_text, value_text}
-use Rattle.text_builder.proofs.Texts.{words_as, words_both}
+use Rattle.measures.proofs.Texts.{words_as, words_both}
 use Rattle.compare.proofs.lines.put_beginning.Goals as goal
 
 pub returns : goal.returns

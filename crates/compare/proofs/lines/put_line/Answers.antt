@@ -1,6 +1,6 @@
 use Rattle.std.specs.Prelude.{codes}
 use Rattle.compare.specs.Lines.{beginning_text, cells_text, line_text}
-use Rattle.compare.proofs.Parts.{parts_closed}
+use Rattle.measures.proofs.Parts.{parts_closed}
 use Rattle.compare.proofs.lines.put_line.Goals as goal
 
 pub returns : goal.returns

@@ -1,6 +1,6 @@
 -- The line of p99 stands between the others.
 use Rattle.compare.specs.Lines.{lines_text}
-use Rattle.text_builder.proofs.Texts.{words_both}
+use Rattle.measures.proofs.Texts.{words_both}
 use Rattle.compare.proofs.lines.put_lines.Goals as goal
 
 pub returns : goal.returns

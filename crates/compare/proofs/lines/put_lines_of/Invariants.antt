@@ -2,7 +2,7 @@
 use Rattle.std.proofs.Common.{take}
 use Rattle.std.specs.List.{flat_map}
 use Rattle.compare.specs.Lines.{line_text}
-use Rattle.text_builder.specs.Texts.{PutsWords}
+use Rattle.measures.specs.Texts.{PutsWords}
 use Rattle.compare.proofs.lines.put_lines_of.Given as goal
 
 abbrev pub invariant-loop-measure : goal.invariant-loop-measure

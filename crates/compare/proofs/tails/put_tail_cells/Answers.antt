@@ -3,7 +3,7 @@ use Rattle.std.proofs.Common.{ap, ap₂, ◌∙◌}
 use Rattle.compare.specs.Changes.{change_of}
 use Rattle.compare.specs.Tails.{tail_cells_text}
 use Rattle.compare.specs.Texts.{cell_text, change_text}
-use Rattle.text_builder.proofs.Texts.{words_as, words_both}
+use Rattle.measures.proofs.Texts.{words_as, words_both}
 use Rattle.compare.proofs.tails.put_tail_cells.Goals as goal
 
 pub returns : goal.returns

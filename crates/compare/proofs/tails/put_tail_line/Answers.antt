@@ -3,8 +3,8 @@ use Rattle.std.proofs.lemmas.List.{append-nil}
 use Rattle.std.specs.Prelude.{codes}
 use Rattle.compare.specs.Tails.{tail_text, tail_cells_text, tail_line_text}
 use Rattle.compare.specs.Texts.{label_text}
-use Rattle.text_builder.proofs.Texts.{words_as, words_both}
-use Rattle.compare.proofs.Parts.{parts_closed}
+use Rattle.measures.proofs.Texts.{words_as, words_both}
+use Rattle.measures.proofs.Parts.{parts_closed}
 use Rattle.compare.proofs.tails.put_tail_line.Goals as goal
 
 pub loop-tail-init : goal.loop-tail-init

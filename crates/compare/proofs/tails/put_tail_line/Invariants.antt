@@ -4,7 +4,7 @@ use Rattle.std.specs.Prelude.{codes}
 use Rattle.std.specs.List.{flat_map}
 use Rattle.compare.specs.Tails.{tail_text, tail_cells_text}
 use Rattle.compare.specs.Texts.{label_text}
-use Rattle.text_builder.specs.Texts.{PutsWords}
+use Rattle.measures.specs.Texts.{PutsWords}
 use Rattle.compare.proofs.tails.put_tail_line.Given as goal
 
 abbrev pub invariant-loop-tail : goal.invariant-loop-tail

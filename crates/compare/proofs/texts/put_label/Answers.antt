@@ -3,7 +3,7 @@ use Rattle.std.proofs.Common.{ap, sym, ◌++◌}
 use Rattle.std.specs.Prelude.{codes}
 use Rattle.std.specs.List.{repeat}
 use Rattle.compare.specs.Texts.{label_text}
-use Rattle.text_builder.proofs.Texts.{words_as, words_both}
+use Rattle.measures.proofs.Texts.{words_as, words_both}
 use Rattle.compare.proofs.texts.put_label.Goals as goal
 
 pub returns-in-Screen : goal.returns-in-Screen

@@ -1,6 +1,7 @@
 use Rattle.std.proofs.Common.{◌≡◌, ◌++◌, append_assoc, rules}
 use Rattle.std.proofs.lemmas.Result.{IfOk-weaker}
-use Rattle.compare.specs.Texts.{signed_text, tenths_text}
+use Rattle.measures.specs.Number.{tenths_text}
+use Rattle.compare.specs.Texts.{signed_text}
 use Rattle.compare.proofs.texts.signed_text.Goals as goal
 
 pub returns : goal.returns

@@ -6,7 +6,7 @@ pub returns-clause-answered : goal.returns-clause-answered
 returns-clause-answered g c =
     rw c.quietly_done.ensures (quiet_ok _ c.perform_show.result (λ h tells. record {
       status_is = refl;
-      shown = h tells;
+      shown = rw c.options_of.ensures at (h tells);
       untouched = record { same = c.perform_show.ensures.same tells; unopened = c.perform_show.ensures.unopened tells };
     }) c.perform_show.ensures.shown)
 

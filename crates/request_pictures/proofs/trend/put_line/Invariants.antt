@@ -1,5 +1,5 @@
 -- Any text so far.
-use Rattle.text_builder.specs.Texts.{Grows}
+use Rattle.measures.specs.Texts.{Grows}
 use Rattle.request_pictures.proofs.trend.put_line.Given as goal
 
 abbrev pub invariant-loop-place : goal.invariant-loop-place

@@ -1,7 +1,7 @@
 -- The banks of the channels so far.
-use Rattle.show.specs.Banks.{AreBanks}
-use Rattle.text_builder.specs.Texts.{Puts}
+use Rattle.show.specs.Banks.{all_banks_text}
+use Rattle.measures.specs.Texts.{PutsWords}
 use Rattle.show.proofs.banks.put_channels.Given as goal
 
 abbrev pub invariant-loop-channel : goal.invariant-loop-channel
-invariant-loop-channel l = Puts (AreBanks l.commands l.channel) l.fn.out l.out
+invariant-loop-channel l = PutsWords (all_banks_text l.commands l.channel) l.fn.out l.out

@@ -1,7 +1,7 @@
 -- The words before the number, the number, and those behind it.
 use Rattle.std.proofs.Common.{◌≡◌, ◌++◌, ap, codes, rules}
 use Rattle.measures.specs.Number.{number_text}
-use Rattle.text_builder.proofs.Texts.{words_as, words_both}
+use Rattle.measures.proofs.Texts.{words_as, words_both}
 use Rattle.show.specs.Rows.{time}
 use Rattle.show.proofs.screen.put_time.Goals as goal
 

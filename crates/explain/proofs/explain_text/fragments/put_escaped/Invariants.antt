@@ -1,5 +1,5 @@
 -- Any text so far.
-use Rattle.text_builder.specs.Texts.{Grows}
+use Rattle.measures.specs.Texts.{Grows}
 use Rattle.explain.proofs.explain_text.fragments.put_escaped.Given as goal
 
 abbrev pub invariant-loop-shown : goal.invariant-loop-shown

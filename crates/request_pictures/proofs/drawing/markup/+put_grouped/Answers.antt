@@ -1,6 +1,6 @@
 -- The groups before the last one, and that one.
 use Rattle.std.proofs.Common.{◌++◌, subst, sym}
-use Rattle.text_builder.proofs.Texts.{puts_as, puts_both}
+use Rattle.measures.proofs.Texts.{puts_as, puts_both}
 use Rattle.request_pictures.specs.Pieces.{IsGrouped, few, more}
 use Rattle.request_pictures.proofs.drawing.markup.+put_grouped.Goals as goal
 

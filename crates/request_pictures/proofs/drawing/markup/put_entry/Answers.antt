@@ -1,5 +1,5 @@
 -- The five parts of an entry.
-use Rattle.text_builder.proofs.Texts.{words_both}
+use Rattle.measures.proofs.Texts.{words_both}
 use Rattle.request_pictures.specs.Legends.{entry_text}
 use Rattle.request_pictures.proofs.drawing.markup.put_entry.Goals as goal
 

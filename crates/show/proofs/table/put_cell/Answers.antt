@@ -1,9 +1,0 @@
--- The room before the text, and the text.
-use Rattle.std.proofs.Common.{ap, ◌++◌}
-use Rattle.std.specs.Prelude.{codes}
-use Rattle.std.specs.List.{repeat}
-use Rattle.text_builder.proofs.Texts.{words_as, words_both}
-use Rattle.show.proofs.table.put_cell.Goals as goal
-
-pub returns : goal.returns
-returns c = words_as (ap (λ n. repeat n (codes " ") ++ c.args.text.now) c.saturating_sub.ensures) (words_both (c.push.ensures.words _ c.repeat.ensures.bytes) c.push_str.ensures.words)
