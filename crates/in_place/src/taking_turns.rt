@@ -14,7 +14,7 @@ use units::machine::Machine;
 use units::lane_scan::{first_below, least};
 use units::timed_unit::{Span, Traffic};
 use units::waking::{UnitRange, go_on};
-use units::words::lower_all;
+use units::words::take_up;
 
 /// The units of a machine: its cores, and its channels, whose places come after theirs.
 #[derive(Drop)]
@@ -53,13 +53,13 @@ fn channels_turn(
     };
     traffic.mail.sent.clear();
     go_on(machine, traffic, &mut kinds.channels, &span)?;
-    lower_all(
+    take_up(
         &machine.config,
+        &mut traffic.links,
         kinds.cores.first,
         &mut kinds.cores.words,
-        &traffic.mail.sent,
-    );
-    traffic.links.accept(&mut traffic.mail.sent)?;
+        &mut traffic.mail.sent,
+    )?;
     Ok(())
 }
 
@@ -86,13 +86,13 @@ fn cores_turn(
     };
     traffic.mail.sent.clear();
     go_on(machine, traffic, &mut kinds.cores, &span)?;
-    lower_all(
+    take_up(
         &machine.config,
+        &mut traffic.links,
         kinds.channels.first,
         &mut kinds.channels.words,
-        &traffic.mail.sent,
-    );
-    traffic.links.accept(&mut traffic.mail.sent)?;
+        &mut traffic.mail.sent,
+    )?;
     Ok(())
 }
 

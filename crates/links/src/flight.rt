@@ -16,7 +16,7 @@ use std::marker::Model;
 
 /// Up to this many messages are put into their rings one after the other; more are worth a sort, and a count of those
 /// that go to each ring.
-const FEW_MESSAGES: usize = 64;
+pub const FEW_MESSAGES: usize = 64;
 
 /// The numbers of the rings are kept for at most this many links.
 const MOST_NUMBERS: u64 = 16_384;
@@ -267,18 +267,20 @@ fn make_room_for(
     Ok(())
 }
 
-/// Puts a message into the ring that it goes to, for which room is made. Where memory is refused, the same messages
-/// stand in the rings as before.
+/// Puts a message into the ring that it goes to, for which room is made, and gives the number of that ring. Where
+/// memory is refused, the same messages stand in the rings as before.
+#[inline(always)]
 fn put_one(
     alloc: Global,
     rings: &mut Vec<Ring>,
     numbers: &[usize],
     channels: u16,
     message: &Message,
-) -> Result<(), AllocError>
+) -> Result<usize, AllocError>
     requires channels { 0 < channels }
     requires numbers { AreNumbers channels numbers.now }
     requires rings { AreRings channels 0 (contents rings.old.items) }
+    ensures number { IfOk result (λ number. number ≡ ring_of channels message.now.link) }
     ensures rings { AreRings channels 0 (contents rings.new.items) }
     ensures ok { OnOk result (HaveGained rings.old.items rings.new.items (message.now ∷ [])) }
     ensures err { OnErr result (HoldSame rings.old.items rings.new.items) }
@@ -286,7 +288,7 @@ fn put_one(
     let number = number_of(numbers, channels, message.link);
     make_room_at(alloc, rings, number, 1)?;
     put_by_age(&mut rings[number], message);
-    Ok(())
+    Ok(number)
 }
 
 /// Puts messages into the rings that they go to, which have room for them.
@@ -343,9 +345,6 @@ fn take_up(
     ensures ok { OnOk result (HaveGained rings.old.items rings.new.items messages.old) }
     ensures err { OnErr result (HoldSame rings.old.items rings.new.items) }
 {
-    if let [message] = messages {
-        return put_one(alloc, rings, numbers, channels, message);
-    }
     sort_if_many(alloc, messages)?;
     make_room_for(alloc, rings, numbers, channels, messages)?;
     put_all(rings, numbers, channels, messages);
@@ -509,6 +508,23 @@ impl Links {
             &self.numbers,
             self.channels,
             messages,
+        )
+    }
+
+    /// Takes a message up, and gives the number of its ring, which tells the unit that it goes to. Where memory is
+    /// refused, the links stay as they were.
+    #[inline(always)]
+    pub fn put(&mut self, message: &Message) -> Result<usize, AllocError>
+        ensures number { IfOk result (λ ring. ring ≡ ring_of self.old.channels message.now.link) }
+        ensures ok { OnOk result (self.new ≡ with_sent self.old (message.now ∷ [])) }
+        ensures err { OnErr result (self.new ≡ self.old) }
+    {
+        put_one(
+            self.alloc,
+            &mut self.rings,
+            &self.numbers,
+            self.channels,
+            message,
         )
     }
 

@@ -10,8 +10,9 @@ use Rattle.std.proofs.Math.Seq.{get_or-append_seam}
 use Rattle.sim_base.specs.declared.message.Message.{Message}
 use Rattle.sim_base.specs.History.{insert_by_age}
 use Rattle.sim_base.proofs.Added.{length-push_suc}
+use Rattle.links.specs.InFlight.{InFlight}
 use Rattle.shards.specs.Lists.{lists_of}
-use Rattle.shards.specs.Shards.{IsShard, IsUpTo}
+use Rattle.shards.specs.Shards.{IsOfMachine, IsShard, IsUpTo}
 use Rattle.shards.specs.Jobs.{JobView, IsJob, IsOwnJob, job_view}
 use Rattle.shards.specs.Phases.{PhaseView, MayGo, MayStop, job_of, name_of}
 use Rattle.units.specs.declared.machine.Machine.{Machine}
@@ -78,10 +79,15 @@ seam-stop machine bounds now shards ys rest x inbound left d h e l =
     subst (λ (b : Box Shard Global). IsUpTo machine bounds (length ys) now b.value (get_or left (length ys) d).items) (seam-at shards ys rest x e)
     (subst (λ (v : Vec (Vec Message Global) Global). IsUpTo machine bounds (length ys) now (get_or shards (length ys) x).value v.items) (sym (l.same (length ys) d (omega arith))) (h.each (length ys) x d less))
 
--- the words of a shard are of units that the machine has
-pub stop-within : (machine : Machine) (bounds : List ℕ) (index now : ℕ) (shard : Shard) (inbound : List (Vec Message Global)) → IsUpTo machine bounds index now shard inbound
-    → shard.range.first + length shard.range.words.items ≤ unit_count (arc_value shard.machine).config
-stop-within machine bounds index now shard inbound h = let same = ap (λ (m : Machine). unit_count m.config) h.is.machine_is in omega (arith, same, h.gone.within, h.gone.words_count)
+-- the words of a shard are of units that the machine has, and its links are those of the machine
+pub stop-of_machine : (machine : Machine) (bounds : List ℕ) (index now : ℕ) (shard : Shard) (inbound : List (Vec Message Global)) → IsUpTo machine bounds index now shard inbound
+    → IsOfMachine shard
+stop-of_machine machine bounds index now shard inbound h =
+    let same = ap (λ (m : Machine). unit_count m.config) h.is.machine_is in
+    record {
+      words = omega (arith, same, h.gone.within, h.gone.words_count);
+      links = ap (λ (x : InFlight). x.channels) h.gone.flight ∙ sym (ap (λ (m : Machine). m.config.channels) h.is.machine_is);
+    }
 
 -- a shard that takes up its lists sleeps
 pub stops : (machine : Machine) (bounds : List ℕ) (index now : ℕ) (before after : Shard) (inbound : List (Vec Message Global)) → IsUpTo machine bounds index now before inbound

@@ -15,7 +15,7 @@
 --     AreFor machine from until shard lists      lists hold what was sent to the units of a shard in a span
 --     AreFrom machine bounds from until shard lists      they hold what its units sent, by the shard that it goes to
 --     HasJoined shard old new      so many units more, as a shard has
---     IsWithin shard      the units of a shard are units of its machine
+--     IsOfMachine shard      the units and the links of a shard are those of its machine
 --     ChangesOnlyMail old new      only the words of a shard's units, and what is in flight to them, have changed
 --     LowersWords lists old new      the words of a shard are lowered to what stands in lists
 --     HasSent from until old new      a shard keeps what its units sent in a span
@@ -127,9 +127,10 @@ pub record AreFrom (machine : Machine) (bounds : List ℕ) (from until : ℕ) (s
 abbrev pub HasJoined : Shard → List UnitState → List UnitState → Type 0
 HasJoined shard old new = length new ≡ length old + length shard.range.units.items
 
--- the words of a shard are of units that its machine has
-abbrev pub IsWithin : Shard → Type 0
-IsWithin shard = shard.range.first + length shard.range.words.items ≤ unit_count (arc_value shard.machine).config
+-- The words of a shard are of units that its machine has, and its links are those of this machine.
+pub record IsOfMachine (shard : Shard) : Type 0 where
+  pub words : shard.range.first + length shard.range.words.items ≤ unit_count (arc_value shard.machine).config
+  pub links : shard.traffic.links.channels ≡ (arc_value shard.machine).config.channels
 
 -- a shard is the same but for the words of its units and what is in flight to them
 abbrev pub ChangesOnlyMail : Shard → Shard → Type 0

@@ -7,7 +7,7 @@ ghost use Rattle.links.specs.InFlight.{NoneBefore, with_sent};
 ghost use Rattle.units.specs.Units.{unit_count};
 ghost use Rattle.units.specs.Wakes.{AreLowered};
 ghost use Rattle.shards.specs.Lists.{AllEmpty, LowersAll, with_lists};
-ghost use Rattle.shards.specs.Shards.{ChangesOnlyMail, HasGone, HasRangeGone, HasSent, HaveSent, HoldWhatWasSent, IsRangeAsleep, IsSplit, IsWithin, LowersWords, Sleeps};
+ghost use Rattle.shards.specs.Shards.{ChangesOnlyMail, HasGone, HasRangeGone, HasSent, HaveSent, HoldWhatWasSent, IsOfMachine, IsRangeAsleep, IsSplit, LowersWords, Sleeps};
 
 use crate::exchange::sort_by_shard;
 use links::flight::Links;
@@ -18,7 +18,7 @@ use units::machine::Machine;
 use units::lane_scan::least;
 use units::timed_unit::{Span, Traffic};
 use units::waking::{UnitRange, go_on};
-use units::words::lower_all;
+use units::words::take_up;
 
 /// Units at consecutive places, with the wake word of each, and the messages in flight to them.
 #[derive(Drop)]
@@ -51,13 +51,14 @@ fn take_up_list(
     links: &mut Links,
     list: &mut Vec<Message>,
 ) -> Result<(), AllocError>
-    requires { first + length words.old ≤ unit_count machine.now.config }
-    ensures words { AreLowered machine.now.config first list.old.items words.old words.new }
+    requires within { first + length words.old ≤ unit_count machine.now.config }
+    requires channels { links.old.channels ≡ machine.now.config.channels }
+    ensures words { OnOk result (
+        AreLowered machine.now.config first list.old.items words.old words.new) }
     ensures links { OnOk result (links.new ≡ with_sent links.old list.old.items) }
     ensures empty { OnOk result (list.new.items ≡ []) }
 {
-    lower_all(&machine.config, first, words, list);
-    links.accept(list)?;
+    take_up(&machine.config, links, first, words, list)?;
     list.clear();
     Ok(())
 }
@@ -70,7 +71,8 @@ fn take_up_all(
     links: &mut Links,
     lists: &mut [Vec<Message>],
 ) -> Result<(), AllocError>
-    requires { first + length words.old ≤ unit_count machine.now.config }
+    requires within { first + length words.old ≤ unit_count machine.now.config }
+    requires channels { links.old.channels ≡ machine.now.config.channels }
     ensures count { length lists.new ≡ length lists.old }
     ensures words { OnOk result (LowersAll machine.now.config first lists.old words.old words.new) }
     ensures links { OnOk result (links.new ≡ with_lists links.old lists.old) }
@@ -113,7 +115,7 @@ fn go_all(
 impl Shard {
     /// Takes up what was sent to the units in a phase to whose end they have gone.
     pub(crate) fn take_up(&mut self, lists: &mut [Vec<Message>]) -> Result<(), AllocError>
-        requires { IsWithin self.old }
+        requires { IsOfMachine self.old }
         ensures same { OnOk result (ChangesOnlyMail self.old self.new) }
         ensures words { OnOk result (LowersWords lists.old self.old self.new) }
         ensures links { OnOk result (

@@ -21,3 +21,4 @@ pub mod Sharing
 pub mod Vectors
 pub mod FirstBelow
 pub mod LeastWord
+pub mod OneByOne

@@ -16,7 +16,7 @@
 --     arrived_at, arriving_at machine known unit ..      what arrives at a unit before a cycle, and in a span, as far as a run is known
 --     links_to s first count mail      links with the messages that go to units at places from one on
 --     goes_to_place s m place      a message goes to the unit at a place
---     NoneIsLater, IsNoLaterThanArrival, IsNoneSooner      words lowered to the arrival of a message
+--     NoneIsLater, IsNoLaterAt, IsNoneSooner      words of which one is lowered to an arrival
 --     AreLowered s first sent old new      words lowered to the arrivals of what was sent
 --     IsStill machine now then      nothing is sent in a span, and nothing in flight arrives in it
 use Rattle.std.specs.Prelude.{◌≡◌, ℕ, zero, suc, ◌+◌, ◌^◌, ◌<◌, ◌≤◌, true, Bool, List, [], ◌∷◌, ◌++◌, length, slice_index_or, filter, flat_map, All}
@@ -167,10 +167,10 @@ goes_to_place s m place = is_unit (receiver_of s.channels m.link) (unit_at s pla
 abbrev pub NoneIsLater : List ℕ → List ℕ → Type 0
 NoneIsLater old new = (k : ℕ) → k < length old → slice_index_or new k 0 ≤ slice_index_or old k 0
 
--- the word of the unit that a message goes to, of so many units at places from one on, is no later than its arrival
-abbrev pub IsNoLaterThanArrival : Config → ℕ → ℕ → Message → List ℕ → Type 0
-IsNoLaterThanArrival s first count m words =
-    (k : ℕ) → k < count → goes_to_place s m (first + k) ≡ true → slice_index_or words k 0 ≤ m.arrival
+-- the word of the unit at a place, of units at places from one on, is no later than an arrival
+abbrev pub IsNoLaterAt : ℕ → ℕ → List ℕ → ℕ → Type 0
+IsNoLaterAt first arrival words place =
+    (k : ℕ) → k < length words → first + k ≡ place → slice_index_or words k 0 ≤ arrival
 
 -- a new word is before a cycle only where the old one is, or an arrival
 abbrev pub IsNoneSooner : List ℕ → List ℕ → ℕ → Type 0

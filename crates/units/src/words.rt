@@ -1,12 +1,17 @@
 //! Wake words, lowered to the arrivals of what is sent.
 
-ghost use Rattle.std.specs.Prelude.{◌≡◌, ◌≤◌, ◌<◌, ◌+◌, ◌^◌, ◌/◌, ◌%◌, length, IfSome, IfNone};
+ghost use Rattle.std.specs.Prelude.{◌≡◌, ℕ, ◌≤◌, ◌<◌, ◌+◌, ◌^◌, ◌/◌, ◌%◌, length, IfSome, IfNone, OnOk};
+ghost use Rattle.std.specs.List.Sorted.{IsPermutation};
+ghost use Rattle.links.specs.InFlight.{with_sent};
+ghost use Rattle.links.specs.Rings.{ring_of};
 ghost use Rattle.units.specs.Units.{unit_count};
 ghost use Rattle.units.specs.GoingOn.{IsReceiver, HasNoReceiver};
-ghost use Rattle.units.specs.Wakes.{AreLowered, NoneIsLater, IsNoLaterThanArrival, IsNoneSooner};
+ghost use Rattle.units.specs.Wakes.{AreLowered, NoneIsLater, IsNoLaterAt, IsNoneSooner};
 
+use links::flight::{FEW_MESSAGES, Links};
 use sim_base::config::Config;
 use sim_base::message::{Cycle, LinkId, Message};
+use std::alloc::AllocError;
 
 /// How many bits the number of a channel takes: there is a power of two of channels.
 fn channel_bits(config: &Config) -> u32
@@ -59,31 +64,91 @@ pub fn receiver_place(config: &Config, link: LinkId) -> Option<usize>
     place_at(config, channel_bits(config), link)
 }
 
-/// Lowers the word of the unit that a message goes to, of units at places from one on. The number of a channel takes
-/// so many bits.
-fn lower(config: &Config, bits: u32, first: usize, words: &mut [Cycle], message: &Message)
-    requires within { first + length words.old ≤ unit_count config.now }
-    requires channels { config.now.channels ≡ 2 ^ bits }
-    requires few { bits < 32 }
+/// The place of the unit whose messages stand in a ring of the links, if the machine has it.
+#[inline(always)]
+fn place_of_ring(config: &Config, ring: usize) -> Option<usize>
+    ensures some { (link : ℕ) → ring ≡ ring_of config.now.channels link
+        → IfSome result (IsReceiver config.now link) }
+    ensures none { (link : ℕ) → ring ≡ ring_of config.now.channels link
+        → IfNone result (HasNoReceiver config.now link) }
+{
+    let channels = usize::from(config.channels);
+    let cores = usize::from(config.cores);
+    if ring < channels {
+        return Some(cores + ring);
+    }
+    let core = (ring - channels) / 2;
+    if core < cores { Some(core) } else { None }
+}
+
+/// Lowers the word of the unit at a place, of units at places from one on, to an arrival.
+#[inline(always)]
+fn lower(first: usize, words: &mut [Cycle], place: Option<usize>, arrival: Cycle)
     ensures count { length words.new ≡ length words.old }
     ensures less { NoneIsLater words.old words.new }
-    ensures arrival { IsNoLaterThanArrival config.now first (length words.old) message.now words.new }
-    ensures since { IsNoneSooner words.old words.new message.now.arrival }
+    ensures arrival { IfSome place (IsNoLaterAt first arrival words.new) }
+    ensures since { IsNoneSooner words.old words.new arrival }
 {
-    if let Some(place) = place_at(config, bits, message.link) {
+    if let Some(place) = place {
         if first <= place && place - first < words.len() {
-            words[place - first] = words[place - first].min(message.arrival);
+            words[place - first] = words[place - first].min(arrival);
         }
     }
 }
 
 /// Lowers the words of units, at places from one on, to the arrivals of what was sent to them.
-pub fn lower_all(config: &Config, first: usize, words: &mut [Cycle], sent: &[Message])
+fn lower_all(config: &Config, first: usize, words: &mut [Cycle], sent: &[Message])
     requires { first + length words.old ≤ unit_count config.now }
     ensures { AreLowered config.now first sent.now words.old words.new }
 {
     let bits = channel_bits(config);
     for message in sent {
-        lower(config, bits, first, words, message);
+        let place = place_at(config, bits, message.link);
+        lower(first, words, place, message.arrival);
+    }
+}
+
+/// Takes messages up one after the other, and lowers the word of the unit that each goes to.
+fn take_up_few(
+    config: &Config,
+    links: &mut Links,
+    first: usize,
+    words: &mut [Cycle],
+    sent: &[Message],
+) -> Result<(), AllocError>
+    requires within { first + length words.old ≤ unit_count config.now }
+    requires channels { links.old.channels ≡ config.now.channels }
+    ensures lowered { OnOk result (AreLowered config.now first sent.now words.old words.new) }
+    ensures links { OnOk result (links.new ≡ with_sent links.old sent.now) }
+{
+    for message in sent {
+        let ring = links.put(message)?;
+        lower(first, words, place_of_ring(config, ring), message.arrival);
+    }
+    Ok(())
+}
+
+/// Takes up what was sent, which may change places, and lowers the words of units, at places from one on, to the
+/// arrivals of what was sent to them. A few messages take one pass; many are sorted before the links take them up. The
+/// only error is out of memory, and some messages may be taken up by then.
+#[inline(always)]
+pub fn take_up(
+    config: &Config,
+    links: &mut Links,
+    first: usize,
+    words: &mut [Cycle],
+    sent: &mut [Message],
+) -> Result<(), AllocError>
+    requires within { first + length words.old ≤ unit_count config.now }
+    requires channels { links.old.channels ≡ config.now.channels }
+    ensures same { IsPermutation sent.old sent.new }
+    ensures lowered { OnOk result (AreLowered config.now first sent.old words.old words.new) }
+    ensures links { OnOk result (links.new ≡ with_sent links.old sent.old) }
+{
+    if sent.len() > FEW_MESSAGES {
+        lower_all(config, first, words, sent);
+        links.accept(sent)
+    } else {
+        take_up_few(config, links, first, words, sent)
     }
 }

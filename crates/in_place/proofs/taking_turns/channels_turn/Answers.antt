@@ -46,11 +46,15 @@ go_on-requires-clause-brought c =
     (subst (λ m. AllBrought machine machine.config.cores m at.channels_at at.cores_at c.args.until links) (sym many)
     (channels-brought machine at.cores_at at.channels_at c.args.until (all_units kinds) (all_words kinds) links turns.1 c.requires.travels))
 
-pub lower_all-requires : goal.lower_all-requires
-lower_all-requires c =
+pub take_up-requires-clause-within : goal.take_up-requires-clause-within
+take_up-requires-clause-within c =
     let by_kind = c.requires.turns.0 in
     let count = ap length c.deref_mut.ensures.value ∙ by_kind.core_words in
     omega (arith, by_kind.cores_first, count)
+
+pub take_up-requires-clause-channels : goal.take_up-requires-clause-channels
+take_up-requires-clause-channels c =
+    ap (λ (x : InFlight). x.channels) c.in_ok-go_on.ensures.links ∙ ap (λ (x : InFlight). x.channels) c.requires.turns.1.flight
 
 pub returns-clause-turns : goal.returns-clause-turns
 returns-clause-turns c =
@@ -70,9 +74,10 @@ returns-clause-turns c =
     let gone = c.in_ok-go_on.ensures in
     let moved = c.go_on.new.range in
     let sent = c.go_on.new.traffic.mail.sent.items in
-    let lowered = c.lower_all.new.words in
+    let up = c.in_ok-take_up.ensures in
+    let lowered = c.take_up.new.words in
     let many = channels-many machine at.cores_at at.channels_at kinds links by_kind r.turns.1 in
-    let count : length lowered ≡ kinds.cores.words.len = c.lower_all.ensures.count ∙ ap length c.deref_mut.ensures.value ∙ sym kinds.cores.words.ok.0 in
+    let count : length lowered ≡ kinds.cores.words.len = up.lowered.count ∙ ap length c.deref_mut.ensures.value ∙ sym kinds.cores.words.ok.0 in
     let is_lowered : (with_items kinds.cores.words lowered).items ≡ lowered = with_items_is kinds.cores.words lowered count in (
       record {
         cores_first = by_kind.cores_first;
@@ -80,17 +85,17 @@ returns-clause-turns c =
         cores_count = by_kind.cores_count;
         core_words = ap length is_lowered ∙ count ∙ kinds.cores.words.ok.0 ∙ by_kind.core_words;
       },
-      subst (λ ws. AreInTurns machine at.cores_at until (core_units ++ moved.units.items) (ws ++ moved.words.items) c.accept.new.self) (sym is_lowered)
-          (subst (λ xs. AreInTurns machine at.cores_at until (xs ++ moved.units.items) (lowered ++ moved.words.items) c.accept.new.self) (take_at core_units units n by_kind.cores_count)
-          (channels-turned machine at.cores_at at.channels_at until (all_units kinds) moved.units.items (all_words kinds) lowered moved.words.items links c.accept.new.self sent r.turns.1 r.order r.travels
+      subst (λ ws. AreInTurns machine at.cores_at until (core_units ++ moved.units.items) (ws ++ moved.words.items) c.take_up.new.links) (sym is_lowered)
+          (subst (λ xs. AreInTurns machine at.cores_at until (xs ++ moved.units.items) (lowered ++ moved.words.items) c.take_up.new.links) (take_at core_units units n by_kind.cores_count)
+          (channels-turned machine at.cores_at at.channels_at until (all_units kinds) moved.units.items (all_words kinds) lowered moved.words.items links c.take_up.new.links sent r.turns.1 r.order r.travels
           (gone.count ∙ ap length (sym (drop_at core_units units n by_kind.cores_count)))
           (gone.words ∙ ap length (sym (drop_at core_words words n by_kind.core_words)))
           (subst (λ i. WaitAll machine i until at.cores_at moved.units.items moved.words.items) (gone.first ∙ by_kind.channels_first) gone.wait)
           (gone.sent ∙ ap₂ (λ i m. sent_by machine at.channels_at until i m) by_kind.channels_first many)
-          (subst (λ ms. AreLowered s 0 ms (take n (all_words kinds)) lowered) c.deref.ensures.value
-          (subst (λ ws. AreLowered s 0 c.deref.result.now ws lowered) (c.deref_mut.ensures.value ∙ sym (take_at core_words words n by_kind.core_words))
-          (subst (λ i. AreLowered s i c.deref.result.now c.deref_mut.result.now lowered) by_kind.cores_first c.lower_all.ensures)))
-          (c.in_ok-accept.ensures.ok
+          (subst (λ ms. AreLowered s 0 ms (take n (all_words kinds)) lowered) c.deref_mut-2.ensures.value
+          (subst (λ ws. AreLowered s 0 c.deref_mut-2.result.now ws lowered) (c.deref_mut.ensures.value ∙ sym (take_at core_words words n by_kind.core_words))
+          (subst (λ i. AreLowered s i c.deref_mut-2.result.now c.deref_mut.result.now lowered) by_kind.cores_first up.lowered)))
+          (up.links
           ∙ ap₂ {C = InFlight} (λ (x : InFlight) ms. record x { messages = fold insert_by_age x.messages ms })
           (gone.links ∙ ap₂ {C = InFlight} (λ i m. links_after s at.channels_at until i m links) by_kind.channels_first many) c.deref_mut-2.ensures.value))),
     )

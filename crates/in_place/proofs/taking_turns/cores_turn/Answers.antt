@@ -45,11 +45,15 @@ go_on-requires-clause-brought c =
     (subst (λ m. AllBrought machine 0 m at.cores_at at.channels_at c.args.until links) (sym turns.0.cores_count)
     (cores-brought machine at.cores_at at.channels_at c.args.until (all_units kinds) (all_words kinds) links turns.1 c.requires.takes))
 
-pub lower_all-requires : goal.lower_all-requires
-lower_all-requires c =
+pub take_up-requires-clause-within : goal.take_up-requires-clause-within
+take_up-requires-clause-within c =
     let turns = c.requires.turns in
     let count = ap length c.deref_mut.ensures.value ∙ channel-words_many c.args.machine.now c.args.at.cores_at c.args.at.channels_at c.args.kinds.now c.args.traffic.now.links turns.0 turns.1 in
     omega (arith, turns.0.channels_first, count)
+
+pub take_up-requires-clause-channels : goal.take_up-requires-clause-channels
+take_up-requires-clause-channels c =
+    ap (λ (x : InFlight). x.channels) c.in_ok-go_on.ensures.links ∙ ap (λ (x : InFlight). x.channels) c.requires.turns.1.flight
 
 pub returns-clause-turns : goal.returns-clause-turns
 returns-clause-turns c =
@@ -69,9 +73,10 @@ returns-clause-turns c =
     let gone = c.in_ok-go_on.ensures in
     let moved = c.go_on.new.range in
     let sent = c.go_on.new.traffic.mail.sent.items in
-    let lowered = c.lower_all.new.words in
+    let up = c.in_ok-take_up.ensures in
+    let lowered = c.take_up.new.words in
     let many = by_kind.cores_count in
-    let count : length lowered ≡ kinds.channels.words.len = c.lower_all.ensures.count ∙ ap length c.deref_mut.ensures.value ∙ sym kinds.channels.words.ok.0 in
+    let count : length lowered ≡ kinds.channels.words.len = up.lowered.count ∙ ap length c.deref_mut.ensures.value ∙ sym kinds.channels.words.ok.0 in
     let is_lowered : (with_items kinds.channels.words lowered).items ≡ lowered = with_items_is kinds.channels.words lowered count in (
       record {
         cores_first = gone.first ∙ by_kind.cores_first;
@@ -79,17 +84,17 @@ returns-clause-turns c =
         cores_count = gone.count ∙ by_kind.cores_count;
         core_words = gone.words ∙ by_kind.core_words;
       },
-      subst (λ ws. AreInTurns machine until at.channels_at (moved.units.items ++ channel_units) (moved.words.items ++ ws) c.accept.new.self) (sym is_lowered)
-          (subst (λ xs. AreInTurns machine until at.channels_at (moved.units.items ++ xs) (moved.words.items ++ lowered) c.accept.new.self) (drop_at units channel_units n by_kind.cores_count)
-          (cores-turned machine at.cores_at at.channels_at until (all_units kinds) moved.units.items (all_words kinds) lowered moved.words.items links c.accept.new.self sent r.turns.1 r.order r.takes
+      subst (λ ws. AreInTurns machine until at.channels_at (moved.units.items ++ channel_units) (moved.words.items ++ ws) c.take_up.new.links) (sym is_lowered)
+          (subst (λ xs. AreInTurns machine until at.channels_at (moved.units.items ++ xs) (moved.words.items ++ lowered) c.take_up.new.links) (drop_at units channel_units n by_kind.cores_count)
+          (cores-turned machine at.cores_at at.channels_at until (all_units kinds) moved.units.items (all_words kinds) lowered moved.words.items links c.take_up.new.links sent r.turns.1 r.order r.takes
           (gone.count ∙ ap length (sym (take_at units channel_units n by_kind.cores_count)))
           (gone.words ∙ ap length (sym (take_at words channel_words n by_kind.core_words)))
           (subst (λ i. WaitAll machine i until at.channels_at moved.units.items moved.words.items) (gone.first ∙ by_kind.cores_first) gone.wait)
           (gone.sent ∙ ap₂ (λ i m. sent_by machine at.cores_at until i m) by_kind.cores_first many)
-          (subst (λ ms. AreLowered s n ms (drop n (all_words kinds)) lowered) c.deref.ensures.value
-          (subst (λ ws. AreLowered s n c.deref.result.now ws lowered) (c.deref_mut.ensures.value ∙ sym (drop_at words channel_words n by_kind.core_words))
-          (subst (λ i. AreLowered s i c.deref.result.now c.deref_mut.result.now lowered) by_kind.channels_first c.lower_all.ensures)))
-          (c.in_ok-accept.ensures.ok
+          (subst (λ ms. AreLowered s n ms (drop n (all_words kinds)) lowered) c.deref_mut-2.ensures.value
+          (subst (λ ws. AreLowered s n c.deref_mut-2.result.now ws lowered) (c.deref_mut.ensures.value ∙ sym (drop_at words channel_words n by_kind.core_words))
+          (subst (λ i. AreLowered s i c.deref_mut-2.result.now c.deref_mut.result.now lowered) by_kind.channels_first up.lowered)))
+          (up.links
           ∙ ap₂ {C = InFlight} (λ (x : InFlight) ms. record x { messages = fold insert_by_age x.messages ms })
           (gone.links ∙ ap₂ {C = InFlight} (λ i m. links_after s at.cores_at until i m links) by_kind.cores_first many) c.deref_mut-2.ensures.value))),
     )

@@ -10,9 +10,6 @@ on_err : (P : Type 0) (r : Result (Unit {0}) AllocError) → P → OnErr r P
 on_err P (Ok x) h = tt
 on_err P (Err x) h = h
 
-pub put_one-requires-clause-rings : goal.put_one-requires-clause-rings
-put_one-requires-clause-rings c = c.requires.rings
-
 pub put_all-requires-clause-rings : goal.put_all-requires-clause-rings
 put_all-requires-clause-rings c = c.in_ok-make_room_for.ensures.grows.rings c.args.channels 0 c.requires.rings
 

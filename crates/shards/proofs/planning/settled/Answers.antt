@@ -7,10 +7,10 @@ use Rattle.sim_base.specs.declared.message.Message.{Message}
 use Rattle.sim_base.proofs.Added.{length-push_suc}
 use Rattle.links.specs.InFlight.{InFlight}
 use Rattle.shards.specs.Lists.{lists_of, with_lists}
-use Rattle.shards.specs.Shards.{IsShard, IsWithin}
+use Rattle.shards.specs.Shards.{IsOfMachine, IsShard}
 use Rattle.units.specs.Wakes.{AreLowered}
 use Rattle.shards.specs.declared.shard.Shard.{Shard}
-use Rattle.shards.proofs.Setting.{left-next, seam-stop, stop-within, stops}
+use Rattle.shards.proofs.Setting.{left-next, seam-stop, stop-of_machine, stops}
 use Rattle.shards.proofs.Splitting.{AreMade, made-push}
 use Rattle.shards.proofs.planning.settled.Goals as goal
 
@@ -22,8 +22,8 @@ take_up-requires c =
     let x = c.in-Some.shard in
     let whole = ap (λ z. at.yielded ++ z) (sym c.in-Some.ensures.steps.0) ∙ at.invariant.order ∙ c.into_iter-shard-iterator.ensures.into_iter_gives.0 in
     let stop = seam-stop machine bounds c.args.standing.now.at c.args.shards.items at.yielded _ x c.args.inbound.items at.inbound.items c.index_mut.result.now c.requires whole at.invariant.left in
-    subst IsWithin (sym c.deref_mut.ensures.value)
-    (stop-within machine bounds (length at.yielded) c.args.standing.now.at x.value _ stop)
+    subst IsOfMachine (sym c.deref_mut.ensures.value)
+    (stop-of_machine machine bounds (length at.yielded) c.args.standing.now.at x.value _ stop)
 
 pub loop-shard-preserved : goal.loop-shard-preserved
 loop-shard-preserved c =

@@ -8,7 +8,7 @@ use Rattle.std.proofs.lemmas.List.{with_items_is}
 use Rattle.links.specs.InFlight.{InFlight}
 use Rattle.sim_base.specs.Locality.{TravelsFor}
 use Rattle.shards.specs.Lists.{AllEmpty, AreSortedByShard, lists_of, with_lists}
-use Rattle.shards.specs.Shards.{HasGone, HoldWhatWasSent, IsSplit, IsWithin, Sleeps, sent_of_shard}
+use Rattle.shards.specs.Shards.{HasGone, HoldWhatWasSent, IsOfMachine, IsSplit, Sleeps, sent_of_shard}
 use Rattle.shards.specs.Jobs.{IsDone, JobView}
 use Rattle.units.specs.Wakes.{AreLowered}
 use Rattle.units.specs.declared.machine.Machine.{Machine}
@@ -19,7 +19,8 @@ use Rattle.shards.proofs.job.Job.run.Goals as goal
 pub take_up-requires : goal.take_up-requires
 take_up-requires c =
     let gone = c.self.invariant.before.gone in
-    subst IsWithin (sym c.deref_mut.ensures.value) (omega (arith, gone.within, gone.words_count))
+    subst IsOfMachine (sym c.deref_mut.ensures.value)
+    (record { words = omega (arith, gone.within, gone.words_count); links = ap (λ (x : InFlight). x.channels) gone.flight })
 
 pub go-requires-clause-order : goal.go-requires-clause-order
 go-requires-clause-order c = c.self.invariant.next
