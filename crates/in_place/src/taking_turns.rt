@@ -10,8 +10,8 @@ ghost use Rattle.in_place.specs.Turns.{AllAsleep, AreByKind, InTurnsAt, all_unit
 use sim_base::message::Cycle;
 use span_laws::latencies::{least_request_latency, least_way_back};
 use std::alloc::AllocError;
-use units::machine::Machine;
 use units::lane_scan::{first_below, least};
+use units::machine::Machine;
 use units::timed_unit::{Span, Traffic};
 use units::waking::{UnitRange, go_on};
 use units::words::take_up;

@@ -13,6 +13,7 @@ percentile_there (x ∷ rest) percent place some whole up at = go (slice_get (x 
   where
     rank : suc place ≡ (percent * length (x ∷ rest) + 99) / 100
     rank = at (omega arith)
+
     go : (found : Option ℕ) → slice_get (x ∷ rest) place ≡ found → MatchOption found ((x ∷ rest) ≡ []) (IsPercentile (x ∷ rest) percent)
     go None is = (rank_none (x ∷ rest) percent (suc place) some whole rank).0 is
     go (Some value) is = subst (λ found. IfSome found (IsPercentile (x ∷ rest) percent)) is (rank_gives (x ∷ rest) percent (suc place) up rank)

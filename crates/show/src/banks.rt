@@ -14,11 +14,11 @@ use command_table::list::CommandList;
 use measures::bank_counts::channel_counts;
 use measures::bank_counts::counts::BankCounts;
 use measures::number::Number;
+use measures::text_builder::TextBuilder;
 use sim_base::config::Config;
 use sim_base::place::BankId;
 use statistics::stats::Stats;
 use std::alloc::{AllocError, Global};
-use measures::text_builder::TextBuilder;
 
 /// The headings of a bank's numbers.
 static BANK_HEADINGS: [&str; 6] = ["act", "rd", "wr", "pre", "hits %", "conflicts"];

@@ -17,10 +17,10 @@ use measures::request_measures::latency::{
     Latencies, core_latency_percentiles, latency_percentiles,
 };
 use measures::request_measures::waiting::{Class, Waits, channel_waits};
+use measures::text_builder::TextBuilder;
 use request_table::times::RequestTimes;
 use sim_base::message::{ChannelId, CoreId};
 use std::alloc::{AllocError, Global};
-use measures::text_builder::TextBuilder;
 
 /// The headings of a core's read latency; the last four are shown with a clock only.
 static LATENCY_HEADINGS: [&str; 9] = [

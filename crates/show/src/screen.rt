@@ -10,10 +10,10 @@ use crate::rows::{
     CHANNEL_HEADINGS, CLOCKED_CHANNEL_HEADINGS, CORE_HEADINGS, channel_rows, core_rows, nanoseconds,
 };
 use crate::table::TableLayout;
+use measures::text_builder::TextBuilder;
 use sim_base::config::Config;
 use statistics::stats::Stats;
 use std::alloc::{AllocError, Global};
-use measures::text_builder::TextBuilder;
 
 // The headings of the channels.
 fn channel_headings(config: Option<&Config>, khz: Option<u64>) -> &'static [&'static str]

@@ -7,8 +7,8 @@ ghost use Rattle.show.specs.Tables.{width_of, column_text, headings_text, number
 
 use crate::rows::{Row, summary_rows};
 use measures::number::Number;
-use std::alloc::{AllocError, Global};
 use measures::text_builder::TextBuilder;
+use std::alloc::{AllocError, Global};
 
 /// A table with more lines than this is shown in three, unless all are asked for.
 const MOST_LINES: usize = 16;

@@ -9,12 +9,12 @@ ghost use Rattle.units.specs.declared.machine.Machine.{Machine};
 ghost use Rattle.units.specs.GoingOn.{MayBeWoken, MayBeBroughtUp, IsBroughtTo, GoesOnOver, NothingArrives, links_taken};
 ghost use Rattle.units.specs.Wakes.{HasRunAndTells, sleeper};
 
-use links::flight::Links;
-use sim_base::message::{Cycle, Message, Unit};
-use std::alloc::{AllocError, Global};
 use crate::machine::{Machine, unit_at};
 use crate::mail::Mail;
 use crate::part::UnitState;
+use links::flight::Links;
+use sim_base::message::{Cycle, Message, Unit};
+use std::alloc::{AllocError, Global};
 
 /// A span over which units of a kind go on: from where they stand up to a cycle, while those that send to them stand
 /// at a cycle of theirs.

@@ -7,12 +7,12 @@ ghost use Rattle.units.specs.GoingOn.{AllBroughtTo, GrowsBy, WaitAllAt, WaitAllP
 ghost use Rattle.units.specs.Wakes.{AreTimedUnits, WaitAll};
 
 use crate::lane_scan::first_below;
-use crate::timed_unit::{Span, TimedUnit, Traffic};
-use sim_base::message::Cycle;
-use std::alloc::{AllocError, Global};
 use crate::machine::Machine;
 use crate::mail::Mail;
 use crate::part::UnitState;
+use crate::timed_unit::{Span, TimedUnit, Traffic};
+use sim_base::message::Cycle;
+use std::alloc::{AllocError, Global};
 
 /// Units at consecutive places of a machine, each with its wake word: a cycle before which it sends nothing, and
 /// nothing arrives at it.
