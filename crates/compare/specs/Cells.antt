@@ -11,8 +11,8 @@ use Rattle.compare.specs.declared.changes.Change.TheVariants.{Rise, Fall}
 use Rattle.compare.specs.declared.cores.Direction.{Direction}
 use Rattle.compare.specs.declared.cores.Direction.TheVariants.{Gained, Lost}
 use Rattle.compare.specs.declared.cores.Extreme.{Extreme}
-use Rattle.compare.specs.declared.measures.Measure.{Measure}
-use Rattle.compare.specs.declared.measures.Measure.TheVariants.{MostGained, MostLost}
+use Rattle.compare.specs.declared.compared.Measure.{Measure}
+use Rattle.compare.specs.declared.compared.Measure.TheVariants.{MostGained, MostLost}
 
 abbrev pub change_towards : Direction → ℕ → Change
 change_towards Gained tenths = Rise tenths

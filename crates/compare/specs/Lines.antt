@@ -8,9 +8,9 @@ use Rattle.compare.specs.Cells.{cell_of}
 use Rattle.compare.specs.Measures.{value_of, decimals_of, label_of}
 use Rattle.compare.specs.Texts.{value_text, change_text, cell_text, label_text}
 use Rattle.compare.specs.Tails.{tails_text}
-use Rattle.compare.specs.declared.measures.TheConstants.{FIRST_MEASURES, LAST_MEASURES}
+use Rattle.compare.specs.declared.compared.TheConstants.{FIRST_MEASURES, LAST_MEASURES}
 use Rattle.compare.specs.declared.layout.Layout.{Layout}
-use Rattle.compare.specs.declared.measures.Measure.{Measure}
+use Rattle.compare.specs.declared.compared.Measure.{Measure}
 
 -- the value of a run, and its change from the first one
 unfoldable pub cells_text : Layout → RunStats → Measure → RunStats → List ℕ

@@ -9,10 +9,10 @@ use Rattle.compare.specs.Sums.{channel_sum, core_sum, least_retired, greatest_re
 use Rattle.compare.specs.declared.sums.ChannelCount.{ChannelCount}
 use Rattle.compare.specs.declared.sums.ChannelCount.TheVariants.{Rds, Wrs, Moves, Hits, Queued, Due, Drained}
 use Rattle.compare.specs.declared.sums.CoreCount.TheVariants.{Retired, Latency, Replies}
-use Rattle.compare.specs.declared.measures.Measure.{Measure}
-use Rattle.compare.specs.declared.measures.Measure.TheVariants.{Cycles, Rate, LeastRate, GreatestRate, Reads, Writes, RowHits, DataBus, ReadLatency, QueueMean, QueueMax, RefreshDue, Drain, MostGained, MostLost}
-use Rattle.compare.specs.declared.measures.Decimals.{Decimals}
-use Rattle.compare.specs.declared.measures.Decimals.TheVariants.{Zero, One, Three}
+use Rattle.compare.specs.declared.compared.Measure.{Measure}
+use Rattle.compare.specs.declared.compared.Measure.TheVariants.{Cycles, Rate, LeastRate, GreatestRate, Reads, Writes, RowHits, DataBus, ReadLatency, QueueMean, QueueMax, RefreshDue, Drain, MostGained, MostLost}
+use Rattle.compare.specs.declared.compared.Decimals.{Decimals}
+use Rattle.compare.specs.declared.compared.Decimals.TheVariants.{Zero, One, Three}
 
 -- the share of the cycles of all channels that is a count of theirs
 unfoldable pub share_of_cycles : ChannelCount → RunStats → Option ℕ

@@ -7,7 +7,7 @@ use Rattle.compare.specs.Changes.{change_of}
 use Rattle.compare.specs.Quotients.{quotient}
 use Rattle.compare.specs.Texts.{value_text, change_text, cell_text, label_text}
 use Rattle.compare.specs.declared.layout.Layout.{Layout}
-use Rattle.compare.specs.declared.measures.Decimals.TheVariants.{Zero}
+use Rattle.compare.specs.declared.compared.Decimals.TheVariants.{Zero}
 
 -- the p99 of a run, in billionths, where one of its reads was answered
 abbrev pub tail_value : Option ℕ → Option ℕ

@@ -11,8 +11,8 @@ use Rattle.compare.specs.declared.changes.Change.{Change}
 use Rattle.compare.specs.declared.changes.Change.TheVariants.{Rise, Fall}
 use Rattle.compare.specs.declared.layout.Layout.{Layout}
 use Rattle.compare.specs.declared.layout.Layout.TheVariants.{Screen, Csv}
-use Rattle.compare.specs.declared.measures.Decimals.{Decimals}
-use Rattle.compare.specs.declared.measures.Decimals.TheVariants.{Zero, One, Three}
+use Rattle.compare.specs.declared.compared.Decimals.{Decimals}
+use Rattle.compare.specs.declared.compared.Decimals.TheVariants.{Zero, One, Three}
 
 -- a number of billionths as one of units, which are some billionths each, rounded half up
 abbrev pub rounded : ℕ → ℕ → ℕ

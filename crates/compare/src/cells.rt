@@ -4,8 +4,8 @@ ghost use Rattle.std.specs.Prelude.{◌≡◌, ◌^◌, ◌<◌, IfSome};
 ghost use Rattle.compare.specs.Cells.{cell_of, change_towards, extreme_cell, measured_cell};
 
 use crate::changes::{Change, change_of};
+use crate::compared::{Measure, value_of};
 use crate::cores::{Direction, Extreme, most};
-use crate::measures::{Measure, value_of};
 use statistics::stats::Stats;
 
 /// A value in billionths, and its change from the first run.

@@ -3,11 +3,11 @@
 
 mod cells;
 mod changes;
+mod compared;
 mod comparison;
 mod cores;
 pub mod layout;
 mod lines;
-mod measures;
 mod quotients;
 mod sums;
 mod tails;

@@ -5,8 +5,8 @@ ghost use Rattle.compare.specs.Lines.{cells_text, beginning_text, line_text, lin
 ghost use Rattle.measures.specs.Texts.{PutsWords};
 
 use crate::cells::cell_of;
+use crate::compared::{FIRST_MEASURES, LAST_MEASURES, Measure, decimals_of, label_of, value_of};
 use crate::layout::Layout;
-use crate::measures::{FIRST_MEASURES, LAST_MEASURES, Measure, decimals_of, label_of, value_of};
 use crate::tails::put_tails;
 use crate::texts::{change_text, put_cell, put_label, value_text};
 use measures::text_builder::TextBuilder;

@@ -5,9 +5,9 @@ ghost use Rattle.measures.specs.Texts.{PutsWords};
 ghost use Rattle.compare.specs.Tails.{tail_value, tail_text, tail_cells_text, tail_line_text, tails_text};
 
 use crate::changes::change_of;
+use crate::compared::Decimals;
 use crate::layout::Layout;
 use crate::lines::{CHANGE_WIDTH, VALUE_WIDTH};
-use crate::measures::Decimals;
 use crate::quotients::quotient;
 use crate::texts::{change_text, put_cell, put_label, value_text};
 use measures::text_builder::TextBuilder;

@@ -5,8 +5,8 @@ ghost use Rattle.measures.specs.Texts.{IsText, PutsWords};
 ghost use Rattle.compare.specs.Texts.{rounded, fixed_text, missing_text, value_text, signed_text, change_text, cell_text, label_text};
 
 use crate::changes::Change;
+use crate::compared::Decimals;
 use crate::layout::Layout;
-use crate::measures::Decimals;
 use measures::number::{tenths_text, thousandths_text};
 use measures::text_builder::TextBuilder;
 use std::alloc::{AllocError, Global};
