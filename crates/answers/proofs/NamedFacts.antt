@@ -5,7 +5,7 @@ use Rattle.std.specs.Prelude.{IfErr, OnOk, IsOk, IsOkAnd, IsErrAnd}
 use Rattle.sim_base.specs.declared.command.IssuedCommand.{IssuedCommand}
 use Rattle.sim_base.specs.declared.config.Config.{Config}
 use Rattle.sim_base.specs.declared.fault.Fault.{Fault}
-use Rattle.sim_base.specs.declared.fault.Fault.TheVariants.{Memory}
+use Rattle.sim_base.specs.declared.fault.Fault.TheVariants.{Memory, Write}
 use Rattle.sim_base.specs.Values.{values_of}
 use Rattle.config_reader.specs.Document.{document_of}
 use Rattle.page.specs.Rows.{IsOfRunAt}
@@ -155,6 +155,13 @@ when_ok (Err e) a q = absurd cc
 pub err_with : {T E : Type 0} (r : Result T E) (P : E → Type 0) (e : E) → IfErr r P → IsErrAnd r (λ f. e ≡ f) → P e
 err_with (Ok x) P e p q = absurd q
 err_with (Err f) P e p q = rw q p
+
+-- an answer that is refused is not printed
+pub unprinted_by : {T : Type 0} (answer : Result T Fault) (fault : Fault) (same : Type 0) → ((fault ≡ Write) × IsOk answer) ⊎ IsErrAnd answer (λ f. fault ≡ f) → IfErr answer (λ e. same)
+    → fault ≢ Write → same
+unprinted_by (Ok x) fault same (inl write) h other = absurd (other write.0)
+unprinted_by (Ok x) fault same (inr made) h other = absurd made
+unprinted_by (Err e) fault same refused h other = h
 
 show_texts : (tells : Type 0) (old mid : Held) (config document : Option (List ℕ)) (path table : List ℕ) → IsNamedText tells old config document → (tells → SameFiles old mid)
     → (tells → mid path ≡ Some table) → AreTexts tells old (with_config config (path ∷ [])) (with_config document (table ∷ []))

@@ -1,6 +1,6 @@
 //! What a run did, on one screen, and what each bank did.
 
-ghost use Rattle.std.specs.Prelude.{◌≡◌, IfOk, IfErr, OnOk};
+ghost use Rattle.std.specs.Prelude.{◌≡◌, ◌≢◌, IfOk, IfErr, OnOk};
 ghost use Rattle.whole_files.specs.Files.{SameFiles};
 ghost use Rattle.answers.specs.Inputs.{Prints, BarsRequestsIn, FindsSomeRequests, IsBanksScreenOf, IsBanksScreenIn, ShowsBanks, RefusesPage};
 
@@ -74,6 +74,7 @@ pub fn perform_show_banks<F: FileSet, P: Write>(
     ensures shown { let printed = Prints P.Write output.old output.new in
         OnOk result (ShowsBanks F.FileSet files.old folder.now options printed) }
     ensures fault { IfErr result (RefusesPage F.FileSet files.old folder.now) }
+    ensures unprinted { IfErr result (λ e. e ≢ Fault.Write → output.new ≡ output.old) }
     ensures same { F.tells → SameFiles (F.held files.old) (F.held files.new) }
     ensures unopened { F.tells → F.opened files.new ≡ F.opened files.old }
 {

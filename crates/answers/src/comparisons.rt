@@ -1,6 +1,6 @@
 //! Runs beside the first of them.
 
-ghost use Rattle.std.specs.Prelude.{◌≡◌, length, IfOk, IfErr, OnOk};
+ghost use Rattle.std.specs.Prelude.{◌≡◌, ◌≢◌, length, IfOk, IfErr, OnOk};
 ghost use Rattle.answers.specs.Answers.{stats_path};
 ghost use Rattle.answers.specs.Inputs.{Prints, IsUnread, stats_paths, IsTableIn, AreStatsTablesIn, GiveRuns, GiveNoRuns, AreRunsIn, CanCompare, BarsCompare, BarsRequestsIn, IsTailInFolder, AreTailsIn, BarsTails, Compares, RefusesCompare};
 ghost use Rattle.answers.specs.Requests.{IsTailOf};
@@ -156,6 +156,7 @@ pub fn perform_compare<F: FileSet, P: Write>(
     ensures compared { let printed = Prints P.Write output.old output.new in
         OnOk result (Compares F.FileSet files.old dirs.now layout printed) }
     ensures fault { IfErr result (RefusesCompare F.FileSet files.old dirs.now) }
+    ensures unprinted { IfErr result (λ e. e ≢ Fault.Write → output.new ≡ output.old) }
     ensures same { F.tells → SameFiles (F.held files.old) (F.held files.new) }
     ensures unopened { F.tells → F.opened files.new ≡ F.opened files.old }
 {

@@ -1,6 +1,6 @@
 //! Where an address lies.
 
-ghost use Rattle.std.specs.Prelude.{◌≡◌, IfOk, IfErr, OnOk, string_bytes};
+ghost use Rattle.std.specs.Prelude.{◌≡◌, ◌≢◌, IfOk, IfErr, OnOk, string_bytes};
 ghost use Rattle.whole_files.specs.Files.{SameFiles};
 ghost use Rattle.answers.specs.Answers.{rank_words, place_line};
 ghost use Rattle.answers.specs.Inputs.{Prints, LiesAt, CanMap, BarsMap, Maps, RefusesMap};
@@ -72,6 +72,7 @@ pub fn perform_map<F: FileSet, P: Write>(
     ensures mapped { let printed = Prints P.Write output.old output.new in
         OnOk result (Maps F.FileSet files.old config.now address printed) }
     ensures fault { IfErr result (RefusesMap F.FileSet files.old config.now) }
+    ensures unprinted { IfErr result (λ e. e ≢ Fault.Write → output.new ≡ output.old) }
     ensures same { F.tells → SameFiles (F.held files.old) (F.held files.new) }
     ensures unopened { F.tells → F.opened files.new ≡ F.opened files.old }
 {

@@ -37,6 +37,7 @@ pub(crate) fn print_answer<P: Write>(
         Prints P.Write output.old output.new (string_bytes text))) }
     ensures fault { IfErr result (λ e.
         ((e ≡ Fault.Write) × IsOk answer) ⊎ IsErrAnd answer (λ f. e ≡ f)) }
+    ensures unprinted { IfErr answer (λ _. output.new ≡ output.old) }
 {
     match answer {
         Ok(text) => print_text(alloc, output, text.as_str()),

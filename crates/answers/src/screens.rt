@@ -1,6 +1,6 @@
 //! What a run did, on one screen.
 
-ghost use Rattle.std.specs.Prelude.{◌≡◌, IfOk, IfErr, OnOk};
+ghost use Rattle.std.specs.Prelude.{◌≡◌, ◌≢◌, IfOk, IfErr, OnOk};
 ghost use Rattle.answers.specs.Answers.{stats_path};
 ghost use Rattle.answers.specs.Inputs.{Prints, IsRunAt, RunFits, CanShow, BarsShow, CanShowIn, BarsShowIn, BarsRequestsIn, FindsSomeRequests, IsScreenOf, IsScreenIn, Shows, RefusesShow};
 ghost use Rattle.whole_files.specs.Files.{SameFiles};
@@ -107,6 +107,7 @@ pub fn perform_show<F: FileSet, P: Write>(
     ensures shown { let printed = Prints P.Write output.old output.new in
         OnOk result (Shows F.FileSet files.old folder.now options printed) }
     ensures fault { IfErr result (RefusesShow F.FileSet files.old folder.now) }
+    ensures unprinted { IfErr result (λ e. e ≢ Fault.Write → output.new ≡ output.old) }
     ensures same { F.tells → SameFiles (F.held files.old) (F.held files.new) }
     ensures unopened { F.tells → F.opened files.new ≡ F.opened files.old }
 {

@@ -1,6 +1,6 @@
 //! Whether a table of commands keeps the rules.
 
-ghost use Rattle.std.specs.Prelude.{◌≡◌, IfOk, IfErr, OnOk, string_bytes};
+ghost use Rattle.std.specs.Prelude.{◌≡◌, ◌≢◌, IfOk, IfErr, OnOk, string_bytes};
 ghost use Rattle.whole_files.specs.Files.{SameFiles};
 ghost use Rattle.answers.specs.Answers.{verdict_line};
 ghost use Rattle.answers.specs.Inputs.{Prints, IsVerdictAt, CanCheck, BarsCheck, Checks, RefusesCheck};
@@ -61,6 +61,7 @@ pub fn perform_check<F: FileSet, P: Write>(
     ensures checked { let printed = Prints P.Write output.old output.new in
         IfOk result (Checks F.FileSet files.old config.now commands.now printed) }
     ensures fault { IfErr result (RefusesCheck F.FileSet files.old config.now commands.now) }
+    ensures unprinted { IfErr result (λ e. e ≢ Fault.Write → output.new ≡ output.old) }
     ensures same { F.tells → SameFiles (F.held files.old) (F.held files.new) }
     ensures unopened { F.tells → F.opened files.new ≡ F.opened files.old }
 {

@@ -31,7 +31,7 @@ fn write_text(text: &[u8], into: &mut [u8], wanted: &mut usize) -> Result<(), Ca
 
 /// Writes the line for which the program refuses a configuration, without its end, to the front of memory, and its
 /// length; 0 where the configuration is not refused. It is refused as `TooShort` where the line does not fit, or where
-/// memory is refused; the memory is as it was then.
+/// memory is refused; the memory is as it was then, and in the second case the length is too.
 pub fn write_fault(
     alloc: Global,
     text: &[u8],
@@ -44,6 +44,7 @@ pub fn write_fault(
     ensures same { OnErr result (into.new ≡ into.old) }
     ensures wanted { (result ≡ Err (call.Configuration Memory))
         ⊎ (wanted.new ≡ length (fault_text (document_of text.now))) }
+    ensures kept { result ≡ Err (call.Configuration Memory) → wanted.new ≡ wanted.old }
 {
     match read_config(alloc, text) {
         Ok(_) => {

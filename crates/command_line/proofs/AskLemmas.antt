@@ -35,18 +35,23 @@ pub passes : (app : App) (words : List Text) (e : Error) → app ≡ program_app
 unfolding is_taken
 passes app words e same memory taken = memory (ap (λ (a : App). takes a words) same ∙ taken)
 
--- the command that `clap` gives is the one that the words name
-pub asked_from : (words : List Text) (o : Option (Text × List Row)) (ask : Ask) → o ≡ command_of words → IsCommandOf o ask → IsAskedBy words ask
-asked_from words None ask e h = absurd h
-asked_from words (Some p) (Run run) e h = rw (← e) h
-asked_from words (Some p) (Check config commands) e h = rw (← e) h
-asked_from words (Some p) (Map config address) e h = rw (← e) h
-asked_from words (Some p) (Show show) e h = rw (← e) h
-asked_from words (Some p) (ShowBanks show) e h = rw (← e) h
-asked_from words (Some p) (Page page) e h = rw (← e) h
-asked_from words (Some p) (Compare dirs csv) e h = rw (← e) h
-asked_from words (Some p) (Help t) e h = absurd h
-asked_from words (Some p) (Version t) e h = absurd h
+-- where `clap` gives matches, the words have no fault
+pub without_fault : (app : App) (words : List Text) → app ≡ program_app → (is_simple_and_free app ≡ true → fault_of app words ≡ []) → kinds_of_fault words ≡ []
+unfolding kinds_of_fault
+without_fault app words same none = subst (λ (a : App). fault_of a words ≡ []) same (none (ap is_simple_and_free same ∙ simple_and_free))
+
+-- and the command that `clap` gives is the one that the words name
+pub asked_from : (words : List Text) (o : Option (Text × List Row)) (ask : Ask) → kinds_of_fault words ≡ [] → o ≡ command_of words → IsCommandOf o ask → IsAskedBy words ask
+asked_from words None ask none e h = absurd h
+asked_from words (Some p) (Run run) none e h = record { faultless = none; command_is = rw (← e) h }
+asked_from words (Some p) (Check config commands) none e h = record { faultless = none; command_is = rw (← e) h }
+asked_from words (Some p) (Map config address) none e h = record { faultless = none; command_is = rw (← e) h }
+asked_from words (Some p) (Show show) none e h = record { faultless = none; command_is = rw (← e) h }
+asked_from words (Some p) (ShowBanks show) none e h = record { faultless = none; command_is = rw (← e) h }
+asked_from words (Some p) (Page page) none e h = record { faultless = none; command_is = rw (← e) h }
+asked_from words (Some p) (Compare dirs csv) none e h = record { faultless = none; command_is = rw (← e) h }
+asked_from words (Some p) (Help t) none e h = absurd h
+asked_from words (Some p) (Version t) none e h = absurd h
 
 pub answered_from : (words : List Text) (o : Option (Text × List Row)) (r : Result Ask Fault) → o ≡ command_of words → IfOk r (IsCommandOf o) → IfErr r (IsCommandFault o) → IsAnswerTo words r
 answered_from words None (Ok ask) e ok err = absurd ok
@@ -75,7 +80,7 @@ help_from words e (ShowBanks show) has h = absurd h
 help_from words e (Page page) has h = absurd h
 help_from words e (Compare dirs csv) has h = absurd h
 help_from words e (Help t) has h = among_shown words e DisplayHelp has h (λ other. cc)
-help_from words e (Version t) has h = among_shown words e DisplayVersion has h (λ other. cc)
+help_from words e (Version t) has h = (among_shown words e DisplayVersion has h.0 (λ other. cc), h.1)
 
 not_for_memory : (ask : Ask) (k : ErrorKind) → k ≡ OutOfMemory → IsShown ask k → ⊥
 not_for_memory (Run run) k memory h = h
@@ -86,7 +91,7 @@ not_for_memory (ShowBanks show) k memory h = h
 not_for_memory (Page page) k memory h = h
 not_for_memory (Compare dirs csv) k memory h = h
 not_for_memory (Help t) k memory h = let both : OutOfMemory ≡ DisplayHelp = sym memory ∙ h in cc
-not_for_memory (Version t) k memory h = let both : OutOfMemory ≡ DisplayVersion = sym memory ∙ h in cc
+not_for_memory (Version t) k memory h = let both : OutOfMemory ≡ DisplayVersion = sym memory ∙ h.0 in cc
 
 shown_help : (ask : Ask) (k : ErrorKind) → k ≡ DisplayHelp → IsShown ask k → IsHelp ask
 shown_help (Run run) k is h = h
@@ -97,7 +102,7 @@ shown_help (ShowBanks show) k is h = h
 shown_help (Page page) k is h = h
 shown_help (Compare dirs csv) k is h = h
 shown_help (Help t) k is h = tt
-shown_help (Version t) k is h = let both : DisplayHelp ≡ DisplayVersion = sym is ∙ h in cc
+shown_help (Version t) k is h = let both : DisplayHelp ≡ DisplayVersion = sym is ∙ h.0 in cc
 
 shown_version : (ask : Ask) (k : ErrorKind) → k ≡ DisplayVersion → IsShown ask k → IsVersion ask
 shown_version (Run run) k is h = h
@@ -108,7 +113,7 @@ shown_version (ShowBanks show) k is h = h
 shown_version (Page page) k is h = h
 shown_version (Compare dirs csv) k is h = h
 shown_version (Help t) k is h = let both : DisplayVersion ≡ DisplayHelp = sym is ∙ h in cc
-shown_version (Version t) k is h = tt
+shown_version (Version t) k is h = h.1
 
 -- why an error is none that is shown
 abbrev pub IsHidden : ErrorKind → Fault → Type 0
@@ -121,12 +126,8 @@ refused_from words e (Err fault) memory ok (inl is) = subst (λ f. IsAnswerTo wo
 refused_from words e (Err fault) memory ok (inr is) = absurd (is.1.no_memory memory)
 
 -- where the words call for a text, an answer is no command
-pub no_command : (app : App) (words : List Text) (k : ErrorKind) → app ≡ program_app → (is_simple_and_free app ≡ true → fault_of app words ≡ []) → kinds_of_fault words ≡ k ∷ [] → ⊥
-unfolding kinds_of_fault
-no_command app words k same none call =
-    let nothing : fault_of program_app words ≡ [] = subst (λ (a : App). fault_of a words ≡ []) same (none (ap is_simple_and_free same ∙ simple_and_free)) in
-    let both : [] ≡ k ∷ [] = sym nothing ∙ call in
-    cc
+pub no_command : (words : List Text) (k : ErrorKind) → kinds_of_fault words ≡ [] → kinds_of_fault words ≡ k ∷ [] → ⊥
+no_command words k none call = let both : [] ≡ k ∷ [] = sym none ∙ call in cc
 
 kind_called : (words : List Text) (e : Error) (k : ErrorKind) → HasKind (kinds_of_fault words) e → kinds_of_fault words ≡ k ∷ [] → (kind_of e ≡ OutOfMemory) ⊎ (kind_of e ≡ k)
 kind_called words e k (inl memory) call = inl memory

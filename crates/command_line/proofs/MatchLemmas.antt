@@ -17,7 +17,7 @@ Reads t r = ReadsOne {T = ℕ} {E = ParseIntError} (λ bs x. ParsesUnsigned 64 1
 pub count_read : (o : Option Text) (r : Option ℕ) → (o ≡ None → r ≡ None) → ((t : Text) → o ≡ Some t → Reads t r) → IfSome r (IsCount o)
 count_read o None none value = tt
 count_read None (Some n) none value = let e = none refl in cc
-count_read (Some t) (Some n) none value = (OkIff-at_ok {T = ℕ} {E = ParseIntError} (Ok n) _ _ n (value t refl).0 refl).1
+count_read (Some t) (Some n) none value = OkIff-at_ok {T = ℕ} {E = ParseIntError} (Ok n) _ _ n (value t refl).0 refl
 
 -- where none was read, there is no text, or it is no number
 pub count_missing : (o : Option Text) (r : Option ℕ) → ((t : Text) → o ≡ Some t → Reads t r) → r ≡ None → IsCountText o → ⊥

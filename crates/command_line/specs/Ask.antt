@@ -3,11 +3,12 @@
 --     command_of words      the command that they name, with a row for each of its arguments
 --     kinds_of_fault words      why it may not take them
 --     IsCallForHelp words, IsCallForVersion words      they call for help, or for the version
+--     NamesCommand words ask      they have no fault, and name the command that is asked for
 --     IsAskedBy words ask      they ask for this
 --     GivesAll command      each argument that the command needs is there
 --     HasBadWord command      a word of the command means nothing where it stands, or a `compare` has one run alone
 --     IsAnswerTo words result      an answer to words that the command line takes
-use Rattle.std.specs.Prelude.{◌≡◌, ◌≢◌, ◌⊎◌, ℕ, ◌<◌, ◌≤◌, ◌^◌, ⊤, Bool, true, false, List, [], ◌∷◌, length, map, option_map, codes, Option, Some, None, Result, Ok, Err, IsSome, IsErr}
+use Rattle.std.specs.Prelude.{◌≡◌, ◌≢◌, ◌⊎◌, ℕ, ◌<◌, ◌≤◌, ◌^◌, ⊤, Bool, true, false, List, [], ◌∷◌, length, map, option_map, codes, string_bytes, Option, Some, None, Result, Ok, Err, IsSome, IsErr}
 use Rattle.std.specs.Str.Parse.{IsNumeral, digits_value, without_leading_plus}
 use Rattle.clap.specs.Words.{Row, Text, all_of, fault_of, first_of, one_of, subcommand_of, takes, Kinds, IsAmong}
 use Rattle.clap.specs.declared.error.kind.ErrorKind.{ErrorKind}
@@ -45,12 +46,17 @@ IsCallForHelp words = kinds_of_fault words ≡ DisplayHelp ∷ []
 abbrev pub IsCallForVersion : List Text → Type 0
 IsCallForVersion words = kinds_of_fault words ≡ DisplayVersion ∷ []
 
--- the number that a text of decimal digits is, with or without a leading plus
+-- a text is a number of 64 bits: decimal digits alone, with or without a leading plus
+abbrev pub IsCountText : Option Text → Type 0
+IsCountText None = ⊥
+IsCountText (Some text) = IsNumeral 10 (without_leading_plus text) × (digits_value 10 (without_leading_plus text) < 2 ^ 64)
+
+-- the text is a number of 64 bits, and it is this number
 abbrev pub IsCount : Option Text → ℕ → Type 0
 IsCount None n = ⊥
-IsCount (Some text) n = n ≡ digits_value 10 (without_leading_plus text)
+IsCount (Some text) n = IsCountText (Some text) × (n ≡ digits_value 10 (without_leading_plus text))
 
--- the number that a text of decimal digits is, with or without a leading plus, or this number where there is no text
+-- the text is a number of 64 bits, and it is this number; or there is no text, and this number stands for it
 abbrev pub IsCountOr : ℕ → Option Text → ℕ → Type 0
 IsCountOr absent None n = n ≡ absent
 IsCountOr absent (Some text) n = IsCount (Some text) n
@@ -152,15 +158,19 @@ abbrev pub IsHelp : Ask → Type 0
 IsHelp (Help text) = ⊤
 IsHelp _ = ⊥
 
--- a text that answers a call for the version
+-- the line that tells the name of the program and its version
+abbrev pub version_line : Text
+version_line = codes "dramsim 1.0.0\n"
+
+-- the text that answers a call for the version
 abbrev pub IsVersion : Ask → Type 0
-IsVersion (Version text) = ⊤
+IsVersion (Version text) = string_bytes text ≡ version_line
 IsVersion _ = ⊥
 
 -- the text that answers an error of this kind
 abbrev pub IsShown : Ask → ErrorKind → Type 0
 IsShown (Help text) kind = kind ≡ DisplayHelp
-IsShown (Version text) kind = kind ≡ DisplayVersion
+IsShown (Version text) kind = (kind ≡ DisplayVersion) × (string_bytes text ≡ version_line)
 IsShown _ kind = ⊥
 
 -- help, or out of memory for its text
@@ -179,16 +189,17 @@ pub record IsNoHelp (kind : ErrorKind) : Type 0 where
   pub no_version : kind ≢ DisplayVersion
   pub no_memory : kind ≢ OutOfMemory
 
--- the words name the command that is asked for, with its values, or call for help or for the version
+-- the command line finds no fault in the words, and they name the command that is asked for, with its values
+pub record NamesCommand (words : List Text) (ask : Ask) : Type 0 where
+  pub faultless : kinds_of_fault words ≡ []
+  pub command_is : IsCommandOf (command_of words) ask
+
+-- the words have no fault and name the command that is asked for, with its values; or they call for help or for the
+-- version, whose text is the line that tells it
 abbrev pub IsAskedBy : List Text → Ask → Type 0
 IsAskedBy words (Help text) = IsAmong DisplayHelp (kinds_of_fault words)
-IsAskedBy words (Version text) = IsAmong DisplayVersion (kinds_of_fault words)
-IsAskedBy words ask = IsCommandOf (command_of words) ask
-
--- a text is a number of 64 bits
-abbrev pub IsCountText : Option Text → Type 0
-IsCountText None = ⊥
-IsCountText (Some text) = IsNumeral 10 (without_leading_plus text) × (digits_value 10 (without_leading_plus text) < 2 ^ 64)
+IsAskedBy words (Version text) = IsAmong DisplayVersion (kinds_of_fault words) × (string_bytes text ≡ version_line)
+IsAskedBy words ask = NamesCommand words ask
 
 -- a text, if there is one, is a number of 64 bits
 abbrev pub IsNoneOrCount : Option Text → Type 0

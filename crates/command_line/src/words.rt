@@ -1,13 +1,13 @@
 //! What a command line asks for.
 
-ghost use Rattle.std.specs.Prelude.{◌≡◌, true, Some, None, Ok, IfOk, IfErr, IsOk, IsErr, IfSome, option_map, codes};
+ghost use Rattle.std.specs.Prelude.{◌≡◌, true, Some, None, Ok, IfOk, IfErr, IsOk, IsErr, IfSome, option_map, codes, string_bytes};
 ghost use Rattle.clap.specs.Words.{kind_of, subcommand_rows_of};
 ghost use Rattle.sim_base.specs.TraceText.{number_of};
-ghost use Rattle.command_line.specs.Ask.{is_taken, IsCallForHelp, IsCallForVersion, IsCount, IsCountText, IsCountOr, IsNoneOrCount, IsFlag, IsShare, IsNoShare, IsTables, IsNoTables, IsClock, IsNoClock, IsCommand, IsCommandOf, IsCommandFault, IsShown, IsHelpUnlessMemory, IsVersionUnlessMemory, IsNoHelp, IsAskedBy, IsAnswerTo, IsWordsFault, GivesRun, GivesCheck, GivesMap, GivesShow, GivesPage, GivesCompare, GivesAll, IsAlone};
+ghost use Rattle.command_line.specs.Ask.{is_taken, IsCallForHelp, IsCallForVersion, IsCount, IsCountText, IsCountOr, IsNoneOrCount, IsFlag, IsShare, IsNoShare, IsTables, IsNoTables, IsClock, IsNoClock, IsCommand, IsCommandOf, IsCommandFault, IsShown, IsHelpUnlessMemory, IsVersionUnlessMemory, IsNoHelp, IsAskedBy, version_line, IsAnswerTo, IsWordsFault, GivesRun, GivesCheck, GivesMap, GivesShow, GivesPage, GivesCompare, GivesAll, IsAlone};
 ghost use Rattle.command_line.specs.Arguments.{rows_in, word_at, one_at, all_at, texts_in, IsRefusal, IsMemoryOrRefusal, GivesWords, GivesRuns, HasNoShare, HasNoTables, HasNoAddress, HasNoClock, BarsRun, BarsCompare};
 
 use crate::clock::read_clock;
-use crate::command_line::program;
+use crate::command_line::{VERSION, program};
 use crate::tables::read_tables;
 use clap::error::{Error, ErrorKind};
 use clap::{ArgMatches, Command};
@@ -368,7 +368,7 @@ const ADDRESS: &str =
     "ADDRESS: a decimal number, or a hexadecimal one after 0x, at most 18446744073709551615";
 
 const MHZ: &str =
-    "N of --mhz: a decimal number such as 1200 or 1333.333, above 0 and below a million";
+    "N of --mhz: a decimal number such as 1200 or 1333.333, with at most three places behind the point, above 0 and below a million";
 
 const SHARE: &str = "WHEN of --share: auto or always";
 
@@ -417,29 +417,46 @@ fn command_of<'a>(alloc: Global, matches: &ArgMatches<'a>) -> Result<Ask<'a>, Re
     }
 }
 
-// The command that a word may be meant for: at most a third of its letters are inserted, deleted, changed, or exchanged
-// with the next one.
+// The command that a word may be meant for, if it is none itself: at most a third of its letters are inserted, deleted,
+// changed, or exchanged with the next one.
 fn nearest(alloc: Global, word: &str) -> Result<Option<&'static str>, AllocError> {
     let most = word.len().max(3) / 3;
     for name in COMMANDS {
-        if osa_distance(alloc, word, name)? <= most {
-            return Ok(Some(name));
+        let distance = osa_distance(alloc, word, name)?;
+        if distance <= most {
+            return Ok(if distance == 0 { None } else { Some(name) });
         }
     }
     Ok(None)
 }
 
-// What explains an error of the command line: its text, and the command that the first word may be meant for where the
-// text has no tip.
+// The word that stands where a command is wanted: the first one, or the one behind a `help`.
+fn command_word<'a>(words: &[&'a str]) -> &'a str {
+    let first = words.get(1).copied().unwrap_or("");
+    match first {
+        "help" => words.get(2).copied().unwrap_or(""),
+        _ => first,
+    }
+}
+
+// What explains an error of the command line: its text, and the command that a word may be meant for where the text has
+// no tip.
 fn explain_error(alloc: Global, error: &Error, words: &[&str]) -> Result<String, AllocError> {
     let text = error.to_string(alloc)?;
     if error.kind() != ErrorKind::InvalidSubcommand || text.as_str().contains("tip:") {
         return Ok(text);
     }
-    match nearest(alloc, words.get(1).copied().unwrap_or(""))? {
+    match nearest(alloc, command_word(words))? {
         Some(name) => format!(in alloc; "{text}did you mean '{name}'?\n"),
         None => Ok(text),
     }
+}
+
+// The line that tells the name of the program and its version.
+fn version_text(alloc: Global) -> Result<String, AllocError>
+    ensures line { IfOk result (λ text. string_bytes text ≡ version_line) }
+{
+    format!(in alloc; "dramsim {VERSION}\n")
 }
 
 // Why a command line refuses its words, or the text that answers a call for help or for the version.
@@ -450,7 +467,7 @@ fn help_of<'a>(alloc: Global, error: &Error, words: &[&str]) -> Result<Ask<'a>, 
     match error.kind() {
         ErrorKind::OutOfMemory => Err(Reason::from(Fault::Memory)),
         ErrorKind::DisplayHelp => Ok(Ask::Help(error.to_string(alloc)?)),
-        ErrorKind::DisplayVersion => Ok(Ask::Version(error.to_string(alloc)?)),
+        ErrorKind::DisplayVersion => Ok(Ask::Version(version_text(alloc)?)),
         _ => Err(Reason::explained(Fault::CommandLine, explain_error(alloc, error, words))),
     }
 }

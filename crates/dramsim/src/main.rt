@@ -3,10 +3,10 @@
 
 use program::host::Host;
 use program::perform::perform;
+use program::status::ExitStatus;
 use program::streams::Streams;
 use progress::watcher::ProgressLine;
 use refusal::error_stream::ErrorStream;
-use refusal::status::REFUSED;
 use sim_base::fault::Fault;
 use std::io::{ErrorKind, IsTerminal};
 use std::process::ExitCode;
@@ -17,7 +17,10 @@ use whole_files::files::HostFiles;
 
 // Hands the words, the files, the streams and the threads of the host over. The progress of a run is shown if standard
 // error is a terminal.
-fn perform_words<T: Threads + Wait + Sync>(rt: &HostRuntime, threads: &T) -> io::Result<u8> {
+fn perform_words<T: Threads + Wait + Sync>(
+    rt: &HostRuntime,
+    threads: &T,
+) -> io::Result<ExitStatus> {
     let arguments: Vec<String> = env::args(rt)?.collect(rt.alloc())?;
     let words: Vec<&str> = arguments
         .iter()
@@ -47,11 +50,11 @@ fn words_fault(error: &io::Error) -> Fault {
 
 fn main(rt: HostRuntime) -> ExitCode {
     match perform_words(&rt, &rt) {
-        Ok(status) => ExitCode::from(status),
+        Ok(status) => ExitCode::from(status.code()),
         Err(error) => {
             let fault = words_fault(&error);
             let _ = eprintln!(rt; "{fault}");
-            ExitCode::from(REFUSED)
+            ExitCode::from(ExitStatus::Refused.code())
         }
     }
 }

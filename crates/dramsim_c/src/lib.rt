@@ -293,7 +293,7 @@ pub extern "C" fn dramsim_close(alloc: Global, channel: &mut KeptChannel)
 /// length; 0 where the configuration is not refused. Any other status than 0 leaves the memory as it was.
 ///
 /// Status: 15 where the line is longer than the memory, and its length is written then; else 0. It may be 1 in place of
-/// either, where memory is refused to the call.
+/// either, where memory is refused to the call; nothing is written then.
 #[unsafe(no_mangle)]
 pub extern "C" fn dramsim_fault_text(
     alloc: Global,
@@ -306,6 +306,7 @@ pub extern "C" fn dramsim_fault_text(
     ensures written { result ≡ 0
         → into.new ≡ written_over (fault_text (document_of text.now)) into.old }
     ensures wanted { result ≢ 1 → wanted.new ≡ length (fault_text (document_of text.now)) }
+    ensures kept { result ≡ 1 → wanted.new ≡ wanted.old }
     ensures same { result ≢ 0 → into.new ≡ into.old }
 {
     status(write_fault(alloc, text, into, wanted))

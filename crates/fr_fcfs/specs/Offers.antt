@@ -13,6 +13,7 @@
 --     IsBest now hits rows offer      an offer is the first from now on
 --     IsBestSoFar room now hits rows offer      the same, where one with a place after all others stands for none
 --     TakesRows log now old new more, TakesHits log now old new more      the best offer so far takes in more requests
+--     TakesRowsOf bank_candidates banks asked commands old new      it takes in what opens or closes the rows of some banks
 --     better_of a b      the one of two offers that goes first
 --     IsFirstReady s history queue now offer      an offer is what the first ready request of the queue needs
 use Rattle.std.specs.Prelude.{◌≡◌, ℕ, ◌<◌, ◌≤◌, ◌==◌, nat_lt, max, Bool, true, false, not, ◌&&◌, ◌||◌, List, length, filter, Option, is_some, Some, None, option_map, slice_get, if◌then◌else◌}
@@ -27,19 +28,22 @@ use Rattle.sim_base.specs.declared.message.Request.{Request}
 use Rattle.sim_base.specs.declared.place.BankId.{BankId}
 use Rattle.sim_base.specs.Rules.{kind_of, bank_of, finds_its_banks}
 use Rattle.sim_base.specs.Scheduling.{needed, ready_hit, ready_row, first_of_lines, first_ready}
+use Rattle.bank_ready.specs.declared.banks.Banks.{Banks}
 use Rattle.queue.specs.declared.request_log.Arrived.{Arrived}
 use Rattle.queue.specs.Log.{waiting_requests, all_requests, waits_at}
 use Rattle.queue.specs.Columns.{bank_number}
 use Rattle.queue.specs.View.{QueueView}
 use Rattle.queue.specs.declared.bank_candidates.entry.CandidatesOfBank.{CandidatesOfBank}
 use Rattle.queue.specs.declared.bank_candidates.all_banks.BankCandidates.{BankCandidates}
+use Rattle.queue.specs.declared.bank_candidates.sets.BankSet.{BankSet}
 use Rattle.queue.specs.Candidates.{first_place}
 use Rattle.queue.specs.Moves.{earlier}
+use Rattle.queue.specs.Sets.{is_in}
 use Rattle.queue.specs.Stands.{candidates_of_bank, row_of_bank}
 use Rattle.fr_fcfs.specs.declared.accesses.Accesses.{Accesses}
 use Rattle.fr_fcfs.specs.declared.first.RowCommands.{RowCommands}
 use Rattle.fr_fcfs.specs.declared.offers.Offer.{Offer}
-use Rattle.fr_fcfs.specs.Requests.{IsLegalFrom, candidates_of}
+use Rattle.fr_fcfs.specs.Requests.{IsLegalFrom, StandForLog, candidates_of}
 
 -- requests of an access go
 abbrev pub includes : Accesses → Access → Bool
@@ -213,6 +217,14 @@ with_left asked left = λ bank. asked bank || left bank
 -- none of these banks is left
 abbrev pub AreNotLeft : (ℕ → Bool) → (ℕ → Bool) → Type 0
 AreNotLeft asked left = (bank : ℕ) → asked bank ≡ true → left bank ≡ false
+
+-- The best offer so far, in which these banks were left, beside others, takes in what opens or closes their rows.
+abbrev pub TakesRowsOf : BankCandidates → Banks → BankSet → RowCommands → Offer → Offer → Type 0
+TakesRowsOf bank_candidates banks asked commands old new =
+    (s : Config) (history : List IssuedCommand) (log : List Arrived) (hits : ℕ → Option ℕ) (left : ℕ → Bool)
+    → StandForLog bank_candidates banks s history log → AreNotLeft (is_in asked) left
+    → IsBestSoFar (length log) commands.now hits (rows_beside s history log commands.accesses (with_left (is_in asked) left)) old
+    → IsBestSoFar (length log) commands.now hits (rows_beside s history log commands.accesses left) new
 
 -- An offer is what the first ready request, from now on, needs. That request waits.
 pub record IsReadyAt (s : Config) (history : List IssuedCommand) (queue : QueueView) (now : ℕ) (o : Offer) : Type 0 where

@@ -1,6 +1,6 @@
 //! The offer that goes first of all banks.
 
-ghost use Rattle.std.specs.Prelude.{◌≡◌, ◌<◌, ◌*◌, ◌-◌, ◌^◌, ℕ, Bool, true, ◌&&◌, List, Option, Some, IsTrue, length, is_some, IfSome};
+ghost use Rattle.std.specs.Prelude.{◌≡◌, ◌<◌, ◌*◌, ◌-◌, ◌^◌, ℕ, true, ◌&&◌, List, Option, Some, IsTrue, length, is_some, IfSome};
 ghost use Rattle.sim_base.specs.declared.config.Config.{Config};
 ghost use Rattle.sim_base.specs.declared.command.IssuedCommand.{IssuedCommand};
 ghost use Rattle.bank_ready.specs.Words.{names_bank, is_column_kind};
@@ -12,8 +12,8 @@ ghost use Rattle.queue.specs.Sets.{is_in};
 ghost use Rattle.queue.specs.Stands.{bank_count, StandsFor as CandidatesStandFor};
 ghost use Rattle.fr_fcfs.specs.Requests.{AreInBanks, OfSameBanks, StandForLog, candidates_of};
 ghost use Rattle.fr_fcfs.specs.Offers.{only, going, column_kind, if_allowed, oldest_of, hit_of, NeedsRow};
-ghost use Rattle.fr_fcfs.specs.Offers.{hits_in, all_hits, hits_if, rows_in, all_rows, rows_beside, no_place};
-ghost use Rattle.fr_fcfs.specs.Offers.{with_left, AreNotLeft, IsBestSoFar, TakesHits, TakesRows, IsFirstReady};
+ghost use Rattle.fr_fcfs.specs.Offers.{hits_in, all_hits, hits_if, rows_in, all_rows, no_place};
+ghost use Rattle.fr_fcfs.specs.Offers.{IsBestSoFar, TakesHits, TakesRows, TakesRowsOf, IsFirstReady};
 
 use crate::accesses::Accesses;
 use crate::offers::{Offer, improve, ready};
@@ -202,14 +202,7 @@ fn with_rows_of(
     requires needed { (bank : ℕ) → is_in asked bank ≡ true
         → NeedsRow commands bank_candidates.now bank }
     requires names_bank { IsTrue (names_bank commands.kind) }
-    ensures { (s : Config) (history : List IssuedCommand) (log : List Arrived)
-        (hits : ℕ → Option ℕ) (left : ℕ → Bool)
-        → StandForLog bank_candidates.now banks.now s history log
-        → AreNotLeft (is_in asked) left
-        → IsBestSoFar (length log) commands.now hits
-        (rows_beside s history log commands.accesses (with_left (is_in asked) left)) best.old
-        → IsBestSoFar (length log) commands.now hits
-        (rows_beside s history log commands.accesses left) best.new }
+    ensures { TakesRowsOf bank_candidates.now banks.now asked commands best.old best.new }
 {
     let mut rest = asked;
     while let Some(bank) = rest.first() {
@@ -233,14 +226,7 @@ fn with_acts(
     requires needed { (bank : ℕ) → is_in closed bank ≡ true
         → NeedsRow commands bank_candidates.now bank }
     requires acts { commands.kind ≡ Kind.Act }
-    ensures { (s : Config) (history : List IssuedCommand) (log : List Arrived)
-        (hits : ℕ → Option ℕ) (left : ℕ → Bool)
-        → StandForLog bank_candidates.now banks.now s history log
-        → AreNotLeft (is_in closed) left
-        → IsBestSoFar (length log) commands.now hits
-        (rows_beside s history log commands.accesses (with_left (is_in closed) left)) best.old
-        → IsBestSoFar (length log) commands.now hits
-        (rows_beside s history log commands.accesses left) best.new }
+    ensures { TakesRowsOf bank_candidates.now banks.now closed commands best.old best.new }
 {
     if best.cycle < banks.act_floor() {
         return;

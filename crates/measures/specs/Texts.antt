@@ -5,7 +5,9 @@
 --     PutsOutput output old new      what a value writes, if that is known
 --     KeepsRefusal old new      no refusal of memory is forgotten
 --     HasRoom count builder      there is room for so many bytes more
---     GoesOnWithRoom count old new      no memory is refused for so many bytes where there is room for them
+--     RefusesNone count old new      no memory is refused for so many bytes where there is room for them
+--     KeepsRoom count old new      what room there was beyond them is still there
+--     GoesOnWithRoom count old new      both
 --     IsText wanted text      a `String` has this text
 --     flush_right width words      words with blanks before them, up to a width
 use Rattle.std.specs.Prelude.{◌≡◌, ◌+◌, ◌-◌, ◌≤◌, ⊤, false, ℕ, List, ◌++◌, length, codes, Option, IfSome, String, string_bytes, string_len, string_capacity}
@@ -45,8 +47,17 @@ abbrev pub HasRoom : ℕ → TextBuilder → Type 0
 HasRoom count builder = string_len builder.text + count ≤ string_capacity builder.text
 
 -- no memory is refused where none was before and the text has room for so many bytes more
+abbrev pub RefusesNone : ℕ → TextBuilder → TextBuilder → Type 0
+RefusesNone count old new = old.was_refused ≡ false → HasRoom count old → new.was_refused ≡ false
+
+-- what room there was beyond so many bytes is still there
+abbrev pub KeepsRoom : ℕ → TextBuilder → TextBuilder → Type 0
+KeepsRoom count old new = (more : ℕ) → HasRoom (count + more) old → HasRoom more new
+
+-- Where no memory was refused before and the text has room for so many bytes more, none is refused now, and what room
+-- there was beyond that is still there.
 abbrev pub GoesOnWithRoom : ℕ → TextBuilder → TextBuilder → Type 0
-GoesOnWithRoom count old new = old.was_refused ≡ false → HasRoom count old → new.was_refused ≡ false
+GoesOnWithRoom count old new = RefusesNone count old new × KeepsRoom count old new
 
 -- a `String` has this text
 abbrev pub IsText : List ℕ → String Global → Type 0

@@ -89,11 +89,15 @@ impl TextBuilder {
         }
     }
 
-    /// Appends words, with blanks before them where they are shorter than the width.
+    /// Appends words, with blanks before them where they are shorter than the width. No memory is refused where the text
+    /// has room for all of it.
     pub fn push_flush_right(&mut self, width: usize, words: &str)
-        ensures { PutsWords (flush_right width words.now) self.old self.new }
+        ensures words { PutsWords (flush_right width words.now) self.old self.new }
+        ensures room { GoesOnWithRoom (length (flush_right width words.now)) self.old self.new }
     {
-        self.push(" ".repeat(self.alloc, width.saturating_sub(words.len())));
+        for _ in words.len()..width {
+            self.push_str(" ");
+        }
         self.push_str(words);
     }
 

@@ -1,6 +1,6 @@
 //! The page of a run.
 
-ghost use Rattle.std.specs.Prelude.{ℕ, OnOk, IfErr};
+ghost use Rattle.std.specs.Prelude.{◌≡◌, ℕ, OnOk, IfErr};
 ghost use Rattle.page.specs.Document.{WritesDocument};
 ghost use Rattle.page.specs.Rows.{IsOfRunAt, IsReason};
 
@@ -38,6 +38,8 @@ pub fn write_page<'a, W: Write>(
     ensures all_of_run { OnOk result ((place : ℕ)
         → IsOfRunAt run.now.stats.now run.now.commands.now place) }
     ensures refused { IfErr result (IsReason run.now.stats.now run.now.commands.now) }
+    ensures unwritten { IfErr result (λ fault. (place : ℕ)
+        → fault ≡ PageFault.Command place → writer.new ≡ writer.old) }
 {
     check_rows(run.stats, run.commands)?;
     let stats = run.stats;

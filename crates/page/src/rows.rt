@@ -1,7 +1,7 @@
 //! Whether commands are those of a run.
 
 ghost use Rattle.std.specs.Prelude.{◌↔◌, ℕ, IsTrue, IfNone, IfSome, IfErr, OnOk};
-ghost use Rattle.page.specs.Rows.{IsFirstStranger, IsOfRun, IsOfRunAt, IsReason};
+ghost use Rattle.page.specs.Rows.{IsFirstStranger, IsOfRun, IsOfRunAt, NamesFirstStranger};
 
 use crate::fault::PageFault;
 use command_table::list::CommandList;
@@ -37,7 +37,7 @@ pub fn first_stranger(stats: &Stats, commands: &CommandList) -> Option<usize>
 /// `PageFault::Command` with the place of the first command that is not.
 pub(crate) fn check_rows(stats: &Stats, commands: &CommandList) -> Result<(), PageFault>
     ensures all { OnOk result ((place : ℕ) → IsOfRunAt stats.now commands.now place) }
-    ensures stranger { IfErr result (IsReason stats.now commands.now) }
+    ensures stranger { IfErr result (NamesFirstStranger stats.now commands.now) }
 {
     match first_stranger(stats, commands) {
         None => Ok(()),

@@ -1,5 +1,5 @@
 -- What is so of an answer, of a run or of a page is so of what it has done, or of why it is refused.
-use Rattle.std.proofs.Common.{Option, None, Result, Ok, Err}
+use Rattle.std.proofs.Common.{◌≢◌, Option, None, Result, Ok, Err}
 use Rattle.std.specs.Prelude.{IfOk, IfErr, OnOk}
 use Rattle.sim_base.specs.declared.fault.Fault.{Fault}
 use Rattle.refusal.specs.declared.refusal.Refusal.{Refusal}
@@ -7,6 +7,16 @@ use Rattle.refusal.specs.declared.refusal.Refusal.TheVariants.{Kept}
 use Rattle.refusal.specs.declared.warning.LargePage.{LargePage}
 use Rattle.program.specs.Done.{done_with, quietly_done, run_done, warned_done}
 use Rattle.program.specs.declared.done.Done.{Done}
+use Rattle.program.specs.declared.status.ExitStatus.TheVariants as status
+
+-- who has done what was asked has not refused it
+pub done_is_not_refused : status.Done ≢ status.Refused
+done_is_not_refused is = absurd cc
+
+-- what is so of each refusal
+pub err_each : {T E : Type 0} (Q : E → Type 0) (r : Result T E) → ((e : E) → Q e) → IfErr r Q
+err_each Q (Ok x) q = tt
+err_each Q (Err e) q = q e
 
 -- ---- an answer that warns of nothing
 

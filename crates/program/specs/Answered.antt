@@ -4,7 +4,6 @@
 --     IsOutcome config cycles workers tables traces held run      the outcome of a run over what the named files hold
 --     IsRunDone config cycles workers tables out traces old new before after      its tables are in the folder
 --     IsUnfinished refusal config cycles workers tables out traces has_folder old new before after      what is left of a run that is refused
---     verdict_status found      the status of a verdict
 --     IsAnswer ask done old new      what is asked has been done
 --     IsQuiet ask warning      nothing is warned of but pages
 --     IsLeft refusal ask old new      what is left where it has not been done
@@ -24,10 +23,12 @@ use Rattle.whole_files.specs.WholeFile.{part_of, IsUnwritten}
 use Rattle.refusal.specs.Refusals.{IsKept}
 use Rattle.refusal.specs.Warnings.{IsWarned}
 use Rattle.refusal.specs.declared.warning.LargePage.{LargePage}
+use Rattle.program.specs.Status.{verdict_status}
 use Rattle.program.specs.declared.done.Done.{Done}
+use Rattle.program.specs.declared.status.ExitStatus.{ExitStatus}
+use Rattle.program.specs.declared.status.ExitStatus.TheVariants as exit
 use Rattle.whole_files.specs.Tables.{parts, IsWritten, LeavesAll, IsUnplaced}
 use Rattle.rule_check.specs.declared.verdict.Verdict.{Verdict}
-use Rattle.rule_check.specs.declared.verdict.Verdict.TheVariants.{Legal, Broken}
 use Rattle.answers.specs.Answers.{IsChecked, IsMapped, IsShown, IsCompared}
 use Rattle.compare.specs.declared.layout.Layout.{Layout}
 use Rattle.compare.specs.declared.layout.Layout.TheVariants.{Screen, Csv}
@@ -92,27 +93,22 @@ IsUnfinished refusal config cycles workers tables out traces has_folder old new 
 
 -- a run has been done: its folder was there before it began, it prints nothing, and opens just the tables that are
 -- asked for
-pub record IsRunAnswer (config : List ℕ) (cycles workers : ℕ) (tables : Tables) (out : List ℕ) (traces : List (List ℕ)) (status : ℕ) (old new : Seen) : Type 0 where
-  pub status_is : status ≡ 0
+pub record IsRunAnswer (config : List ℕ) (cycles workers : ℕ) (tables : Tables) (out : List ℕ) (traces : List (List ℕ)) (status : ExitStatus) (old new : Seen) : Type 0 where
+  pub status_is : status ≡ exit.Done
   pub folder : old.has_folder out ≡ true
   pub done : IsRunDone config cycles workers tables out traces old.held new.held old.opened new.opened
   pub silent : new.printed ≡ old.printed
 
--- the status of a verdict: 1 where a rule is broken
-abbrev pub verdict_status : Verdict → ℕ
-verdict_status Legal = 0
-verdict_status (Broken row rule) = 1
-
--- a table has been checked, and the status is that of the verdict
-pub record IsCheckAnswer (config commands : List ℕ) (status : ℕ) (old new : Seen) : Type 0 where
+-- a table has been checked, and the program ends as the verdict is
+pub record IsCheckAnswer (config commands : List ℕ) (status : ExitStatus) (old new : Seen) : Type 0 where
   pub found : Verdict
   pub checked : IsChecked config commands found old.held (Appends old.printed new.printed)
   pub status_is : status ≡ verdict_status found
   pub untouched : IsUntouched old.held new.held old.opened new.opened
 
 -- an address has been mapped
-pub record IsMapAnswer (config : List ℕ) (address status : ℕ) (old new : Seen) : Type 0 where
-  pub status_is : status ≡ 0
+pub record IsMapAnswer (config : List ℕ) (address : ℕ) (status : ExitStatus) (old new : Seen) : Type 0 where
+  pub status_is : status ≡ exit.Done
   pub mapped : IsMapped config address old.held (Appends old.printed new.printed)
   pub untouched : IsUntouched old.held new.held old.opened new.opened
 
@@ -121,20 +117,20 @@ abbrev pub options_of : ShowArguments → Options
 options_of show = record { all = show.all; khz = show.khz }
 
 -- a run has been shown
-pub record IsShowAnswer (dir : List ℕ) (config : Option (List ℕ)) (options : Options) (status : ℕ) (old new : Seen) : Type 0 where
-  pub status_is : status ≡ 0
+pub record IsShowAnswer (dir : List ℕ) (config : Option (List ℕ)) (options : Options) (status : ExitStatus) (old new : Seen) : Type 0 where
+  pub status_is : status ≡ exit.Done
   pub shown : IsShown dir config options old.held (Appends old.printed new.printed)
   pub untouched : IsUntouched old.held new.held old.opened new.opened
 
 -- a run has been shown with its banks
-pub record IsBanksAnswer (dir : List ℕ) (config : Option (List ℕ)) (options : Options) (status : ℕ) (old new : Seen) : Type 0 where
-  pub status_is : status ≡ 0
+pub record IsBanksAnswer (dir : List ℕ) (config : Option (List ℕ)) (options : Options) (status : ExitStatus) (old new : Seen) : Type 0 where
+  pub status_is : status ≡ exit.Done
   pub shown : IsShownWithBanks dir config options old.held (Appends old.printed new.printed)
   pub untouched : IsUntouched old.held new.held old.opened new.opened
 
 -- a page has been made: it prints nothing, and opens just one file
 pub record IsPageAnswer (dir file : List ℕ) (config : Option (List ℕ)) (done : Done) (old new : Seen) : Type 0 where
-  pub status_is : done.status ≡ 0
+  pub status_is : done.status ≡ exit.Done
   pub page : IsPageDone dir file config done.warning old.held new.held
   pub opened_is : new.opened ≡ old.opened ++ part_of file ∷ []
   pub silent : new.printed ≡ old.printed
@@ -149,14 +145,14 @@ abbrev pub layout_of : Bool → Layout
 layout_of csv = if csv then Csv else Screen
 
 -- runs have been compared
-pub record IsCompareAnswer (dirs : List (List ℕ)) (csv : Bool) (status : ℕ) (old new : Seen) : Type 0 where
-  pub status_is : status ≡ 0
+pub record IsCompareAnswer (dirs : List (List ℕ)) (csv : Bool) (status : ExitStatus) (old new : Seen) : Type 0 where
+  pub status_is : status ≡ exit.Done
   pub compared : IsCompared dirs (layout_of csv) old.held (Appends old.printed new.printed)
   pub untouched : IsUntouched old.held new.held old.opened new.opened
 
 -- help has been given, or the version
-pub record IsHelpAnswer (text : List ℕ) (status : ℕ) (old new : Seen) : Type 0 where
-  pub status_is : status ≡ 0
+pub record IsHelpAnswer (text : List ℕ) (status : ExitStatus) (old new : Seen) : Type 0 where
+  pub status_is : status ≡ exit.Done
   pub printed : Appends old.printed new.printed text
   pub untouched : IsUntouched old.held new.held old.opened new.opened
 
@@ -192,7 +188,7 @@ IsLeft refusal (Run run) old new =
 IsLeft refusal (Page page) old new = IsPageLeft refusal page.file.now old new
 IsLeft refusal _ old new = LeavesAll refusal old.held new.held old.opened new.opened
 
--- what the words ask for has been done, with this status and this warning
+-- what the words ask for has been done, and the program ends so, with this warning
 pub record IsDone (words : List (List ℕ)) (done : Done) (old new : Seen) : Type 0 where
   pub ask : Ask
   pub asked : IsAskedBy words ask
@@ -200,7 +196,7 @@ pub record IsDone (words : List (List ℕ)) (done : Done) (old new : Seen) : Typ
 
 -- what the words ask for has been done with this status; and the stream of errors took the line that warns of a page of
 -- more than 50 MB, or a beginning of it where it has refused, and nothing where there is no such page
-pub record IsAnswered (words : List (List ℕ)) (status : ℕ) (old new : Seen) (has_refused : Bool) (before after : Option (List ℕ)) : Type 0 where
+pub record IsAnswered (words : List (List ℕ)) (status : ExitStatus) (old new : Seen) (has_refused : Bool) (before after : Option (List ℕ)) : Type 0 where
   pub done : Done
   pub status_is : status ≡ done.status
   pub is_done : IsDone words done old new

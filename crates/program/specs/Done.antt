@@ -7,10 +7,11 @@ use Rattle.refusal.specs.declared.refusal.Refusal.{Refusal}
 use Rattle.refusal.specs.declared.refusal.Refusal.TheVariants.{Kept}
 use Rattle.refusal.specs.declared.warning.LargePage.{LargePage}
 use Rattle.program.specs.declared.done.Done.{Done}
+use Rattle.program.specs.declared.status.ExitStatus.TheVariants as status
 
 -- done, with this to warn of, if there is something
 abbrev pub done_with : Option LargePage → Done
-done_with warning = record { status = 0; warning = warning }
+done_with warning = record { status = status.Done; warning = warning }
 
 -- an answer that warns of nothing
 abbrev pub quietly_done : Result (Unit {0}) Fault → Result Done Refusal

@@ -1,3 +1,5 @@
+pub mod Status
+pub mod Asked
 pub mod Answered
 pub mod Done
 pub mod Refused

@@ -28,6 +28,7 @@ use Rattle.whole_files.specs.Tables.{LeavesAll}
 use Rattle.whole_files.specs.declared.files.FileSet.{Ghosts as Files}
 use Rattle.answers.specs.Refused.{IsFilesFault, IsReady, IsAnswerFault}
 use Rattle.program.specs.Answered.{Seen, seen, IsInputOf, IsOutcome, IsRunDone, IsUnfinished, IsAnswered, AskForPage}
+use Rattle.program.specs.declared.status.ExitStatus.{ExitStatus}
 use Rattle.program.specs.Refused.{IsRunFault, IsRightRun, IsRunRefusal, IsAskFault, IsFaultOf}
 use Rattle.program.specs.Told.{IsTold}
 use Rattle.program.specs.declared.asked.RunAsk.{RunAsk}
@@ -157,7 +158,7 @@ abbrev pub IsSilentBut : {E : Type 0} → ErrorStream E → ErrorStream E → Li
 IsSilentBut before after words = (after ≡ before) ⊎ AskForPage (words_of words)
 
 -- what the words ask for has been done with this status, and a large page is warned of on a stream of errors
-abbrev pub Answers : {E : Type 0} → Stream E → ErrorStream E → ErrorStream E → List (Bor (List ℕ)) → ℕ → Seen → Seen → Type 0
+abbrev pub Answers : {E : Type 0} → Stream E → ErrorStream E → ErrorStream E → List (Bor (List ℕ)) → ExitStatus → Seen → Seen → Type 0
 Answers stream before after words status old new =
     IsAnswered (words_of words) status old new
     (has_refused after) (stream.contents (stream_of before)) (stream.contents (stream_of after))

@@ -2,6 +2,7 @@
 
 ghost use Rattle.std.specs.Prelude.{◌≡◌};
 ghost use Rattle.program.specs.Answered.{layout_of, options_of};
+ghost use Rattle.program.specs.Asked.{sharing_of};
 
 use command_line::words::{PageArguments, RunArguments, Share, ShowArguments};
 use compare::layout::Layout;
@@ -25,7 +26,8 @@ pub(crate) struct RunAsk<'a> {
 
 // So many workers, which share a machine out when the words say.
 fn workers_of(count: u64, share: Share) -> Workers
-    ensures { result.count ≡ count }
+    ensures count { result.count ≡ count }
+    ensures sharing { result.sharing ≡ sharing_of share }
 {
     let sharing = match share {
         Share::Auto => Sharing::default(),
@@ -39,6 +41,7 @@ pub(crate) fn run_ask<'a>(run: &'a RunArguments<'a>) -> RunAsk<'a>
     ensures config { result.config.now ≡ run.now.config.now }
     ensures cycles { result.cycles ≡ run.now.cycles }
     ensures workers { result.workers.count ≡ run.now.workers }
+    ensures sharing { result.workers.sharing ≡ sharing_of run.now.share }
     ensures tables { result.tables ≡ run.now.tables }
     ensures out { result.out.now ≡ run.now.out.now }
     ensures traces { result.traces.now ≡ run.now.traces.items }

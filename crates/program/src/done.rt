@@ -3,22 +3,22 @@
 ghost use Rattle.std.specs.Prelude.{◌≡◌, None};
 ghost use Rattle.program.specs.Done.{quietly_done, run_done, warned_done};
 
+use crate::status::ExitStatus;
 use refusal::reason::Reason;
 use refusal::refusal::Refusal;
-use refusal::status::DONE;
 use refusal::warning::LargePage;
 
 /// What has been done: the status of the program, and what it warns of.
 #[derive(Clone, Copy)]
 pub(crate) struct Done {
-    pub(crate) status: u8,
+    pub(crate) status: ExitStatus,
     pub(crate) warning: Option<LargePage>,
 }
 
 impl Done {
     /// Done, with nothing to warn of.
     pub(crate) fn quiet() -> Done
-        ensures status { result.status ≡ 0 }
+        ensures status { result.status ≡ ExitStatus.Done }
         ensures warning { result.warning ≡ None }
     {
         Done::with_warning(None)
@@ -26,17 +26,17 @@ impl Done {
 
     /// Done, with this to warn of, if there is something.
     pub(crate) fn with_warning(warning: Option<LargePage>) -> Done
-        ensures status { result.status ≡ 0 }
+        ensures status { result.status ≡ ExitStatus.Done }
         ensures warning { result.warning ≡ warning }
     {
         Done {
-            status: DONE,
+            status: ExitStatus::Done,
             warning,
         }
     }
 
     /// Done with a status, and nothing to warn of.
-    pub(crate) fn with_status(status: u8) -> Done
+    pub(crate) fn with_status(status: ExitStatus) -> Done
         ensures status { result.status ≡ status }
         ensures warning { result.warning ≡ None }
     {

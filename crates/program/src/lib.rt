@@ -9,4 +9,5 @@ pub mod perform;
 mod printed;
 mod runs;
 mod shared;
+pub mod status;
 pub mod streams;

@@ -1,7 +1,8 @@
 //! What the program does, over files and streams that are handed in.
 
-ghost use Rattle.std.specs.Prelude.{◌≡◌, ◌≢◌, ◌≤◌, IfOk, IfErr};
+ghost use Rattle.std.specs.Prelude.{◌≡◌, ◌≢◌, IfOk, IfErr};
 ghost use Rattle.program.specs.Answered.{IsAnswer, IsDone, IsQuiet, IsLeft, IsRefusedBy, IsRefused};
+ghost use Rattle.refusal.specs.Refusals.{fault_of};
 ghost use Rattle.program.specs.Runs.{sight, words_of, IsSeen, RefusesAsk, RefusesWords, WarnsOfPages, IsSilentBut, Answers, Tells};
 
 use crate::asked::{run_ask, view_of};
@@ -9,6 +10,7 @@ use crate::done::{Done, quietly_done, run_done, warned_done};
 use crate::host::Host;
 use crate::printed::{answer_check, answer_compare, answer_map, answer_show, answer_show_banks};
 use crate::runs::perform_run;
+use crate::status::ExitStatus;
 use crate::streams::Streams;
 use answers::folder::RunFolder;
 use answers::pages::perform_page;
@@ -16,8 +18,8 @@ use answers::print::print_text;
 use command_line::words::{Ask, read_words};
 use refusal::lines::write_lines;
 use refusal::refusal::Refusal;
-use refusal::status::REFUSED;
 use refusal::warning::write_warning;
+use sim_base::fault::Fault;
 use simulation::watch::Watch;
 use std::alloc::Global;
 use std::io::Write;
@@ -35,10 +37,11 @@ fn answer<R: Threads + Wait + Sync, W: Watch, F: FileSet, P: Write>(
 ) -> Result<Done, Refusal>
     ensures answered { IfOk result (λ done. IsSeen F.FileSet P.Write files.old files.new
         output.old output.new (IsAnswer ask.now done)) }
-    ensures status { IfOk result (λ done. done.status ≤ 1) }
+    ensures status { IfOk result (λ done. done.status ≢ ExitStatus.Refused) }
     ensures quiet { IfOk result (λ done. IsQuiet ask.now done.warning) }
     ensures refused { IfErr result (λ e. IsSeen F.FileSet P.Write files.old files.new
         output.old output.new (IsLeft e ask.now)) }
+    ensures unprinted { IfErr result (λ e. fault_of e ≢ Fault.Write → output.new ≡ output.old) }
     ensures fault { IfErr result (RefusesAsk F.FileSet files.old ask.now) }
 {
     match ask {
@@ -71,30 +74,30 @@ fn answer_words<R: Threads + Wait + Sync, W: Watch, F: FileSet, P: Write>(
 ) -> Result<Done, Refusal>
     ensures answered { IfOk result (λ done. IsSeen F.FileSet P.Write files.old files.new
         output.old output.new (IsDone (words_of words.now) done)) }
-    ensures status { IfOk result (λ done. done.status ≤ 1) }
+    ensures status { IfOk result (λ done. done.status ≢ ExitStatus.Refused) }
     ensures quiet { IfOk result (λ done. WarnsOfPages words.now done.warning) }
     ensures refused { IfErr result (λ e. IsSeen F.FileSet P.Write files.old files.new
         output.old output.new (IsRefusedBy e (words_of words.now))) }
+    ensures unprinted { IfErr result (λ e. fault_of e ≢ Fault.Write → output.new ≡ output.old) }
     ensures fault { IfErr result (RefusesWords F.FileSet files.old words.now) }
 {
     let ask = read_words(alloc, words)?;
     answer(host, alloc, &ask, files, output)
 }
 
-/// Does what the words ask for, the first of which is the program's name, and returns the status: 0 done, 1 a table
-/// that breaks a rule, 2 refused. A run's workers are threads of the host, and the host's watcher is told how far the
-/// run is.
+/// Does what the words ask for, the first of which is the program's name, and tells how it ends. A run's
+/// workers are threads of the host, and the host's watcher is told how far the run is.
 ///
 /// A refusal is one line on the stream of errors, `fault N: ...`, and a second one where the tables in the folder are
 /// of two runs, with lines that explain it after them. It is told whole, unless the stream refuses
 /// (`ErrorStream::has_refused`): then the stream has a beginning of it. The fault is the first in this order: the
 /// words, the files that they name, what stands in these (the configuration, and then as `simulate` and `check` say, or
 /// of the tables of a run the statistics, the commands and the requests), whether a run's folder is there, and what
-/// cannot be written. Memory may be refused at any time. With another status, nothing is told, but of a page of more
+/// cannot be written. Memory may be refused at any time. Where it does not refuse, nothing is told, but of a page of more
 /// than 50 MB one line that warns of it, with its length in bytes.
 ///
-/// Promises about files are made only where the set of files tells what it holds. A run whose status is 0 has put the
-/// tables of its outcome that were asked for into the folder, and none of another run is left there. Where it is 2,
+/// Promises about files are made only where the set of files tells what it holds. A run that is done has put the
+/// tables of its outcome that were asked for into the folder, and none of another run is left there. Where it is refused,
 /// either the run had no outcome, and nothing was opened; or the places of the tables hold what they held, and none is
 /// left under a name that ends in `.part`; or a file could not be renamed after another one was, and each table is the
 /// earlier one or the new one, whole: in that case there is the second line.
@@ -104,18 +107,18 @@ pub fn perform<R: Threads + Wait + Sync, W: Watch, F: FileSet, P: Write, E: Writ
     words: &[&str],
     files: &mut F,
     streams: &mut Streams<P, E>,
-) -> u8
-    ensures status { result ≤ 2 }
-    ensures answered { result ≢ 2 → IsSeen F.FileSet P.Write files.old files.new
+) -> ExitStatus
+    ensures answered { result ≢ ExitStatus.Refused → IsSeen F.FileSet P.Write files.old files.new
         streams.old.output streams.new.output
         (Answers E.Write streams.old.errors streams.new.errors words.now result) }
-    ensures refused { result ≡ 2 → IsSeen F.FileSet P.Write files.old files.new
+    ensures refused { result ≡ ExitStatus.Refused → IsSeen F.FileSet P.Write files.old files.new
         streams.old.output streams.new.output (IsRefused (words_of words.now)) }
-    ensures told { result ≡ 2
+    ensures told { result ≡ ExitStatus.Refused
         → Tells E.Write streams.old.errors streams.new.errors F.tells words.now
         (sight F.FileSet P.Write files.old streams.old.output)
         (sight F.FileSet P.Write files.new streams.new.output) }
-    ensures silent { result ≢ 2 → IsSilentBut streams.old.errors streams.new.errors words.now }
+    ensures silent { result ≢ ExitStatus.Refused
+        → IsSilentBut streams.old.errors streams.new.errors words.now }
 {
     match answer_words(host, alloc, words, files, &mut streams.output) {
         Ok(done) => {
@@ -124,7 +127,7 @@ pub fn perform<R: Threads + Wait + Sync, W: Watch, F: FileSet, P: Write, E: Writ
         }
         Err(refusal) => {
             let _ = write_lines(&mut streams.errors, &refusal);
-            REFUSED
+            ExitStatus::Refused
         }
     }
 }

@@ -1,13 +1,15 @@
 //! Answers that are printed. They open and change no file.
 
-ghost use Rattle.std.specs.Prelude.{◌≡◌, ◌≤◌, None, IfOk, IfErr};
+ghost use Rattle.std.specs.Prelude.{◌≡◌, ◌≢◌, None, IfOk, IfErr};
 ghost use Rattle.answers.specs.Inputs.{RefusesCheck, RefusesCompare, RefusesMap};
-ghost use Rattle.program.specs.Answered.{IsAnswer, IsCheckAnswer, IsCompareAnswer, IsMapAnswer, verdict_status};
+ghost use Rattle.program.specs.Answered.{IsAnswer, IsCheckAnswer, IsCompareAnswer, IsMapAnswer};
 ghost use Rattle.program.specs.Runs.{words_of, IsSeen, LeavesFiles, RefusesAsk};
+ghost use Rattle.program.specs.Status.{verdict_status};
 ghost use Rattle.refusal.specs.Refusals.{fault_of};
 
 use crate::asked::{layout_of, options_of};
 use crate::done::{Done, quietly_done};
+use crate::status::ExitStatus;
 use answers::banks::perform_show_banks;
 use answers::comparisons::perform_compare;
 use answers::folder::RunFolder;
@@ -16,24 +18,24 @@ use answers::screens::perform_show;
 use answers::verdicts::perform_check;
 use command_line::words::{Ask, ShowArguments};
 use refusal::refusal::Refusal;
-use refusal::status::{BROKEN, DONE};
 use rule_check::Verdict;
+use sim_base::fault::Fault;
 use std::alloc::Global;
 use std::io::Write;
 use whole_files::files::FileSet;
 
-// The status of a verdict.
-fn status_of(found: Verdict) -> u8
+// How the program ends that found this verdict.
+fn status_of(found: Verdict) -> ExitStatus
     ensures status { result ≡ verdict_status found }
-    ensures least { result ≤ 1 }
+    ensures unrefused { result ≢ ExitStatus.Refused }
 {
     match found {
-        Verdict::Legal => DONE,
-        Verdict::Broken { .. } => BROKEN,
+        Verdict::Legal => ExitStatus::Done,
+        Verdict::Broken { .. } => ExitStatus::Broken,
     }
 }
 
-/// The verdict on a table of commands; its status is 1 where a rule is broken.
+/// The verdict on a table of commands.
 pub(crate) fn answer_check<F: FileSet, P: Write>(
     alloc: Global,
     files: &mut F,
@@ -43,9 +45,10 @@ pub(crate) fn answer_check<F: FileSet, P: Write>(
 ) -> Result<Done, Refusal>
     ensures answered { IfOk result (λ done. IsSeen F.FileSet P.Write files.old files.new
         output.old output.new (IsCheckAnswer config.now commands.now done.status)) }
-    ensures status { IfOk result (λ done. done.status ≤ 1) }
+    ensures status { IfOk result (λ done. done.status ≢ ExitStatus.Refused) }
     ensures quiet { IfOk result (λ done. done.warning ≡ None) }
     ensures refused { IfErr result (LeavesFiles F.FileSet files.old files.new) }
+    ensures unprinted { IfErr result (λ e. fault_of e ≢ Fault.Write → output.new ≡ output.old) }
     ensures fault { IfErr result (λ e.
         RefusesCheck F.FileSet files.old config.now commands.now (fault_of e)) }
 {
@@ -63,9 +66,10 @@ pub(crate) fn answer_map<F: FileSet, P: Write>(
 ) -> Result<Done, Refusal>
     ensures answered { IfOk result (λ done. IsSeen F.FileSet P.Write files.old files.new
         output.old output.new (IsMapAnswer config.now address done.status)) }
-    ensures status { IfOk result (λ done. done.status ≤ 1) }
+    ensures status { IfOk result (λ done. done.status ≢ ExitStatus.Refused) }
     ensures quiet { IfOk result (λ done. done.warning ≡ None) }
     ensures refused { IfErr result (LeavesFiles F.FileSet files.old files.new) }
+    ensures unprinted { IfErr result (λ e. fault_of e ≢ Fault.Write → output.new ≡ output.old) }
     ensures fault { IfErr result (λ e.
         RefusesMap F.FileSet files.old config.now (fault_of e)) }
 {
@@ -81,9 +85,10 @@ pub(crate) fn answer_show<F: FileSet, P: Write>(
 ) -> Result<Done, Refusal>
     ensures answered { IfOk result (λ done. IsSeen F.FileSet P.Write files.old files.new
         output.old output.new (IsAnswer (Ask.Show show.now) done)) }
-    ensures status { IfOk result (λ done. done.status ≤ 1) }
+    ensures status { IfOk result (λ done. done.status ≢ ExitStatus.Refused) }
     ensures quiet { IfOk result (λ done. done.warning ≡ None) }
     ensures refused { IfErr result (LeavesFiles F.FileSet files.old files.new) }
+    ensures unprinted { IfErr result (λ e. fault_of e ≢ Fault.Write → output.new ≡ output.old) }
     ensures fault { IfErr result (RefusesAsk F.FileSet files.old (Ask.Show show.now)) }
 {
     let folder = RunFolder {
@@ -102,9 +107,10 @@ pub(crate) fn answer_show_banks<F: FileSet, P: Write>(
 ) -> Result<Done, Refusal>
     ensures answered { IfOk result (λ done. IsSeen F.FileSet P.Write files.old files.new
         output.old output.new (IsAnswer (Ask.ShowBanks show.now) done)) }
-    ensures status { IfOk result (λ done. done.status ≤ 1) }
+    ensures status { IfOk result (λ done. done.status ≢ ExitStatus.Refused) }
     ensures quiet { IfOk result (λ done. done.warning ≡ None) }
     ensures refused { IfErr result (LeavesFiles F.FileSet files.old files.new) }
+    ensures unprinted { IfErr result (λ e. fault_of e ≢ Fault.Write → output.new ≡ output.old) }
     ensures fault { IfErr result (RefusesAsk F.FileSet files.old (Ask.ShowBanks show.now)) }
 {
     let folder = RunFolder {
@@ -124,9 +130,10 @@ pub(crate) fn answer_compare<F: FileSet, P: Write>(
 ) -> Result<Done, Refusal>
     ensures answered { IfOk result (λ done. IsSeen F.FileSet P.Write files.old files.new
         output.old output.new (IsCompareAnswer (words_of dirs.now) csv done.status)) }
-    ensures status { IfOk result (λ done. done.status ≤ 1) }
+    ensures status { IfOk result (λ done. done.status ≢ ExitStatus.Refused) }
     ensures quiet { IfOk result (λ done. done.warning ≡ None) }
     ensures refused { IfErr result (LeavesFiles F.FileSet files.old files.new) }
+    ensures unprinted { IfErr result (λ e. fault_of e ≢ Fault.Write → output.new ≡ output.old) }
     ensures fault { IfErr result (λ e.
         RefusesCompare F.FileSet files.old dirs.now (fault_of e)) }
 {

@@ -11,6 +11,7 @@ use Rattle.program.specs.Answered.{Seen, seen, IsAnswered}
 use Rattle.program.specs.Runs.{words_of}
 use Rattle.program.specs.Told.{IsTold}
 use Rattle.program.specs.declared.streams.Streams.{Streams}
+use Rattle.program.specs.declared.status.ExitStatus.{ExitStatus}
 
 -- both streams are lists
 abbrev pub Lists : Type 0
@@ -21,7 +22,7 @@ abbrev pub sight : {S O : Type 0} → Files S O → S → Lists → Seen
 sight set files streams = seen (set.held files) (set.has_folder files) (set.opened files) (Some streams.output.items)
 
 -- what the words ask for has been done with this status, and a large page is warned of on the list of errors
-abbrev pub Answers : Lists → Lists → List (Bor (List ℕ)) → ℕ → Seen → Seen → Type 0
+abbrev pub Answers : Lists → Lists → List (Bor (List ℕ)) → ExitStatus → Seen → Seen → Type 0
 Answers before after words status old new =
     IsAnswered (words_of words) status old new
     (has_refused after.errors) (Some (stream_of before.errors).items) (Some (stream_of after.errors).items)

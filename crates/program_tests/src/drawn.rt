@@ -6,11 +6,15 @@ use request_pictures::drawing::markup::{LegendEntry, Piece};
 use request_pictures::drawing::page_text::Markup;
 use request_pictures::drawing::scales::{axis_end, share_of, tick_step};
 
-static PIECES: [(Piece, &str); 9] = [
+static PIECES: [(Piece, &str); 13] = [
     (Piece::Text("a <b>"), "a <b>"),
     (Piece::Number(1_234_567), "1234567"),
     (Piece::Tenths(123), "12.3"),
     (Piece::Hundredths(105), "1.05"),
+    (Piece::Thousandths(1_200_000), "1200"),
+    (Piece::Thousandths(1_333_500), "1333.5"),
+    (Piece::Thousandths(1_066_050), "1066.05"),
+    (Piece::Thousandths(1_333_333), "1333.333"),
     (Piece::Grouped(0), "0"),
     (Piece::Grouped(999), "999"),
     (Piece::Grouped(1_000), "1,000"),

@@ -64,7 +64,7 @@ static CASES: [Case; 13] = [
         (Failure::None, ""),
         "",
         "p.html.part ",
-        "<b>2</b> commands, <b>13</b> ns with a clock of <b>1,250,000</b> kHz",
+        "<b>2</b> commands, <b>13</b> ns with a clock of <b>1250</b> MHz",
     ),
     (
         "dramsim page out p.html --from 4 --cycles 3",

@@ -110,7 +110,11 @@ const WRITTEN: Case = (
     (
         r#"<rect class="wr" x="248" y="14" width="2" height="12">
 
-<rect class="wr" x="0" y="14" width="2" height="12">"#,
+<rect class="wr" x="0" y="14" width="2" height="12">
+
+a REF has a box of one cycle unless the configuration is given, which says how many it takes (nRFC).
+
+drawn from its command's cycle on: the tables do not have the latency (nCL, nCWL) after which data move.</p>"#,
         "",
     ),
 );
@@ -118,7 +122,7 @@ const WRITTEN: Case = (
 // With a clock of 1,250 MHz a cycle takes 0.8 ns: 1,000 are 800 ns, the finish in cycle 799 is at 639.2 ns, and 50
 // cycles of latency are 40 ns. One RD of 64 bytes in 800 ns is 0.08 GB/s.
 const CLOCKED: &str =
-    r#"<b>1,000</b> cycles, <b>1</b> core, <b>1</b> channel, <b>3</b> commands, <b>800</b> ns with a clock of <b>1,250,000</b> kHz</p>
+    r#"<b>1,000</b> cycles, <b>1</b> core, <b>1</b> channel, <b>3</b> commands, <b>800</b> ns with a clock of <b>1250</b> MHz</p>
 
 data rate<br>(GB/s)
 
@@ -213,7 +217,11 @@ const OF_RANKS: Case = (
 
 <li><b>fields</b> channel column group bank row</li>
 
-<li><b>end</b> limit</li>"#,
+<li><b>end</b> limit</li>
+
+a REF is drawn for the cycles that it takes by the configuration (nRFC).
+
+drawn from its command's cycle on, though its data move nCL (RD) or nCWL (WR) cycles later.</p>"#,
         "r1 g0 b0",
     ),
 );

@@ -60,7 +60,7 @@ pub(crate) fn said_to<R: Abort + Threads + Wait + Sync + AllocGlobal>(
         threads: rt,
         watch: &mut Unwatched,
     };
-    let status = perform(&mut host, alloc, &words, files, &mut streams);
+    let status = perform(&mut host, alloc, &words, files, &mut streams).code();
     Said { status, streams }
 }
 

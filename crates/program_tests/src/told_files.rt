@@ -8,6 +8,7 @@ use crate::expect::expect_at;
 use fixtures::small::SMALL;
 use program::host::Host;
 use program::perform::perform;
+use program::status::ExitStatus;
 use program::streams::Streams;
 use refusal::error_stream::ErrorStream;
 use refusal::reason::Reason;
@@ -100,13 +101,13 @@ fn perform_told<R: Threads + Wait + Sync>(
     words: &[&str],
     files: &mut ToldFiles,
     streams: &mut Streams<Vec<u8>, Vec<u8>>,
-) -> u8
+) -> ExitStatus
     ensures answered { let old = sight ⟦<ToldFiles as FileSet>⟧ files.old streams.old in
         let new = sight ⟦<ToldFiles as FileSet>⟧ files.new streams.new in
-        result ≢ 2 → Answers streams.old streams.new words.now result old new }
+        result ≢ ExitStatus.Refused → Answers streams.old streams.new words.now result old new }
     ensures told { let old = sight ⟦<ToldFiles as FileSet>⟧ files.old streams.old in
         let new = sight ⟦<ToldFiles as FileSet>⟧ files.new streams.new in
-        result ≡ 2 → Tells streams.old streams.new words.now old new }
+        result ≡ ExitStatus.Refused → Tells streams.old streams.new words.now old new }
 {
     let mut host = Host {
         threads: rt,
@@ -152,5 +153,5 @@ fn tells_of_a_run(rt: HostRuntime) {
     };
     let status = perform_told(&rt, alloc, &RUN, &mut files, &mut streams);
     let counts = [files.files.len(), files.opened.len(), streams.output.len()];
-    expect_at(&rt, &"a run", &(status, counts), &(0, [5, 3, 0]));
+    expect_at(&rt, &"a run", &(status.code(), counts), &(0, [5, 3, 0]));
 }

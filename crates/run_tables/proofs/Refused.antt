@@ -9,11 +9,12 @@ use Rattle.sim_base.specs.declared.fault.Fault.TheVariants.{CheckRow, Memory}
 use Rattle.reports.specs.Commands.{header}
 use Rattle.rule_check.specs.Fields.{is_header, operand, text_at, row_in}
 use Rattle.csv.specs.Records.{field_at}
+use Rattle.rule_check.specs.Verdict.{IsCheckFault}
 use Rattle.run_tables.specs.Commands.{limits_told, without_rank, first_told, IsCommandTable, HoldsCommands}
-use Rattle.run_tables.specs.Records.{IsTableFault, IsFirstWrong, IsRefusedFor}
+use Rattle.run_tables.specs.Records.{IsFirstWrong, IsRefusedFor}
 
 -- the fault is for a row or for memory
-pub refused_for : (IsTable : List (List (List ℕ)) → Type 0) (all : List (List (List ℕ))) (e : Fault) (row : ℕ) → (e ≢ Memory → (e ≡ CheckRow row) × IsFirstWrong IsTable all row) → IsTableFault e
+pub refused_for : (IsTable : List (List (List ℕ)) → Type 0) (all : List (List (List ℕ))) (e : Fault) (row : ℕ) → (e ≢ Memory → (e ≡ CheckRow row) × IsFirstWrong IsTable all row) → IsCheckFault e
     → IsRefusedFor IsTable all e
 refused_for IsTable all (CheckRow k) row h fault =
     let wrong = h (λ same. cc same) in
@@ -23,7 +24,7 @@ refused_for IsTable all Memory row h fault = tt
 refused_for IsTable all _ row h fault = absurd fault
 
 -- what is refused like this is refused for a row or for memory
-pub table_fault : (IsTable : List (List (List ℕ)) → Type 0) (all : List (List (List ℕ))) (e : Fault) → IsRefusedFor IsTable all e → IsTableFault e
+pub table_fault : (IsTable : List (List (List ℕ)) → Type 0) (all : List (List (List ℕ))) (e : Fault) → IsRefusedFor IsTable all e → IsCheckFault e
 table_fault IsTable all (CheckRow k) refused = tt
 table_fault IsTable all Memory refused = tt
 table_fault IsTable all _ refused = absurd refused

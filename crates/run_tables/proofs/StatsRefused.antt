@@ -16,8 +16,9 @@ use Rattle.statistics.specs.Channels.{ChannelFits}
 use Rattle.statistics.specs.Values.{RunStats}
 use Rattle.statistics.specs.declared.channels.ChannelStats.{ChannelStats}
 use Rattle.statistics.specs.declared.cores.CoreStats.{CoreStats}
+use Rattle.rule_check.specs.Verdict.{IsCheckFault}
 use Rattle.run_tables.specs.Lines.{has_text, is_header_row}
-use Rattle.run_tables.specs.Records.{IsFirstWrong, IsRefusedFor, IsTableFault}
+use Rattle.run_tables.specs.Records.{IsFirstWrong, IsRefusedFor}
 use Rattle.run_tables.specs.Stats.{CoreInRange, IsStatsTable, HoldsStats}
 use Rattle.run_tables.specs.Units.{AreRead, core_at, core_size, channel_at, channel_size, count_at, CoresAre, CoresStop, ChannelsAre, ChannelsStop, IsRead}
 use Rattle.run_tables.proofs.Exact.{header_is}
@@ -395,6 +396,6 @@ pub inverse : (table records : List (List (List ℕ))) (stats : RunStats) (resul
 inverse table records stats (Ok found) same h refused t = one_run table found stats h (subst (λ r. IsStatsTable r stats) (sym same) t)
 inverse table records stats (Err e) same h refused t = only_memory HoldsStats table e (stats, subst (λ r. IsStatsTable r stats) (sym same) t) refused
 
-pub faults : (records : List (List (List ℕ))) (result : Result RunStats Fault) → IfErr result (IsRefusedFor HoldsStats records) → IfErr result IsTableFault
+pub faults : (records : List (List (List ℕ))) (result : Result RunStats Fault) → IfErr result (IsRefusedFor HoldsStats records) → IfErr result IsCheckFault
 faults records (Ok stats) refused = tt
 faults records (Err e) refused = table_fault HoldsStats records e refused

@@ -3,7 +3,6 @@
 --     left_from found first rest      the records that are left, of which one was read
 --     left_at row found first rest      the same with the number of the first
 --     Stands reader first found row      what a reader keeps
---     IsTableFault fault      why a table may be refused
 --     IsFaultAt row Wrong fault      this row is wrong, and the fault names it, or memory was refused
 --     IsFirstWrong IsTable records row      the first record that no table has there
 --     IsRefusedFor IsTable records fault      a table is refused for its first wrong record, or for memory
@@ -32,12 +31,6 @@ left_at row found first rest = record { row = row; records = left_from found fir
 pub record Stands (reader : Reader (Bor (List ℕ))) (first : List (List ℕ)) (found : Bool) (row : ℕ) : Type 0 where
   pub reading : found ≡ true → IsReading reader
   pub few : row + length (left_from found first (left_of reader)) < 2 ^ 64
-
--- a row is not the one that must stand there, or memory was refused
-abbrev pub IsTableFault : Fault → Type 0
-IsTableFault (CheckRow row) = ⊤
-IsTableFault Memory = ⊤
-IsTableFault _ = ⊥
 
 -- a fault names this row, of which this holds, unless memory was refused
 abbrev pub IsFaultAt : ℕ → Type 0 → Fault → Type 0

@@ -4,9 +4,9 @@ ghost use Rattle.std.specs.Prelude.{◌≡◌, ◌+◌, ◌<◌, ◌≤◌, List
 ghost use Rattle.sim_base.specs.declared.command.IssuedCommand.{IssuedCommand as Row};
 ghost use Rattle.csv.specs.Records.{fields_of};
 ghost use Rattle.command_table.specs.Tables.{IsRising};
-ghost use Rattle.rule_check.specs.Verdict.{records_of};
+ghost use Rattle.rule_check.specs.Verdict.{records_of, IsCheckFault};
 ghost use Rattle.run_tables.specs.Commands.{with_rank, without_rank, limits_told, first_told, first_read, HasNoHeader, IsTooEarly, IsCommandTable, HoldsCommands};
-ghost use Rattle.run_tables.specs.Records.{IsTableFault, IsFaultAt, IsRefusedFor};
+ghost use Rattle.run_tables.specs.Records.{IsFaultAt, IsRefusedFor};
 
 use crate::records::Records;
 use command_table::list::CommandList;
@@ -66,7 +66,7 @@ fn take_header(records: &mut Records<'_>) -> Result<Limits, Fault>
     ensures rest { OnOk result (records.new.records ≡ drop 1 records.old.records) }
     ensures row { OnOk result (records.new.row ≡ records.old.row + 1) }
     ensures refused { IfErr result (IsFaultAt records.old.row (HasNoHeader records.old.records)) }
-    ensures fault { IfErr result IsTableFault }
+    ensures fault { IfErr result IsCheckFault }
 {
     let fault = records.fault();
     if records.is_empty() {
@@ -92,7 +92,7 @@ fn take_row(
     ensures row { OnOk result (records.new.row ≡ records.old.row + 1) }
     ensures refused { IfErr result
         (IsFaultAt records.old.row (IsTooEarly limits earliest records.old.records)) }
-    ensures fault { IfErr result IsTableFault }
+    ensures fault { IfErr result IsCheckFault }
 {
     let Some(row) = row_in(limits, records.first()) else {
         return Err(records.fault());
@@ -148,7 +148,7 @@ pub fn read_commands(alloc: Global, table: &[u8]) -> Result<CommandList, Fault>
         → MatchResult result (λ found. found ≡ rows) (λ e. e ≡ Fault.Memory) }
     ensures rows { IfOk result (λ rows. length (records_of table.now) ≡ length rows + 1) }
     ensures rising { IfOk result IsRising }
-    ensures fault { IfErr result IsTableFault }
+    ensures fault { IfErr result IsCheckFault }
 {
     read_rows(alloc, table)
 }

@@ -4,8 +4,8 @@ ghost use Rattle.std.specs.Prelude.{◌≡◌, ◌+◌, ◌<◌, ◌≤◌, List
 ghost use Rattle.request_table.specs.declared.times.RequestTimes.{RequestTimes as Row};
 ghost use Rattle.csv.specs.Records.{fields_of};
 ghost use Rattle.rule_check.specs.Fields.{text_at};
-ghost use Rattle.rule_check.specs.Verdict.{records_of};
-ghost use Rattle.run_tables.specs.Records.{IsTableFault, IsFaultAt, IsRefusedFor};
+ghost use Rattle.rule_check.specs.Verdict.{records_of, IsCheckFault};
+ghost use Rattle.run_tables.specs.Records.{IsFaultAt, IsRefusedFor};
 ghost use Rattle.run_tables.specs.RequestRows.{exact_below, replied_in, access_in, hit_in, asked_in, times_in, is_reply_to, follows, in_time, request_from, request_in, first_request, is_request_header, begins_requests};
 ghost use Rattle.run_tables.specs.Requests.{turn, HasNoHeader, IsTooEarly, IsRequestTable, HoldsRequests};
 
@@ -216,7 +216,7 @@ fn take_header(records: &mut Records<'_>) -> Result<(), Fault>
     ensures rest { OnOk result (records.new.records ≡ drop 1 records.old.records) }
     ensures row { OnOk result (records.new.row ≡ records.old.row + 1) }
     ensures refused { IfErr result (IsFaultAt records.old.row (HasNoHeader records.old.records)) }
-    ensures fault { IfErr result IsTableFault }
+    ensures fault { IfErr result IsCheckFault }
 {
     let fault = records.fault();
     if records.is_empty() {
@@ -238,7 +238,7 @@ fn take_row(records: &mut Records<'_>, least: u128) -> Result<RequestTimes, Faul
     ensures row { OnOk result (records.new.row ≡ records.old.row + 1) }
     ensures refused { IfErr result
         (IsFaultAt records.old.row (IsTooEarly least records.old.records)) }
-    ensures fault { IfErr result IsTableFault }
+    ensures fault { IfErr result IsCheckFault }
 {
     let Some(row) = request_in(records.first()) else {
         return Err(records.fault());
@@ -291,7 +291,7 @@ pub fn read_requests(alloc: Global, table: &[u8]) -> Result<Vec<RequestTimes>, F
     ensures refused { IfErr result (IsRefusedFor HoldsRequests (records_of table.now)) }
     ensures inverse { (rows : List Row) → IsRequestTable (records_of table.now) rows
         → MatchResult result (λ found. found.items ≡ rows) (λ e. e ≡ Fault.Memory) }
-    ensures fault { IfErr result IsTableFault }
+    ensures fault { IfErr result IsCheckFault }
 {
     read_rows(alloc, table)
 }

@@ -6,9 +6,9 @@ ghost use Rattle.csv.specs.Records.{fields_of};
 ghost use Rattle.statistics.specs.Values.{RunStats};
 ghost use Rattle.reports.specs.Stats.{stats_header, stats_rows};
 ghost use Rattle.rule_check.specs.Fields.{text_at};
-ghost use Rattle.rule_check.specs.Verdict.{records_of};
+ghost use Rattle.rule_check.specs.Verdict.{records_of, IsCheckFault};
 ghost use Rattle.run_tables.specs.Lines.{is_line, optional_written, line_value, narrow, value_in, sum_in, count_in, cycle_in, has_text, is_stats_header, is_header_row};
-ghost use Rattle.run_tables.specs.Records.{IsTableFault, IsRefusedFor};
+ghost use Rattle.run_tables.specs.Records.{IsRefusedFor};
 ghost use Rattle.run_tables.specs.Stats.{IsStatsTable, HoldsStats};
 ghost use Rattle.run_tables.specs.Units.{entries_at, stops_at, core_at, draining_at, commands_at, queue_at, channel_at, channel_size, has_core, has_channel, CoresAre, CoresStop, ChannelsAre, ChannelsStop, IsRead};
 
@@ -480,7 +480,7 @@ pub fn read_stats(alloc: Global, table: &[u8]) -> Result<Stats, Fault>
     ensures refused { IfErr result (IsRefusedFor HoldsStats (records_of table.now)) }
     ensures inverse { (stats : RunStats) → IsStatsTable (records_of table.now) stats
         → MatchResult result (λ found. found ≡ stats) (λ e. e ≡ Fault.Memory) }
-    ensures fault { IfErr result IsTableFault }
+    ensures fault { IfErr result IsCheckFault }
 {
     let records = RecordList::read(alloc, table)?;
     read_table(alloc, &records)

@@ -1,6 +1,7 @@
 //! How many workers run a machine, and when it is shared out among them.
 
-ghost use Rattle.std.specs.Prelude.{◌≡◌, ◌≤◌, ◌^◌};
+ghost use Rattle.std.specs.Prelude.{◌≡◌};
+ghost use Rattle.simulation.specs.Sharing.{full_sharing, usual_sharing};
 
 use sim_base::message::Cycle;
 
@@ -27,9 +28,7 @@ pub struct Sharing {
 impl Sharing {
     /// Each machine is shared out from the first cycle of a run to its end, in one lap.
     pub fn always() -> Sharing
-        ensures any_units { result.units ≡ 0 }
-        ensures any_messages { result.messages ≡ 0 }
-        ensures one_lap { 10 ^ 12 ≤ result.first_lap }
+        ensures { result ≡ full_sharing }
     {
         Sharing {
             units: 0,
@@ -46,7 +45,7 @@ impl Default for Sharing {
     /// than four workers need to make up for their waits. Each worker has two shards: one of channels, and one of
     /// cores, which have less to do and fill what is left of a phase.
     fn default() -> Sharing
-        ensures { result ≡ record { units = 17; messages = 96; first_lap = 4096; shards = 2 } }
+        ensures { result ≡ usual_sharing }
     {
         Sharing {
             units: 17,

@@ -10,7 +10,7 @@ use Rattle.sim_base.proofs.Each.{Each-append, Each-map, Each-first, Each-last}
 use Rattle.sim_base.proofs.Ordered.{Each-weaker}
 use Rattle.statistics.specs.Values.{RunOutcome}
 use Rattle.whole_files.specs.Files.{Held, SameFiles, SameBut, IsRenamed}
-use Rattle.whole_files.specs.Tables.{path_in, commands_name, stats_name, final_name, requests_name, part_name, NamedText, table_named, commands_of, stats_of, final_of, requests_of, tables_in, name_unless, others_in, PlannedText, planned_in, plan_in, from_paths, paths_of, SameOutside, IsApartFrom, AreApart, AreStaged, AreGone, AreRemoved, IsMoved, IsWaiting, ArePlaced, ArePartlyPlaced, IsIn, IsBeside, ArePut, AreTorn, AreKeptBack, IsLeftUnplaced, other_paths, IsWritten, IsLeftBy}
+use Rattle.whole_files.specs.Tables.{path_in, commands_name, stats_name, final_name, requests_name, part_name, NamedText, table_named, commands_of, stats_of, final_of, requests_of, tables_in, names_unless, others_in, PlannedText, planned_in, plan_in, from_paths, paths_of, SameOutside, IsApartFrom, AreApart, AreStaged, AreGone, AreRemoved, IsMoved, IsWaiting, ArePlaced, ArePartlyPlaced, IsIn, IsBeside, ArePut, AreTorn, AreKeptBack, IsLeftUnplaced, other_paths, IsWritten, IsLeftBy}
 use Rattle.whole_files.specs.Planned.{planned_of}
 use Rattle.whole_files.specs.declared.tables.PlannedTable.{PlannedTable}
 use Rattle.refusal.specs.declared.refusal.Refusal.{Refusal}
@@ -321,7 +321,7 @@ abbrev named : List Slot → List NamedText
 named slots = flat_map (λ slot. table_named slot.0 slot.1) slots
 
 abbrev unnamed : List Slot → List (List ℕ)
-unnamed slots = flat_map (λ slot. name_unless (is_some slot.1) slot.0) slots
+unnamed slots = flat_map (λ slot. names_unless (is_some slot.1) slot.0) slots
 
 -- two tables of these names have no path in common
 abbrev AreFar : List ℕ → List ℕ → Type 0
@@ -363,8 +363,10 @@ IsFarFrom paths p = Each (λ q. p.to ≢ q) paths × Each (λ q. p.from ≢ q) p
 far_from_unnamed : (folder name text : List ℕ) (slots : List Slot) → IsFarFromSlots name slots → IsFarFrom (map (path_in folder) (unnamed slots)) (table_of folder name text)
 far_from_unnamed folder name text [] far = (tt, tt)
 far_from_unnamed folder name text ((other, None) ∷ slots) far =
-    let rest = far_from_unnamed folder name text slots far.1 in
-    ((apart folder name other far.0.3, rest.0), (apart folder (part_name name) other far.0.1, rest.1))
+    let rest = far_from_unnamed folder name text slots far.1 in (
+      (apart folder name other far.0.3, (apart folder name (part_name other) far.0.2, rest.0)),
+      (apart folder (part_name name) other far.0.1, (apart folder (part_name name) (part_name other) far.0.0, rest.1)),
+    )
 far_from_unnamed folder name text ((other, Some its) ∷ slots) far = far_from_unnamed folder name text slots far.1
 
 -- neither path of a table is this one
@@ -376,12 +378,24 @@ named_far_from folder name [] far = tt
 named_far_from folder name ((other, None) ∷ slots) far = named_far_from folder name slots far.1
 named_far_from folder name ((other, Some its) ∷ slots) far = ((flip (apart folder name other far.0.3), flip (apart folder name (part_name other) far.0.2)), named_far_from folder name slots far.1)
 
+named_far_from_part : (folder name : List ℕ) (slots : List Slot) → IsFarFromSlots name slots → Each (IsFarFromPath (path_in folder (part_name name))) (map (planned_in folder) (named slots))
+named_far_from_part folder name [] far = tt
+named_far_from_part folder name ((other, None) ∷ slots) far = named_far_from_part folder name slots far.1
+named_far_from_part folder name ((other, Some its) ∷ slots) far =
+    ((flip (apart folder (part_name name) other far.0.1), flip (apart folder (part_name name) (part_name other) far.0.0)), named_far_from_part folder name slots far.1)
+
+-- one path more
+far_from_more : (path : List ℕ) (paths : List (List ℕ)) (ps : List PlannedText) → Each (IsFarFrom paths) ps → Each (IsFarFromPath path) ps → Each (IsFarFrom (path ∷ paths)) ps
+far_from_more path paths ps rest first = Each-two (IsFarFrom paths) (IsFarFromPath path) (IsFarFrom (path ∷ paths)) (λ p far one. ((one.0, far.0), (one.1, far.1))) ps rest first
+
 slots_far : (folder : List ℕ) (slots : List Slot) → AllAreFar slots → Each (IsFarFrom (map (path_in folder) (unnamed slots))) (map (planned_in folder) (named slots))
 slots_far folder [] far = tt
 slots_far folder ((name, None) ∷ slots) far =
     let others = map (path_in folder) (unnamed slots) in
-    Each-two (IsFarFrom others) (IsFarFromPath (path_in folder name)) (IsFarFrom (path_in folder name ∷ others)) (λ p rest first. ((first.0, rest.0), (first.1, rest.1))) (map (planned_in folder) (named slots))
-    (slots_far folder slots far.2) (named_far_from folder name slots far.1)
+    let ps = map (planned_in folder) (named slots) in
+    far_from_more (path_in folder name) (path_in folder (part_name name) ∷ others) ps
+    (far_from_more (path_in folder (part_name name)) others ps (slots_far folder slots far.2) (named_far_from_part folder name slots far.1))
+    (named_far_from folder name slots far.1)
 slots_far folder ((name, Some text) ∷ slots) far = (far_from_unnamed folder name text slots far.1, slots_far folder slots far.2)
 
 -- the tables of an outcome
@@ -400,8 +414,8 @@ named_of run = ap (λ ts. table_named commands_name (commands_of run) ++ (table_
 
 unnamed_of : (run : RunOutcome) → unnamed (slots_of run) ≡ others_in run
 unnamed_of run =
-    ap (λ ns. name_unless (is_some (commands_of run)) commands_name ++ (name_unless (is_some (stats_of run)) stats_name ++ (name_unless (is_some (final_of run)) final_name ++ ns)))
-    (append-nil (name_unless (is_some (requests_of run)) requests_name))
+    ap (λ ns. names_unless (is_some (commands_of run)) commands_name ++ (names_unless (is_some (stats_of run)) stats_name ++ (names_unless (is_some (final_of run)) final_name ++ ns)))
+    (append-nil (names_unless (is_some (requests_of run)) requests_name))
 
 pub plan-apart : (folder : List ℕ) (run : RunOutcome) → AreApart (plan_in folder run)
 plan-apart folder run = subst (λ ts. AreApart (map (planned_in folder) ts)) (named_of run) (slots_apart folder (slots_of run) (slots_are_far run))

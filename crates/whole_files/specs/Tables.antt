@@ -2,8 +2,8 @@
 -- all are whole.
 --     path_in folder name      the path of a name in a folder
 --     tables_in run      the tables of an outcome that are asked for, in the order in which they get their places
---     others_in run      the names of the tables that are not asked for
---     path_unless asked folder name      the path of a table that is not asked for
+--     others_in run      the names under which tables may stand that are not asked for
+--     paths_unless asked folder name      the paths of a table that is not asked for
 --     planned_in folder table      the paths of a table, while it is written and in its place, and its text
 --     parts folder run      the paths under which the tables are written
 --     SameOutside paths old new      no path has changed but these
@@ -86,20 +86,20 @@ tables_in run =
     table_named commands_name (commands_of run)
     ++ (table_named stats_name (stats_of run) ++ (table_named final_name (final_of run) ++ table_named requests_name (requests_of run)))
 
--- a name, where its table is not asked for
-abbrev pub name_unless : Bool → List ℕ → List (List ℕ)
-name_unless asked name = if asked then [] else name ∷ []
+-- the names under which a table may stand, where it is not asked for: its own, and that under which it is written
+abbrev pub names_unless : Bool → List ℕ → List (List ℕ)
+names_unless asked name = if asked then [] else name ∷ part_name name ∷ []
 
--- its path in a folder, where it is not asked for
-abbrev pub path_unless : Bool → List ℕ → List ℕ → List (List ℕ)
-path_unless asked folder name = map (path_in folder) (name_unless asked name)
+-- its paths in a folder, where it is not asked for
+abbrev pub paths_unless : Bool → List ℕ → List ℕ → List (List ℕ)
+paths_unless asked folder name = map (path_in folder) (names_unless asked name)
 
--- the names of the tables that are not asked for
+-- the names under which tables may stand that are not asked for
 abbrev pub others_in : RunOutcome → List (List ℕ)
 others_in run =
-    name_unless (is_some (commands_of run)) commands_name
-    ++ (name_unless (is_some (stats_of run)) stats_name
-    ++ (name_unless (is_some (final_of run)) final_name ++ name_unless (is_some (requests_of run)) requests_name))
+    names_unless (is_some (commands_of run)) commands_name
+    ++ (names_unless (is_some (stats_of run)) stats_name
+    ++ (names_unless (is_some (final_of run)) final_name ++ names_unless (is_some (requests_of run)) requests_name))
 
 -- a table that is to be written to one path, and then to get another, with this text
 pub record PlannedText : Type 0 where
@@ -211,12 +211,12 @@ abbrev pub IsLeftUnplaced : Refusal → List PlannedText → Held → Held → T
 IsLeftUnplaced (Kept fault) planned old new = AreKeptBack planned old new
 IsLeftUnplaced (Torn fault) planned old new = AreTorn planned old new
 
--- the paths of the tables that are not asked for
+-- the paths at which tables may stand that are not asked for
 abbrev pub other_paths : List ℕ → RunOutcome → List (List ℕ)
 other_paths folder run = map (path_in folder) (others_in run)
 
--- The tables of an outcome that are asked for are in their places, nothing is left beside them, none of the other
--- tables is there, and nothing else has changed.
+-- The tables of an outcome that are asked for are in their places, none of the other tables is there, whole or as it was
+-- being written, no table is left under the name under which it is written, and nothing else has changed.
 pub record IsWritten (folder : List ℕ) (run : RunOutcome) (old new : Held) : Type 0 where
   pub in_place : Each (IsIn new) (plan_in folder run)
   pub none_else : AreRemoved (other_paths folder run) new

@@ -7,7 +7,7 @@ ghost use Rattle.std.specs.Io.KnownBytes.{Keeps, WriteAppends};
 ghost use Rattle.std.specs.IoError.{raw_os_error};
 ghost use Rattle.whole_files.specs.Files.{Held, SameFiles, SameBut, IsRenamed, IsReadFault, IsWriteFault};
 
-use crate::host_answers::{PathKind, bytes_read, folder_at, stands_at, written};
+use crate::host_answers::{PathKind, bytes_read, folder_at, replaceable_link, stands_at, written};
 use refusal::reason::Reason;
 use sim_base::fault::Fault;
 use std::alloc::Global;
@@ -68,8 +68,8 @@ pub trait FileSet {
         ensures unopened { tells → opened self.new ≡ opened self.old };
 
     /// Tests whether a file could be given this path. Refuses by `Fault::Write` where something stands there that no
-    /// file can replace, such as a folder, or that must not be replaced, such as a file that may not be written, or
-    /// where that cannot be told.
+    /// file can replace, such as a folder, or that must not be replaced, such as a device or a file that may not be
+    /// written, or where that cannot be told.
     fn test_place(&mut self, path: &str) -> Result<(), Reason>
         ensures fault { IfErr result (λ e. IsWriteFault e) }
         ensures same { tells → SameFiles (held self.old) (held self.new) }
@@ -201,7 +201,8 @@ impl<R: Files + AllocGlobal> FileSet for HostFiles<'_, R> {
         let alloc = self.rt.alloc();
         match stands_at(alloc, path, fs::symlink_metadata(self.rt, path))? {
             PathKind::File => test_writing(alloc, self.rt, path),
-            PathKind::Nothing | PathKind::Other => Ok(()),
+            PathKind::Link => replaceable_link(alloc, path, fs::metadata(self.rt, path)),
+            PathKind::Nothing => Ok(()),
         }
     }
 

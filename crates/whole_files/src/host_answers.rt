@@ -1,7 +1,7 @@
 //! What the host's answers about files mean to the program.
 
 ghost use Rattle.std.specs.Prelude.{◌≡◌, ◌⊎◌, Ok, Err, IfOk, IfErr, IsOk, IsErr};
-ghost use Rattle.whole_files.specs.HostAnswers.{IsFolder, IsPlainFile, IsMissing, LacksMemory};
+ghost use Rattle.whole_files.specs.HostAnswers.{IsFolder, IsPlainFile, IsLink, IsSpecial, IsMissing, LacksMemory};
 
 use refusal::reason::Reason;
 use sim_base::fault::Fault;
@@ -57,12 +57,12 @@ pub(crate) enum PathKind {
     Nothing,
     /// A file, if it may be written.
     File,
-    /// What a file replaces without being written to, such as a symbolic link.
-    Other,
+    /// A symbolic link, which is replaced, and not written through.
+    Link,
 }
 
-/// What stands at a path, according to the host's answer. Refuses by `Fault::Write` where a folder stands there, and
-/// where the host does not tell.
+/// What stands at a path, according to the host's answer. Refuses by `Fault::Write` where a folder stands there, or
+/// another thing that is no file, such as a device or a pipe, and where the host does not tell.
 pub(crate) fn stands_at(
     alloc: Global,
     path: &str,
@@ -70,8 +70,8 @@ pub(crate) fn stands_at(
 ) -> Result<PathKind, Reason>
     ensures folder { IfOk answer (λ found. IsFolder found → result ≡ Err Fault.Write) }
     ensures file { IfOk answer (λ found. IsPlainFile found → result ≡ Ok PathKind.File) }
-    ensures other { IfOk answer (λ found. (¬ IsFolder found) → (¬ IsPlainFile found)
-        → result ≡ Ok PathKind.Other) }
+    ensures link { IfOk answer (λ found. IsLink found → result ≡ Ok PathKind.Link) }
+    ensures other { IfOk answer (λ found. IsSpecial found → result ≡ Err Fault.Write) }
     ensures nothing { IfErr answer (λ e. IsMissing e → result ≡ Ok PathKind.Nothing) }
     ensures untold { IfErr answer (λ e. (¬ IsMissing e) → result ≡ Err Fault.Write) }
     ensures fault { IfErr result (λ e. e ≡ Fault.Write) }
@@ -84,8 +84,32 @@ pub(crate) fn stands_at(
             &"a folder stands there",
         )),
         Ok(found) if found.is_file() => Ok(PathKind::File),
-        Ok(_) => Ok(PathKind::Other),
+        Ok(found) if found.is_symlink() => Ok(PathKind::Link),
+        Ok(_) => Err(Reason::of_host(alloc, Fault::Write, path, &"this is no file")),
         Err(error) if error.kind() == ErrorKind::NotFound => Ok(PathKind::Nothing),
+        Err(error) => Err(Reason::of_host(alloc, Fault::Write, path, &error)),
+    }
+}
+
+/// Whether a symbolic link may be replaced, according to the host's answer about what it leads to. Refuses by
+/// `Fault::Write` where that is there, and neither a file nor a folder, such as a device or a pipe, and where the host
+/// does not tell.
+pub(crate) fn replaceable_link(
+    alloc: Global,
+    path: &str,
+    answer: io::Result<Metadata>,
+) -> Result<(), Reason>
+    ensures folder { IfOk answer (λ found. IsFolder found → IsOk result) }
+    ensures file { IfOk answer (λ found. IsPlainFile found → IsOk result) }
+    ensures other { IfOk answer (λ found. IsSpecial found → IsErr result) }
+    ensures nothing { IfErr answer (λ e. IsMissing e → IsOk result) }
+    ensures untold { IfErr answer (λ e. (¬ IsMissing e) → IsErr result) }
+    ensures fault { IfErr result (λ e. e ≡ Fault.Write) }
+{
+    match answer {
+        Ok(found) if found.is_file() || found.is_dir() => Ok(()),
+        Ok(_) => Err(Reason::of_host(alloc, Fault::Write, path, &"this leads to what is no file")),
+        Err(error) if error.kind() == ErrorKind::NotFound => Ok(()),
         Err(error) => Err(Reason::of_host(alloc, Fault::Write, path, &error)),
     }
 }

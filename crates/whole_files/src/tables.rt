@@ -6,7 +6,7 @@ ghost use Rattle.refusal.specs.Refusals.{fault_of, IsKept, IsTornRefusal};
 ghost use Rattle.reports.specs.Rows.{IsReportFault, WritesOnOk};
 ghost use Rattle.statistics.specs.Outcomes.{if_asked};
 ghost use Rattle.whole_files.specs.Files.{SameFiles, SameBut, IsWriteFault};
-ghost use Rattle.whole_files.specs.Tables.{commands_of, requests_of, plan_in, from_paths, path_unless, other_paths, parts, SameOutside, AreApart, AreStaged, AreGone, ArePlaced, ArePartlyPlaced, AreRemoved, ArePut, IsLeftUnplaced, IsWritten, IsLeftBy};
+ghost use Rattle.whole_files.specs.Tables.{commands_of, requests_of, path_in, part_name, plan_in, from_paths, paths_unless, other_paths, parts, SameOutside, AreApart, AreStaged, AreGone, ArePlaced, ArePartlyPlaced, AreRemoved, ArePut, IsLeftUnplaced, IsWritten, IsLeftBy};
 ghost use Rattle.whole_files.specs.Planned.{text_in, plans_of, plan_for};
 ghost use Rattle.whole_files.specs.WholeFile.{from_path};
 
@@ -108,7 +108,7 @@ fn plan<'a>(
     let Some(contents) = contents else {
         return Ok(());
     };
-    let part = format!(in alloc; "{name}.part")?;
+    let part = part_name(alloc, name)?;
     let way = move_in(alloc, folder, part.as_str(), name)?;
     match planned.push(PlannedTable { contents, way }) {
         Ok(()) => Ok(()),
@@ -161,7 +161,28 @@ fn plan_all<'a>(
     Ok(planned)
 }
 
-// Adds the path of a table that is not asked for.
+// The name under which a table is written.
+fn part_name(alloc: Global, name: &str) -> Result<String, Fault>
+    ensures name { IfOk result (λ part. string_bytes part ≡ part_name name.now) }
+    ensures fault { IfErr result (λ e. e ≡ Fault.Memory) }
+{
+    Ok(format!(in alloc; "{name}.part")?)
+}
+
+// Adds the path of a name in a folder.
+fn add_path(alloc: Global, folder: &str, name: &str, paths: &mut Vec<String>) -> Result<(), Fault>
+    ensures paths { OnOk result (map string_bytes paths.new.items
+        ≡ map string_bytes paths.old.items ++ path_in folder.now name.now ∷ []) }
+    ensures fault { IfErr result (λ e. e ≡ Fault.Memory) }
+{
+    match paths.push(path_of(alloc, folder, name)?) {
+        Ok(()) => Ok(()),
+        Err(_) => Err(Fault::Memory),
+    }
+}
+
+// Adds the paths at which a table may stand that is not asked for: its own, and, where a run was killed that was asked
+// for it, the one at which it was written.
 fn add_other(
     alloc: Global,
     folder: &str,
@@ -170,19 +191,17 @@ fn add_other(
     paths: &mut Vec<String>,
 ) -> Result<(), Fault>
     ensures paths { OnOk result (map string_bytes paths.new.items
-        ≡ map string_bytes paths.old.items ++ path_unless asked folder.now name.now) }
+        ≡ map string_bytes paths.old.items ++ paths_unless asked folder.now name.now) }
     ensures fault { IfErr result (λ e. e ≡ Fault.Memory) }
 {
     if asked {
         return Ok(());
     }
-    match paths.push(path_of(alloc, folder, name)?) {
-        Ok(()) => Ok(()),
-        Err(_) => Err(Fault::Memory),
-    }
+    add_path(alloc, folder, name, paths)?;
+    add_path(alloc, folder, part_name(alloc, name)?.as_str(), paths)
 }
 
-// The paths of the tables that are not asked for.
+// The paths at which tables may stand that are not asked for.
 fn others_of(alloc: Global, folder: &str, run: &Outcome) -> Result<Vec<String>, Fault>
     ensures paths { IfOk result (λ paths.
         map string_bytes paths.items ≡ other_paths folder.now run.now) }
@@ -357,7 +376,7 @@ fn write_planned<R: Threads + Sync, F: FileSet>(
 /// Writes the tables of a run that were asked for into a folder. Each is written under its name with `.part` appended,
 /// and when all are whole, they get their places, one right after the other, in the order of `commands.csv`,
 /// `stats.csv`, `final.csv` and `requests.csv`. Then those that were not asked for, which an earlier run may have left
-/// there, are removed. If that fails before the first has its place, what was written is removed, and the places hold
+/// there, whole or with `.part` appended, are removed. If that fails before the first has its place, what was written is removed, and the places hold
 /// what they held before; if it fails later, the refusal is `Torn`, and nothing is removed. `threads` put the tables of
 /// commands and of requests together, and their memory serves the rest of the call too.
 pub fn write_tables<R: Threads + Sync, F: FileSet>(

@@ -1,7 +1,7 @@
 //! Requests and statistics that agree.
 
 ghost use Rattle.std.specs.Prelude.{◌≡◌, ◌↔◌, ◌<◌, ℕ, IsTrue, IfErr, OnOk, length};
-ghost use Rattle.measures.specs.Agreement.{IsReplyOfRun, IsOfRun, IsOfRunAt, IsTold, IsCoreOfRun, IsChannelOfRun, AreOfRun, IsMismatch, row_of};
+ghost use Rattle.measures.specs.Agreement.{IsReplyOfRun, IsOfRun, IsOfRunAt, IsTold, IsCoreOfRun, IsChannelOfRun, IsNextOfCore, IsNextOfChannel, IsNextOfCores, IsNextOfChannels, AreOfRun, IsOtherCount, IsMismatch, row_of};
 
 use crate::request_check::tally::{Tally, part, told};
 use request_table::times::RequestTimes;
@@ -56,7 +56,8 @@ fn check_rows(stats: &Stats, requests: &[RequestTimes]) -> Result<(), Mismatch>
 #[tactic(auto, using(std::proofs::lemmas::List::Sums::sum_by_more))]
 fn check_tally(tally: Tally, stats: &Stats, requests: &[RequestTimes]) -> Result<(), Mismatch>
     ensures same { OnOk result (IsTold tally stats.now requests.now) }
-    ensures other { IfErr result (IsMismatch stats.now requests.now) }
+    ensures other { IfErr result
+        (IsOtherCount (λ other. other ≡ tally) stats.now requests.now) }
 {
     let told = told(tally, stats);
     let mut amount = 0u128;
@@ -74,7 +75,8 @@ fn check_tally(tally: Tally, stats: &Stats, requests: &[RequestTimes]) -> Result
 
 fn check_core(core: usize, stats: &Stats, requests: &[RequestTimes]) -> Result<(), Mismatch>
     ensures same { OnOk result (IsCoreOfRun stats.now requests.now core) }
-    ensures other { IfErr result (IsMismatch stats.now requests.now) }
+    ensures other { IfErr result
+        (IsOtherCount (IsNextOfCore stats.now requests.now core) stats.now requests.now) }
 {
     check_tally(Tally::Replies(core), stats, requests)?;
     check_tally(Tally::ReadLatency(core), stats, requests)
@@ -82,7 +84,8 @@ fn check_core(core: usize, stats: &Stats, requests: &[RequestTimes]) -> Result<(
 
 fn check_channel(channel: usize, stats: &Stats, requests: &[RequestTimes]) -> Result<(), Mismatch>
     ensures same { OnOk result (IsChannelOfRun stats.now requests.now channel) }
-    ensures other { IfErr result (IsMismatch stats.now requests.now) }
+    ensures other { IfErr result
+        (IsOtherCount (IsNextOfChannel stats.now requests.now channel) stats.now requests.now) }
 {
     check_tally(Tally::Reads(channel), stats, requests)?;
     check_tally(Tally::Writes(channel), stats, requests)?;
@@ -92,7 +95,8 @@ fn check_channel(channel: usize, stats: &Stats, requests: &[RequestTimes]) -> Re
 fn check_cores(stats: &Stats, requests: &[RequestTimes]) -> Result<(), Mismatch>
     ensures same { OnOk result ((core : ℕ) → core < length stats.now.cores
         → IsCoreOfRun stats.now requests.now core) }
-    ensures other { IfErr result (IsMismatch stats.now requests.now) }
+    ensures other { IfErr result
+        (IsOtherCount (IsNextOfCores stats.now requests.now) stats.now requests.now) }
 {
     for core in 0..stats.cores.len() {
         check_core(core, stats, requests)?;
@@ -103,7 +107,8 @@ fn check_cores(stats: &Stats, requests: &[RequestTimes]) -> Result<(), Mismatch>
 fn check_channels(stats: &Stats, requests: &[RequestTimes]) -> Result<(), Mismatch>
     ensures same { OnOk result ((channel : ℕ) → channel < length stats.now.channels
         → IsChannelOfRun stats.now requests.now channel) }
-    ensures other { IfErr result (IsMismatch stats.now requests.now) }
+    ensures other { IfErr result
+        (IsOtherCount (IsNextOfChannels stats.now requests.now) stats.now requests.now) }
 {
     for channel in 0..stats.channels.len() {
         check_channel(channel, stats, requests)?;
@@ -119,7 +124,8 @@ fn check_channels(stats: &Stats, requests: &[RequestTimes]) -> Result<(), Mismat
 ///
 /// The first of these that is not so: `Mismatch::Stranger` for the first request that is not of the run, and else, of
 /// the first count that differs, `Mismatch::Excess` with the first request by which it is too much, or
-/// `Mismatch::Lack`.
+/// `Mismatch::Lack`. The counts are tested core by core, the replies and then the read latency, and then channel by
+/// channel, the reads, the writes and then the row hits.
 pub fn check_requests(stats: &Stats, requests: &[RequestTimes]) -> Result<(), Mismatch>
     ensures same { OnOk result (AreOfRun stats.now requests.now) }
     ensures other { IfErr result (IsMismatch stats.now requests.now) }

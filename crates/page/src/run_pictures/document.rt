@@ -66,16 +66,16 @@ fn put_head(run: &Run<'_>, out: &mut Markup) {
     put_count(", <b>{}</b> command{}", run.commands.len() as u64, out);
 }
 
-// How many ns the cycles take, where the clock is given.
+// How many ns the cycles take, and the clock in MHz, where this is given.
 fn put_time(cycles: u64, khz: Option<u64>, out: &mut Markup) {
     let Some(khz) = khz else {
         return;
     };
     out.fill(
-        ", <b>{}</b> ns with a clock of <b>{}</b> kHz",
+        ", <b>{}</b> ns with a clock of <b>{}</b> MHz",
         &[
             Piece::Grouped(share_of(u128::from(cycles), khz, 1_000_000)),
-            Piece::Grouped(khz),
+            Piece::Thousandths(khz),
         ],
     );
 }
@@ -95,8 +95,18 @@ fn put_all_cores(alloc: Global, scale: RunScale, cores: &[CoreStats], out: &mut 
     out.push_str("</details>\n");
 }
 
+// What the timeline shows, where it is known how many cycles a REF takes, and where it is not: the configuration, which
+// tells this, also tells when data move.
+fn put_caption(refresh: Option<u64>, out: &mut Markup) {
+    let (of_refresh, of_data) = match refresh {
+        Some(_) => (REFRESH_OF_CONFIG, DATA_OF_CONFIG),
+        None => (REFRESH_ALONE, DATA_ALONE),
+    };
+    out.fill(TIMELINE, &[Piece::Text(of_refresh), Piece::Text(of_data)]);
+}
+
 // The begin of the timeline of a window, or that the run has no cycle there.
-fn put_window_head(span: TimelineSpan, out: &mut Markup) {
+fn put_window_head(span: TimelineSpan, refresh: Option<u64>, out: &mut Markup) {
     let first = Piece::Grouped(span.from);
     if span.end <= span.from {
         out.fill(
@@ -106,18 +116,24 @@ fn put_window_head(span: TimelineSpan, out: &mut Markup) {
         return;
     }
     out.fill(
-        "<h2 id=\"timeline\">Timeline from cycle {} to before {}</h2>\n{}",
-        &[first, Piece::Grouped(span.end), Piece::Text(TIMELINE)],
+        "<h2 id=\"timeline\">Timeline from cycle {} to before {}</h2>\n",
+        &[first, Piece::Grouped(span.end)],
     );
+    put_caption(refresh, out);
     out.put_legend(&LEGEND);
 }
 
-// What the channels did in the window.
-fn put_window(span: TimelineSpan, refresh: u64, channels: &mut [Channel], out: &mut Markup) {
-    put_window_head(span, out);
+// What the channels did in the window. A REF is drawn for as long as it takes, or for a cycle if that is not known.
+fn put_window(
+    span: TimelineSpan,
+    refresh: Option<u64>,
+    channels: &mut [Channel],
+    out: &mut Markup,
+) {
+    put_window_head(span, refresh, out);
     if span.from < span.end {
         for (id, channel) in channels.iter_mut().enumerate() {
-            put_timeline(id as u64, span, refresh, channel, out);
+            put_timeline(id as u64, span, refresh.unwrap_or(1), channel, out);
         }
     }
 }
@@ -129,8 +145,14 @@ fn activity_of(alloc: Global, run: &Run<'_>, span: TimelineSpan) -> Result<Activ
     Ok(activity)
 }
 
-// What the channels did over the whole run and in the window, with REFs of `refresh` cycles.
-fn put_activity(alloc: Global, run: &Run<'_>, span: TimelineSpan, refresh: u64, out: &mut Markup) {
+// What the channels did over the whole run and in the window, with REFs of `refresh` cycles, if these are known.
+fn put_activity(
+    alloc: Global,
+    run: &Run<'_>,
+    span: TimelineSpan,
+    refresh: Option<u64>,
+    out: &mut Markup,
+) {
     match activity_of(alloc, run, span) {
         Ok(mut activity) => {
             put_overview(&activity, out);
@@ -163,8 +185,7 @@ fn put_latency(alloc: Global, run: &Run<'_>, out: &mut Markup) {
     put_requests(alloc, run.stats, n_cl, requests, out);
 }
 
-// The tables, and what the channels did if there are commands. A REF is drawn for as long as it takes, or for a cycle
-// if that is not known.
+// The tables, and what the channels did if there are commands.
 fn put_run(alloc: Global, run: &Run<'_>, out: &mut Markup) {
     let stats = run.stats;
     let refresh = match run.config {
@@ -187,7 +208,7 @@ fn put_run(alloc: Global, run: &Run<'_>, out: &mut Markup) {
     if run.commands.is_empty() {
         out.push_str("<p>No command was issued.</p>\n");
     } else {
-        put_activity(alloc, run, span, refresh.unwrap_or(1), out);
+        put_activity(alloc, run, span, refresh, out);
     }
 }
 
@@ -266,7 +287,16 @@ const LINKS_WITH_LATENCY: &str =
 "##;
 
 const TIMELINE: &str =
-    r#"<p>A lane for each bank that the run uses (r rank, g group, b bank), with a box for each command in its cycle; PREA and REF are in each lane of their rank, and a REF has a box of one cycle unless the configuration is given, which says how many it takes (nRFC). The tooltip of a box has the command's fields. On the data bus each RD and WR takes four cycles, drawn from its command's cycle on: the tables do not have the latency (nCL, nCWL) after which data move.</p>
+    r#"<p>A lane for each bank that the run uses (r rank, g group, b bank), with a box for each command in its cycle; PREA and REF are in each lane of their rank, and a REF {}. The tooltip of a box has the command's fields. On the data bus each RD and WR takes four cycles, drawn from its command's cycle on{}.</p>
 "#;
+
+const REFRESH_OF_CONFIG: &str = "is drawn for the cycles that it takes by the configuration (nRFC)";
+
+const REFRESH_ALONE: &str =
+    "has a box of one cycle unless the configuration is given, which says how many it takes (nRFC)";
+
+const DATA_OF_CONFIG: &str = ", though its data move nCL (RD) or nCWL (WR) cycles later";
+
+const DATA_ALONE: &str = ": the tables do not have the latency (nCL, nCWL) after which data move";
 
 const TAIL: &str = "</main>\n</body>\n</html>\n";

@@ -3,6 +3,7 @@
 use crate::run_pictures::cells::{
     Cell, CellForm, RunScale, channel_cells, core_cells, core_times, data_rate,
 };
+use measures::percentiles::Summary;
 use request_pictures::drawing::markup::Piece;
 use request_pictures::drawing::page_text::Markup;
 use statistics::channels::ChannelStats;
@@ -90,8 +91,15 @@ fn core_cell(scale: RunScale, core: &CoreStats, column: usize) -> Option<Cell> {
         .copied()
 }
 
-// The least, the median and the greatest number that there is in a column of the cores' table. The median of an even
-// count is the lower of the two in the middle.
+// A cell of a form with a number of a summary, all of which are of 64 bits.
+fn summary_cell(form: CellForm, number: Option<u128>) -> Cell {
+    Cell {
+        form,
+        number: number.map(|number| u64::try_from(number).unwrap_or(u64::MAX)),
+    }
+}
+
+// The least, the median and the greatest number that there is in a column of the cores' table.
 fn summary_of(
     alloc: Global,
     scale: RunScale,
@@ -104,25 +112,15 @@ fn summary_of(
         if let Some(cell) = core_cell(scale, core, column) {
             form = cell.form;
             if let Some(number) = cell.number {
-                known.push(number)?;
+                known.push(u128::from(number))?;
             }
         }
     }
-    known.sort_unstable();
-    let middle = known.len().saturating_sub(1) / 2;
+    let summary = Summary::of(known);
     Ok([
-        Cell {
-            form,
-            number: known.first().copied(),
-        },
-        Cell {
-            form,
-            number: known.get(middle).copied(),
-        },
-        Cell {
-            form,
-            number: known.last().copied(),
-        },
+        summary_cell(form, summary.least),
+        summary_cell(form, summary.median),
+        summary_cell(form, summary.greatest),
     ])
 }
 

@@ -1,9 +1,9 @@
 //! Text of a page, put together from pieces.
 
-ghost use Rattle.measures.specs.Number.{hundredths_text};
+ghost use Rattle.measures.specs.Number.{tenths_text, hundredths_text, thousandths_text};
 ghost use Rattle.measures.specs.Texts.{Puts, PutsWords};
 ghost use Rattle.request_pictures.specs.Legends.{entry_text, legend_text};
-ghost use Rattle.request_pictures.specs.Pieces.{IsGrouped, IsPieceText, group_text};
+ghost use Rattle.request_pictures.specs.Pieces.{IsGrouped, IsPieceText, group_text, shortest_text};
 
 use measures::text_builder::TextBuilder;
 use measures::text_builder::forms::Append;
@@ -21,6 +21,8 @@ pub enum Piece {
     Tenths(u64),
     /// A number of hundredths: 123 is `1.23`.
     Hundredths(u64),
+    /// A number of thousandths, without zeros at the end: 1230 is `1.23`, and 1000 is `1`.
+    Thousandths(u64),
 }
 
 // A comma, and the three digits of a group.
@@ -41,11 +43,41 @@ fn put_grouped(number: u64, out: &mut TextBuilder)
     put_group(number % 1_000, out);
 }
 
+// A number of tenths.
+fn put_tenths(number: u64, out: &mut TextBuilder)
+    ensures { PutsWords (tenths_text number) out.old out.new }
+{
+    write!(out, "{}.{}", number / 10, number % 10);
+}
+
 // A number of hundredths.
 fn put_hundredths(number: u64, out: &mut TextBuilder)
     ensures { PutsWords (hundredths_text number) out.old out.new }
 {
     write!(out, "{}.{}{}", number / 100, number / 10 % 10, number % 10);
+}
+
+// A number of thousandths.
+fn put_thousandths(number: u64, out: &mut TextBuilder)
+    ensures { PutsWords (thousandths_text number) out.old out.new }
+{
+    let (tenth, hundredth, last) = (number / 100 % 10, number / 10 % 10, number % 10);
+    write!(out, "{}.{tenth}{hundredth}{last}", number / 1_000);
+}
+
+// A number of thousandths, without zeros at the end.
+fn put_shortest(number: u64, out: &mut TextBuilder)
+    ensures { PutsWords (shortest_text number) out.old out.new }
+{
+    if number % 1_000 == 0 {
+        write!(out, "{}", number / 1_000);
+    } else if number % 100 == 0 {
+        put_tenths(number / 100, out);
+    } else if number % 10 == 0 {
+        put_hundredths(number / 10, out);
+    } else {
+        put_thousandths(number, out);
+    }
 }
 
 impl Append for Piece {
@@ -56,8 +88,9 @@ impl Append for Piece {
             Piece::Text(text) => out.push_str(text),
             Piece::Number(number) => write!(out, "{number}"),
             Piece::Grouped(number) => put_grouped(number, out),
-            Piece::Tenths(number) => write!(out, "{}.{}", number / 10, number % 10),
+            Piece::Tenths(number) => put_tenths(number, out),
             Piece::Hundredths(number) => put_hundredths(number, out),
+            Piece::Thousandths(number) => put_shortest(number, out),
         }
     }
 }

@@ -1,9 +1,9 @@
 -- The screen was made of the tables in the folder, or is refused by them or by the requests beside them.
 use Rattle.config_reader.proofs.Refusing.{same_fault}
-use Rattle.std.proofs.Common.{inl, inr, ◌∙◌}
+use Rattle.std.proofs.Common.{inl, inr, ◌∙◌, refl}
 use Rattle.std.proofs.lemmas.Result.{on_ok_weaker, IfErr-weaker, IfOk-from_err}
 use Rattle.answers.specs.Refused.{IsPageFault, HoldRunTables}
-use Rattle.answers.proofs.NamedFacts.{ok_with, when_ok, err_with}
+use Rattle.answers.proofs.NamedFacts.{ok_with, when_ok, err_with, unprinted_by}
 use Rattle.answers.proofs.RequestFacts.{requests_before, texts_refused, beside_refused, right_beside}
 use Rattle.answers.proofs.banks.perform_show_banks.Goals as goal
 
@@ -54,3 +54,10 @@ returns-clause-same g c = λ t path. c.screen_in-screen.ensures.same t path ∙ 
 
 pub returns-clause-unopened : goal.returns-clause-unopened
 returns-clause-unopened g c = λ t. c.screen_in-screen.ensures.unopened t ∙ c.in_ok-found.ensures.unopened t
+
+pub returns-in_err-found-clause-unprinted : goal.returns-in_err-found-clause-unprinted
+returns-in_err-found-clause-unprinted g c = rw (same_fault c.from_residual.result _ c.from_residual.ensures) (λ other. refl)
+
+pub returns-clause-unprinted : goal.returns-clause-unprinted
+returns-clause-unprinted g c =
+    IfErr-weaker c.print_answer.result _ _ (λ fault refused other. unprinted_by c.screen_in-screen.result _ _ refused c.print_answer.ensures.unprinted other) c.print_answer.ensures.fault

@@ -55,3 +55,15 @@ returns-clause-unopened g c = λ t. c.in_ok-tails.ensures.unopened t ∙ c.in_ok
 pub returns-clause-fault : goal.returns-clause-fault
 returns-clause-fault g c =
     IfErr-weaker c.print_text.result _ _ (λ e is. inr (is, right_compare _ _ _ _ _ _ _ c.in_ok-runs.ensures.ready c.in_ok-runs.ensures.same (rw c.deref.ensures.value at c.in_ok-tails.ensures.tails))) c.print_text.ensures.fault
+
+pub returns-in_err-runs-clause-unprinted : goal.returns-in_err-runs-clause-unprinted
+returns-in_err-runs-clause-unprinted g c = rw (same_fault c.from_residual.result _ c.from_residual.ensures) (λ other. refl)
+
+pub returns-in_err-tails-clause-unprinted : goal.returns-in_err-tails-clause-unprinted
+returns-in_err-tails-clause-unprinted g c = rw (same_fault c.from_residual-in_err-tails.result _ c.from_residual-in_err-tails.ensures) (λ other. refl)
+
+pub returns-in_err-text-clause-unprinted : goal.returns-in_err-text-clause-unprinted
+returns-in_err-text-clause-unprinted g c = rw (same_fault c.from_residual-in_err-text.result _ c.from_residual-in_err-text.ensures) (λ other. refl)
+
+pub returns-clause-unprinted : goal.returns-clause-unprinted
+returns-clause-unprinted g c = IfErr-weaker c.print_text.result _ _ (λ e is other. absurd (other is)) c.print_text.ensures.fault

@@ -1,7 +1,7 @@
 use Rattle.config_reader.proofs.Refusing.{same_fault}
 use Rattle.std.proofs.lemmas.Result.{on_ok_weaker, IfErr-weaker, IfOk-from_err}
-use Rattle.answers.proofs.NamedFacts.{ok_with, err_with}
-use Rattle.std.proofs.Common.{inl, inr}
+use Rattle.answers.proofs.NamedFacts.{ok_with, err_with, unprinted_by}
+use Rattle.std.proofs.Common.{inl, inr, refl}
 use Rattle.answers.proofs.places.perform_map.Goals as goal
 
 pub returns-in_err-ranks-clause-mapped : goal.returns-in_err-ranks-clause-mapped
@@ -38,3 +38,10 @@ returns-clause-fault g c = IfErr-weaker c.print_answer.result _ _ (λ fault refu
   | inl write ↦ inr (write.0, c.in_ok-ranks.ensures.ready)
   | inr made ↦ inl (inl (inl (err_with c.place_line_of.result _ _ c.place_line_of.ensures.fault made)))
 ]) c.print_answer.ensures.fault
+
+pub returns-in_err-ranks-clause-unprinted : goal.returns-in_err-ranks-clause-unprinted
+returns-in_err-ranks-clause-unprinted g c = rw (same_fault c.from_residual.result _ c.from_residual.ensures) (λ other. refl)
+
+pub returns-clause-unprinted : goal.returns-clause-unprinted
+returns-clause-unprinted g c =
+    IfErr-weaker c.print_answer.result _ _ (λ fault refused other. unprinted_by c.place_line_of.result _ _ refused c.print_answer.ensures.unprinted other) c.print_answer.ensures.fault

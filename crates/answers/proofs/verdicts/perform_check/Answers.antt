@@ -1,7 +1,7 @@
 use Rattle.config_reader.proofs.Refusing.{same_fault}
 use Rattle.std.proofs.lemmas.Result.{IfOk-from_err}
-use Rattle.std.proofs.Common.{inl, inr}
-use Rattle.answers.proofs.NamedFacts.{err_with}
+use Rattle.std.proofs.Common.{inl, inr, refl}
+use Rattle.answers.proofs.NamedFacts.{err_with, unprinted_by}
 use Rattle.answers.proofs.verdicts.perform_check.Goals as goal
 
 pub returns-in_err-found-clause-checked : goal.returns-in_err-found-clause-checked
@@ -42,3 +42,14 @@ returns-clause-same g c = c.in_ok-found.ensures.same
 
 pub returns-clause-unopened : goal.returns-clause-unopened
 returns-clause-unopened g c = c.in_ok-found.ensures.unopened
+
+pub returns-in_err-found-clause-unprinted : goal.returns-in_err-found-clause-unprinted
+returns-in_err-found-clause-unprinted g c = rw (same_fault c.from_residual.result _ c.from_residual.ensures) (λ other. refl)
+
+pub returns-in_err-print_answer-clause-unprinted : goal.returns-in_err-print_answer-clause-unprinted
+returns-in_err-print_answer-clause-unprinted g c =
+    rw (same_fault c.from_residual-in_err-print_answer.result _ c.from_residual-in_err-print_answer.ensures)
+    (λ other. unprinted_by c.verdict_line_of.result _ _ c.in_err-print_answer.ensures.fault c.in_err-print_answer.ensures.unprinted other)
+
+pub returns-clause-unprinted : goal.returns-clause-unprinted
+returns-clause-unprinted g c = tt

@@ -2,7 +2,7 @@ use Rattle.std.proofs.Common.{map}
 use Rattle.std.proofs.lemmas.Result.{IfOk-weaker}
 use Rattle.clap.specs.Words.{app_of, subcommand_rows_of}
 use Rattle.clap.specs.declared.error.kind.ErrorKind.TheVariants.{DisplayHelp, DisplayVersion}
-use Rattle.command_line.proofs.AskLemmas.{matched, failed, passes, asked_from, answered_from, help_from, helped_from, versioned_from, no_command, refused_from}
+use Rattle.command_line.proofs.AskLemmas.{matched, failed, passes, without_fault, asked_from, answered_from, help_from, helped_from, versioned_from, no_command, refused_from}
 use Rattle.command_line.proofs.TakenLemmas.{taken_gives_all}
 use Rattle.command_line.proofs.words.read_words.Goals as goal
 
@@ -10,7 +10,8 @@ pub returns-in-Ok-clause-asked : goal.returns-in-Ok-clause-asked
 returns-in-Ok-clause-asked c =
     let words = map (λ w. w.now) c.args.words.now in
     let named = matched (app_of c.in_ok-program.field-0) words c.in-Ok.matches c.in_ok-program.ensures c.in-Ok.ensures.matches in
-    IfOk-weaker c.command_of.result _ _ (λ ask h. asked_from words (subcommand_rows_of c.in-Ok.matches) ask named h) c.command_of.ensures.asked
+    let none = without_fault (app_of c.in_ok-program.field-0) words c.in_ok-program.ensures c.in-Ok.ensures.kinds in
+    IfOk-weaker c.command_of.result _ _ (λ ask h. asked_from words (subcommand_rows_of c.in-Ok.matches) ask none named h) c.command_of.ensures.asked
 
 pub returns-in-Ok-clause-answered : goal.returns-in-Ok-clause-answered
 returns-in-Ok-clause-answered c taken =
@@ -33,7 +34,8 @@ returns-in-Err-clause-answered c taken =
 pub returns-in-Ok-clause-helped : goal.returns-in-Ok-clause-helped
 returns-in-Ok-clause-helped c help =
     let words = map (λ w. w.now) c.args.words.now in
-    absurd (no_command (app_of c.in_ok-program.field-0) words DisplayHelp c.in_ok-program.ensures c.in-Ok.ensures.kinds help)
+    let none = without_fault (app_of c.in_ok-program.field-0) words c.in_ok-program.ensures c.in-Ok.ensures.kinds in
+    absurd (no_command words DisplayHelp none help)
 
 pub returns-in-Err-clause-helped : goal.returns-in-Err-clause-helped
 returns-in-Err-clause-helped c help =
@@ -44,7 +46,8 @@ returns-in-Err-clause-helped c help =
 pub returns-in-Ok-clause-versioned : goal.returns-in-Ok-clause-versioned
 returns-in-Ok-clause-versioned c call =
     let words = map (λ w. w.now) c.args.words.now in
-    absurd (no_command (app_of c.in_ok-program.field-0) words DisplayVersion c.in_ok-program.ensures c.in-Ok.ensures.kinds call)
+    let none = without_fault (app_of c.in_ok-program.field-0) words c.in_ok-program.ensures c.in-Ok.ensures.kinds in
+    absurd (no_command words DisplayVersion none call)
 
 pub returns-in-Err-clause-versioned : goal.returns-in-Err-clause-versioned
 returns-in-Err-clause-versioned c call =

@@ -1,5 +1,5 @@
-use Rattle.std.proofs.Common.{refl, arith}
-use Rattle.program.proofs.DoneFacts.{quiet_each, run_ok, run_each, run_err, warned_ok, warned_each, warned_err}
+use Rattle.std.proofs.Common.{refl}
+use Rattle.program.proofs.DoneFacts.{done_is_not_refused, err_each, quiet_each, quiet_err, run_ok, run_each, run_err, warned_ok, warned_each, warned_err}
 use Rattle.program.proofs.perform.answer.Goals as goal
 
 pub returns-in-Run-clause-answered : goal.returns-in-Run-clause-answered
@@ -15,7 +15,7 @@ returns-in-Run-clause-answered g c =
     (rw asked.out at c.perform_run.ensures.folder))
 
 pub returns-in-Run-clause-status : goal.returns-in-Run-clause-status
-returns-in-Run-clause-status g c = rw c.run_done.ensures (run_each _ c.perform_run.result (omega arith))
+returns-in-Run-clause-status g c = rw c.run_done.ensures (run_each _ c.perform_run.result done_is_not_refused)
 
 pub returns-in-Run-clause-quiet : goal.returns-in-Run-clause-quiet
 returns-in-Run-clause-quiet g c = rw (c.run_done.ensures, c.in-Run.is) (run_each _ c.perform_run.result refl)
@@ -42,7 +42,7 @@ returns-in-Page-clause-answered g c =
     }) c.perform_page.ensures.done c.perform_page.ensures.noted)
 
 pub returns-in-Page-clause-status : goal.returns-in-Page-clause-status
-returns-in-Page-clause-status g c = rw c.warned_done.ensures (warned_each _ c.perform_page.result (λ warning. omega arith))
+returns-in-Page-clause-status g c = rw c.warned_done.ensures (warned_each _ c.perform_page.result (λ warning. done_is_not_refused))
 
 pub returns-in-Page-clause-quiet : goal.returns-in-Page-clause-quiet
 returns-in-Page-clause-quiet g c = rw (c.warned_done.ensures, c.in-Page.is) (warned_each _ c.perform_page.result (λ warning. tt))
@@ -52,7 +52,7 @@ returns-in-Page-clause-fault g c =
     rw (c.warned_done.ensures, c.in-Page.is) (warned_err _ c.perform_page.result (λ e why. why) c.perform_page.ensures.fault)
 
 pub returns-in-Help-clause-status : goal.returns-in-Help-clause-status
-returns-in-Help-clause-status g c = rw c.quietly_done.ensures (quiet_each _ c.print_text.result (omega arith))
+returns-in-Help-clause-status g c = rw c.quietly_done.ensures (quiet_each _ c.print_text.result done_is_not_refused)
 
 pub returns-in-Check-clause-status : goal.returns-in-Check-clause-status
 returns-in-Check-clause-status g c = c.answer_check.ensures.status
@@ -128,3 +128,27 @@ returns-in-ShowBanks-clause-refused g c = rw c.in-ShowBanks.is c.answer_show_ban
 
 pub returns-in-Compare-clause-refused : goal.returns-in-Compare-clause-refused
 returns-in-Compare-clause-refused g c = rw c.in-Compare.is c.answer_compare.ensures.refused
+
+pub returns-in-Run-clause-unprinted : goal.returns-in-Run-clause-unprinted
+returns-in-Run-clause-unprinted g c = err_each _ c.run_done.result (λ e other. refl)
+
+pub returns-in-Page-clause-unprinted : goal.returns-in-Page-clause-unprinted
+returns-in-Page-clause-unprinted g c = err_each _ c.warned_done.result (λ e other. refl)
+
+pub returns-in-Help-clause-unprinted : goal.returns-in-Help-clause-unprinted
+returns-in-Help-clause-unprinted g c = rw c.quietly_done.ensures (quiet_err _ c.print_text.result (λ e write other. absurd (other write)) c.print_text.ensures.fault)
+
+pub returns-in-Check-clause-unprinted : goal.returns-in-Check-clause-unprinted
+returns-in-Check-clause-unprinted g c = c.answer_check.ensures.unprinted
+
+pub returns-in-Map-clause-unprinted : goal.returns-in-Map-clause-unprinted
+returns-in-Map-clause-unprinted g c = c.answer_map.ensures.unprinted
+
+pub returns-in-Show-clause-unprinted : goal.returns-in-Show-clause-unprinted
+returns-in-Show-clause-unprinted g c = c.answer_show.ensures.unprinted
+
+pub returns-in-ShowBanks-clause-unprinted : goal.returns-in-ShowBanks-clause-unprinted
+returns-in-ShowBanks-clause-unprinted g c = c.answer_show_banks.ensures.unprinted
+
+pub returns-in-Compare-clause-unprinted : goal.returns-in-Compare-clause-unprinted
+returns-in-Compare-clause-unprinted g c = c.answer_compare.ensures.unprinted

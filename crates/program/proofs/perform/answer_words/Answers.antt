@@ -1,6 +1,7 @@
-use Rattle.std.proofs.Common.{inr}
+use Rattle.std.proofs.Common.{inr, refl}
 use Rattle.std.proofs.lemmas.Result.{IfOk-weaker, IfErr-weaker, IfOk-from_err}
 use Rattle.program.proofs.AnswerFacts.{quiet_unless_page}
+use Rattle.program.proofs.DoneFacts.{err_each}
 use Rattle.program.proofs.perform.answer_words.Goals as goal
 
 pub returns-clause-quiet : goal.returns-clause-quiet
@@ -30,3 +31,9 @@ returns-clause-status g c = c.answer.ensures.status
 pub returns-clause-refused : goal.returns-clause-refused
 returns-clause-refused g c =
     IfErr-weaker c.answer.result _ _ (λ refusal left tells. inr (record { ask = c.in_ok-ask.ask; asked = c.in_ok-ask.ensures.asked; left = left tells })) c.answer.ensures.refused
+
+pub returns-in_err-ask-clause-unprinted : goal.returns-in_err-ask-clause-unprinted
+returns-in_err-ask-clause-unprinted g c = err_each _ c.from_residual.result (λ e other. refl)
+
+pub returns-clause-unprinted : goal.returns-clause-unprinted
+returns-clause-unprinted g c = c.answer.ensures.unprinted

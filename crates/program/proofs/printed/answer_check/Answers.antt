@@ -20,3 +20,6 @@ returns-in_err-found-clause-refused g c =
 
 pub returns-in_err-found-clause-fault : goal.returns-in_err-found-clause-fault
 returns-in_err-found-clause-fault g c = rw (err_is c.from_residual.result _ c.from_residual.ensures.1) c.in_err-found.ensures.fault
+
+pub returns-in_err-found-clause-unprinted : goal.returns-in_err-found-clause-unprinted
+returns-in_err-found-clause-unprinted g c = rw (err_is c.from_residual.result _ c.from_residual.ensures.1) c.in_err-found.ensures.unprinted

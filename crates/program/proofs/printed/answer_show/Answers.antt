@@ -1,5 +1,5 @@
-use Rattle.std.proofs.Common.{refl, arith}
-use Rattle.program.proofs.DoneFacts.{quiet_ok, quiet_each, quiet_err, quiet_refused}
+use Rattle.std.proofs.Common.{refl}
+use Rattle.program.proofs.DoneFacts.{done_is_not_refused, quiet_ok, quiet_each, quiet_err, quiet_refused}
 use Rattle.program.proofs.printed.answer_show.Goals as goal
 
 pub returns-clause-answered : goal.returns-clause-answered
@@ -11,7 +11,7 @@ returns-clause-answered g c =
     }) c.perform_show.ensures.shown)
 
 pub returns-clause-status : goal.returns-clause-status
-returns-clause-status g c = rw c.quietly_done.ensures (quiet_each _ c.perform_show.result (omega arith))
+returns-clause-status g c = rw c.quietly_done.ensures (quiet_each _ c.perform_show.result done_is_not_refused)
 
 pub returns-clause-quiet : goal.returns-clause-quiet
 returns-clause-quiet g c = rw c.quietly_done.ensures (quiet_each _ c.perform_show.result refl)
@@ -25,3 +25,6 @@ returns-clause-refused g c =
 
 pub returns-clause-fault : goal.returns-clause-fault
 returns-clause-fault g c = rw c.quietly_done.ensures (quiet_err _ c.perform_show.result (λ e h. h) c.perform_show.ensures.fault)
+
+pub returns-clause-unprinted : goal.returns-clause-unprinted
+returns-clause-unprinted g c = rw c.quietly_done.ensures (quiet_err _ c.perform_show.result (λ e h. h) c.perform_show.ensures.unprinted)
