@@ -85,22 +85,22 @@ fn answer_words<R: Threads + Wait + Sync, W: Watch, F: FileSet, P: Write>(
     answer(host, alloc, &ask, files, output)
 }
 
-/// Does what the words ask for, the first of which is the program's name, and tells how it ends. A run's
-/// workers are threads of the host, and the host's watcher is told how far the run is.
+/// Does what the words ask for, the first of which is the program's name, and tells how it ends. A run's workers are
+/// threads of the host, and the host's watcher is told how far the run is.
 ///
 /// A refusal is one line on the stream of errors, `fault N: ...`, and a second one where the tables in the folder are
 /// of two runs, with lines that explain it after them. It is told whole, unless the stream refuses
 /// (`ErrorStream::has_refused`): then the stream has a beginning of it. The fault is the first in this order: the
 /// words, the files that they name, what stands in these (the configuration, and then as `simulate` and `check` say, or
 /// of the tables of a run the statistics, the commands and the requests), whether a run's folder is there, and what
-/// cannot be written. Memory may be refused at any time. Where it does not refuse, nothing is told, but of a page of more
-/// than 50 MB one line that warns of it, with its length in bytes.
+/// cannot be written. Memory may be refused at any time. Where it does not refuse, nothing is told, but of a page of
+/// more than 50 MB one line that warns of it, with its length in bytes.
 ///
 /// Promises about files are made only where the set of files tells what it holds. A run that is done has put the
-/// tables of its outcome that were asked for into the folder, and none of another run is left there. Where it is refused,
-/// either the run had no outcome, and nothing was opened; or the places of the tables hold what they held, and none is
-/// left under a name that ends in `.part`; or a file could not be renamed after another one was, and each table is the
-/// earlier one or the new one, whole: in that case there is the second line.
+/// tables of its outcome that were asked for into the folder, and none of another run is left there. Where it is
+/// refused, either the run had no outcome, and nothing was opened; or the places of the tables hold what they held, and
+/// none is left under a name that ends in `.part`; or a file could not be renamed after another one was, and each table
+/// is the earlier one or the new one, whole: in that case there is the second line.
 pub fn perform<R: Threads + Wait + Sync, W: Watch, F: FileSet, P: Write, E: Write>(
     host: &mut Host<'_, R, W>,
     alloc: Global,

@@ -376,9 +376,9 @@ fn write_planned<R: Threads + Sync, F: FileSet>(
 /// Writes the tables of a run that were asked for into a folder. Each is written under its name with `.part` appended,
 /// and when all are whole, they get their places, one right after the other, in the order of `commands.csv`,
 /// `stats.csv`, `final.csv` and `requests.csv`. Then those that were not asked for, which an earlier run may have left
-/// there, whole or with `.part` appended, are removed. If that fails before the first has its place, what was written is removed, and the places hold
-/// what they held before; if it fails later, the refusal is `Torn`, and nothing is removed. `threads` put the tables of
-/// commands and of requests together, and their memory serves the rest of the call too.
+/// there, whole or with `.part` appended, are removed. If that fails before the first has its place, what was written is
+/// removed, and the places hold what they held before; if it fails later, the refusal is `Torn`, and nothing is removed.
+/// `threads` put the tables of commands and of requests together, and their memory serves the rest of the call too.
 pub fn write_tables<R: Threads + Sync, F: FileSet>(
     threads: &TableThreads<'_, R>,
     files: &mut F,
