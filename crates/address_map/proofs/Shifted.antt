@@ -18,12 +18,12 @@ use Rattle.address_map.proofs.Peeled.{digit_of-here, digit_of-later}
 
 pub is_power : (s : Config) (f : Field) → IsTrue (is_power_of_two (field_size s f))
 unfolding ones
-is_power s Channel = s.machine_in_range.channels_power
-is_power s Column = s.memory_in_range.columns_power
-is_power s Rank = s.memory_in_range.ranks_power
-is_power s Group = s.memory_in_range.groups_power
+is_power s Channel = s.machine_in_range.channels_in.1
+is_power s Column = s.memory_in_range.columns_in.1
+is_power s Rank = s.memory_in_range.ranks_in.1
+is_power s Group = s.memory_in_range.groups_in.1
 is_power s Bank = refl
-is_power s Row = s.memory_in_range.rows_power
+is_power s Row = s.memory_in_range.rows_in.1
 
 -- the bits before a field, and those from it on
 pub record IsBehind (s : Config) (field : Field) (i shift : ℕ) : Type 0 where

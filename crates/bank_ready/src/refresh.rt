@@ -2,7 +2,7 @@
 
 ghost use Rattle.std.specs.Prelude.{◌≡◌, ◌↔◌, ◌+◌, ◌*◌, ◌<◌, ◌≤◌, ◌^◌, ◌++◌, ℕ, List, [], ◌∷◌, IsTrue, IsNone, IfSome, length, slice_index, is_some};
 ghost use Rattle.std.specs.Int.{is_power_of_two};
-ghost use Rattle.sim_base.specs.Ranges.{Within};
+ghost use Rattle.sim_base.specs.Keys.{Within};
 ghost use Rattle.sim_base.specs.Scheduling.{due, lowest_due};
 ghost use Rattle.sim_base.specs.declared.config.Config.{Config};
 ghost use Rattle.sim_base.specs.declared.command.Command.TheVariants.{Ref};

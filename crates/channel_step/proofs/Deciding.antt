@@ -9,10 +9,10 @@ use Rattle.bank_ready.specs.Stands.{rank_count}
 use Rattle.queue.specs.Log.{waiting_requests, all_requests}
 use Rattle.queue.specs.Columns.{write_count}
 use Rattle.queue.specs.View.{is_draining, drains_by}
-use Rattle.fr_fcfs.specs.Requests.{IsInBanks}
-use Rattle.fr_fcfs.specs.Choices.{StandFor, choice_in, command_of, IsFor}
-use Rattle.fr_fcfs.specs.Cycles.{IsNextAt}
-use Rattle.fr_fcfs.specs.declared.choice.Choice.{Choice}
+use Rattle.channel_step.specs.FrFcfs.Requests.{IsInBanks}
+use Rattle.channel_step.specs.FrFcfs.Choices.{StandFor, choice_in, command_of, IsFor}
+use Rattle.channel_step.specs.FrFcfs.Cycles.{IsNextAt}
+use Rattle.channel_step.specs.declared.fr_fcfs.choice.Choice.{Choice}
 use Rattle.channel_step.specs.Past.{Past, commands_after}
 use Rattle.channel_step.specs.Fit.{IsIdle}
 use Rattle.channel_step.specs.Channels.{IsMadeFor, IsInCycle, IsInSomeCycle, IsNeededIn}

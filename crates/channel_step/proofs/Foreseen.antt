@@ -8,13 +8,13 @@ use Rattle.sim_base.specs.declared.command.IssuedCommand.{IssuedCommand}
 use Rattle.queue.specs.declared.request_log.Arrived.{Arrived}
 use Rattle.queue.specs.Log.{waiting_requests, all_requests, waits_at}
 use Rattle.queue.specs.View.{QueueView, is_draining}
-use Rattle.fr_fcfs.specs.Arrivals.{KeepsNext}
-use Rattle.fr_fcfs.specs.Choices.{choice_in, command_of, IsFor}
+use Rattle.channel_step.specs.FrFcfs.Arrivals.{KeepsNext}
+use Rattle.channel_step.specs.FrFcfs.Choices.{choice_in, command_of, IsFor}
 use Rattle.channel_step.specs.Past.{Past, commands_after}
 use Rattle.channel_step.specs.Queued.{request_at, drain_decided}
-use Rattle.fr_fcfs.specs.Cycles.{IsNext}
-use Rattle.fr_fcfs.specs.declared.choice.Choice.{Choice}
-use Rattle.fr_fcfs.specs.declared.choice.Choice.TheVariants as chosen
+use Rattle.channel_step.specs.FrFcfs.Cycles.{IsNext}
+use Rattle.channel_step.specs.declared.fr_fcfs.choice.Choice.{Choice}
+use Rattle.channel_step.specs.declared.fr_fcfs.choice.Choice.TheVariants as chosen
 use Rattle.channel_step.specs.Channels.{IsAhead, IsAheadAt, IsForeseen, IsFound, IsInCycle, HasPast}
 use Rattle.channel_step.specs.declared.channel.Channel.{Channel}
 use Rattle.channel_step.specs.declared.ahead.Ahead.{Ahead}

@@ -36,7 +36,7 @@ use Rattle.queue.specs.declared.bank_candidates.all_banks.BankCandidates.{BankCa
 use Rattle.queue.specs.Candidates.{bank_at}
 use Rattle.queue.specs.Stands.{bank_count, StandsFor as CandidatesStandFor}
 use Rattle.queue.proofs.Stood.{same_rows}
-use Rattle.fr_fcfs.specs.Requests.{IsInBanks}
+use Rattle.channel_step.specs.FrFcfs.Requests.{IsInBanks}
 use Rattle.request_table.specs.declared.served_requests.ServedRequest.{ServedRequest}
 use Rattle.channel_step.specs.Past.{Past, commands_after, choice_after}
 use Rattle.channel_step.specs.Fit.{queue_room}

@@ -22,3 +22,4 @@ pub mod Dues
 pub mod Skipping
 pub mod Going
 pub mod Draining
+pub mod FrFcfs

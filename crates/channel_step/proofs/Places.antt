@@ -19,7 +19,7 @@ use Rattle.queue.specs.declared.request_log.Arrived.{Arrived}
 use Rattle.queue.specs.Log.{all_requests}
 use Rattle.queue.specs.Columns.{bank_number}
 use Rattle.std.proofs.lemmas.List.{get_or-map, length-map}
-use Rattle.fr_fcfs.specs.Requests.{IsInBanks}
+use Rattle.channel_step.specs.FrFcfs.Requests.{IsInBanks}
 use Rattle.channel_step.specs.Past.{requests_of, IsRequestOf, CarriesRequest}
 use Rattle.channel_step.proofs.Requests.{carried}
 
@@ -37,9 +37,9 @@ InBanks s r = (r.place.rank < s.ranks) × (r.place.group < 4) × (r.place.bank <
 place-in_banks : (s : Config) (address : ℕ) → ((place_of s address).rank < s.ranks) × ((place_of s address).group < 4) × ((place_of s address).bank < 4)
 unfolding place_of field_of
 place-in_banks s address =
-    let ranks : 1 ≤ s.ranks = s.memory_in_range.ranks_in.0 in
-    let groups : 2 ≤ s.groups = s.memory_in_range.groups_in.0 in
-    let most : s.groups ≤ 4 = s.memory_in_range.groups_in.1 in
+    let ranks : 1 ≤ s.ranks = s.memory_in_range.ranks_in.0.0 in
+    let groups : 2 ≤ s.groups = s.memory_in_range.groups_in.0.0 in
+    let most : s.groups ≤ 4 = s.memory_in_range.groups_in.0.1 in
     let a : digit_of s Rank s.fields (address / 64) < s.ranks = digit-below s Rank s.fields (address / 64) (omega arith) in
     let b : digit_of s Group s.fields (address / 64) < s.groups = digit-below s Group s.fields (address / 64) (omega arith) in
     let d : digit_of s Bank s.fields (address / 64) < 4 = digit-below s Bank s.fields (address / 64) (omega arith) in

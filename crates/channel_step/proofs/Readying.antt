@@ -26,14 +26,14 @@ use Rattle.queue.proofs.Stood.{same_rows, bank_named}
 use Rattle.queue.proofs.Waits.{request_at as placed_at}
 use Rattle.request_table.specs.declared.served_requests.ServedRequest.{ServedRequest}
 use Rattle.statistics.specs.Channels.{issues_hit}
-use Rattle.fr_fcfs.specs.Requests.{IsInBanks, KnowsRows}
+use Rattle.channel_step.specs.FrFcfs.Requests.{IsInBanks, KnowsRows}
 use Rattle.channel_step.specs.Past.{is_named, Past, commands_after, choice_after}
 use Rattle.channel_step.specs.Stands.{marks_of}
 use Rattle.channel_step.specs.Queued.{request_at, served_now}
 use Rattle.channel_step.specs.Runs.{with_more}
 use Rattle.channel_step.specs.Channels.{CandidatesStand, IsInCycle}
 use Rattle.channel_step.specs.Readied.{IsChosen, IsDoing, row_of, IsReadied}
-use Rattle.fr_fcfs.specs.declared.choice.Choice.TheVariants as chosen
+use Rattle.channel_step.specs.declared.fr_fcfs.choice.Choice.TheVariants as chosen
 use Rattle.channel_step.specs.declared.channel.Channel.{Channel}
 use Rattle.channel_step.proofs.Cycle.{joined-differ}
 use Rattle.channel_step.proofs.Foreseen.{request-needs}

@@ -5,7 +5,7 @@ use Rattle.queue.specs.Log.{waiting, waiting_requests}
 use Rattle.queue.proofs.Renumbered.{waiting_twice}
 use Rattle.queue.specs.declared.bank_candidates.all_banks.BankCandidates.{BankCandidates}
 use Rattle.queue.specs.Stands.{bank_count}
-use Rattle.fr_fcfs.specs.Requests.{IsInBanks}
+use Rattle.channel_step.specs.FrFcfs.Requests.{IsInBanks}
 use Rattle.channel_step.specs.Past.{Past, commands_after}
 use Rattle.channel_step.specs.Stands.{marks_of}
 use Rattle.channel_step.specs.Channels.{CandidatesStand, HasPast}

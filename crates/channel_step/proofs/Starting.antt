@@ -21,9 +21,9 @@ use Rattle.std.proofs.lemmas.List.Elements.{All-from_recursion}
 use Rattle.queue.specs.Log.{waiting, waiting_requests, all_requests}
 use Rattle.queue.specs.Columns.{write_count}
 use Rattle.queue.specs.View.{QueueView, places_for, is_draining, drains_by}
-use Rattle.fr_fcfs.specs.Requests.{IsInBanks}
-use Rattle.fr_fcfs.specs.Choices.{StandFor, choice_in}
-use Rattle.fr_fcfs.specs.Cycles.{IsFirstCycle}
+use Rattle.channel_step.specs.FrFcfs.Requests.{IsInBanks}
+use Rattle.channel_step.specs.FrFcfs.Choices.{StandFor, choice_in}
+use Rattle.channel_step.specs.FrFcfs.Cycles.{IsFirstCycle}
 use Rattle.channel_step.specs.Past.{requests_of, past_of, Past, commands_after}
 use Rattle.channel_step.specs.Stands.{Recalls}
 use Rattle.channel_step.specs.Channels.{IsForeseen, KeepsServed, StandsFor, HasPast}

@@ -32,8 +32,8 @@ use Rattle.channel_step.specs.Channels.{CandidatesStand, IsAhead, IsAheadFor, Is
 use Rattle.channel_step.specs.declared.ahead.Ahead.{Ahead}
 use Rattle.channel_step.specs.declared.ahead.Ahead.TheVariants.{Unknown, Known}
 use Rattle.channel_step.specs.declared.channel.Channel.{Channel}
-use Rattle.fr_fcfs.specs.Choices.{IsFor}
-use Rattle.fr_fcfs.specs.Requests.{IsInBanks}
+use Rattle.channel_step.specs.FrFcfs.Choices.{IsFor}
+use Rattle.channel_step.specs.FrFcfs.Requests.{IsInBanks}
 use Rattle.channel_step.proofs.Serving.{kept-later}
 use Rattle.channel_step.proofs.Foreseen.{foreseen-from, taken-for}
 use Rattle.channel_step.proofs.Logs.{waiting-with, all-with, marks-with, arrived-wait}

@@ -48,10 +48,10 @@ use Rattle.queue.specs.View.{QueueView, is_draining}
 use Rattle.statistics.specs.Channels.{channel_joined, channel_times}
 use Rattle.statistics.specs.declared.channels.ChannelStats.{ChannelStats}
 use Rattle.channel_step.specs.Counted.{cycle_with_hit}
-use Rattle.fr_fcfs.specs.Choices.{StandFor, choice_in, command_of, IsFor, HasPlace}
-use Rattle.fr_fcfs.specs.Requests.{IsInBanks}
-use Rattle.fr_fcfs.specs.Cycles.{IsNext}
-use Rattle.fr_fcfs.specs.declared.choice.Choice.{Choice}
+use Rattle.channel_step.specs.FrFcfs.Choices.{StandFor, choice_in, command_of, IsFor, HasPlace}
+use Rattle.channel_step.specs.FrFcfs.Requests.{IsInBanks}
+use Rattle.channel_step.specs.FrFcfs.Cycles.{IsNext}
+use Rattle.channel_step.specs.declared.fr_fcfs.choice.Choice.{Choice}
 use Rattle.request_table.specs.Served.{served_requests}
 use Rattle.request_table.specs.declared.served_requests.ServedRequest.{ServedRequest}
 use Rattle.channel_step.specs.Past.{Steps, Past, past_of, commands_after, choice_after, requests_of}

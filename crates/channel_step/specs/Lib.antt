@@ -8,3 +8,4 @@ pub mod Counted
 pub mod Channels
 pub mod Readied
 pub mod Runs
+pub mod FrFcfs

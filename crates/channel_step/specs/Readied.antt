@@ -25,8 +25,8 @@ use Rattle.bank_ready.specs.Stands.{followed_by, StandsFor as BanksStandFor}
 use Rattle.bank_ready.specs.Refreshes.{StandsFor as RefreshesStandFor}
 use Rattle.queue.specs.Log.{waiting_requests, waits_at}
 use Rattle.statistics.specs.Channels.{issues_hit}
-use Rattle.fr_fcfs.specs.Choices.{command_of, IsFor}
-use Rattle.fr_fcfs.specs.declared.choice.Choice.{Choice}
+use Rattle.channel_step.specs.FrFcfs.Choices.{command_of, IsFor}
+use Rattle.channel_step.specs.declared.fr_fcfs.choice.Choice.{Choice}
 use Rattle.channel_step.specs.Past.{Past, commands_after, stats_after, choice_after, requests_of, CarriesRequest, Differ}
 use Rattle.channel_step.specs.Fit.{queue_room}
 use Rattle.channel_step.specs.Queued.{marks_in, request_at}

@@ -1,6 +1,6 @@
 //! What a channel knows of the command that it issues next.
 
-use fr_fcfs::choice::Choice;
+use crate::fr_fcfs::choice::Choice;
 use sim_base::message::Cycle;
 
 /// The next command that a channel issues, if nothing arrives.

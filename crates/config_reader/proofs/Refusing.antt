@@ -4,7 +4,6 @@ use Rattle.std.proofs.lemmas.Bool.{false≢true}
 use Rattle.std.specs.Result.{IsErr, IsErrAnd}
 use Rattle.toml.specs.Data.{Members}
 use Rattle.sim_base.specs.declared.fault.Fault.{Fault}
-use Rattle.sim_base.specs.declared.overrides.Override.{Override}
 use Rattle.sim_base.specs.declared.place.Field.{Field}
 use Rattle.sim_base.specs.declared.timing.Timing.{Timing}
 use Rattle.config_reader.specs.declared.numbers.MachineSize.{MachineSize}

@@ -1,7 +1,7 @@
 //! What the keys of a document say.
 
 ghost use Rattle.sim_base.specs.Fields.{FieldsInOrder};
-ghost use Rattle.sim_base.specs.Ranges.{MachineInRange, MemoryInRange, CoreInRange, LatenciesInRange, OverridesInRange, TimingInRange, DrainInRange};
+ghost use Rattle.sim_base.specs.Keys.{MachineInRange, MemoryInRange, CoreInRange, LatenciesInRange, OverridesInRange, TimingInRange, DrainInRange};
 
 use crate::end::read_end;
 use crate::fields::read_fields;

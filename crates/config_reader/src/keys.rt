@@ -6,13 +6,11 @@ ghost use Rattle.std.specs.Int.{is_power_of_two};
 ghost use Rattle.std.specs.Option.{ForSome};
 ghost use Rattle.std.specs.List.{list_all};
 ghost use Rattle.toml.specs.View.{view, table_view};
-ghost use Rattle.sim_base.specs.KeyRanges.{key_accepts, IsAccepted};
-ghost use Rattle.sim_base.specs.Ranges.{Within};
-ghost use Rattle.config_reader.specs.Document.Keys.{data_at, integer_at, in_range, number_in, as_power, number_wanted, is_known, keys_are_known, known_of, count_of};
+ghost use Rattle.sim_base.specs.Keys.{AcceptedAt, Within};
+ghost use Rattle.config_reader.specs.Document.Keys.{data_at, integer_at, in_range, number_from, as_power, number_blaming, number_at, is_known, keys_are_known, known_of, count_of};
 
 use sim_base::fault::Fault;
-use sim_base::key::{DOCUMENT_KEYS, Key};
-use sim_base::key_table::Accepts;
+use sim_base::key::{Accepts, DOCUMENT_KEYS, Key};
 use toml::{Table, Value};
 
 /// What stands at a key.
@@ -33,7 +31,7 @@ pub(super) fn integer_at(table: &Table, key: Key) -> Option<i64>
 }
 
 /// A value that has to be an integer between two bounds.
-pub(super) fn in_range(key: Key, low: u32, high: u32, value: Option<i64>) -> Result<u32, Fault>
+fn in_range(key: Key, low: u32, high: u32, value: Option<i64>) -> Result<u32, Fault>
     ensures value { result ≡ in_range key low high value }
     ensures range { IfOk result (Within low high) }
 {
@@ -46,24 +44,24 @@ pub(super) fn in_range(key: Key, low: u32, high: u32, value: Option<i64>) -> Res
     }
 }
 
-/// The number at a key, which may be left out where there is a default.
-#[tactic(auto, unfolding(crate::specs::Document::Keys::number_of, crate::specs::Document::Keys::number_or))]
-fn number_or(
-    default: Option<u32>,
-    table: &Table,
-    key: Key,
+/// The number at a key, from low up to high, or what stands for it where the key is absent.
+fn number_from(
+    blamed: Key,
+    absent: Option<u32>,
     low: u32,
     high: u32,
+    found: Option<&Value>,
 ) -> Result<u32, Fault>
-    requires { ForSome default (Within low high) }
-    ensures value { result ≡ number_in default (table_view table.now) key low high }
+    requires { ForSome absent (Within low high) }
+    ensures value { result ≡ number_from absent blamed low high
+        (option_map (λ v. view v.now) found.entry) }
     ensures range { IfOk result (Within low high) }
 {
-    match value_at(table, key) {
-        Some(value) => in_range(key, low, high, value.as_integer()),
-        None => match default {
+    match found {
+        Some(value) => in_range(blamed, low, high, value.as_integer()),
+        None => match absent {
             Some(number) => Ok(number),
-            None => Err(Fault::ConfigKey(key)),
+            None => Err(Fault::ConfigKey(blamed)),
         },
     }
 }
@@ -81,19 +79,29 @@ fn as_power(key: Key, n: u32) -> Result<u32, Fault>
     }
 }
 
+/// The number at a key, by what the key accepts. A refusal names another key.
+#[tactic(auto, unfolding(crate::specs::Document::Keys::number_blaming))]
+pub(super) fn number_blaming(blamed: Key, table: &Table, key: Key) -> Result<u32, Fault>
+    ensures value { result ≡ number_blaming blamed (table_view table.now) key }
+    ensures accepted { IfOk result (AcceptedAt key) }
+{
+    let absent = key.default_number();
+    let found = value_at(table, key);
+    match key.accepts() {
+        Accepts::Integer(low, high) => number_from(blamed, absent, low, high, found),
+        Accepts::PowerOfTwo(low, high) => {
+            as_power(blamed, number_from(blamed, absent, low, high, found)?)
+        }
+        _ => Err(Fault::ConfigKey(blamed)),
+    }
+}
+
 /// The number at a key, by what the key accepts.
 pub(super) fn number_at(table: &Table, key: Key) -> Result<u32, Fault>
-    ensures value { result ≡ number_wanted (table_view table.now) key }
-    ensures accepted { IfOk result (IsAccepted (key_accepts key)) }
+    ensures value { result ≡ number_at (table_view table.now) key }
+    ensures accepted { IfOk result (AcceptedAt key) }
 {
-    let default = key.default_number();
-    match key.accepts() {
-        Accepts::Integer(low, high) => number_or(default, table, key, low, high),
-        Accepts::PowerOfTwo(low, high) => {
-            as_power(key, number_or(default, table, key, low, high)?)
-        }
-        _ => Err(Fault::ConfigKey(key)),
-    }
+    number_blaming(key, table, key)
 }
 
 /// Whether a document may have a key of this name.

@@ -3,11 +3,11 @@
 ghost use Rattle.std.specs.Prelude.{◌≡◌, Ok, IfOk, IfErr};
 ghost use Rattle.toml.specs.Data.{as_table};
 ghost use Rattle.toml.specs.View.{view, array_view, table_view};
-ghost use Rattle.sim_base.specs.Ranges.{LatencyInRange, OverridesInRange};
+ghost use Rattle.sim_base.specs.Keys.{LatencyInRange, OverridesInRange};
 ghost use Rattle.config_reader.specs.Document.Links.{override_of, override_from, overrides_in, overrides_of};
 ghost use Rattle.config_reader.specs.Refusals.{IsRefusalOf};
 
-use crate::keys::{in_range, integer_at, key_count, value_at};
+use crate::keys::{integer_at, key_count, number_blaming, value_at};
 use sim_base::fault::Fault;
 use sim_base::key::Key;
 use sim_base::overrides::Override;
@@ -21,11 +21,11 @@ fn override_at(table: &Table) -> Result<Override, Fault>
     ensures value { result ≡ override_of (table_view table.now) }
     ensures range { IfOk result (λ o. LatencyInRange o.latency) }
 {
-    let id = integer_at(table, Key::Id);
-    let latency = integer_at(table, Key::Latency);
-    if id.is_some() && latency.is_some() && key_count(table) == 2 {
-        let link = in_range(Key::Link, 0, 12_287, id)?;
-        let latency = in_range(Key::Link, 1, 1_000_000, latency)?;
+    let has_id = integer_at(table, Key::Id).is_some();
+    let has_latency = integer_at(table, Key::Latency).is_some();
+    if has_id && has_latency && key_count(table) == 2 {
+        let link = number_blaming(Key::Link, table, Key::Id)?;
+        let latency = number_blaming(Key::Link, table, Key::Latency)?;
         Ok(Override {
             link: u64::from(link),
             latency,

@@ -49,10 +49,10 @@ pub(super) struct Drain {
 }
 
 impl MachineSize {
-    ghost use Rattle.sim_base.specs.Ranges.{MachineInRange};
+    ghost use Rattle.sim_base.specs.Keys.{MachineInRange};
     ghost use Rattle.config_reader.specs.Document.Numbers.{machine_of};
 
-    #[tactic(auto, unfolding(crate::specs::Document::Numbers::machine_of, crate::specs::Document::Keys::power_of))]
+    #[tactic(auto, unfolding(crate::specs::Document::Numbers::machine_of))]
     pub(super) fn read(table: &Table) -> Result<MachineSize, Fault>
         ensures value { result ≡ machine_of (table_view table.now) }
         ensures range { IfOk result (λ m. MachineInRange m.cores m.channels) }
@@ -67,10 +67,10 @@ impl MachineSize {
 }
 
 impl MemoryShape {
-    ghost use Rattle.sim_base.specs.Ranges.{MemoryInRange};
+    ghost use Rattle.sim_base.specs.Keys.{MemoryInRange};
     ghost use Rattle.config_reader.specs.Document.Numbers.{memory_of};
 
-    #[tactic(auto, unfolding(crate::specs::Document::Numbers::memory_of, crate::specs::Document::Keys::power_of, crate::specs::Document::Keys::power_or))]
+    #[tactic(auto, unfolding(crate::specs::Document::Numbers::memory_of))]
     pub(super) fn read(table: &Table) -> Result<MemoryShape, Fault>
         ensures value { result ≡ memory_of (table_view table.now) }
         ensures range { IfOk result (λ m. MemoryInRange m.ranks m.groups m.columns m.rows) }
@@ -110,7 +110,7 @@ impl CoreLimits {
 }
 
 impl Latencies {
-    ghost use Rattle.sim_base.specs.Ranges.{LatenciesInRange};
+    ghost use Rattle.sim_base.specs.Keys.{LatenciesInRange};
     ghost use Rattle.config_reader.specs.Document.Numbers.{latencies_of};
 
     #[tactic(auto, unfolding(crate::specs::Document::Numbers::latencies_of))]
@@ -127,7 +127,7 @@ impl Latencies {
 }
 
 impl Drain {
-    ghost use Rattle.sim_base.specs.Ranges.{DrainInRange};
+    ghost use Rattle.sim_base.specs.Keys.{DrainInRange};
     ghost use Rattle.config_reader.specs.Document.Numbers.{drain_of};
 
     #[tactic(auto, unfolding(crate::specs::Document::Numbers::drain_of))]

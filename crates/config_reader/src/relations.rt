@@ -2,7 +2,7 @@
 
 ghost use Rattle.std.specs.Prelude.{◌≡◌, ◌↔◌, ◌*◌, ◌≤◌, ◌==◌, ◌<◌, All, IsOk, IsTrue, nat_lt};
 ghost use Rattle.std.specs.List.{list_all, list_any};
-ghost use Rattle.sim_base.specs.Ranges.{MachineInRange, CoreInRange, TimingInRange, DrainInRange, Within};
+ghost use Rattle.sim_base.specs.Keys.{MachineInRange, CoreInRange, TimingInRange, DrainInRange, Within};
 ghost use Rattle.sim_base.specs.Relations.{refresh_slack_of, DistancesFit, RefreshFits, CreditsFit, LinksDiffer, RanksHaveField, DrainFits};
 ghost use Rattle.config_reader.specs.Document.Relations.{LinksFit, relation, distances_of, refresh_of, credits_of, links_differ, links_of, ranks_of, drain_fits_of};
 

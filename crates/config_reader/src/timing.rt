@@ -2,24 +2,14 @@
 
 ghost use Rattle.std.specs.Prelude.{◌≡◌, IfOk};
 ghost use Rattle.toml.specs.View.{table_view};
-ghost use Rattle.sim_base.specs.Ranges.{DistanceInRange, TimingInRange};
-ghost use Rattle.config_reader.specs.Document.Keys.{number_of, IsDistanceKey};
-ghost use Rattle.config_reader.specs.Document.Numbers.{DistancesInRange, distances_at, timing_of};
+ghost use Rattle.sim_base.specs.Keys.{TimingInRange};
+ghost use Rattle.config_reader.specs.Document.Numbers.{AreAccepted, distances_at, timing_of};
 
 use crate::keys::number_at;
 use sim_base::fault::Fault;
 use sim_base::key::Key;
 use sim_base::timing::Timing;
 use toml::Table;
-
-/// The distance at a key that must be present.
-fn distance_at(table: &Table, key: Key) -> Result<u32, Fault>
-    requires { IsDistanceKey key }
-    ensures value { result ≡ number_of (table_view table.now) key 1 100000 }
-    ensures range { IfOk result DistanceInRange }
-{
-    number_at(table, key)
-}
 
 /// The distances at four keys, one after the other.
 #[tactic(auto, unfolding(crate::specs::Document::Numbers::distances_at))]
@@ -30,17 +20,13 @@ fn distances_at(
     c: Key,
     d: Key,
 ) -> Result<(u32, u32, u32, u32), Fault>
-    requires a { IsDistanceKey a }
-    requires b { IsDistanceKey b }
-    requires c { IsDistanceKey c }
-    requires d { IsDistanceKey d }
     ensures value { result ≡ distances_at (table_view table.now) a b c d }
-    ensures range { IfOk result DistancesInRange }
+    ensures range { IfOk result (AreAccepted a b c d) }
 {
-    let first = distance_at(table, a)?;
-    let second = distance_at(table, b)?;
-    let third = distance_at(table, c)?;
-    let fourth = distance_at(table, d)?;
+    let first = number_at(table, a)?;
+    let second = number_at(table, b)?;
+    let third = number_at(table, c)?;
+    let fourth = number_at(table, d)?;
     Ok((first, second, third, fourth))
 }
 

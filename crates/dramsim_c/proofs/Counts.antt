@@ -2,9 +2,9 @@
 use Rattle.std.proofs.Common.{◌≡◌, ℕ, Bool, true, false, Some, None, Result, Ok, Err, refl, ap, subst, ◌∙◌}
 use Rattle.std.specs.Prelude.{if◌then◌else◌}
 use Rattle.statistics.specs.declared.channels.ChannelStats.{ChannelStats}
-use Rattle.c_interface.specs.Statuses.{fault_number}
-use Rattle.c_interface.specs.declared.fault.CallFault.{CallFault}
-use Rattle.c_interface.specs.Memories.{stats_answer}
+use Rattle.dramsim_c.specs.CInterface.Statuses.{fault_number}
+use Rattle.dramsim_c.specs.declared.c_interface.fault.CallFault.{CallFault}
+use Rattle.dramsim_c.specs.CInterface.Memories.{stats_answer}
 
 abbrev IsDone : Result ChannelStats CallFault → Type 0
 IsDone (Ok stats) = Unit {0}

@@ -5,11 +5,11 @@ use Rattle.rule_check.specs.declared.verdict.Verdict.{Verdict}
 use Rattle.rule_check.specs.declared.verdict.Verdict.TheVariants.{Legal, Broken}
 use Rattle.sim_base.specs.declared.fault.Fault.{Fault}
 use Rattle.sim_base.specs.declared.fault.Fault.TheVariants as fault
-use Rattle.c_interface.specs.Statuses.{status, fault_number, judged_status, IsJudgedUnder, IsJudgedAs}
-use Rattle.c_interface.specs.Verdicts.{outcome_of, IsJudged, IsUnjudged, IsCheckAnswer}
-use Rattle.c_interface.specs.declared.fault.CallFault.{CallFault}
-use Rattle.c_interface.specs.declared.fault.CallFault.TheVariants.{Closed, AlreadyOpen, Configuration, Session, NoSuchPlace, TooShort, BreaksRule, Malformed}
-use Rattle.c_interface.specs.declared.rows.VerdictRow.{VerdictRow}
+use Rattle.dramsim_c.specs.CInterface.Statuses.{status, fault_number, judged_status, IsJudgedUnder, IsJudgedAs}
+use Rattle.dramsim_c.specs.CInterface.Verdicts.{outcome_of, IsJudged, IsUnjudged, IsCheckAnswer}
+use Rattle.dramsim_c.specs.declared.c_interface.fault.CallFault.{CallFault}
+use Rattle.dramsim_c.specs.declared.c_interface.fault.CallFault.TheVariants.{Closed, AlreadyOpen, Configuration, Session, NoSuchPlace, TooShort, BreaksRule, Malformed}
+use Rattle.dramsim_c.specs.declared.c_interface.rows.VerdictRow.{VerdictRow}
 
 outcome-status : (v : Result Verdict Fault) → status (outcome_of v) ≡ judged_status v
 outcome-status (Ok Legal) = refl

@@ -2,7 +2,7 @@
 use Rattle.std.proofs.Common.{◌≡◌, true, false, Option, Some, None, ap}
 use Rattle.std.specs.Prelude.{is_some}
 use Rattle.sim_base.specs.declared.place.Place.{Place}
-use Rattle.c_interface.specs.Rows.{place_row}
+use Rattle.dramsim_c.specs.CInterface.Rows.{place_row}
 
 place-or : Place → Option Place → Place
 place-or other (Some place) = place

@@ -4,10 +4,10 @@ use Rattle.sessions.specs.declared.channel_session.fault.SessionFault.{SessionFa
 use Rattle.sessions.specs.declared.channel_session.fault.SessionFault.TheVariants as refused
 use Rattle.sim_base.specs.declared.fault.Fault.{Fault}
 use Rattle.sim_base.specs.declared.fault.Fault.TheVariants as fault
-use Rattle.c_interface.specs.Kept.{IsWellAt, IsThere, IsCallAnswer}
-use Rattle.c_interface.specs.Statuses.{session_number, fault_number, status, IsStatus}
-use Rattle.c_interface.specs.declared.fault.CallFault.{CallFault}
-use Rattle.c_interface.specs.declared.fault.CallFault.TheVariants as call
+use Rattle.dramsim_c.specs.CInterface.Kept.{IsWellAt, IsThere, IsCallAnswer}
+use Rattle.dramsim_c.specs.CInterface.Statuses.{session_number, fault_number, status, IsStatus}
+use Rattle.dramsim_c.specs.declared.c_interface.fault.CallFault.{CallFault}
+use Rattle.dramsim_c.specs.declared.c_interface.fault.CallFault.TheVariants as call
 
 -- no refusal has the number 0
 session-positive : (f : SessionFault) → 0 < session_number f

@@ -7,18 +7,19 @@ ghost use Rattle.sessions.specs.Addresses.{is_place, IsAddressOf};
 ghost use Rattle.sessions.specs.Ahead.{IsNextAct};
 ghost use Rattle.sessions.specs.Sessions.{next_command_of, next_reply_of, statistics_of, waiting_of, with_request, with_command, with_reply, refusal, end_refusal};
 ghost use Rattle.sim_base.specs.Places.{place_of};
-ghost use Rattle.c_interface.specs.Channels.{open_refusal, IsWell, ForOpen, ForSession, HasPast, ForPasts, StandsAt, StandsAsBefore, IsClosed, IsOpened};
-ghost use Rattle.c_interface.specs.Rows.{sent_request, command_row, reply_row, place_row, place_in, stats_row};
-ghost use Rattle.c_interface.specs.Statuses.{IsStatus, open_status, text_status, IsJudgedAs};
-ghost use Rattle.c_interface.specs.Texts.{fault_text, written_over};
+ghost use Rattle.dramsim_c.specs.CInterface.Channels.{open_refusal, IsWell, ForOpen, ForSession, HasPast, ForPasts, StandsAt, StandsAsBefore, IsClosed, IsOpened};
+ghost use Rattle.dramsim_c.specs.CInterface.Rows.{sent_request, command_row, reply_row, place_row, place_in, stats_row};
+ghost use Rattle.dramsim_c.specs.CInterface.Statuses.{IsStatus, open_status, text_status, IsJudgedAs};
+ghost use Rattle.dramsim_c.specs.CInterface.Texts.{fault_text, written_over};
 
+pub mod c_interface;
 pub mod memory;
 
-use c_interface::channel::KeptChannel;
-use c_interface::fault::{fault_number, status};
-use c_interface::rows::{CommandRow, PlaceRow, ReplyRow, RequestRow, StatsRow, VerdictRow};
-use c_interface::texts::write_fault;
-use c_interface::verdicts::check_commands;
+use crate::c_interface::channel::KeptChannel;
+use crate::c_interface::fault::{fault_number, status};
+use crate::c_interface::rows::{CommandRow, PlaceRow, ReplyRow, RequestRow, StatsRow, VerdictRow};
+use crate::c_interface::texts::write_fault;
+use crate::c_interface::verdicts::check_commands;
 use std::alloc::Global;
 
 /// Opens a closed channel: the one with a number, of the machine whose configuration a text states, before its first

@@ -8,13 +8,13 @@ ghost use Rattle.sessions.specs.declared.channel_session.session.Session.{Sessio
 ghost use Rattle.sim_base.specs.Places.{place_of};
 ghost use Rattle.sim_base.specs.declared.config.Config.{Config};
 ghost use Rattle.sessions.specs.Memories.{memory_refusal, with_request_of, IsNextCommand, IsNextReply, IsNextActOf, stats_of};
-ghost use Rattle.c_interface.specs.Rows.{sent_request, place_row, place_in, stats_row};
-ghost use Rattle.c_interface.specs.Statuses.{IsStatus, open_status};
-ghost use Rattle.c_interface.specs.Memories.{IsWell, ForPasts, ForOpen, ForMemory, HasPasts, StandsAt, StandsAsBefore, IsOf, IsClosed, IsOpened, configuration_refusal, IsCommandRowAt, IsReplyRowAt, with_command_at, with_reply_at};
+ghost use Rattle.dramsim_c.specs.CInterface.Rows.{sent_request, place_row, place_in, stats_row};
+ghost use Rattle.dramsim_c.specs.CInterface.Statuses.{IsStatus, open_status};
+ghost use Rattle.dramsim_c.specs.CInterface.Memories.{IsWell, ForPasts, ForOpen, ForMemory, HasPasts, StandsAt, StandsAsBefore, IsOf, IsClosed, IsOpened, configuration_refusal, IsCommandRowAt, IsReplyRowAt, with_command_at, with_reply_at};
 
-use c_interface::c_memory::memory::KeptMemory;
-use c_interface::fault::{fault_number, status};
-use c_interface::rows::{CommandRow, PlaceRow, ReplyRow, RequestRow, StatsRow};
+use crate::c_interface::c_memory::memory::KeptMemory;
+use crate::c_interface::fault::{fault_number, status};
+use crate::c_interface::rows::{CommandRow, PlaceRow, ReplyRow, RequestRow, StatsRow};
 use std::alloc::Global;
 
 /// Opens a closed memory: all channels of the machine whose configuration a text states, before their first cycle. Any

@@ -16,16 +16,16 @@ use Rattle.sim_base.specs.declared.trace.Entry.{Entry}
 use Rattle.sim_base.proofs.Each.{Each-all}
 use Rattle.sim_base.proofs.Grows.{has_channels}
 use Rattle.links.specs.InFlight.{InFlight, receiver_of}
-use Rattle.span_laws.specs.Mail.{mail_in}
-use Rattle.span_laws.specs.Units.{Exists}
-use Rattle.span_laws.specs.FlightInTurns.{flight_of}
-use Rattle.span_laws.specs.Sent.{RequestsTravelFor, AnswersTakeFor}
-use Rattle.span_laws.specs.Turns.{IsInTurns, IsLowered}
-use Rattle.span_laws.specs.Turns.{Waits as Left}
-use Rattle.span_laws.proofs.Bringing.{unit-due, unit-overdue, channel-known, core-known}
-use Rattle.span_laws.proofs.FlightsInTurns.{flights-meet, channels-further, cores-further}
-use Rattle.span_laws.proofs.Jumps.{channels-taken, cores-taken, turns-jump, requests-none, answers-none}
-use Rattle.span_laws.proofs.Taking.{channel-keeps, core-keeps, requests-shorter, answers-shorter}
+use Rattle.units.specs.SpanLaws.Mail.{mail_in}
+use Rattle.units.specs.SpanLaws.Units.{Exists}
+use Rattle.units.specs.SpanLaws.FlightInTurns.{flight_of}
+use Rattle.units.specs.SpanLaws.Sent.{RequestsTravelFor, AnswersTakeFor}
+use Rattle.units.specs.SpanLaws.Turns.{IsInTurns, IsLowered}
+use Rattle.units.specs.SpanLaws.Turns.{Waits as Left}
+use Rattle.units.proofs.SpanLaws.Bringing.{unit-due, unit-overdue, channel-known, core-known}
+use Rattle.units.proofs.SpanLaws.FlightsInTurns.{flights-meet, channels-further, cores-further}
+use Rattle.units.proofs.SpanLaws.Jumps.{channels-taken, cores-taken, turns-jump, requests-none, answers-none}
+use Rattle.units.proofs.SpanLaws.Taking.{channel-keeps, core-keeps, requests-shorter, answers-shorter}
 use Rattle.units.specs.Flight.{fresh, among, sent_by, is_at_places}
 use Rattle.units.specs.Parts.{IsPart}
 use Rattle.units.specs.Units.{unit_at, unit_count}

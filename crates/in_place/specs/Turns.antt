@@ -9,8 +9,8 @@
 use Rattle.std.specs.Prelude.{◌≡◌, ℕ, ◌+◌, ◌-◌, ◌<◌, List, ◌++◌, length}
 use Rattle.sim_base.specs.declared.message.Unit.TheVariants.{Core, Channel}
 use Rattle.links.specs.InFlight.{InFlight}
-use Rattle.span_laws.specs.FlightInTurns.{flight_of}
-use Rattle.span_laws.specs.Sent.{RequestsTravelFor, AnswersTakeFor}
+use Rattle.units.specs.SpanLaws.FlightInTurns.{flight_of}
+use Rattle.units.specs.SpanLaws.Sent.{RequestsTravelFor, AnswersTakeFor}
 use Rattle.units.specs.Units.{unit_count}
 use Rattle.units.specs.declared.machine.Machine.{Machine}
 use Rattle.units.specs.Wakes.{IsAsleep, Waits, sleeper_at}

@@ -2,16 +2,16 @@
 
 ghost use Rattle.std.specs.Prelude.{◌≡◌, ◌<◌, ◌≤◌, ◌^◌, ◌-◌, ℕ, length, OnOk, All, false};
 ghost use Rattle.links.specs.InFlight.{InFlight};
-ghost use Rattle.span_laws.specs.Sent.{RequestsTravelFor, AnswersTakeFor};
+ghost use Rattle.units.specs.SpanLaws.Sent.{RequestsTravelFor, AnswersTakeFor};
 ghost use Rattle.units.specs.Units.{unit_count};
 ghost use Rattle.units.specs.declared.machine.Machine.{Machine};
 ghost use Rattle.in_place.specs.Turns.{AllAsleep, AreByKind, InTurnsAt, all_units, channels_to, cores_to};
 
 use sim_base::message::Cycle;
-use span_laws::latencies::{least_request_latency, least_way_back};
 use std::alloc::AllocError;
 use units::lane_scan::{first_below, least};
 use units::machine::Machine;
+use units::span_laws::latencies::{least_request_latency, least_way_back};
 use units::timed_unit::{Span, Traffic};
 use units::waking::{UnitRange, go_on};
 use units::words::take_up;

@@ -327,7 +327,7 @@ next_refresh s first j = omega arith
 last_refresh : (s : Config) (m first : ℕ) → first + 1 ≡ m * s.timing.n_refi + close_wait s.timing → refresh_of s first s.ranks ≤ m * s.timing.n_refi + refresh_slack s
 unfolding refresh_of
 last_refresh s m first e =
-    let a = s.memory_in_range.ranks_in.0 in
+    let a = s.memory_in_range.ranks_in.0.0 in
     let r : s.ranks ≡ suc (s.ranks - 1) = omega arith in
     let b : s.ranks * (s.timing.n_rp + 1) ≡ suc (s.ranks - 1) * (s.timing.n_rp + 1) = ap (λ x. x * (s.timing.n_rp + 1)) r in
     omega arith

@@ -14,7 +14,7 @@ use Rattle.std.proofs.Math.Nat.{mul_assoc}
 use Rattle.sim_base.specs.declared.config.Config.{Config}
 use Rattle.sim_base.specs.declared.overrides.Override.{Override}
 use Rattle.sim_base.specs.Config.{usual_latency, latency}
-use Rattle.sim_base.specs.Ranges.{LatencyInRange}
+use Rattle.sim_base.specs.Keys.{LatencyInRange}
 use Rattle.sim_base.proofs.Each.{IfSome-find}
 use Rattle.sim_base.proofs.Ordered.{Each-weaker}
 use Rattle.sim_base.proofs.LinkNumbers.{override_in_range}

@@ -125,7 +125,7 @@ least-attained s kind k = decide (by (cases_Bool (has_usual s kind)))
     decide : Attained s kind (least_of_kind s kind (kind_latency s kind)) ⊎ (least_of_kind s kind (kind_latency s kind) ≡ 1000000) → Attained s kind (least_of_kind s kind (kind_latency s kind))
     decide (inl w) = w
     decide (inr e) =
-        let some_link : 2 < 3 * s.cores * s.channels = omega (arith, link_below s.cores s.channels 0 0 2 s.machine_in_range.cores_in.0 s.machine_in_range.channels_in.0 (omega arith)) in
+        let some_link : 2 < 3 * s.cores * s.channels = omega (arith, link_below s.cores s.channels 0 0 2 s.machine_in_range.cores_in.0 s.machine_in_range.channels_in.0.0 (omega arith)) in
         let high : latency s kind ≤ 1000000 = (latency_in_range s kind).1 in
         let low : least_of_kind s kind (kind_latency s kind) ≤ latency s kind = least-meets s kind kind (omega arith, omega arith) in
         (kind, (omega arith, omega arith), omega arith)

@@ -109,7 +109,7 @@ bank_numbered-number_of bank g b =
 bank-read : (c : Channel) (s : Config) (history : List IssuedCommand) (b : BankId) → IsKept c s history → BankFits (limits_of s) b
     → slice_get c.banks.items (number_of b) ≡ Some (bank_past history b)
 bank-read c s history b k f =
-    let few = s.memory_in_range.groups_in.1 in
+    let few = s.memory_in_range.groups_in.0.1 in
     let rank = f.rank_in_range in
     let group = f.group_in_range in
     let last = f.bank_in_range in
@@ -121,7 +121,7 @@ bank-read c s history b k f =
 group-read : (c : Channel) (s : Config) (history : List IssuedCommand) (b : BankId) → IsKept c s history → BankFits (limits_of s) b
     → slice_get c.groups.items (group_number b) ≡ Some (group_past history b.rank b.group)
 group-read c s history b k f =
-    let few = s.memory_in_range.groups_in.1 in
+    let few = s.memory_in_range.groups_in.0.1 in
     let rank = f.rank_in_range in
     let group = f.group_in_range in
     let inside : group_number b < 4 * s.ranks = omega arith in

@@ -30,7 +30,7 @@ limits_of s = record {
   rows = s.rows;
   columns = s.columns;
   cores = s.cores;
-  has_rank = s.memory_in_range.ranks_in.0;
+  has_rank = s.memory_in_range.ranks_in.0.0;
 }
 
 -- a bank below the limits

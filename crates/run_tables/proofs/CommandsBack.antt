@@ -12,10 +12,10 @@ use Rattle.laws.proofs.Tabled.{tables_are_ordered}
 use Rattle.reports.specs.Commands.{header, command_fields, commands_text}
 use Rattle.rule_check.specs.Fields.{limits_of, is_header, row_in}
 use Rattle.rule_check.specs.Verdict.{records_of}
-use Rattle.table_laws.specs.Written.{RowIsOf}
-use Rattle.table_laws.proofs.FieldsBack.{header-read, rows-back}
-use Rattle.table_laws.proofs.InRange.{commands_are_in_range}
-use Rattle.table_laws.proofs.RowsBack.{records-read}
+use Rattle.run_tables.specs.TableLaws.Written.{RowIsOf}
+use Rattle.run_tables.proofs.TableLaws.FieldsBack.{header-read, rows-back}
+use Rattle.run_tables.proofs.TableLaws.InRange.{commands_are_in_range}
+use Rattle.run_tables.proofs.TableLaws.RowsBack.{records-read}
 use Rattle.run_tables.specs.Commands.{IsCommandTable}
 use Rattle.run_tables.proofs.Wider.{rows-wider, header-wider}
 

@@ -21,3 +21,4 @@ pub mod UnitRows
 pub mod Units
 pub mod Wider
 pub mod Written
+pub mod TableLaws

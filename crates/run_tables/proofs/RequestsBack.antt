@@ -14,8 +14,8 @@ use Rattle.sim_base.specs.declared.message.Access.TheVariants.{Read, Write}
 use Rattle.request_table.specs.declared.times.RequestTimes.{RequestTimes}
 use Rattle.rule_check.specs.Left.{records_after}
 use Rattle.rule_check.specs.Verdict.{records_of}
-use Rattle.table_laws.proofs.Plain.{IsPlain, decimal-plain}
-use Rattle.table_laws.proofs.RowsBack.{IsPlainRow, rows-read}
+use Rattle.run_tables.proofs.TableLaws.Plain.{IsPlain, decimal-plain}
+use Rattle.run_tables.proofs.TableLaws.RowsBack.{IsPlainRow, rows-read}
 use Rattle.run_tables.specs.Requests.{RequestFits, IsInOrder, IsRequestTable}
 use Rattle.run_tables.proofs.RunRequests.{requests-fit, requests-ordered}
 

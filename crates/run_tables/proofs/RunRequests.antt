@@ -34,8 +34,8 @@ use Rattle.request_table.specs.Requests.{arrival_of, reply_cycle, replied_in, re
 use Rattle.sim_base.specs.declared.message.Access.{Access}
 use Rattle.sim_base.specs.declared.message.Access.TheVariants.{Read, Write}
 use Rattle.laws.proofs.Dated.{requests_arrive_as_issued}
-use Rattle.table_laws.specs.Written.{SourceIsOf, CommandIsOf, RowIsOf}
-use Rattle.table_laws.proofs.InRange.{commands_are_in_range}
+use Rattle.run_tables.specs.TableLaws.Written.{SourceIsOf, CommandIsOf, RowIsOf}
+use Rattle.run_tables.proofs.TableLaws.InRange.{commands_are_in_range}
 use Rattle.run_tables.specs.Requests.{IsReplyTo, RequestFits, turn, IsInOrder}
 
 -- ---- each row of the table of commands is what its channel does in its cycle
@@ -112,7 +112,7 @@ served-fits : (s : Config) (history : List MachineStep) (access : Access) (i : I
     → SourceIsOf s source → arrival_of s history i.channel source ≤ i.cycle → RequestFits (request_for s history access i source)
 served-fits s history access i source few soon inside of arrived =
     let cores = s.machine_in_range.cores_in.1 in
-    let channels = s.machine_in_range.channels_in.1 in
+    let channels = s.machine_in_range.channels_in.0.1 in
     let core = of.core in
     record {
       core_in_range = omega (arith, core, cores);
@@ -165,7 +165,7 @@ by-turn s history i (Ref rank) = tt
 
 place-before : (s : Config) (a b : IssuedCommand) → a.channel < s.channels → IsTrue (stands_before a b) → place a < place b
 place-before s a b inside h =
-    let channels = s.machine_in_range.channels_in.1 in
+    let channels = s.machine_in_range.channels_in.0.1 in
     elim (cases_Bool (nat_lt a.cycle b.cycle)) [
       | inl less ↦ let l = ltb-true a.cycle b.cycle less in omega (arith, inside, channels)
       | inr more ↦

@@ -31,8 +31,8 @@ use Rattle.statistics.proofs.ChannelBounds.{channel_stats-fit}
 use Rattle.statistics.proofs.CoreBounds.{core_stats-fit, KeepsToTrace-run}
 use Rattle.statistics.proofs.Replies.{RepliesFollowReads-run, length-steps_of_core}
 use Rattle.statistics.proofs.ReplyBounds.{answered_entries, replies-le-issued}
-use Rattle.table_laws.proofs.InRange.{range-below, trace-short}
-use Rattle.table_laws.proofs.Lawful.{mapped-each, greatest-within}
+use Rattle.run_tables.proofs.TableLaws.InRange.{range-below, trace-short}
+use Rattle.run_tables.proofs.TableLaws.Lawful.{mapped-each, greatest-within}
 use Rattle.run_tables.specs.Stats.{CoreInRange, StatsFit}
 
 -- THE REPLIES TO A CORE
@@ -153,7 +153,7 @@ run-fits s traces n few short =
     let lists = recursion_from_All (λ (t : List Entry). length t ≤ 2 ^ 62) traces short in
     let long = length-run s traces n in
     let one_core : 1 ≤ s.cores = s.machine_in_range.cores_in.0 in
-    let one_channel : 1 ≤ s.channels = s.machine_in_range.channels_in.0 in
+    let one_channel : 1 ≤ s.channels = s.machine_in_range.channels_in.0.0 in
     let core_count = length-map-range_with_len (stats_of_core s traces history) 0 s.cores in
     let channel_count = length-map-range_with_len (stats_of_channel s traces history) 0 s.channels in
     record {

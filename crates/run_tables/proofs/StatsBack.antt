@@ -12,8 +12,8 @@ use Rattle.rule_check.specs.Verdict.{records_of}
 use Rattle.statistics.specs.Values.{RunStats}
 use Rattle.statistics.specs.declared.channels.ChannelStats.{ChannelStats}
 use Rattle.statistics.specs.declared.cores.CoreStats.{CoreStats}
-use Rattle.table_laws.proofs.Plain.{IsPlain, decimal-plain}
-use Rattle.table_laws.proofs.RowsBack.{IsPlainRow, rows-read}
+use Rattle.run_tables.proofs.TableLaws.Plain.{IsPlain, decimal-plain}
+use Rattle.run_tables.proofs.TableLaws.RowsBack.{IsPlainRow, rows-read}
 use Rattle.run_tables.specs.Stats.{StatsFit, IsStatsTable}
 use Rattle.run_tables.proofs.Units.{from}
 use Rattle.run_tables.proofs.RequestsBack.{value-plain}

@@ -180,10 +180,10 @@ pub record Named (s : Config) (header : List (List ℕ)) : Type 0 where
 is-within : (s : Config) (b : Limits) → names_ranks b.ranks ≡ names_ranks s.ranks → s.ranks ≤ b.ranks → b.channels ≡ 16 → b.groups ≡ 4 → b.rows ≡ 262144 → b.columns ≡ 1024 → b.cores ≡ 256
     → IsWithin (limits_of s) b
 is-within s b alike ranks channels groups rows columns cores =
-    let most_channels = s.machine_in_range.channels_in.1 in
-    let most_groups = s.memory_in_range.groups_in.1 in
-    let most_rows = s.memory_in_range.rows_in.1 in
-    let most_columns = s.memory_in_range.columns_in.1 in
+    let most_channels = s.machine_in_range.channels_in.0.1 in
+    let most_groups = s.memory_in_range.groups_in.0.1 in
+    let most_rows = s.memory_in_range.rows_in.0.1 in
+    let most_columns = s.memory_in_range.columns_in.0.1 in
     let most_cores = s.machine_in_range.cores_in.1 in
     record {
       columns_alike = alike;
@@ -199,7 +199,7 @@ named-by : (s : Config) (header : List (List ℕ)) (several : Bool) → names_ra
 unfolding limits_told is_header operand
 named-by s header true e h =
     let four : is_header 4 header ≡ true = rw e at h in
-    record { limits = with_rank; within = is-within s with_rank (sym e) s.memory_in_range.ranks_in.1 refl refl refl refl refl; told = rw four refl }
+    record { limits = with_rank; within = is-within s with_rank (sym e) s.memory_in_range.ranks_in.0.1 refl refl refl refl refl; told = rw four refl }
 named-by s header false e h =
     let one : is_header 1 header ≡ true = rw e at h in
     record { limits = without_rank; within = is-within s without_rank (sym e) (ltb-false 1 s.ranks e) refl refl refl refl refl; told = rw (one-column-less header one, one) refl }

@@ -6,3 +6,4 @@ pub mod Stats
 pub mod Units
 pub mod RequestRows
 pub mod Requests
+pub mod TableLaws

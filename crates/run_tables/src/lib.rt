@@ -1,4 +1,4 @@
-//! Reads the tables of a run: its statistics, its commands and its requests.
+//! Reads the tables of a run, its statistics, its commands and its requests, and the laws that they obey (`table_laws`).
 #![tactic(auto)]
 
 mod commands;
@@ -8,6 +8,7 @@ pub mod read_back;
 mod records;
 mod requests;
 mod stats;
+pub mod table_laws;
 
 pub use commands::read_commands;
 pub use requests::read_requests;

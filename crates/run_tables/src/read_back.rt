@@ -8,7 +8,7 @@ ghost use Rattle.sim_base.specs.History.{commands};
 ghost use Rattle.sim_base.specs.Machine.{run};
 ghost use Rattle.command_table.specs.Tables.{IsRising};
 ghost use Rattle.rule_check.specs.Fields.{limits_of, is_header, row_in};
-ghost use Rattle.table_laws.specs.Written.{RowIsOf, AreShort};
+ghost use Rattle.run_tables.specs.TableLaws.Written.{RowIsOf, AreShort};
 ghost use Rattle.statistics.specs.Runs.{stats_of};
 ghost use Rattle.statistics.specs.Values.{RunStats};
 ghost use Rattle.request_table.specs.Requests.{requests_of};

@@ -16,7 +16,7 @@ use Rattle.sim_base.proofs.Lists.{none-is}
 use Rattle.statistics.proofs.ChannelMail.{AgreeUpTo-later}
 use Rattle.channel_step.specs.Fit.{ComeByAge}
 use Rattle.channel_step.proofs.Requests.{carries-stamped}
-use Rattle.fr_fcfs.specs.Cycles.{IsFirstCycle, IsFirst}
+use Rattle.channel_step.specs.FrFcfs.Cycles.{IsFirstCycle, IsFirst}
 use Rattle.sessions.specs.Ahead.{command_then, first_arrival, earlier, IsNextAt, IsNextAct}
 use Rattle.sessions.specs.Keeps.{steps_of}
 use Rattle.sessions.specs.Sessions.{Past, IsSession}

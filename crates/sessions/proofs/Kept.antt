@@ -172,7 +172,7 @@ next-now m pasts number some a of f o l is h next =
 
 -- a channel's number is one of 32 bits
 pub few-channels : (m : MemorySession) (number : ℕ) → IsOpenMemory m → number < length m.sessions.items → number < 4294967296
-few-channels m number h l = let c = h.is_memory.count_is in let few = m.config.machine_in_range.channels_in in omega arith
+few-channels m number h l = let c = h.is_memory.count_is in let few = m.config.machine_in_range.channels_in.0 in omega arith
 
 -- one that is the same in all that it keeps
 pub same-memory : (a b : MemorySession) (pasts : Pasts) → b.sessions.items ≡ a.sessions.items → b.config ≡ a.config → b.cycle ≡ a.cycle → IsMemory a pasts → IsMemory b pasts

@@ -11,11 +11,11 @@ use Rattle.sim_base.specs.declared.message.Unit.TheVariants.{Core, Channel}
 use Rattle.sim_base.proofs.Ordered.{Each-weaker}
 use Rattle.sim_base.proofs.Lists.{filter-agree}
 use Rattle.links.specs.InFlight.{InFlight, is_due, receiver_of}
-use Rattle.span_laws.specs.Flight.{left_after}
-use Rattle.span_laws.proofs.Flights.{any-and}
-use Rattle.span_laws.proofs.Flights as flights
-use Rattle.span_laws.proofs.Bringing.{unit-overdue}
-use Rattle.span_laws.proofs.FlightsInTurns.{flights-meet}
+use Rattle.units.specs.SpanLaws.Flight.{left_after}
+use Rattle.units.proofs.SpanLaws.Flights.{any-and}
+use Rattle.units.proofs.SpanLaws.Flights as flights
+use Rattle.units.proofs.SpanLaws.Bringing.{unit-overdue}
+use Rattle.units.proofs.SpanLaws.FlightsInTurns.{flights-meet}
 use Rattle.units.specs.declared.machine.Machine.{Machine}
 use Rattle.units.specs.Runs.{flight_at}
 use Rattle.units.specs.Flight.{goes_among, among}

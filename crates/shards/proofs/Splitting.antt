@@ -20,8 +20,8 @@ use Rattle.sim_base.proofs.Ordered.{Sorted, Each-weaker, puts-swap}
 use Rattle.sim_base.proofs.Added.{length-push_suc}
 use Rattle.sim_base.proofs.Lists.{filter-agree}
 use Rattle.sim_base.proofs.Grows.{is_unit-own}
-use Rattle.span_laws.proofs.Lists.{Sorted-filter}
-use Rattle.span_laws.specs.Units.{Exists}
+use Rattle.units.proofs.SpanLaws.Lists.{Sorted-filter}
+use Rattle.units.specs.SpanLaws.Units.{Exists}
 use Rattle.links.specs.InFlight.{InFlight, receiver_of}
 use Rattle.links.proofs.Ages.{by_age-same}
 use Rattle.units.specs.declared.machine.Machine.{Machine}

@@ -176,7 +176,7 @@ unfolding channel_sends
 channel_sends-by s history machine_step channel l = messages_at-by s channel (length history) l (step_of_channel channel machine_step)
 
 pub has_channels : (s : Config) → 0 < s.channels
-has_channels s = s.machine_in_range.channels_in.0
+has_channels s = s.machine_in_range.channels_in.0.0
 
 pub of_core-by : (s : Config) (traces : List (List Entry)) (history : List MachineStep) (core : ℕ) → SentBy s (Core core) (messages_of_core s traces history core)
 unfolding messages_of_core

@@ -17,4 +17,3 @@ pub mod Cycles
 pub mod Ordered
 pub mod Grows
 pub mod SameValues
-pub mod KeyLaws

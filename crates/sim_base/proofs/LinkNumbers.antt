@@ -6,7 +6,7 @@ use Rattle.std.proofs.lemmas.Bool.{cond_both}
 use Rattle.std.proofs.lemmas.List.Elements.{All-head, All-tail}
 use Rattle.std.proofs.Math.Nat.{mul_assoc, mul_comm, mul-le-mul_left}
 use Rattle.std.proofs.lemmas.Nat.{mul-add-lt}
-use Rattle.sim_base.specs.Ranges.{OverridesInRange, LatencyInRange}
+use Rattle.sim_base.specs.Keys.{OverridesInRange, LatencyInRange}
 use Rattle.sim_base.specs.declared.overrides.Override.{Override}
 
 -- the links of a core and a channel are among those of the machine

@@ -1,7 +1,7 @@
 -- A configuration is known by what it says.
 use Rattle.std.proofs.Common.{◌≡◌, ap, subst}
 use Rattle.std.proofs.Props.{props}
-use Rattle.sim_base.specs.Ranges.{MachineInRange, MemoryInRange, CoreInRange, LatenciesInRange, OverridesInRange, TimingInRange, DrainInRange}
+use Rattle.sim_base.specs.Keys.{MachineInRange, MemoryInRange, CoreInRange, LatenciesInRange, OverridesInRange, TimingInRange, DrainInRange}
 use Rattle.sim_base.specs.Fields.{FieldsInOrder}
 use Rattle.sim_base.specs.Relations.{DistancesFit, RefreshFits, CreditsFit, LinksExist, LinksDiffer, RanksHaveField, DrainFits}
 use Rattle.sim_base.specs.Values.{Values, values_of}

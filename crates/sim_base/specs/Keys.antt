@@ -1,7 +1,23 @@
--- The keys of a configuration.
-use Rattle.std.specs.Prelude.{ℕ, List, codes}
+-- The keys of a configuration: their names, what may stand at each, and so how large each of its numbers may be.
+--     key_name key      the key's name in a document
+--     key_accepts key      what may stand at it
+--     key_default key      the number that stands for it where it is absent
+--     AcceptedAt key n      a number may stand at it
+--     MachineInRange cores channels      how many units there may be
+--     MemoryInRange ranks groups columns rows      how large the memory of a channel may be
+--     CoreInRange window width read_credits write_credits      what a core may hold and do at once
+--     LatenciesInRange request reply credit, OverridesInRange overrides      how long a message may travel
+--     TimingInRange t      how long the distances between commands may be
+--     DrainInRange write_high write_low      where a drain may begin and end
+--     document_keys      the keys that a document may have, beside those of an item of `link`
+use Rattle.std.specs.Prelude.{ℕ, ◌≤◌, List, [], ◌∷◌, All, IsTrue, false, Option, Some, None, codes}
+use Rattle.std.specs.Int.{is_power_of_two}
 use Rattle.sim_base.specs.declared.key.Key.{Key}
 use Rattle.sim_base.specs.declared.key.Key.TheVariants as key
+use Rattle.sim_base.specs.declared.key.Accepts.{Accepts}
+use Rattle.sim_base.specs.declared.key.Accepts.TheVariants.{Integer, PowerOfTwo, Fields, End, Links, Nothing}
+use Rattle.sim_base.specs.declared.overrides.Override.{Override}
+use Rattle.sim_base.specs.declared.timing.Timing.{Timing}
 
 -- the key's name in a document
 abbrev pub key_name : Key → List ℕ
@@ -45,3 +61,120 @@ key_name key.Link = codes "link"
 key_name key.Id = codes "id"
 key_name key.Latency = codes "latency"
 key_name key.Unknown = codes "unknown"
+
+-- what may stand at a key: most are distances between commands
+abbrev pub key_accepts : Key → Accepts
+key_accepts key.Cores = Integer 1 256
+key_accepts key.Channels = PowerOfTwo 1 16
+key_accepts key.Groups = PowerOfTwo 2 4
+key_accepts key.Ranks = PowerOfTwo 1 4
+key_accepts key.Columns = PowerOfTwo 1 1024
+key_accepts key.Rows = PowerOfTwo 1 262144
+key_accepts key.Fields = Fields
+key_accepts key.Window = Integer 1 4096
+key_accepts key.Width = Integer 1 16
+key_accepts key.ReadCredits = Integer 1 64
+key_accepts key.WriteCredits = Integer 1 64
+key_accepts key.RequestLatency = Integer 1 1000000
+key_accepts key.ReplyLatency = Integer 1 1000000
+key_accepts key.CreditLatency = Integer 1 1000000
+key_accepts key.NRtrs = Integer 0 100000
+key_accepts key.NRefi = Integer 0 100000
+key_accepts key.WriteHigh = Integer 0 8192
+key_accepts key.WriteLow = Integer 0 8192
+key_accepts key.End = End
+key_accepts key.Link = Links
+key_accepts key.Id = Integer 0 12287
+key_accepts key.Latency = Integer 1 1000000
+key_accepts key.Unknown = Nothing
+key_accepts _ = Integer 1 100000
+
+-- the number that stands for a key that is absent
+abbrev pub key_default : Key → Option ℕ
+key_default key.Ranks = Some 1
+key_default key.NRtrs = Some 0
+key_default key.WriteHigh = Some 0
+key_default key.WriteLow = Some 0
+key_default _ = None
+
+-- a number lies from low up to high
+abbrev pub Within : ℕ → ℕ → ℕ → Type 0
+Within low high n = (low ≤ n) × (n ≤ high)
+
+-- a number is one that may stand there
+abbrev pub IsAccepted : Accepts → ℕ → Type 0
+IsAccepted (Integer low high) n = Within low high n
+IsAccepted (PowerOfTwo low high) n = Within low high n × IsTrue (is_power_of_two n)
+IsAccepted _ n = IsTrue false
+
+-- a number is one that may stand at a key
+abbrev pub AcceptedAt : Key → ℕ → Type 0
+AcceptedAt k n = IsAccepted (key_accepts k) n
+
+-- how many cores and channels there are
+pub record MachineInRange (cores channels : ℕ) : Type 0 where
+  pub cores_in : AcceptedAt key.Cores cores
+  pub channels_in : AcceptedAt key.Channels channels
+
+-- how large the memory of a channel is: its ranks, their groups, and the rows of a bank, of so many lines
+pub record MemoryInRange (ranks groups columns rows : ℕ) : Type 0 where
+  pub ranks_in : AcceptedAt key.Ranks ranks
+  pub groups_in : AcceptedAt key.Groups groups
+  pub columns_in : AcceptedAt key.Columns columns
+  pub rows_in : AcceptedAt key.Rows rows
+
+-- what a core may hold in its window, issue in a cycle, and hold of credits of each kind
+pub record CoreInRange (window width read_credits write_credits : ℕ) : Type 0 where
+  pub window_in : AcceptedAt key.Window window
+  pub width_in : AcceptedAt key.Width width
+  pub read_credits_in : AcceptedAt key.ReadCredits read_credits
+  pub write_credits_in : AcceptedAt key.WriteCredits write_credits
+
+-- how long a message of each kind travels
+pub record LatenciesInRange (request reply credit : ℕ) : Type 0 where
+  pub request_in : AcceptedAt key.RequestLatency request
+  pub reply_in : AcceptedAt key.ReplyLatency reply
+  pub credit_in : AcceptedAt key.CreditLatency credit
+
+-- how long a message travels on a link that has a latency of its own
+abbrev pub LatencyInRange : ℕ → Type 0
+LatencyInRange latency = AcceptedAt key.Latency latency
+
+abbrev pub OverridesInRange : List Override → Type 0
+OverridesInRange overrides = All (λ o. LatencyInRange o.latency) overrides
+
+-- how long the distances between commands are
+pub record TimingInRange (t : Timing) : Type 0 where
+  pub n_rcd : AcceptedAt key.NRcd t.n_rcd
+  pub n_rp : AcceptedAt key.NRp t.n_rp
+  pub n_ras : AcceptedAt key.NRas t.n_ras
+  pub n_rc : AcceptedAt key.NRc t.n_rc
+  pub n_cl : AcceptedAt key.NCl t.n_cl
+  pub n_cwl : AcceptedAt key.NCwl t.n_cwl
+  pub n_ccd_s : AcceptedAt key.NCcdS t.n_ccd_s
+  pub n_ccd_l : AcceptedAt key.NCcdL t.n_ccd_l
+  pub n_rrd_s : AcceptedAt key.NRrdS t.n_rrd_s
+  pub n_rrd_l : AcceptedAt key.NRrdL t.n_rrd_l
+  pub n_faw : AcceptedAt key.NFaw t.n_faw
+  pub n_rtp : AcceptedAt key.NRtp t.n_rtp
+  pub n_wr : AcceptedAt key.NWr t.n_wr
+  pub n_wtr_s : AcceptedAt key.NWtrS t.n_wtr_s
+  pub n_wtr_l : AcceptedAt key.NWtrL t.n_wtr_l
+  pub n_rtw : AcceptedAt key.NRtw t.n_rtw
+  pub n_rfc : AcceptedAt key.NRfc t.n_rfc
+  pub n_rtrs : AcceptedAt key.NRtrs t.n_rtrs
+  pub n_refi : AcceptedAt key.NRefi t.n_refi
+
+-- at how many writes a drain begins and ends
+pub record DrainInRange (write_high write_low : ℕ) : Type 0 where
+  pub write_high_in : AcceptedAt key.WriteHigh write_high
+  pub write_low_in : AcceptedAt key.WriteLow write_low
+
+-- the keys that a document may have, beside those of an item of `link`
+abbrev pub document_keys : List Key
+document_keys =
+    key.Cores ∷ key.Channels ∷ key.Groups ∷ key.Ranks ∷ key.Columns ∷ key.Rows ∷ key.Fields ∷ key.Window ∷ key.Width
+    ∷ key.ReadCredits ∷ key.WriteCredits ∷ key.RequestLatency ∷ key.ReplyLatency ∷ key.CreditLatency ∷ key.NRcd ∷ key.NRp
+    ∷ key.NRas ∷ key.NRc ∷ key.NCl ∷ key.NCwl ∷ key.NCcdS ∷ key.NCcdL ∷ key.NRrdS ∷ key.NRrdL ∷ key.NFaw ∷ key.NRtp
+    ∷ key.NWr ∷ key.NWtrS ∷ key.NWtrL ∷ key.NRtw ∷ key.NRfc ∷ key.NRtrs ∷ key.NRefi ∷ key.WriteHigh ∷ key.WriteLow
+    ∷ key.End ∷ key.Link ∷ []

@@ -1,10 +1,8 @@
-pub mod Ranges
 pub mod Keys
 pub mod Fields
 pub mod Relations
 pub mod Config
 pub mod Values
-pub mod KeyRanges
 pub mod Places
 pub mod Access
 pub mod MachineStep

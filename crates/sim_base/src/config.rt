@@ -1,6 +1,6 @@
 //! A whole configuration.
 
-ghost use Rattle.sim_base.specs.Ranges.{MachineInRange, MemoryInRange, CoreInRange, LatenciesInRange, OverridesInRange, TimingInRange, DrainInRange};
+ghost use Rattle.sim_base.specs.Keys.{MachineInRange, MemoryInRange, CoreInRange, LatenciesInRange, OverridesInRange, TimingInRange, DrainInRange};
 ghost use Rattle.sim_base.specs.Fields.{FieldsInOrder};
 ghost use Rattle.std.proofs.Props.{props};
 ghost use Rattle.sim_base.specs.Relations.{DistancesFit, RefreshFits, CreditsFit, LinksExist, LinksDiffer, RanksHaveField, DrainFits};

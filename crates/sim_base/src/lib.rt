@@ -6,7 +6,6 @@ pub mod config;
 pub mod fault;
 pub mod history;
 pub mod key;
-pub mod key_table;
 pub mod locality;
 pub mod message;
 pub mod overrides;

@@ -10,7 +10,7 @@ use Rattle.sim_base.specs.declared.trace.Entry.{Entry}
 use Rattle.sim_base.specs.TraceText.{◌>>=◌, trace_answer, in_trace, trace_entries, limited}
 use Rattle.sim_base.specs.Machine.{run, is_over, cycles_run}
 use Rattle.sim_base.proofs.Cycles.{cycles-within}
-use Rattle.table_laws.proofs.Verdicts.{runs-legal}
+use Rattle.run_tables.proofs.TableLaws.Verdicts.{runs-legal}
 use Rattle.simulation.specs.Runs.{traces_of, IsLegalRun}
 
 -- a trace that is read is short enough

@@ -9,7 +9,7 @@ use Rattle.sim_base.specs.Machine.{cycles_run}
 use Rattle.statistics.specs.Outcomes.{outcome_of}
 use Rattle.statistics.specs.Values.{RunOutcome}
 use Rattle.statistics.specs.declared.tables.Tables.{Tables}
-use Rattle.table_laws.proofs.Lawful.{cycles_are}
+use Rattle.run_tables.proofs.TableLaws.Lawful.{cycles_are}
 use Rattle.simulation.specs.Outcomes.{HoldsUnder}
 use Rattle.simulation.specs.Runs.{input_of, IsRunOf, HoldsOfRun}
 

@@ -3,7 +3,7 @@
 ghost use Rattle.std.specs.Prelude.{◌≡◌, ◌≤◌, ◌^◌, length, IfOk, IfErr};
 ghost use Rattle.simulation.specs.Runs.{IsRun, IsLegal, Keeps, IsRefused, IsRunOfInput, IsJudgedOfInput, HoldsOfRead};
 ghost use Rattle.simulation.specs.Outcomes.{HoldsUnder, HoldsUnderRead};
-ghost use Rattle.table_laws.specs.Outcomes.{OwnsDataBus, IsRefreshed, HasBoundedQueues, HoldsFewCredits, KeepsCreditsUntil};
+ghost use Rattle.run_tables.specs.TableLaws.Outcomes.{OwnsDataBus, IsRefreshed, HasBoundedQueues, HoldsFewCredits, KeepsCreditsUntil};
 ghost use Rattle.simulation.specs.MachineRuns.{IsRefusedTo};
 
 use crate::gate::Gate;

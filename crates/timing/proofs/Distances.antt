@@ -7,7 +7,7 @@ use Rattle.sim_base.specs.declared.command.Kind.{Kind}
 use Rattle.sim_base.specs.declared.command.Relation.{Relation}
 use Rattle.sim_base.specs.declared.rule.Rule.{Rule}
 use Rattle.sim_base.specs.declared.timing.Timing.{Timing}
-use Rattle.sim_base.specs.Ranges.{TimingInRange}
+use Rattle.sim_base.specs.Keys.{TimingInRange}
 use Rattle.sim_base.specs.Rules.{rules, binds, gap}
 
 -- the greatest of some numbers of a list is no more than each of the list may be

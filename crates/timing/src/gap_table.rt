@@ -34,7 +34,7 @@ pub struct GapTable {
 impl Model for GapTable {
     ghost use Rattle.std.specs.Prelude.{◌≡◌};
     ghost use Rattle.sim_base.specs.declared.timing.Timing.{Timing};
-    ghost use Rattle.sim_base.specs.Ranges.{TimingInRange};
+    ghost use Rattle.sim_base.specs.Keys.{TimingInRange};
     ghost use Rattle.timing.specs.Holds.{hold_table};
 
     ghost Value = { Timing };
@@ -111,7 +111,7 @@ fn index_of_relation(relation: Relation) -> usize
 }
 
 impl GapTable {
-    ghost use Rattle.sim_base.specs.Ranges.{TimingInRange};
+    ghost use Rattle.sim_base.specs.Keys.{TimingInRange};
 
     /// The table of the distances of a configuration.
     pub fn of(config: &Config) -> Self

@@ -19,7 +19,7 @@ use Rattle.sim_base.proofs.Spans.{length-run}
 use Rattle.sim_base.proofs.Lists.{filter-each, filter-agree}
 use Rattle.sim_base.proofs.Grows.{is_unit-own}
 use Rattle.links.specs.InFlight.{is_due}
-use Rattle.span_laws.specs.Units.{Exists}
+use Rattle.units.specs.SpanLaws.Units.{Exists}
 use Rattle.units.specs.Units.{unit_count, unit_at}
 use Rattle.units.specs.Parts.{late}
 use Rattle.units.specs.Flight.{left}

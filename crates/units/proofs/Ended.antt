@@ -15,7 +15,7 @@ use Rattle.sim_base.specs.declared.message.Message.{Message}
 use Rattle.sim_base.specs.declared.command.IssuedCommand.{IssuedCommand}
 use Rattle.statistics.specs.declared.cores.CoreStats.{CoreStats}
 use Rattle.laws.specs.Commands.{history_of, channel_steps_of}
-use Rattle.span_laws.proofs.ChannelsOn.{channels-end_alike}
+use Rattle.units.proofs.SpanLaws.ChannelsOn.{channels-end_alike}
 use Rattle.sim_base.specs.declared.config.Config.{Config}
 use Rattle.sim_base.specs.declared.trace.Entry.{Entry}
 use Rattle.sim_base.specs.History.{below, trace_of}
@@ -25,9 +25,9 @@ use Rattle.request_table.specs.declared.times.RequestTimes.{RequestTimes}
 use Rattle.statistics.specs.declared.tables.Tables.{Tables}
 use Rattle.laws.proofs.Legal.{length-channel_steps_of}
 use Rattle.core_window.specs.Views.{CoreView}
-use Rattle.span_laws.specs.Cores.{IsCoreAt, core_steps_of}
-use Rattle.span_laws.specs.Mail.{mail_before}
-use Rattle.span_laws.proofs.CoresOn.{cores-end_alike}
+use Rattle.units.specs.SpanLaws.Cores.{IsCoreAt, core_steps_of}
+use Rattle.units.specs.SpanLaws.Mail.{mail_before}
+use Rattle.units.proofs.SpanLaws.CoresOn.{cores-end_alike}
 use Rattle.sim_base.specs.Machine.{run}
 use Rattle.sim_base.specs.declared.message.Unit.TheVariants as unit
 use Rattle.sim_base.proofs.Lists.{flat_map_below-more, cons_option-none, map_below-more}

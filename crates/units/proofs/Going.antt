@@ -12,9 +12,9 @@ use Rattle.sim_base.specs.declared.message.Unit.{Unit as MachineUnit}
 use Rattle.sim_base.specs.declared.message.Unit.TheVariants.{Core, Channel}
 use Rattle.links.specs.InFlight.{InFlight, is_due, is_due_before}
 use Rattle.links.proofs.Due.{none_overdue}
-use Rattle.span_laws.specs.Flight.{has_unit, left_after}
-use Rattle.span_laws.specs.Mail.{mail_in}
-use Rattle.span_laws.proofs.Flights.{due-left}
+use Rattle.units.specs.SpanLaws.Flight.{has_unit, left_after}
+use Rattle.units.specs.SpanLaws.Mail.{mail_in}
+use Rattle.units.proofs.SpanLaws.Flights.{due-left}
 use Rattle.units.specs.Flight.{is_at_places}
 use Rattle.units.specs.Units.{unit_at}
 use Rattle.units.specs.Wakes.{Sleeper, Waits, IsBrought, units_from, links_after}

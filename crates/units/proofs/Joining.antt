@@ -19,7 +19,7 @@ use Rattle.sim_base.proofs.Grows.{SentBy, of_core-by, of_channel-by, apart}
 use Rattle.sim_base.proofs.Ordered.{Apart, Sorted, Each-weaker, puts-swap, puts-append, Sorted-puts, filter-puts, filter-by_age}
 use Rattle.sim_base.proofs.Spans.{length-run}
 use Rattle.sim_base.proofs.Lists.{filter-each, filter-agree}
-use Rattle.span_laws.specs.Units.{Exists, sent_of}
+use Rattle.units.specs.SpanLaws.Units.{Exists, sent_of}
 use Rattle.units.specs.Flight.{fresh}
 use Rattle.units.specs.Parts.{late}
 use Rattle.units.specs.Units.{unit_at, unit_count}

@@ -8,8 +8,8 @@ use Rattle.std.proofs.lemmas.Option.{slice_get-get_or}
 use Rattle.std.proofs.Math.Seq.{get_or-append_seam}
 use Rattle.sim_base.specs.History.{below, by_age, insert_by_age, is_to, messages}
 use Rattle.sim_base.specs.declared.message.Unit.{Unit as MachineUnit}
-use Rattle.span_laws.proofs.Arrivals.{mail-sent}
-use Rattle.span_laws.specs.Mail.{arriving}
+use Rattle.units.proofs.SpanLaws.Arrivals.{mail-sent}
+use Rattle.units.specs.SpanLaws.Mail.{arriving}
 use Rattle.sim_base.specs.Locality.{TravelsFor}
 use Rattle.sim_base.specs.declared.message.Message.{Message}
 use Rattle.sim_base.proofs.Below.{flat_map_below_more, flat_map_below_same}

@@ -20,10 +20,10 @@ use Rattle.channel_step.specs.declared.channel.Channel.{Channel}
 use Rattle.core_window.specs.declared.core_unit.Core.{Core}
 use Rattle.core_window.specs.Views.{CoreView}
 use Rattle.core_window.specs.CoreViews.{view_of}
-use Rattle.span_laws.specs.Channels.{IsChannelAt}
-use Rattle.span_laws.specs.Cores.{IsCoreAt, core_steps_of}
-use Rattle.span_laws.proofs.Over.{over-is_seen}
-use Rattle.span_laws.proofs.Lasting.{lasts-for_trace, lasts-for_flight}
+use Rattle.units.specs.SpanLaws.Channels.{IsChannelAt}
+use Rattle.units.specs.SpanLaws.Cores.{IsCoreAt, core_steps_of}
+use Rattle.units.proofs.SpanLaws.Over.{over-is_seen}
+use Rattle.units.proofs.SpanLaws.Lasting.{lasts-for_trace, lasts-for_flight}
 use Rattle.units.specs.Units.{unit_at}
 use Rattle.units.specs.Parts.{IsPart, StandAt}
 use Rattle.units.specs.Drained.{HasFinished, AllFinished, GoesOn}

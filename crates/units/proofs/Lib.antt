@@ -22,3 +22,4 @@ pub mod Vectors
 pub mod FirstBelow
 pub mod LeastWord
 pub mod OneByOne
+pub mod SpanLaws

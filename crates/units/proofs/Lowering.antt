@@ -13,9 +13,9 @@ use Rattle.sim_base.proofs.Each.{Each-all, Each-filter, Each-flat_map_below}
 use Rattle.sim_base.proofs.Ordered.{filter-puts}
 use Rattle.sim_base.proofs.Lists.{filter-agree}
 use Rattle.links.specs.InFlight.{is_due, receiver_of, arrives_within}
-use Rattle.span_laws.specs.Mail.{mail_in}
-use Rattle.span_laws.specs.Quiet.{IsSilent}
-use Rattle.span_laws.proofs.Lists.{Sorted-filter}
+use Rattle.units.specs.SpanLaws.Mail.{mail_in}
+use Rattle.units.specs.SpanLaws.Quiet.{IsSilent}
+use Rattle.units.proofs.SpanLaws.Lists.{Sorted-filter}
 use Rattle.units.specs.Flight.{fresh, goes_among, among}
 use Rattle.units.specs.Parts.{late, IsPart}
 use Rattle.units.specs.Units.{unit_at, unit_count}
@@ -24,7 +24,7 @@ use Rattle.units.specs.declared.timed_unit.TimedUnit.{TimedUnit}
 use Rattle.units.proofs.Filters.{filter-filter, implied}
 use Rattle.units.proofs.Joining.{join-flight, fresh-late}
 use Rattle.units.proofs.Sharing.{due-among, filters-commute, flight-sorted}
-use Rattle.span_laws.proofs.Silent.{silent-sooner, none-part, none-first}
+use Rattle.units.proofs.SpanLaws.Silent.{silent-sooner, none-part, none-first}
 use Rattle.units.specs.declared.machine.Machine.{Machine}
 use Rattle.units.specs.Runs.{flight_at}
 use Rattle.units.proofs.Waiting.{none-due, due-flight, known-mail, known-phase}

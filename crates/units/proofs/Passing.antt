@@ -5,7 +5,7 @@ use Rattle.std.proofs.lemmas.Grind.{get_or-set_at}
 use Rattle.sim_base.specs.declared.message.Message.{Message}
 use Rattle.sim_base.proofs.Below.{flat_map_below_more}
 use Rattle.links.specs.InFlight.{InFlight}
-use Rattle.span_laws.specs.Units.{Exists}
+use Rattle.units.specs.SpanLaws.Units.{Exists}
 use Rattle.units.specs.Flight.{fresh, sent_by}
 use Rattle.units.specs.Units.{unit_at, unit_count}
 use Rattle.units.specs.Wakes.{AddsWhatItSent, AllBrought, HasGoneOn, WaitAll, Waits, links_after, sleeper, sleeper_at}

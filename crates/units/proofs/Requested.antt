@@ -33,7 +33,7 @@ use Rattle.laws.specs.Timed.{served_in_run}
 use Rattle.laws.proofs.Dated.{requests_arrive_as_issued}
 use Rattle.laws.proofs.Serving.{KeepsCycles, run-keeps, are_timed, are_by_cycle, channel_by_cycle}
 use Rattle.laws.proofs.Summing.{of-channel}
-use Rattle.span_laws.specs.Mail.{mail_before}
+use Rattle.units.specs.SpanLaws.Mail.{mail_before}
 use Rattle.units.specs.Kept.{served_of}
 use Rattle.units.specs.declared.machine.Machine.{Machine}
 use Rattle.units.specs.Runs.{run_of, commands_at}

@@ -18,17 +18,17 @@ use Rattle.sim_base.specs.Scheduling.{choice}
 use Rattle.sim_base.proofs.Lists.{none-is}
 use Rattle.laws.specs.Commands.{channel_steps_of}
 use Rattle.laws.proofs.Legal.{length-channel_steps_of}
-use Rattle.fr_fcfs.specs.Cycles.{IsFirstCycle}
+use Rattle.channel_step.specs.FrFcfs.Cycles.{IsFirstCycle}
 use Rattle.channel_step.specs.Channels.{StandsFor as ChannelStandsFor}
 use Rattle.channel_step.specs.Runs.{StandsAt}
 use Rattle.channel_step.specs.declared.channel.Channel.{Channel}
 use Rattle.core_window.specs.CoreViews.{view_of}
 use Rattle.core_window.specs.Rests.{Rests, MayRest}
 use Rattle.core_window.specs.declared.core_unit.Core.{Core}
-use Rattle.span_laws.specs.Cores.{core_steps_of}
-use Rattle.span_laws.specs.Mail.{mail_before}
-use Rattle.span_laws.specs.Quiet.{RestsAlone}
-use Rattle.span_laws.proofs.CoresOn.{length-core_steps_of}
+use Rattle.units.specs.SpanLaws.Cores.{core_steps_of}
+use Rattle.units.specs.SpanLaws.Mail.{mail_before}
+use Rattle.units.specs.SpanLaws.Quiet.{RestsAlone}
+use Rattle.units.proofs.SpanLaws.CoresOn.{length-core_steps_of}
 use Rattle.units.specs.Parts.{IsPart}
 use Rattle.units.specs.Quiet.{IsNextActOf}
 use Rattle.units.specs.declared.machine.Machine.{Machine}

@@ -13,9 +13,9 @@ use Rattle.channel_step.specs.declared.channel.Channel.{Channel}
 use Rattle.core_window.specs.CoreViews.{view_of}
 use Rattle.core_window.specs.Fit.{MayRun, Runs, RunsOnto}
 use Rattle.core_window.specs.declared.core_unit.Core.{Core}
-use Rattle.span_laws.specs.Channels.{Gives}
-use Rattle.span_laws.proofs.ChannelsOn.{channels-may_run, channels-go_on}
-use Rattle.span_laws.proofs.CoresOn.{cores-may_run, cores-go_on}
+use Rattle.units.specs.SpanLaws.Channels.{Gives}
+use Rattle.units.proofs.SpanLaws.ChannelsOn.{channels-may_run, channels-go_on}
+use Rattle.units.proofs.SpanLaws.CoresOn.{cores-may_run, cores-go_on}
 use Rattle.units.specs.Parts.{IsReadyFor, HasRunOnto}
 use Rattle.units.specs.declared.machine.Machine.{Machine}
 use Rattle.units.specs.Runs.{run_of}

@@ -17,9 +17,9 @@ use Rattle.sim_base.proofs.Arrived.{by_age-puts, fold-puts}
 use Rattle.sim_base.proofs.Each.{Each-all}
 use Rattle.sim_base.proofs.Ordered.{Sorted, Sorted-puts, Each-weaker, filter-puts}
 use Rattle.sim_base.proofs.Lists.{filter-each, filter-agree}
-use Rattle.span_laws.proofs.Flights.{not_before, in_flight-late}
-use Rattle.span_laws.proofs.Lists.{Sorted-filter}
-use Rattle.span_laws.specs.Units.{Exists}
+use Rattle.units.proofs.SpanLaws.Flights.{not_before, in_flight-late}
+use Rattle.units.proofs.SpanLaws.Lists.{Sorted-filter}
+use Rattle.units.specs.SpanLaws.Units.{Exists}
 use Rattle.links.specs.InFlight.{receiver_of, is_due}
 use Rattle.units.specs.Flight.{is_at_places, goes_among, among}
 use Rattle.units.specs.Parts.{late}

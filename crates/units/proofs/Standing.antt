@@ -20,8 +20,8 @@ use Rattle.channel_step.specs.declared.channel.Channel.{Channel}
 use Rattle.core_window.specs.CoreViews.{view_of}
 use Rattle.core_window.specs.Stands.{StandsFor as CoreStandsFor}
 use Rattle.core_window.specs.declared.core_unit.Core.{Core}
-use Rattle.span_laws.proofs.ChannelsOn.{channels-start}
-use Rattle.span_laws.proofs.CoresOn.{cores-start}
+use Rattle.units.proofs.SpanLaws.ChannelsOn.{channels-start}
+use Rattle.units.proofs.SpanLaws.CoresOn.{cores-start}
 use Rattle.units.specs.Units.{unit_at}
 use Rattle.units.specs.Parts.{IsPart, StandAt}
 use Rattle.units.specs.declared.part.UnitState.{UnitState}

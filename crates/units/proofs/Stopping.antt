@@ -5,7 +5,7 @@ use Rattle.sim_base.specs.declared.config.Config.{Config}
 use Rattle.sim_base.specs.declared.trace.Entry.{Entry}
 use Rattle.sim_base.specs.Machine.{cycles_run, ends_before}
 use Rattle.sim_base.proofs.Cycles.{cycles-none, cycles-next, cycles-within}
-use Rattle.span_laws.proofs.Over.{cycles-are_counted}
+use Rattle.units.proofs.SpanLaws.Over.{cycles-are_counted}
 use Rattle.units.specs.Drained.{NotEnded}
 use Rattle.units.specs.Stops.{stop_of}
 use Rattle.units.specs.Runs.{ends_at}

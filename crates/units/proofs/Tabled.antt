@@ -20,7 +20,7 @@ use Rattle.laws.specs.Commands.{history_of}
 use Rattle.laws.specs.Tables.{rows_on, stands_before}
 use Rattle.laws.proofs.Legal.{cycles_ascend}
 use Rattle.laws.proofs.Tabled.{rows_on-commands, tables_are_ordered}
-use Rattle.span_laws.proofs.Merged.{commands-within, Ordered, ordered-pairs}
+use Rattle.units.proofs.SpanLaws.Merged.{commands-within, Ordered, ordered-pairs}
 use Rattle.units.proofs.Filters.{filter-filter}
 use Rattle.units.proofs.Standing.{places-more}
 

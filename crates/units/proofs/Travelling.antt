@@ -29,7 +29,7 @@ use Rattle.statistics.proofs.Replies.{length-steps_of_core}
 use Rattle.laws.proofs.Legal.{length-channel_steps_of}
 use Rattle.laws.proofs.Receivers.{receiver_request, receiver_reply, receiver_credit, place_in}
 use Rattle.laws.proofs.Sent.{messages-none}
-use Rattle.span_laws.specs.Units.{Exists, sent_of}
+use Rattle.units.specs.SpanLaws.Units.{Exists, sent_of}
 
 -- what was sent more, and holds of each
 pub record Added (P : Message → Type 0) (old new : List Message) : Type 0 where

@@ -26,17 +26,17 @@ use Rattle.core_window.specs.Silence.{IsSilentUntil}
 use Rattle.core_window.specs.Stands.{StandsFor as CoreStandsFor}
 use Rattle.core_window.specs.declared.core_unit.Core.{Core as CoreUnit}
 use Rattle.links.specs.InFlight.{is_due, receiver_of}
-use Rattle.span_laws.specs.Cores.{core_steps_of}
-use Rattle.span_laws.specs.Mail.{arriving, mail_before, mail_in}
-use Rattle.span_laws.specs.Quiet.{RestsAlone, IsSilent}
+use Rattle.units.specs.SpanLaws.Cores.{core_steps_of}
+use Rattle.units.specs.SpanLaws.Mail.{arriving, mail_before, mail_in}
+use Rattle.units.specs.SpanLaws.Quiet.{RestsAlone, IsSilent}
 use Rattle.statistics.proofs.Messages.{arrived-sooner}
-use Rattle.span_laws.proofs.Arrivals.{arriving-arrived, mail-settled}
-use Rattle.span_laws.proofs.FlightsInTurns.{flights-meet}
-use Rattle.span_laws.proofs.Bringing.{unit-due}
-use Rattle.span_laws.proofs.Silent.{silent-sooner, none-part, none-first, silent-sent}
-use Rattle.span_laws.proofs.Idle.{rest-messages, rests-sooner}
-use Rattle.span_laws.specs.Units.{Exists}
-use Rattle.span_laws.proofs.CoresOn.{length-core_steps_of}
+use Rattle.units.proofs.SpanLaws.Arrivals.{arriving-arrived, mail-settled}
+use Rattle.units.proofs.SpanLaws.FlightsInTurns.{flights-meet}
+use Rattle.units.proofs.SpanLaws.Bringing.{unit-due}
+use Rattle.units.proofs.SpanLaws.Silent.{silent-sooner, none-part, none-first, silent-sent}
+use Rattle.units.proofs.SpanLaws.Idle.{rest-messages, rests-sooner}
+use Rattle.units.specs.SpanLaws.Units.{Exists}
+use Rattle.units.proofs.SpanLaws.CoresOn.{length-core_steps_of}
 use Rattle.units.specs.Parts.{IsPart, IsReadyFor, HasRun}
 use Rattle.units.specs.Quiet.{IsNextActOf}
 use Rattle.units.specs.declared.part.UnitState.TheVariants as part

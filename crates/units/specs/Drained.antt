@@ -9,8 +9,8 @@ use Rattle.sim_base.specs.History.{trace_of, retired_before}
 use Rattle.sim_base.specs.declared.message.Unit.{Unit as MachineUnit}
 use Rattle.sim_base.specs.declared.message.Unit.TheVariants.{Core, Channel}
 use Rattle.laws.specs.Commands.{channel_steps_of}
-use Rattle.span_laws.specs.Cores.{core_steps_of}
-use Rattle.span_laws.specs.Mail.{mail_before}
+use Rattle.units.specs.SpanLaws.Cores.{core_steps_of}
+use Rattle.units.specs.SpanLaws.Mail.{mail_before}
 use Rattle.units.specs.Runs.{ends_at, is_over_at}
 use Rattle.units.specs.Units.{unit_at, unit_count}
 use Rattle.units.specs.declared.machine.Machine.{Machine}

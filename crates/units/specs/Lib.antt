@@ -12,3 +12,4 @@ pub mod Kept
 pub mod Wakes
 pub mod GoingOn
 pub mod Scans
+pub mod SpanLaws

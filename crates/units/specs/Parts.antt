@@ -13,9 +13,9 @@ use Rattle.sim_base.specs.declared.message.Message.{Message}
 use Rattle.sim_base.specs.declared.message.Unit.{Unit as MachineUnit}
 use Rattle.sim_base.specs.declared.message.Unit.TheVariants as unit
 use Rattle.core_window.specs.CoreViews.{view_of}
-use Rattle.span_laws.specs.Cores.{IsCoreAt}
-use Rattle.span_laws.specs.Mail.{mail_in}
-use Rattle.span_laws.specs.Units.{Exists}
+use Rattle.units.specs.SpanLaws.Cores.{IsCoreAt}
+use Rattle.units.specs.SpanLaws.Mail.{mail_in}
+use Rattle.units.specs.SpanLaws.Units.{Exists}
 use Rattle.links.specs.InFlight.{InFlight}
 use Rattle.units.specs.Runs.{HasChannelAt, commands_at, links_at, sent_at}
 use Rattle.units.specs.Units.{unit_count, unit_at}

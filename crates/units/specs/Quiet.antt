@@ -6,7 +6,7 @@
 --     SendsNothing machine from until unit      it would send nothing
 use Rattle.std.specs.Prelude.{ℕ, suc, ◌≤◌, Option, Some, None}
 use Rattle.sim_base.specs.declared.message.Unit.{Unit as MachineUnit}
-use Rattle.span_laws.specs.Quiet.{RestsAlone, IsSilent}
+use Rattle.units.specs.SpanLaws.Quiet.{RestsAlone, IsSilent}
 use Rattle.units.specs.Parts.{IsPart}
 use Rattle.units.specs.declared.machine.Machine.{Machine}
 use Rattle.units.specs.declared.part.UnitState.{UnitState}

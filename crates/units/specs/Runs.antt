@@ -34,9 +34,9 @@ use Rattle.links.specs.InFlight.{InFlight}
 use Rattle.statistics.specs.Outcomes.{outcome_of}
 use Rattle.statistics.specs.declared.tables.Tables.{Tables}
 use Rattle.channel_step.specs.declared.channel.Channel.{Channel}
-use Rattle.span_laws.specs.Channels.{IsChannelAt}
+use Rattle.units.specs.SpanLaws.Channels.{IsChannelAt}
 use Rattle.sim_base.specs.Machine.{ends_before}
-use Rattle.span_laws.specs.Units.{sent_of}
+use Rattle.units.specs.SpanLaws.Units.{sent_of}
 use Rattle.units.specs.declared.machine.Machine.{Machine}
 
 -- what all units of a machine do in each cycle of its run before one

@@ -25,8 +25,8 @@ use Rattle.sim_base.specs.History.{below, is_unit}
 use Rattle.sim_base.specs.declared.message.Message.{Message}
 use Rattle.sim_base.specs.declared.message.Unit.{Unit as MachineUnit}
 use Rattle.links.specs.InFlight.{InFlight, receiver_of, is_due}
-use Rattle.span_laws.specs.Flight.{left_after}
-use Rattle.span_laws.specs.Mail.{mail_before, mail_in}
+use Rattle.units.specs.SpanLaws.Flight.{left_after}
+use Rattle.units.specs.SpanLaws.Mail.{mail_before, mail_in}
 use Rattle.units.specs.Flight.{fresh, among}
 use Rattle.units.specs.Parts.{IsPart, HasRunOnto, late}
 use Rattle.units.specs.Quiet.{SendsNothing}

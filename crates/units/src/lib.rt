@@ -13,6 +13,7 @@ pub mod mail;
 pub mod part;
 pub mod sim;
 pub mod span;
+pub mod span_laws;
 mod tables;
 pub mod timed_unit;
 pub mod waking;

@@ -7,15 +7,15 @@ use Rattle.sim_base.specs.declared.fault.Fault.{Fault}
 use Rattle.sim_base.specs.declared.fault.Fault.TheVariants.{ConfigKey}
 use Rattle.sim_base.specs.declared.key.Key.TheVariants as key
 use Rattle.sim_base.specs.declared.overrides.Override.{Override}
-use Rattle.config_reader.specs.Document.Keys.{◌>>=◌, data_at, integer_at, in_range, count_of}
+use Rattle.config_reader.specs.Document.Keys.{◌>>=◌, data_at, integer_at, number_blaming, count_of}
 
--- an item has exactly the two integers, and then each is in its range
+-- an item has exactly the two integers, and then each is in its range; a refusal names the list of items
 unfoldable pub override_of : Members → Result Override Fault
 override_of ms =
     if is_some (integer_at ms key.Id) && is_some (integer_at ms key.Latency) && (count_of ms == 2)
     then (do
-      link ← in_range key.Link 0 12287 (integer_at ms key.Id)
-      latency ← in_range key.Link 1 1000000 (integer_at ms key.Latency)
+      link ← number_blaming key.Link ms key.Id
+      latency ← number_blaming key.Link ms key.Latency
       Ok (record { link = link; latency = latency }))
     else Err (ConfigKey key.Link)
 

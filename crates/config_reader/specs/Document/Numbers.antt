@@ -1,6 +1,6 @@
 -- The numbers of a document, key by key.
---     DistancesInRange n, LimitsInRange core      four distances are in range, and the limits of a core
---     distances_at      four distances at consecutive keys
+--     AreAccepted k1 k2 k3 k4 n, LimitsInRange core      four numbers are in range, and the limits of a core
+--     distances_at      the numbers at four keys
 --     machine_of, memory_of, core_of, latencies_of, timing_of, drain_of      groups of consecutive keys
 --     end_of      whether the run ends as soon as all is done
 use Rattle.std.specs.Prelude.{ℕ, List, Bool, true, false, if◌then◌else◌, codes, Option, Some, None, Result, Ok, Err}
@@ -11,17 +11,17 @@ use Rattle.config_reader.specs.declared.numbers.MemoryShape.{MemoryShape}
 use Rattle.config_reader.specs.declared.numbers.CoreLimits.{CoreLimits}
 use Rattle.config_reader.specs.declared.numbers.Latencies.{Latencies}
 use Rattle.config_reader.specs.declared.numbers.Drain.{Drain}
-use Rattle.sim_base.specs.Ranges.{DistanceInRange, CoreInRange}
+use Rattle.sim_base.specs.Keys.{AcceptedAt, CoreInRange}
 use Rattle.sim_base.specs.declared.fault.Fault.{Fault}
 use Rattle.sim_base.specs.declared.fault.Fault.TheVariants.{ConfigKey, ConfigRange}
 use Rattle.sim_base.specs.declared.key.Key.{Key}
 use Rattle.sim_base.specs.declared.key.Key.TheVariants as key
 use Rattle.sim_base.specs.declared.timing.Timing.{Timing}
-use Rattle.config_reader.specs.Document.Keys.{◌>>=◌, data_at, number_of, number_or, power_of, power_or}
+use Rattle.config_reader.specs.Document.Keys.{◌>>=◌, data_at, number_at}
 
--- four distances are in their range
-abbrev pub DistancesInRange : ℕ × ℕ × ℕ × ℕ → Type 0
-DistancesInRange n = DistanceInRange n.0 × DistanceInRange n.1 × DistanceInRange n.2 × DistanceInRange n.3
+-- four numbers are ones that four keys accept
+abbrev pub AreAccepted : Key → Key → Key → Key → ℕ × ℕ × ℕ × ℕ → Type 0
+AreAccepted k1 k2 k3 k4 n = AcceptedAt k1 n.0 × AcceptedAt k2 n.1 × AcceptedAt k3 n.2 × AcceptedAt k4 n.3
 
 -- what a core may hold and do at once is in its range
 abbrev pub LimitsInRange : CoreLimits → Type 0
@@ -30,43 +30,43 @@ LimitsInRange core = CoreInRange core.window core.width core.read_credits core.w
 -- how many cores and channels there are
 unfoldable pub machine_of : Members → Result MachineSize Fault
 machine_of ms = do
-  cores ← number_of ms key.Cores 1 256
-  channels ← power_of ms key.Channels 1 16
+  cores ← number_at ms key.Cores
+  channels ← number_at ms key.Channels
   Ok (record { cores = cores; channels = channels })
 
 -- the ranks, groups, columns and rows of a channel's memory; one rank where the key is left out
 unfoldable pub memory_of : Members → Result MemoryShape Fault
 memory_of ms = do
-  groups ← power_of ms key.Groups 2 4
-  ranks ← power_or 1 ms key.Ranks 1 4
-  columns ← power_of ms key.Columns 1 1024
-  rows ← power_of ms key.Rows 1 262144
+  groups ← number_at ms key.Groups
+  ranks ← number_at ms key.Ranks
+  columns ← number_at ms key.Columns
+  rows ← number_at ms key.Rows
   Ok (record { ranks = ranks; groups = groups; columns = columns; rows = rows })
 
 -- what a core may hold and do at once
 unfoldable pub core_of : Members → Result CoreLimits Fault
 core_of ms = do
-  window ← number_of ms key.Window 1 4096
-  width ← number_of ms key.Width 1 16
-  read_credits ← number_of ms key.ReadCredits 1 64
-  write_credits ← number_of ms key.WriteCredits 1 64
+  window ← number_at ms key.Window
+  width ← number_at ms key.Width
+  read_credits ← number_at ms key.ReadCredits
+  write_credits ← number_at ms key.WriteCredits
   Ok (record { window = window; width = width; read_credits = read_credits; write_credits = write_credits })
 
 -- the latency of each kind of link
 unfoldable pub latencies_of : Members → Result Latencies Fault
 latencies_of ms = do
-  request ← number_of ms key.RequestLatency 1 1000000
-  reply ← number_of ms key.ReplyLatency 1 1000000
-  credit ← number_of ms key.CreditLatency 1 1000000
+  request ← number_at ms key.RequestLatency
+  reply ← number_at ms key.ReplyLatency
+  credit ← number_at ms key.CreditLatency
   Ok (record { request = request; reply = reply; credit = credit })
 
 -- the distances at four keys, one after the other
 unfoldable pub distances_at : Members → Key → Key → Key → Key → Result (ℕ × ℕ × ℕ × ℕ) Fault
 distances_at ms k1 k2 k3 k4 = do
-  first ← number_of ms k1 1 100000
-  second ← number_of ms k2 1 100000
-  third ← number_of ms k3 1 100000
-  fourth ← number_of ms k4 1 100000
+  first ← number_at ms k1
+  second ← number_at ms k2
+  third ← number_at ms k3
+  fourth ← number_at ms k4
   Ok (first, second, third, fourth)
 
 -- the distances between commands; no switch between ranks where its key is left out
@@ -76,9 +76,9 @@ timing_of ms = do
   columns ← distances_at ms key.NCl key.NCwl key.NCcdS key.NCcdL
   acts ← distances_at ms key.NRrdS key.NRrdL key.NFaw key.NRtp
   writes ← distances_at ms key.NWr key.NWtrS key.NWtrL key.NRtw
-  n_rfc ← number_of ms key.NRfc 1 100000
-  n_rtrs ← number_or 0 ms key.NRtrs 0 100000
-  n_refi ← number_of ms key.NRefi 0 100000
+  n_rfc ← number_at ms key.NRfc
+  n_rtrs ← number_at ms key.NRtrs
+  n_refi ← number_at ms key.NRefi
   Ok (record {
     n_rcd = rows.0;
     n_rp = rows.1;
@@ -104,8 +104,8 @@ timing_of ms = do
 -- where a drain begins and ends; there is none where the keys are left out
 unfoldable pub drain_of : Members → Result Drain Fault
 drain_of ms = do
-  write_high ← number_or 0 ms key.WriteHigh 0 8192
-  write_low ← number_or 0 ms key.WriteLow 0 8192
+  write_high ← number_at ms key.WriteHigh
+  write_low ← number_at ms key.WriteLow
   Ok (record { write_high = write_high; write_low = write_low })
 
 -- the word for the run's end

@@ -1,5 +1,5 @@
 use Rattle.std.proofs.Common.{sym, subst}
-use Rattle.c_interface.specs.Statuses.{IsJudgedAs}
+use Rattle.dramsim_c.specs.CInterface.Statuses.{IsJudgedAs}
 use Rattle.dramsim_c.proofs.Judging.{judged-as}
 use Rattle.dramsim_c.proofs.dramsim_check.Goals as goal
 

@@ -1,8 +1,8 @@
 use Rattle.std.proofs.Common.{sym, subst}
 use Rattle.sessions.specs.Sessions.{IsSession, with_command}
 use Rattle.sessions.specs.declared.channel_session.session.Session.{Session}
-use Rattle.c_interface.specs.Channels.{HasPast}
-use Rattle.c_interface.specs.Kept.{IsThere}
+use Rattle.dramsim_c.specs.CInterface.Channels.{HasPast}
+use Rattle.dramsim_c.specs.CInterface.Kept.{IsThere}
 use Rattle.dramsim_c.proofs.dramsim_next_command.Goals as goal
 
 pub returns-in-Some-clause-taken : goal.returns-in-Some-clause-taken

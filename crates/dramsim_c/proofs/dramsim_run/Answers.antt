@@ -1,4 +1,4 @@
-use Rattle.c_interface.specs.Channels.{HasPast, StandsAt}
+use Rattle.dramsim_c.specs.CInterface.Channels.{HasPast, StandsAt}
 use Rattle.dramsim_c.proofs.Statuses.{done, kept, not-memory}
 use Rattle.dramsim_c.proofs.dramsim_run.Goals as goal
 

@@ -1,6 +1,6 @@
 use Rattle.std.proofs.Common.{subst}
 use Rattle.sessions.specs.Sessions.{with_request}
-use Rattle.c_interface.specs.Channels.{HasPast}
+use Rattle.dramsim_c.specs.CInterface.Channels.{HasPast}
 use Rattle.dramsim_c.proofs.Statuses.{done, not-done}
 use Rattle.dramsim_c.proofs.dramsim_send.Goals as goal
 

@@ -3,8 +3,7 @@
 ghost use Rattle.std.specs.Prelude.{◌≡◌, IfSome};
 ghost use Rattle.sim_base.specs.Keys.{key_name};
 
-use sim_base::key::Key;
-use sim_base::key_table::{Accepts, KEYS};
+use sim_base::key::{Accepts, KEYS, Key};
 
 /// The keys of an item of `link`.
 pub(crate) static ITEM_KEYS: [Key; 2] = [Key::Id, Key::Latency];

@@ -1,7 +1,5 @@
-use Rattle.std.proofs.Common.{◌∙◌, sym, ap}
 use Rattle.std.proofs.lemmas.Bool.{false_from_ne_true}
 use Rattle.std.proofs.lemmas.Slice.Eq.{bytes_eq-Decides}
-use Rattle.config_reader.specs.Document.Numbers.{end_named}
 use Rattle.config_reader.proofs.end.end_named.Goals as goal
 
 pub returns-in-Some : goal.returns-in-Some

@@ -2,7 +2,7 @@
 use Rattle.std.proofs.Common.{◌≡◌, ◌<◌, ◌≤◌, ◌∙◌, not, if◌then◌else◌, [], ◌∷◌, ◌++◌, length, get_or, sym, ap, Err}
 use Rattle.std.proofs.lemmas.List.Elements.{All-push}
 use Rattle.toml.specs.Data.{as_table}
-use Rattle.sim_base.specs.Ranges.{LatencyInRange}
+use Rattle.sim_base.specs.Keys.{LatencyInRange}
 use Rattle.toml.specs.View.{view}
 use Rattle.config_reader.specs.Document.Links.{override_from}
 use Rattle.config_reader.proofs.Refusing.{same_fault}

@@ -1,7 +1,7 @@
 use Rattle.std.proofs.Common.{◌≡◌, drop}
 use Rattle.toml.specs.View.{items_view}
 use Rattle.config_reader.specs.Document.Links.{overrides_in}
-use Rattle.sim_base.specs.Ranges.{OverridesInRange}
+use Rattle.sim_base.specs.Keys.{OverridesInRange}
 use Rattle.config_reader.proofs.TableViews.{prepend}
 use Rattle.config_reader.proofs.links.overrides_in.Given as goal
 

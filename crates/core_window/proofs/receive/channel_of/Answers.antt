@@ -7,4 +7,4 @@ use Rattle.core_window.proofs.receive.channel_of.Goals as goal
 pub returns : goal.returns
 returns c =
     let machine = c.args.config.now.machine_in_range in
-    ap (bit_and (c.args.link / 3)) c.from.ensures ∙ masked c.args.config.now.channels (c.args.link / 3) (omega (arith, machine.channels_in)) (omega (arith, machine.channels_in)) machine.channels_power
+    ap (bit_and (c.args.link / 3)) c.from.ensures ∙ masked c.args.config.now.channels (c.args.link / 3) (omega (arith, machine.channels_in.0)) (omega (arith, machine.channels_in.0)) machine.channels_in.1

@@ -1,5 +1,5 @@
 use Rattle.sessions.specs.Memories.{IsMemory}
-use Rattle.c_interface.specs.Memories.{HasPasts}
+use Rattle.dramsim_c.specs.CInterface.Memories.{HasPasts}
 use Rattle.dramsim_c.proofs.Statuses.{by-value}
 use Rattle.dramsim_c.proofs.memory.dramsim_memory_next_reply.Goals as goal
 

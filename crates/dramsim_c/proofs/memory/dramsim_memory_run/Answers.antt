@@ -2,8 +2,8 @@ use Rattle.std.proofs.Common.{◌∙◌, ap}
 use Rattle.sessions.specs.Sessions.{end_refusal}
 use Rattle.sessions.specs.Memories.{IsOpenMemory}
 use Rattle.sessions.specs.declared.memory_session.memory.MemorySession.{MemorySession}
-use Rattle.c_interface.specs.Statuses.{status}
-use Rattle.c_interface.specs.Memories.{HasPasts, StandsAt, IsClosed}
+use Rattle.dramsim_c.specs.CInterface.Statuses.{status}
+use Rattle.dramsim_c.specs.CInterface.Memories.{HasPasts, StandsAt, IsClosed}
 use Rattle.dramsim_c.proofs.Statuses.{done, kept, not-memory, lost}
 use Rattle.dramsim_c.proofs.memory.dramsim_memory_run.Goals as goal
 

@@ -1,7 +1,7 @@
 use Rattle.std.proofs.Common.{subst}
 use Rattle.sessions.specs.Memories.{memory_refusal, with_request_of}
-use Rattle.c_interface.specs.Statuses.{IsStatus}
-use Rattle.c_interface.specs.Memories.{HasPasts}
+use Rattle.dramsim_c.specs.CInterface.Statuses.{IsStatus}
+use Rattle.dramsim_c.specs.CInterface.Memories.{HasPasts}
 use Rattle.dramsim_c.proofs.Statuses.{done, not-done, status-of}
 use Rattle.dramsim_c.proofs.memory.dramsim_memory_send.Goals as goal
 

@@ -3,7 +3,7 @@ use Rattle.std.proofs.Common.{◌≡◌, ◌<◌, true, sym, ap, ◌∙◌, arit
 use Rattle.sim_base.specs.Machine.{cycles_run}
 use Rattle.statistics.specs.Outcomes.{outcome_of}
 use Rattle.units.specs.Runs.{ends_at}
-use Rattle.span_laws.proofs.Over.{cycles-are_counted}
+use Rattle.units.proofs.SpanLaws.Over.{cycles-are_counted}
 use Rattle.simulation.proofs.machine.finish.Goals as goal
 
 pub returns-clause-outcome : goal.returns-clause-outcome

@@ -3,8 +3,8 @@ use Rattle.std.proofs.Common.{Ok}
 use Rattle.std.proofs.lemmas.Result.{IfOk-weaker}
 use Rattle.statistics.specs.Outcomes.{outcome_of}
 use Rattle.sim_base.specs.Machine.{cycles_run}
-use Rattle.table_laws.proofs.Lawful.{owns_data_bus, is_refreshed, has_bounded_queues, holds_few_credits, keeps_credits_until}
-use Rattle.table_laws.specs.Outcomes.{OwnsDataBus, IsRefreshed, HasBoundedQueues, HoldsFewCredits, KeepsCreditsUntil}
+use Rattle.run_tables.proofs.TableLaws.Lawful.{owns_data_bus, is_refreshed, has_bounded_queues, holds_few_credits, keeps_credits_until}
+use Rattle.run_tables.specs.TableLaws.Outcomes.{OwnsDataBus, IsRefreshed, HasBoundedQueues, HoldsFewCredits, KeepsCreditsUntil}
 use Rattle.simulation.specs.Runs.{IsLegalRun}
 use Rattle.simulation.proofs.Judged.{run-judged}
 use Rattle.simulation.proofs.Outcomes.{run-of, holds-of, law-of}

@@ -1,7 +1,7 @@
 use Rattle.std.proofs.Common.{subst, sym, ◌∙◌}
 use Rattle.units.specs.Runs.{HasChannelAt}
 use Rattle.sim_base.specs.declared.message.Unit.TheVariants as unit
-use Rattle.span_laws.proofs.ChannelsOn.{channels-end_alike}
+use Rattle.units.proofs.SpanLaws.ChannelsOn.{channels-end_alike}
 use Rattle.units.specs.Parts.{IsPart}
 use Rattle.units.proofs.counts.channel_stats_of.Goals as goal
 

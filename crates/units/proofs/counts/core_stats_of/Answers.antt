@@ -1,7 +1,7 @@
 use Rattle.std.proofs.Common.{ap, subst, ◌∙◌}
 use Rattle.core_window.specs.declared.core_unit.Core.{Core}
 use Rattle.sim_base.specs.declared.message.Unit.TheVariants as unit
-use Rattle.span_laws.proofs.CoresOn.{cores-end_alike}
+use Rattle.units.proofs.SpanLaws.CoresOn.{cores-end_alike}
 use Rattle.units.specs.Parts.{IsPart}
 use Rattle.units.proofs.counts.core_stats_of.Goals as goal
 

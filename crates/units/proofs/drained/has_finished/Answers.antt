@@ -4,8 +4,8 @@ use Rattle.sim_base.specs.Final.{queue_left}
 use Rattle.sim_base.specs.Scheduling.{queued_requests}
 use Rattle.sim_base.specs.History.{trace_of, retired_before, issued_commands}
 use Rattle.laws.specs.Commands.{channel_steps_of}
-use Rattle.span_laws.specs.Cores.{core_steps_of}
-use Rattle.span_laws.specs.Mail.{mail_before}
+use Rattle.units.specs.SpanLaws.Cores.{core_steps_of}
+use Rattle.units.specs.SpanLaws.Mail.{mail_before}
 use Rattle.sim_base.specs.declared.message.Unit.TheVariants as unit
 use Rattle.units.specs.Units.{unit_at}
 use Rattle.units.specs.Parts.{IsPart}
@@ -14,7 +14,7 @@ use Rattle.units.proofs.Standing.{core-at_place, channel-at_place, nothing_left}
 use Rattle.units.proofs.Lasting.{core-place, channel-place, core-retired}
 use Rattle.core_window.specs.CoreViews.{view_of}
 use Rattle.core_window.specs.declared.core_unit.Core.{Core}
-use Rattle.span_laws.specs.Channels.{IsChannelAt}
+use Rattle.units.specs.SpanLaws.Channels.{IsChannelAt}
 use Rattle.units.proofs.drained.has_finished.Goals as goal
 
 pub returns-in-Core : goal.returns-in-Core

@@ -3,7 +3,7 @@ use Rattle.sim_base.specs.History.{below}
 use Rattle.sim_base.specs.Scheduling.{due}
 use Rattle.laws.specs.Commands.{history_of, channel_steps_of}
 use Rattle.laws.proofs.Legal.{length-channel_steps_of}
-use Rattle.span_laws.specs.Mail.{mail_before}
+use Rattle.units.specs.SpanLaws.Mail.{mail_before}
 use Rattle.sim_base.specs.declared.message.Unit.TheVariants as unit
 use Rattle.units.proofs.Counted.{places-then}
 use Rattle.units.proofs.ending.all_due.Goals as goal

@@ -2,7 +2,7 @@ use Rattle.std.proofs.Common.{subst, sym, ◌∙◌}
 use Rattle.units.specs.Runs.{HasChannelAt}
 use Rattle.sim_base.specs.declared.message.Unit.TheVariants as unit
 use Rattle.laws.specs.Commands.{channel_steps_of}
-use Rattle.span_laws.specs.Mail.{mail_before}
+use Rattle.units.specs.SpanLaws.Mail.{mail_before}
 use Rattle.units.specs.Parts.{IsPart}
 use Rattle.units.proofs.Ended.{left_of, channel_left_is}
 use Rattle.units.proofs.ending.channel_left.Goals as goal

@@ -3,7 +3,7 @@ use Rattle.std.specs.Prelude.{filter_map, flat_map}
 use Rattle.sim_base.specs.Final.{banks, banks_of_rank}
 use Rattle.sim_base.specs.History.{below}
 use Rattle.laws.specs.Commands.{channel_steps_of}
-use Rattle.span_laws.specs.Mail.{mail_before}
+use Rattle.units.specs.SpanLaws.Mail.{mail_before}
 use Rattle.sim_base.specs.declared.message.Unit.TheVariants as unit
 use Rattle.units.specs.Runs.{row_at, rows_in_banks}
 use Rattle.units.proofs.Ended.{given_list}

@@ -4,7 +4,7 @@ use Rattle.std.specs.declared.alloc.Global.{Global}
 use Rattle.sim_base.specs.declared.message.Unit.TheVariants as unit
 use Rattle.laws.specs.Commands.{channel_steps_of}
 use Rattle.request_table.specs.declared.served_requests.ServedRequest.{ServedRequest}
-use Rattle.span_laws.specs.Mail.{mail_before}
+use Rattle.units.specs.SpanLaws.Mail.{mail_before}
 use Rattle.units.specs.Kept.{served_of}
 use Rattle.units.proofs.Requested.{kept-is}
 use Rattle.units.proofs.tables.list_of.Goals as goal

@@ -7,7 +7,7 @@ use Rattle.channel_step.specs.Runs.{issued_in, with_more}
 use Rattle.channel_step.proofs.Running.{with_more-none}
 use Rattle.std.specs.Prelude.{replicate, is_err}
 use Rattle.queue.specs.View.{QueueView}
-use Rattle.fr_fcfs.specs.Choices.{command_of, IsFor}
+use Rattle.channel_step.specs.FrFcfs.Choices.{command_of, IsFor}
 use Rattle.channel_step.specs.Channels.{IsNextBefore}
 use Rattle.channel_step.proofs.Going.{goes, goes-end, waits, acts}
 use Rattle.channel_step.proofs.Skipping.{waited-stands}

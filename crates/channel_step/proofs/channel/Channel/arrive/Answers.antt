@@ -10,7 +10,7 @@ use Rattle.queue.specs.Columns.{bank_number}
 use Rattle.queue.specs.View.{QueueView}
 use Rattle.queue.specs.Candidates.{bank_at}
 use Rattle.queue.specs.Stands.{bank_count, StandsFor as CandidatesStandFor}
-use Rattle.fr_fcfs.specs.Requests.{IsInBanks}
+use Rattle.channel_step.specs.FrFcfs.Requests.{IsInBanks}
 use Rattle.channel_step.specs.Past.{requests_of, past_of}
 use Rattle.channel_step.specs.Queued.{with_arrivals}
 use Rattle.channel_step.specs.Channels.{IsInCycle}

@@ -1,6 +1,6 @@
 use Rattle.std.proofs.Common.{◌≡◌, Some, None, ap, subst, ◌∙◌, arith}
 use Rattle.std.specs.Prelude.{is_some}
-use Rattle.fr_fcfs.specs.Choices.{HasPlace}
+use Rattle.channel_step.specs.FrFcfs.Choices.{HasPlace}
 use Rattle.channel_step.specs.Channels.{IsAhead}
 use Rattle.channel_step.specs.declared.ahead.Ahead.TheVariants.{Known}
 use Rattle.channel_step.proofs.Foreseen.{needs}

@@ -1,7 +1,7 @@
 use Rattle.std.proofs.Common.{◌≡◌, Some, sym, ap, subst}
 use Rattle.std.specs.Option.{IfSome}
 use Rattle.bank_ready.specs.Stands.{rank_count}
-use Rattle.fr_fcfs.specs.Choices.{IsFor}
+use Rattle.channel_step.specs.FrFcfs.Choices.{IsFor}
 use Rattle.channel_step.specs.Channels.{IsAhead}
 use Rattle.channel_step.specs.declared.ahead.Ahead.TheVariants.{Known}
 use Rattle.channel_step.proofs.Foreseen.{ahead-kept}

@@ -1,6 +1,6 @@
 use Rattle.std.proofs.Common.{◌≡◌, ◌≤◌, refl, subst, arith}
-use Rattle.fr_fcfs.specs.Choices.{choice_in, command_of}
-use Rattle.fr_fcfs.specs.Cycles.{IsNext}
+use Rattle.channel_step.specs.FrFcfs.Choices.{choice_in, command_of}
+use Rattle.channel_step.specs.FrFcfs.Cycles.{IsNext}
 use Rattle.channel_step.specs.Past.{commands_after}
 use Rattle.channel_step.proofs.Deciding.{cycle-in_banks, cycle-stands, found-before, none-before}
 use Rattle.channel_step.proofs.Foreseen.{ahead-from, kept-in_cycle}

@@ -1,8 +1,8 @@
 use Rattle.std.proofs.Common.{Some, None, ap, arith}
 use Rattle.std.specs.Option.{is_some}
 use Rattle.sim_base.specs.History.{issued_commands}
-use Rattle.fr_fcfs.specs.Choices.{choice_in, command_of}
-use Rattle.fr_fcfs.proofs.Waking.{first_cycle}
+use Rattle.channel_step.specs.FrFcfs.Choices.{choice_in, command_of}
+use Rattle.channel_step.proofs.FrFcfs.Waking.{first_cycle}
 use Rattle.channel_step.specs.Past.{past_of}
 use Rattle.channel_step.proofs.Starting.{at-in_banks, at-stand, at-first}
 use Rattle.channel_step.proofs.Foreseen.{ahead-from}

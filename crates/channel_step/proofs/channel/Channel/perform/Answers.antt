@@ -1,7 +1,7 @@
 use Rattle.std.proofs.Common.{◌≡◌, Some, sym, subst, ◌∙◌}
 use Rattle.std.specs.Result.{OnOk}
 use Rattle.sim_base.specs.Scheduling.{needed}
-use Rattle.fr_fcfs.specs.Choices.{command_of, IsFor}
+use Rattle.channel_step.specs.FrFcfs.Choices.{command_of, IsFor}
 use Rattle.channel_step.specs.Past.{commands_after}
 use Rattle.channel_step.specs.Queued.{request_at}
 use Rattle.channel_step.specs.Readied.{IsChosen, rank_command}

@@ -1,6 +1,6 @@
 use Rattle.std.proofs.Common.{sym, subst}
 use Rattle.sim_base.specs.Fields.{FieldsInOrder}
-use Rattle.sim_base.specs.Ranges.{OverridesInRange}
+use Rattle.sim_base.specs.Keys.{OverridesInRange}
 use Rattle.sim_base.specs.Relations.{LinksExist, LinksDiffer, RanksHaveField}
 use Rattle.config_reader.proofs.draft.Draft.into_config.Goals as goal
 

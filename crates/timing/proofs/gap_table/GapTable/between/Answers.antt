@@ -1,6 +1,6 @@
 -- The table holds each distance where it is looked for.
 use Rattle.std.proofs.Common.{subst}
-use Rattle.sim_base.specs.Ranges.{TimingInRange}
+use Rattle.sim_base.specs.Keys.{TimingInRange}
 use Rattle.timing.proofs.Found.{found}
 use Rattle.timing.proofs.gap_table.GapTable.between.Goals as goal
 

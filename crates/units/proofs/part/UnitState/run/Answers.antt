@@ -12,7 +12,7 @@ use Rattle.channel_step.specs.Runs.{CanRun, IsDone}
 use Rattle.core_window.specs.CoreViews.{view_of}
 use Rattle.core_window.specs.declared.core_unit.Core.{Core}
 use Rattle.core_window.specs.Fit.{MayRun, RunsOnto}
-use Rattle.span_laws.specs.Channels.{Gives}
+use Rattle.units.specs.SpanLaws.Channels.{Gives}
 use Rattle.units.specs.Parts.{IsReadyFor, HasRunOnto}
 use Rattle.units.specs.declared.part.UnitState.TheVariants as part
 use Rattle.units.proofs.Running.{core-at, core-may_run, core-has_run, channel-can_run, channel-has_run}

@@ -2,8 +2,8 @@ use Rattle.std.proofs.Common.{◌≡◌, [], refl, sym, ap, ◌∙◌, arith}
 use Rattle.std.specs.Prelude.{filter}
 use Rattle.sim_base.specs.declared.message.Unit.{Unit as MachineUnit}
 use Rattle.links.specs.InFlight.{InFlight, is_due}
-use Rattle.span_laws.specs.Mail.{mail_in}
-use Rattle.span_laws.proofs.Silent.{silent-sooner}
+use Rattle.units.specs.SpanLaws.Mail.{mail_in}
+use Rattle.units.proofs.SpanLaws.Silent.{silent-sooner}
 use Rattle.units.specs.Units.{unit_at}
 use Rattle.units.specs.Wakes.{sleeper}
 use Rattle.units.proofs.Due.{exists-at}

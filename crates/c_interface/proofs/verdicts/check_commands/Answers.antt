@@ -1,6 +1,0 @@
-use Rattle.c_interface.proofs.Judging.{judged}
-use Rattle.c_interface.proofs.verdicts.check_commands.Goals as goal
-
-pub returns-in-Ok : goal.returns-in-Ok
-returns-in-Ok c =
-    judged c.args.text.now c.args.table.now c.in-Ok.config c.args.row.now c.judge.new.row c.judge.result ((c.in-Ok.ensures {u = tt}).ok) c.judge.ensures

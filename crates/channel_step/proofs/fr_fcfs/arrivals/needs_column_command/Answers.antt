@@ -1,0 +1,25 @@
+-- A request that asks for the open row needs its data, and a rank that is to be refreshed moves none.
+use Rattle.std.proofs.Common.{sym, ap, ◌∙◌}
+use Rattle.sim_base.specs.Scheduling.{is_column_command}
+use Rattle.sim_base.specs.Places.{bank_in}
+use Rattle.queue.specs.Log.{absent}
+use Rattle.queue.specs.Stands.{IsAmong}
+use Rattle.queue.proofs.Waits.{request_at}
+use Rattle.channel_step.specs.FrFcfs.Choices.{command_of}
+use Rattle.channel_step.proofs.FrFcfs.Staying.{needed_there, refresh-no_column}
+use Rattle.channel_step.proofs.fr_fcfs.arrivals.needs_column_command.Goals as goal
+
+pub is_hit-requires : goal.is_hit-requires
+is_hit-requires c = request_at (λ r. IsAmong c.args.bank_candidates.now (bank_in r.place)) c.args.log.now c.in-Request.slot c.requires.places (c.requires.within c.in-Request.slot c.in-Request.is)
+
+pub returns-in-Request : goal.returns-in-Request
+returns-in-Request c s history command knows is =
+    let log = c.args.log.now in
+    let slot = c.in-Request.slot in
+    c.is_hit.ensures history knows
+    ∙ ap is_column_command (needed_there history log slot absent command (c.requires.within slot c.in-Request.is) (ap (command_of s history log) (sym c.in-Request.is) ∙ is))
+
+pub returns-in-Refresh : goal.returns-in-Refresh
+returns-in-Refresh c s history command knows is =
+    let rank = c.in-Refresh.field-0 in
+    sym (refresh-no_column s history rank command (ap (command_of s history c.args.log.now) (sym c.in-Refresh.is) ∙ is))

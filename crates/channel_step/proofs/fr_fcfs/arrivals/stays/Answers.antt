@@ -1,0 +1,46 @@
+-- One request more comes after, and then all that have arrived.
+use Rattle.std.proofs.Common.{◌≡◌, List, ◌++◌, length, drop, refl, sym, ap, subst, ◌∙◌, arith}
+use Rattle.std.proofs.lemmas.List.{take-append-drop, drop-map, get_or-map, length-map}
+use Rattle.std.proofs.lemmas.List.Elements.{AllWithin-more, AllWithin-upto}
+use Rattle.std.specs.List.{All, AllWithin}
+use Rattle.queue.specs.declared.request_log.Arrived.{Arrived}
+use Rattle.queue.specs.Log.{absent, all_requests}
+use Rattle.bank_ready.specs.Stands.{rank_count}
+use Rattle.queue.proofs.Waits.{request_at}
+use Rattle.channel_step.specs.FrFcfs.Arrivals.{ComesAfter}
+use Rattle.channel_step.specs.FrFcfs.Choices.{command_of}
+use Rattle.channel_step.specs.FrFcfs.Requests.{KnowsRows, IsInBanks}
+use Rattle.channel_step.proofs.FrFcfs.Staying.{next_stays, all_dropped}
+use Rattle.channel_step.proofs.fr_fcfs.arrivals.stays.Goals as goal
+
+pub comes_after-requires-clause-place : goal.comes_after-requires-clause-place
+comes_after-requires-clause-place c =
+    let same = c.log-log.ensures.log ∙ ap (λ v. v.log) c.log.ensures in
+    let P = IsInBanks (rank_count c.args.banks.now) in
+    request_at P c.log-log.result.now c.loop-slot.slot (subst (λ (log : List Arrived). All P (all_requests log)) (sym same) c.requires.places) c.loop-slot-test.true
+
+pub loop-slot-preserved : goal.loop-slot-preserved
+loop-slot-preserved c s history stands knows =
+    let log = c.log-log.result.now in
+    let requests = all_requests log in
+    let slot = c.loop-slot.slot in
+    let request = λ (a : Arrived). a.request in
+    let P = ComesAfter s history c.args.found.0 c.needs_column_command-hit.result in
+    AllWithin-more P requests c.args.from slot (c.loop-slot.invariant s history stands knows)
+    (λ d. subst P (sym (get_or-map request log slot absent d c.loop-slot-test.true)) (c.if-not-comes_after.ensures s history refl stands knows))
+
+pub returns : goal.returns
+returns c s history earlier command always stands bank_candidates high whole needs =
+    let log = c.args.queue.now.log in
+    let from = c.args.from in
+    let knows : KnowsRows c.args.bank_candidates.now history = record { log = log; stands = bank_candidates } in
+    let P = ComesAfter s history c.args.found.0 c.needs_column_command-hit.result in
+    let same = c.log-log.ensures.log ∙ ap (λ v. v.log) c.log.ensures in
+    let within : AllWithin P (all_requests log) from (length (all_requests log)) =
+    AllWithin-upto P (all_requests log) from c.loop-slot.slot (length (all_requests log)) (omega (arith, ap length same, length-map log (λ (a : Arrived). a.request)))
+    (subst (λ (l : List Arrived). AllWithin P (all_requests l) from c.loop-slot.slot) same (c.loop-slot.invariant s history stands knows)) in
+    let new = drop from log in
+    let parts : log ≡ earlier.log ++ new = sym (take-append-drop from log) ∙ ap (λ xs. xs ++ new) (sym whole) in
+    let hit = c.needs_column_command-hit.ensures s history command knows (ap (λ l. command_of s history l c.args.found.1) same ∙ needs) in
+    next_stays s history earlier c.args.queue.now new c.args.found.0 command (high ∙ sym c.high.ensures ∙ c.if-high-ne0.false) parts
+    (subst (λ b. All (ComesAfter s history c.args.found.0 b) (all_requests new)) hit (subst (All P) (drop-map (λ (a : Arrived). a.request) from log) (all_dropped P (all_requests log) from within)))

@@ -1,0 +1,58 @@
+-- What a channel does next.
+--     StandFor bank_candidates banks refresh queue groups s history      the parts of a channel stand for a configuration and its commands so far
+--     choice_in s history queue now      the command of a cycle
+--     command_of s history log choice      the command that is needed by what was chosen
+--     IsFor ranks log choice      what was chosen is a request that waits, or a rank that there is
+--     HasPlace ranks log next      the same of what was chosen for a cycle, if anything was
+--     HoldsBack s history rank due now rest commands      a rank that is to be refreshed goes first
+use Rattle.std.specs.Prelude.{◌≡◌, ℕ, ◌<◌, ◌≤◌, true, List, length, Option, Some, option_map, slice_get, IfSome, if◌then◌else◌}
+use Rattle.sim_base.specs.declared.config.Config.{Config}
+use Rattle.sim_base.specs.declared.command.Command.{Command}
+use Rattle.sim_base.specs.declared.command.IssuedCommand.{IssuedCommand}
+use Rattle.sim_base.specs.Scheduling.{choice_between, if_legal, lowest_due, needed, refresh_command}
+use Rattle.bank_ready.specs.declared.banks.Banks.{Banks}
+use Rattle.bank_ready.specs.Stands.{StandsFor as BanksStandFor}
+use Rattle.bank_ready.specs.Refreshes.{RefreshCounts, is_due_at, StandsFor as RefreshesStandFor}
+use Rattle.queue.specs.declared.bank_candidates.all_banks.BankCandidates.{BankCandidates}
+use Rattle.queue.specs.Candidates.{rows_after}
+use Rattle.queue.specs.Stands.{StandsFor as CandidatesStandFor}
+use Rattle.queue.specs.declared.request_log.Arrived.{Arrived}
+use Rattle.queue.specs.Log.{all_requests, waits_at}
+use Rattle.queue.specs.View.{QueueView}
+use Rattle.channel_step.specs.FrFcfs.Requests.{candidates_of}
+use Rattle.channel_step.specs.declared.fr_fcfs.choice.Choice.{Choice}
+use Rattle.channel_step.specs.declared.fr_fcfs.choice.Choice.TheVariants as chosen
+
+-- The banks and the refreshes stand for the commands so far, under a configuration with this many groups and the
+-- queue's `high`, and the candidates for the queue and the rows that are open.
+pub record StandFor (bank_candidates : BankCandidates) (banks : Banks) (refresh : RefreshCounts) (queue : QueueView) (groups : ℕ) (s : Config) (history : List IssuedCommand) : Type 0 where
+  pub banks_stand : BanksStandFor banks s history
+  pub candidates_stand : CandidatesStandFor bank_candidates queue.log (rows_after history)
+  pub refreshes_stand : RefreshesStandFor refresh s history
+  pub groups_are : s.groups ≡ groups
+  pub high_is : s.write_high ≡ queue.high
+
+-- the command of a cycle, with this queue
+abbrev pub choice_in : Config → List IssuedCommand → QueueView → ℕ → Option Command
+choice_in s history queue now = choice_between s history now (candidates_of s queue) (lowest_due s history now)
+
+-- the command that is needed by what was chosen: by the request at a place of a log, or by a rank that is to be
+-- refreshed
+abbrev pub command_of : Config → List IssuedCommand → List Arrived → Choice → Option Command
+command_of s history log (chosen.Request slot) = option_map (needed history) (slice_get (all_requests log) slot)
+command_of s history log (chosen.Refresh rank) = Some (refresh_command s history rank)
+
+-- What was chosen is a request that waits at a place of a log, or one of so many ranks.
+abbrev pub IsFor : ℕ → List Arrived → Choice → Type 0
+IsFor ranks log (chosen.Request slot) = (slot < length log) × (waits_at log slot ≡ true)
+IsFor ranks log (chosen.Refresh rank) = rank < ranks
+
+-- What was chosen for a cycle, if anything was, is a request that waits at a place of a log, or one of so many ranks.
+abbrev pub HasPlace : ℕ → List Arrived → Option (ℕ × Choice) → Type 0
+HasPlace ranks log next = IfSome next (λ n. IsFor ranks log n.1)
+
+-- Where a refresh of a rank is due, the command of a cycle is what that needs, once it may be issued, and no other
+-- one; in the other cycles from now on it is that of the rest.
+abbrev pub HoldsBack : Config → List IssuedCommand → ℕ → Option ℕ → ℕ → (ℕ → Option Command) → (ℕ → Option Command) → Type 0
+HoldsBack s history rank due now rest commands =
+    (c : ℕ) → now ≤ c → commands c ≡ (if is_due_at due c then if_legal s history c (refresh_command s history rank) else rest c)

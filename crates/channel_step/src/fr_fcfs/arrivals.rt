@@ -1,0 +1,140 @@
+//! Whether the next command stays the same when requests arrive.
+
+ghost use Rattle.std.specs.Prelude.{◌≡◌, ◌<◌, ℕ, true, List, length, Some, All, IsTrue, take};
+ghost use Rattle.sim_base.specs.Rules.{kind_of};
+ghost use Rattle.sim_base.specs.Scheduling.{needed_at, is_column_command};
+ghost use Rattle.sim_base.specs.declared.config.Config.{Config};
+ghost use Rattle.sim_base.specs.declared.command.Command.{Command};
+ghost use Rattle.sim_base.specs.declared.command.IssuedCommand.{IssuedCommand};
+ghost use Rattle.sim_base.specs.declared.message.Request.{Request};
+ghost use Rattle.bank_ready.specs.Words.{names_bank};
+ghost use Rattle.bank_ready.specs.Stands.{rank_count, StandsFor as BanksStandFor};
+ghost use Rattle.queue.specs.View.{QueueView};
+ghost use Rattle.queue.specs.Log.{all_requests};
+ghost use Rattle.queue.specs.Candidates.{rows_after};
+ghost use Rattle.queue.specs.Stands.{StandsFor as CandidatesStandFor};
+ghost use Rattle.channel_step.specs.declared.fr_fcfs.choice.Choice.TheVariants as chosen;
+ghost use Rattle.channel_step.specs.FrFcfs.Arrivals.{ComesAfter, KeepsNext};
+ghost use Rattle.channel_step.specs.FrFcfs.Choices.{choice_in, command_of, IsFor};
+ghost use Rattle.channel_step.specs.FrFcfs.Requests.{IsInBanks, IsOfBank, AreInBanks, OfSameBanks, KnowsRows, is_hit};
+
+use crate::fr_fcfs::choice::Choice;
+use crate::fr_fcfs::offers::ready;
+use bank_ready::banks::Banks;
+use queue::Queue;
+use queue::bank_candidates::BankCandidates;
+use queue::request_log::Arrived;
+use queue::request_log::words::bank_number;
+use sim_base::command::Kind;
+use sim_base::message::{Access, Cycle, Request};
+
+/// The kind of command that a request for a row needs, given the open row of its bank.
+#[inline(always)]
+fn kind_needed(open_row: Option<u32>, row: u32, access: Access) -> Kind
+    ensures kind { (r : Request)
+        → r.place.row ≡ row → r.access ≡ access → result ≡ kind_of (needed_at open_row r) }
+    ensures bank { IsTrue (names_bank result) }
+{
+    match open_row {
+        None => Kind::Act,
+        Some(open) if open != row => Kind::Pre,
+        Some(_) => match access {
+            Access::Read => Kind::Rd,
+            Access::Write => Kind::Wr,
+        },
+    }
+}
+
+/// Whether commands of a kind are column commands.
+#[inline(always)]
+fn is_column_kind(kind: Kind) -> bool
+    ensures { (command : Command) → kind_of command ≡ kind → result ≡ is_column_command command }
+{
+    matches!(kind, Kind::Rd | Kind::Wr)
+}
+
+/// Whether what a request needs may not be issued before a cycle, and is not a row hit, unless a row hit is chosen for
+/// the cycle.
+#[inline(always)]
+fn comes_after(
+    bank_candidates: &BankCandidates,
+    banks: &Banks,
+    request: &Request,
+    cycle: Cycle,
+    hit: bool,
+) -> bool
+    requires place { IsInBanks (rank_count banks.now) request.now }
+    requires banks { OfSameBanks bank_candidates.now banks.now }
+    ensures { (s : Config) (history : List IssuedCommand)
+        → result ≡ true → BanksStandFor banks.now s history → KnowsRows bank_candidates.now history
+        → ComesAfter s history cycle hit request.now }
+{
+    let open_row = bank_candidates.open_row(request.place.bank_id());
+    let kind = kind_needed(open_row, request.place.row, request.access);
+    let after = cycle <= ready(banks, bank_number(request.place), kind);
+    after && (hit || !is_column_kind(kind))
+}
+
+/// Whether a request asks for the row that is open in its bank.
+#[inline(always)]
+fn is_hit(bank_candidates: &BankCandidates, request: &Request) -> bool
+    requires { IsOfBank bank_candidates.now request.now }
+    ensures { (history : List IssuedCommand)
+        → KnowsRows bank_candidates.now history → result ≡ is_hit history request.now }
+{
+    match bank_candidates.open_row(request.place.bank_id()) {
+        Some(row) => row == request.place.row,
+        None => false,
+    }
+}
+
+/// Whether what was chosen needs a column command.
+#[inline(always)]
+fn needs_column_command(bank_candidates: &BankCandidates, log: &[Arrived], choice: Choice) -> bool
+    requires places { All (IsOfBank bank_candidates.now) (all_requests log.now) }
+    requires within { (slot : ℕ) → choice ≡ chosen.Request slot → slot < length log.now }
+    ensures { (s : Config) (history : List IssuedCommand) (command : Command)
+        → KnowsRows bank_candidates.now history
+        → command_of s history log.now choice ≡ Some command → result ≡ is_column_command command }
+{
+    match choice {
+        Choice::Request(slot) => is_hit(bank_candidates, &log[slot as usize].request),
+        Choice::Refresh(_) => false,
+    }
+}
+
+/// Whether what was found, the next cycle with a command and what needs it, is known to stay the same now that the
+/// requests of the log from a place on have arrived. It stays if none of them goes before it. If the channel ever
+/// drains its writes, none is looked at, and it is not known.
+#[inline(always)]
+pub fn stays(
+    queue: &Queue,
+    bank_candidates: &BankCandidates,
+    banks: &Banks,
+    from: usize,
+    found: (Cycle, Choice),
+) -> bool
+    requires places { AreInBanks (rank_count banks.now) queue.now.log }
+    requires banks { OfSameBanks bank_candidates.now banks.now }
+    requires choice { IsFor (rank_count banks.now) queue.now.log found.1 }
+    ensures { (s : Config) (history : List IssuedCommand) (earlier : QueueView) (command : Command)
+        → result ≡ true → BanksStandFor banks.now s history
+        → CandidatesStandFor bank_candidates.now queue.now.log (rows_after history)
+        → s.write_high ≡ queue.now.high → earlier.log ≡ take from queue.now.log
+        → command_of s history queue.now.log found.1 ≡ Some command
+        → KeepsNext (choice_in s history earlier) (choice_in s history queue.now)
+        found.0 command }
+{
+    if queue.high() != 0 {
+        return false;
+    }
+    let (cycle, choice) = found;
+    let log = queue.log().log();
+    let hit = needs_column_command(bank_candidates, log, choice);
+    for slot in from..log.len() {
+        if !comes_after(bank_candidates, banks, &log[slot].request, cycle, hit) {
+            return false;
+        }
+    }
+    true
+}

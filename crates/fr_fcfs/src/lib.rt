@@ -1,9 +1,0 @@
-//! First ready, first come, first served: the command of the next cycle, and when there is one.
-#![tactic(auto)]
-
-mod accesses;
-pub mod arrivals;
-pub mod choice;
-mod first;
-pub mod needs;
-mod offers;

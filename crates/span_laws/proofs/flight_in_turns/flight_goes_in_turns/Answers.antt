@@ -1,7 +1,0 @@
--- The law, as it is proved.
-use Rattle.span_laws.proofs.FlightsInTurns.{flights-meet, channels-brought, cores-brought, channels-further, cores-further, channels-further_for, cores-further_for}
-use Rattle.span_laws.proofs.Jumps.{channels-taken, cores-taken, later-stays}
-use Rattle.span_laws.proofs.flight_in_turns.flight_goes_in_turns.Goals as goal
-
-pub returns : goal.returns
-returns c = record { meet = flights-meet; bring_channels = channels-brought; bring_cores = cores-brought; channels_take = channels-taken; cores_take = cores-taken; later = later-stays; channels_go = channels-further; cores_go = cores-further; channels_go_for = channels-further_for; cores_go_for = cores-further_for }

@@ -1,6 +1,0 @@
--- The law, as it is proved.
-use Rattle.span_laws.proofs.Taking.{channel-turns, core-turns, channel-keeps, core-keeps}
-use Rattle.span_laws.proofs.turns.units_go_in_turns.Goals as goal
-
-pub returns : goal.returns
-returns c = record { channel_goes = channel-turns; core_goes = core-turns; channel_stays = channel-keeps; core_stays = core-keeps }

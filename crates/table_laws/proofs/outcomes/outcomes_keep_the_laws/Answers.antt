@@ -1,6 +1,0 @@
--- The law, as it is proved.
-use Rattle.table_laws.proofs.Lawful.{owns_data_bus, is_refreshed, has_bounded_queues, holds_few_credits, keeps_credits_until}
-use Rattle.table_laws.proofs.outcomes.outcomes_keep_the_laws.Goals as goal
-
-pub returns : goal.returns
-returns c = record { data_bus = owns_data_bus; refreshed = is_refreshed; bounded = has_bounded_queues; held = holds_few_credits; credits = keeps_credits_until }
