@@ -19,7 +19,7 @@ use Rattle.sim_base.specs.declared.message.Message.{Message}
 use Rattle.sim_base.specs.declared.message.Request.{Request}
 use Rattle.statistics.specs.Channels.{channel_cycle_with, channel_cycle}
 use Rattle.statistics.specs.declared.channels.ChannelStats.{ChannelStats}
-use Rattle.statistics.proofs.ChannelMail.{AgreeUpTo-later, channel_stats-later}
+use Rattle.statistics.proofs.ChannelCounts.{AgreeUpTo-later, channel_stats-later}
 use Rattle.channel_step.specs.Past.{requests_of, CarriesRequest, IsOther, Differ, is_named, Past, commands_after, choice_after, with_mail}
 use Rattle.channel_step.specs.Fit.{IsUnnamed}
 use Rattle.channel_step.specs.Stands.{Recalls, HasJoined}

@@ -18,8 +18,7 @@ use Rattle.sim_base.specs.declared.command.IssuedCommand.{IssuedCommand}
 use Rattle.sim_base.specs.declared.command.Source.{Source}
 use Rattle.sim_base.specs.declared.message.Message.{Message}
 use Rattle.sim_base.specs.declared.message.Request.{Request}
-use Rattle.statistics.proofs.ChannelMail.{AgreeUpTo-later}
-use Rattle.statistics.proofs.ChannelSteps.{issued_now, issued_commands-push}
+use Rattle.statistics.proofs.ChannelCounts.{AgreeUpTo-later, issued_now, issued_commands-push}
 use Rattle.statistics.specs.declared.channels.ChannelStats.{ChannelStats}
 use Rattle.channel_step.specs.Runs.{steps_on}
 use Rattle.channel_step.specs.Past.{requests_of, CarriesRequest, IsOther, Differ, Past, commands_after, choice_after, with_mail}

@@ -14,8 +14,7 @@ use Rattle.sim_base.specs.Scheduling.{choice}
 use Rattle.sim_base.specs.declared.command.Command.{Command}
 use Rattle.sim_base.specs.declared.message.Message.{Message}
 use Rattle.sim_base.proofs.Arrived.{before_le}
-use Rattle.statistics.proofs.ChannelMail.{AgreeUpTo-later}
-use Rattle.statistics.proofs.ChannelSteps.{issued_commands-push}
+use Rattle.statistics.proofs.ChannelCounts.{AgreeUpTo-later, issued_commands-push}
 use Rattle.channel_step.specs.Past.{requests_of, CarriesRequest, past_of, Past, commands_after, choice_after, with_mail}
 use Rattle.channel_step.specs.Fit.{IsUnnamed, ComeByAge, IsFit, IsIdle, IsFitAfter}
 use Rattle.queue.specs.Log.{waiting_requests}

@@ -26,9 +26,8 @@ use Rattle.bank_ready.specs.Refreshes.{RefreshCounts, owed, lowest_owed, StandsF
 use Rattle.bank_ready.proofs.Due.{due_from_owed, lowest_due_from_owed}
 use Rattle.statistics.specs.Channels.{channel_stats, channel_cycle_with, channel_joined, issues_hit, is_late_act, ChannelFits}
 use Rattle.statistics.specs.declared.channels.ChannelStats.{ChannelStats}
-use Rattle.statistics.proofs.ChannelBounds.{channel_stats-fit}
+use Rattle.statistics.proofs.ChannelCounts.{channel_stats-fit, issued_commands-push, channel_stats-push}
 use Rattle.statistics.proofs.ChannelChoices.{choice-not_late}
-use Rattle.statistics.proofs.ChannelSteps.{issued_commands-push, channel_stats-push}
 use Rattle.queue.specs.declared.request_log.Arrived.{Arrived}
 use Rattle.queue.specs.Log.{waiting_requests, all_requests}
 use Rattle.queue.specs.View.{is_draining}

@@ -19,7 +19,7 @@ use Rattle.sim_base.specs.declared.message.Access.{Access}
 use Rattle.sim_base.specs.declared.message.Access.TheVariants as access
 use Rattle.sim_base.specs.declared.message.Request.{Request}
 use Rattle.statistics.specs.Channels.{is_late_act}
-use Rattle.statistics.proofs.ChannelSteps.{opens_for, is_hit-push, opens_for-itself, not_late}
+use Rattle.statistics.proofs.ChannelCounts.{opens_for, is_hit-push, opens_for-itself, not_late}
 use Rattle.request_table.specs.Served.{served_by, served_in, served_requests}
 use Rattle.request_table.specs.declared.served_requests.ServedRequest.{ServedRequest}
 use Rattle.channel_step.specs.Past.{requests_of}

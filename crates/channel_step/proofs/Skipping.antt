@@ -13,8 +13,7 @@ use Rattle.sim_base.specs.declared.command.Command.{Command}
 use Rattle.sim_base.specs.declared.message.Message.{Message}
 use Rattle.statistics.specs.Channels.{channel_stats, channel_cycle, channel_cycle_with, channel_joined, channel_times, channel_stretch, ChannelFits}
 use Rattle.statistics.specs.declared.channels.ChannelStats.{ChannelStats}
-use Rattle.statistics.proofs.ChannelSteps.{channel_stats-push}
-use Rattle.statistics.proofs.ChannelBounds.{channel_stats-fit}
+use Rattle.statistics.proofs.ChannelCounts.{channel_stats-push, channel_stats-fit}
 use Rattle.statistics.proofs.ChannelStretches.{channel_joined-assoc, channel_joined-none}
 use Rattle.statistics.proofs.Repeats.{channel_stretch-replicate}
 use Rattle.bank_ready.specs.Stands.{StandsFor as BanksStandFor}

@@ -15,7 +15,7 @@ use Rattle.sim_base.specs.declared.message.Access.TheVariants as access
 use Rattle.sim_base.specs.declared.message.Message.{Message}
 use Rattle.sim_base.specs.declared.message.Request.{Request}
 use Rattle.sim_base.proofs.Added.{length-push_suc}
-use Rattle.statistics.proofs.ChannelSteps.{issued_now, issued_commands-push, drains_before-push}
+use Rattle.statistics.proofs.ChannelCounts.{issued_now, issued_commands-push, drains_before-push}
 
 -- the queue of the next cycle
 pub queue-next : (channel : ℕ) (steps : List (Option Command)) (mail : List Message)

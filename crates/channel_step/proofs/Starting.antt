@@ -5,7 +5,7 @@ use Rattle.std.specs.declared.alloc.Global.{Global}
 use Rattle.std.specs.List.{All, AllByRecursion as Each}
 use Rattle.sim_base.proofs.Ordered.{Each-weaker}
 use Rattle.sim_base.specs.declared.config.Config.{Config}
-use Rattle.sim_base.specs.Counts.{issued_of_kind, hits, queue_lengths, queued, queued_max, idle, refreshing, draining}
+use Rattle.sim_base.specs.Counts.{queued_max, draining}
 use Rattle.sim_base.specs.History.{issued_commands}
 use Rattle.sim_base.specs.Scheduling.{queued_requests, drains_with, drains_before, drains, candidates, choice_between, choice, lowest_due}
 use Rattle.bank_ready.specs.Stands.{rank_count, StandsFor as BanksStandFor}
@@ -14,7 +14,8 @@ use Rattle.statistics.specs.declared.channels.ChannelStats.{ChannelStats}
 use Rattle.channel_step.specs.Fit.{queue_room}
 use Rattle.channel_step.specs.Latencies.{answer_latencies}
 use Rattle.channel_step.specs.Queued.{marks_in}
-use Rattle.statistics.specs.Channels.{channel_none, channel_stats, draining_of}
+use Rattle.statistics.specs.Channels.{channel_none, draining_of}
+use Rattle.statistics.proofs.ChannelCounts.{channel_stats-none}
 use Rattle.sim_base.specs.Rules.{open_row}
 use Rattle.queue.specs.Stands.{bank_count, StandsFor as CandidatesStandFor}
 use Rattle.std.proofs.lemmas.List.Elements.{All-from_recursion}
@@ -40,13 +41,13 @@ use Rattle.request_table.specs.declared.served_requests.ServedRequest.{ServedReq
 
 -- there is no past yet
 pub recalls-none : (s : Config) (channel : ℕ) → Recalls [] false [] (record channel_none { draining = draining_of s 0 }) (past_of s channel [] [])
-unfolding queued_requests issued_commands drains_before channel_stats issued_of_kind hits queue_lengths queued queued_max idle refreshing draining
+unfolding queued_requests issued_commands drains_before
 recalls-none s channel = record {
   past = record { requests = tt; arrived = tt; differ = tt };
   queue_is = refl;
   drained_is = refl;
   marks_are = refl;
-  stats_are = refl;
+  stats_are = sym (channel_stats-none s channel []);
 }
 
 pub at-in_banks : (c : Channel) (from : ℕ) → StandsAt c from → All (IsInBanks (rank_count c.banks)) (all_requests c.queue.log)

@@ -17,7 +17,7 @@ use Rattle.sim_base.specs.declared.command.IssuedCommand.{IssuedCommand}
 use Rattle.sim_base.specs.declared.message.Access.TheVariants as access
 use Rattle.sim_base.specs.declared.message.Message.{Message}
 use Rattle.sim_base.specs.declared.message.Request.{Request}
-use Rattle.statistics.proofs.ChannelMail.{AgreeUpTo-later}
+use Rattle.statistics.proofs.ChannelCounts.{AgreeUpTo-later}
 use Rattle.queue.specs.declared.request_log.Arrived.{Arrived}
 use Rattle.queue.specs.Log.{waiting_requests, all_requests, arrived_now}
 use Rattle.queue.specs.Columns.{bank_number, write_count}

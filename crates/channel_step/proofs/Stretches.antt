@@ -13,7 +13,7 @@ use Rattle.sim_base.specs.Scheduling.{queued_requests, drains_with, drains_befor
 use Rattle.sim_base.specs.declared.command.Command.{Command}
 use Rattle.sim_base.specs.declared.message.Access.TheVariants as access
 use Rattle.sim_base.specs.declared.message.Message.{Message}
-use Rattle.statistics.proofs.ChannelSteps.{issued_commands-push}
+use Rattle.statistics.proofs.ChannelCounts.{issued_commands-push}
 use Rattle.statistics.specs.Channels.{channel_cycle_with, channel_cycle}
 use Rattle.channel_step.proofs.Requests.{ArrivedBefore, queued_requests-until}
 use Rattle.channel_step.proofs.Spans.{queue-next, drains-next, drains_before-row, choice-next}

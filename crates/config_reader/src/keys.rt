@@ -7,7 +7,7 @@ ghost use Rattle.std.specs.Option.{ForSome};
 ghost use Rattle.std.specs.List.{list_all};
 ghost use Rattle.toml.specs.View.{view, table_view};
 ghost use Rattle.sim_base.specs.Keys.{AcceptedAt, Within};
-ghost use Rattle.config_reader.specs.Document.Keys.{data_at, integer_at, in_range, number_from, as_power, number_blaming, number_at, is_known, keys_are_known, known_of, count_of};
+ghost use Rattle.config_reader.specs.Document.Keys.{data_at, integer_at, in_range, number_from, as_power, number_refused_as, number_at, is_known, keys_are_known, known_of, count_of};
 
 use sim_base::fault::Fault;
 use sim_base::key::{Accepts, DOCUMENT_KEYS, Key};
@@ -46,22 +46,22 @@ fn in_range(key: Key, low: u32, high: u32, value: Option<i64>) -> Result<u32, Fa
 
 /// The number at a key, from low up to high, or what stands for it where the key is absent.
 fn number_from(
-    blamed: Key,
+    named: Key,
     absent: Option<u32>,
     low: u32,
     high: u32,
     found: Option<&Value>,
 ) -> Result<u32, Fault>
     requires { ForSome absent (Within low high) }
-    ensures value { result ≡ number_from absent blamed low high
+    ensures value { result ≡ number_from absent named low high
         (option_map (λ v. view v.now) found.entry) }
     ensures range { IfOk result (Within low high) }
 {
     match found {
-        Some(value) => in_range(blamed, low, high, value.as_integer()),
+        Some(value) => in_range(named, low, high, value.as_integer()),
         None => match absent {
             Some(number) => Ok(number),
-            None => Err(Fault::ConfigKey(blamed)),
+            None => Err(Fault::ConfigKey(named)),
         },
     }
 }
@@ -79,20 +79,20 @@ fn as_power(key: Key, n: u32) -> Result<u32, Fault>
     }
 }
 
-/// The number at a key, by what the key accepts. A refusal names another key.
-#[tactic(auto, unfolding(crate::specs::Document::Keys::number_blaming))]
-pub(super) fn number_blaming(blamed: Key, table: &Table, key: Key) -> Result<u32, Fault>
-    ensures value { result ≡ number_blaming blamed (table_view table.now) key }
+/// The number at a key, by what the key accepts. Where it is refused, the fault names this other key.
+#[tactic(auto, unfolding(crate::specs::Document::Keys::number_refused_as))]
+pub(super) fn number_refused_as(named: Key, table: &Table, key: Key) -> Result<u32, Fault>
+    ensures value { result ≡ number_refused_as named (table_view table.now) key }
     ensures accepted { IfOk result (AcceptedAt key) }
 {
     let absent = key.default_number();
     let found = value_at(table, key);
     match key.accepts() {
-        Accepts::Integer(low, high) => number_from(blamed, absent, low, high, found),
+        Accepts::Integer(low, high) => number_from(named, absent, low, high, found),
         Accepts::PowerOfTwo(low, high) => {
-            as_power(blamed, number_from(blamed, absent, low, high, found)?)
+            as_power(named, number_from(named, absent, low, high, found)?)
         }
-        _ => Err(Fault::ConfigKey(blamed)),
+        _ => Err(Fault::ConfigKey(named)),
     }
 }
 
@@ -101,7 +101,7 @@ pub(super) fn number_at(table: &Table, key: Key) -> Result<u32, Fault>
     ensures value { result ≡ number_at (table_view table.now) key }
     ensures accepted { IfOk result (AcceptedAt key) }
 {
-    number_blaming(key, table, key)
+    number_refused_as(key, table, key)
 }
 
 /// Whether a document may have a key of this name.

@@ -7,7 +7,7 @@ ghost use Rattle.sim_base.specs.Keys.{LatencyInRange, OverridesInRange};
 ghost use Rattle.config_reader.specs.Document.Links.{override_of, override_from, overrides_in, overrides_of};
 ghost use Rattle.config_reader.specs.Refusals.{IsRefusalOf};
 
-use crate::keys::{integer_at, key_count, number_blaming, value_at};
+use crate::keys::{integer_at, key_count, number_refused_as, value_at};
 use sim_base::fault::Fault;
 use sim_base::key::Key;
 use sim_base::overrides::Override;
@@ -24,8 +24,8 @@ fn override_at(table: &Table) -> Result<Override, Fault>
     let has_id = integer_at(table, Key::Id).is_some();
     let has_latency = integer_at(table, Key::Latency).is_some();
     if has_id && has_latency && key_count(table) == 2 {
-        let link = number_blaming(Key::Link, table, Key::Id)?;
-        let latency = number_blaming(Key::Link, table, Key::Latency)?;
+        let link = number_refused_as(Key::Link, table, Key::Id)?;
+        let latency = number_refused_as(Key::Link, table, Key::Latency)?;
         Ok(Override {
             link: u64::from(link),
             latency,

@@ -2,7 +2,8 @@
 
 ghost use Rattle.std.specs.Prelude.{◌≡◌, ◌↔◌, ◌*◌, ◌≤◌, ◌==◌, ◌<◌, All, IsOk, IsTrue, nat_lt};
 ghost use Rattle.std.specs.List.{list_all, list_any};
-ghost use Rattle.sim_base.specs.Keys.{MachineInRange, CoreInRange, TimingInRange, DrainInRange, Within};
+ghost use Rattle.sim_base.specs.Keys.{MachineInRange, CoreInRange, TimingInRange, DrainInRange, AcceptedAt};
+ghost use Rattle.sim_base.specs.declared.key.Key.TheVariants as key;
 ghost use Rattle.sim_base.specs.Relations.{refresh_slack_of, DistancesFit, RefreshFits, CreditsFit, LinksDiffer, RanksHaveField, DrainFits};
 ghost use Rattle.config_reader.specs.Document.Relations.{LinksFit, relation, distances_of, refresh_of, credits_of, links_differ, links_of, ranks_of, drain_fits_of};
 
@@ -41,7 +42,7 @@ pub(super) fn check_distances(timing: &Timing) -> Result<(), Fault>
 /// How late a rank's refresh may be, in cycles.
 fn refresh_slack(timing: &Timing, ranks: u32) -> u32
     requires timing { TimingInRange timing.now }
-    requires ranks { Within 1 4 ranks }
+    requires ranks { AcceptedAt key.Ranks ranks }
     ensures value { result ≡ refresh_slack_of timing.now ranks }
     ensures small { result ≤ 1000000 }
 {
@@ -56,7 +57,7 @@ fn refresh_slack(timing: &Timing, ranks: u32) -> u32
 #[tactic(auto, unfolding(crate::specs::Document::Relations::refresh_of))]
 pub(super) fn check_refresh(timing: &Timing, ranks: u32) -> Result<(), Fault>
     requires timing { TimingInRange timing.now }
-    requires ranks { Within 1 4 ranks }
+    requires ranks { AcceptedAt key.Ranks ranks }
     ensures value { result ≡ refresh_of timing.now ranks }
     ensures fit { IsOk result ↔ RefreshFits timing.now ranks }
 {
@@ -133,7 +134,7 @@ pub(super) fn check_links(machine: MachineSize, overrides: &[Override]) -> Resul
 /// Relation 10.
 #[tactic(auto, unfolding(crate::specs::Document::Relations::ranks_of))]
 pub(super) fn check_ranks(ranks: u32, fields: &[Field]) -> Result<(), Fault>
-    requires { Within 1 4 ranks }
+    requires { AcceptedAt key.Ranks ranks }
     ensures value { result ≡ ranks_of ranks fields.now }
     ensures have_field { IsOk result ↔ RanksHaveField ranks fields.now }
 {
@@ -143,7 +144,7 @@ pub(super) fn check_ranks(ranks: u32, fields: &[Field]) -> Result<(), Fault>
 /// Relations 11 and 12.
 #[tactic(auto, unfolding(crate::specs::Document::Relations::drain_fits_of))]
 pub(super) fn check_drain(cores: u16, write_credits: u32, drain: Drain) -> Result<(), Fault>
-    requires credits { Within 1 64 write_credits }
+    requires credits { AcceptedAt key.WriteCredits write_credits }
     requires drain { DrainInRange drain.write_high drain.write_low }
     ensures value { result ≡ drain_fits_of cores write_credits drain.write_high drain.write_low }
     ensures fits { IsOk result ↔ DrainFits cores write_credits drain.write_high drain.write_low }

@@ -27,7 +27,7 @@ use Rattle.cpu_trace.specs.NextMemory.{IsPlainBetween}
 use Rattle.cpu_trace.specs.declared.entries.MemoryEntry.{MemoryEntry}
 use Rattle.statistics.specs.Counts.{one_if}
 use Rattle.statistics.specs.declared.final_state.Credits.{Credits}
-use Rattle.statistics.proofs.CoreSteps.{issued_before-take-le, issue_cycle-push, issue_cycle-prefix_len}
+use Rattle.statistics.proofs.CoreCounts.{issued_before-take-le, issue_cycle-push, issue_cycle-prefix_len}
 use Rattle.statistics.proofs.Lists.{take-push}
 use Rattle.core_window.specs.declared.outstanding.OutstandingRead.{OutstandingRead}
 use Rattle.core_window.specs.Inside.{credits_now}

@@ -31,9 +31,7 @@ use Rattle.statistics.specs.Counts.{one_if}
 use Rattle.statistics.specs.Cores.{core_stats, core_joined, replies_in, is_reply_in, waited}
 use Rattle.statistics.specs.declared.cores.CoreStats.{CoreStats}
 use Rattle.statistics.specs.declared.final_state.Credits.{Credits}
-use Rattle.statistics.proofs.CoreBounds.{read_latency-le}
-use Rattle.statistics.proofs.CoreMail.{core_stats-later}
-use Rattle.statistics.proofs.CoreSteps.{replies-push, read_latency-push}
+use Rattle.statistics.proofs.CoreCounts.{read_latency-le, core_stats-later, replies-push, read_latency-push}
 use Rattle.core_window.specs.Fit.{IsAwaited, IsOwed}
 use Rattle.core_window.specs.Inside.{credits_now, core_arrived, StandsAt}
 use Rattle.core_window.specs.Replies.{MayTakeReply, after_reply}

@@ -13,7 +13,7 @@ use Rattle.sim_base.specs.declared.message.Message.{Message}
 use Rattle.sim_base.specs.declared.trace.Entry.{Entry}
 use Rattle.sim_base.proofs.Grows.{issued_before-push}
 use Rattle.cpu_trace.specs.NextMemory.{IsPlainBetween}
-use Rattle.statistics.proofs.CoreBounds.{first_stop-le_width, issues-le}
+use Rattle.statistics.proofs.KeepsToTrace.{first_stop-le_width, issues-le}
 use Rattle.core_window.specs.Inside.{StandsAt}
 use Rattle.core_window.specs.Rests.{idle_step, IsAtRest}
 use Rattle.core_window.specs.Silence.{IsSilentUntil}

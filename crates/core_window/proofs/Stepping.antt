@@ -31,8 +31,8 @@ use Rattle.statistics.specs.Counts.{one_if}
 use Rattle.statistics.specs.Cores.{core_stats, core_cycle, core_cycle_with, core_joined, issued_in, replies_in, finish_in, is_reply_in, waited, RepliesFollowReads, CoreFits}
 use Rattle.statistics.specs.declared.cores.CoreStats.{CoreStats}
 use Rattle.statistics.specs.declared.final_state.Credits.{Credits}
-use Rattle.statistics.proofs.CoreBounds.{retires-le, issues-le, core_stats-fit}
-use Rattle.statistics.proofs.CoreSteps.{core_stats-push, retired_before-push}
+use Rattle.statistics.proofs.CoreCounts.{core_stats-fit, core_stats-push, retired_before-push}
+use Rattle.statistics.proofs.KeepsToTrace.{retires-le, issues-le}
 use Rattle.statistics.proofs.CoreStretches.{core_joined-assoc}
 use Rattle.statistics.proofs.Lists.{take-push, option_or-none}
 use Rattle.core_window.specs.Inside.{credits_now, core_arrived, StandsAt, Sends, Advances}

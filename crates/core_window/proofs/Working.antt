@@ -18,7 +18,7 @@ use Rattle.cpu_trace.specs.declared.entries.MemoryEntry.{MemoryEntry}
 use Rattle.statistics.specs.Cores.{core_stats}
 use Rattle.statistics.specs.declared.cores.CoreStats.{CoreStats}
 use Rattle.statistics.specs.declared.final_state.Credits.{Credits}
-use Rattle.statistics.proofs.CoreBounds.{retires-le}
+use Rattle.statistics.proofs.KeepsToTrace.{retires-le}
 use Rattle.core_window.specs.Causes.{first_undone, issue_count}
 use Rattle.core_window.specs.Inside.{credits_now, StandsAt, IsStanding, IsLike}
 use Rattle.core_window.specs.Stands.{IsPast}

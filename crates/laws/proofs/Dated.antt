@@ -30,7 +30,7 @@ use Rattle.sim_base.proofs.Ordered.{Each-weaker}
 use Rattle.sim_base.specs.declared.message.Access.TheVariants as access
 use Rattle.sim_base.proofs.Added.{length-push_suc}
 use Rattle.sim_base.proofs.Grows.{issued_before-push}
-use Rattle.statistics.proofs.CoreSteps.{issued_before-take-le, issue_cycle-push}
+use Rattle.statistics.proofs.CoreCounts.{issued_before-take-le, issue_cycle-push}
 use Rattle.statistics.proofs.Lists.{take-push}
 use Rattle.laws.proofs.Chosen.{IfSome-weaker}
 use Rattle.laws.proofs.Receivers.{receiver_request, place_in, Each-filter_passes}

@@ -1,5 +1,5 @@
 -- The statistics of each unit, one cycle more, and why they fit.
-use Rattle.std.proofs.Common.{◌≡◌, ℕ, suc, ◌+◌, ◌*◌, ◌^◌, ◌<◌, ◌≤◌, Bool, true, false, cond, eqb, List, [], length, None, refl, sym, ap, ap₂, subst, ◌∙◌, add-one, arith}
+use Rattle.std.proofs.Common.{◌≡◌, ℕ, suc, ◌+◌, ◌*◌, ◌^◌, ◌<◌, ◌≤◌, List, [], length, sym, ap, ap₂, subst, ◌∙◌, add-one, arith}
 use Rattle.std.specs.Prelude.{is_some, max}
 use Rattle.std.proofs.Math.Seq.{take-length}
 use Rattle.std.proofs.lemmas.Nat.{mul-le}
@@ -10,7 +10,7 @@ use Rattle.sim_base.specs.declared.message.Unit.TheVariants.{Core, Channel}
 use Rattle.sim_base.specs.declared.trace.Entry.{Entry}
 use Rattle.sim_base.specs.declared.trace.Stop.{Stop}
 use Rattle.sim_base.specs.declared.trace.Stop.TheVariants as stop
-use Rattle.sim_base.specs.Counts.{is_read, is_write, reads, writes, replies, read_latency, stops, stopped_by, finish, retire_cycle, hits, issued_of_kind, queue_length, queue_lengths, queued, queued_max, idle, has_refresh_due, refreshing, draining}
+use Rattle.sim_base.specs.Counts.{is_read, is_write, reads, writes, replies, read_latency, queue_length, queued_max, has_refresh_due, draining}
 use Rattle.sim_base.specs.History.{trace_of, steps_of_core, steps_of_channel, issued_commands, retired_before, issued_before, inbox}
 use Rattle.sim_base.specs.Machine.{next_command, run}
 use Rattle.sim_base.specs.Scheduling.{lowest_due, drains, choice}
@@ -21,9 +21,9 @@ use Rattle.statistics.specs.declared.cores.CoreStats.{CoreStats}
 use Rattle.statistics.specs.Channels.{draining_of, channel_stats, channel_cycle_with, channel_cycle, channel_none, channel_joined, ChannelFits}
 use Rattle.statistics.specs.Cores.{replies_in, core_stats, core_cycle_with, core_cycle, core_none, core_joined, CoreFits}
 use Rattle.statistics.specs.Runs.{stats_of_core, stats_of_channel}
-use Rattle.statistics.proofs.ChannelBounds.{channel_stats-fit}
-use Rattle.statistics.proofs.CoreBounds.{read_latency-le, stopped_by-le, KeepsToTrace, KeepsToTrace-run, count-take-le}
-use Rattle.statistics.proofs.CoreMail.{replies-same}
+use Rattle.statistics.proofs.ChannelCounts.{channel_stats-fit, channel_stats-none}
+use Rattle.statistics.proofs.CoreCounts.{read_latency-le, stopped_by-le, count-take-le, replies-same, core_stats-none}
+use Rattle.statistics.proofs.KeepsToTrace.{KeepsToTrace, KeepsToTrace-run}
 use Rattle.statistics.proofs.ReplyBounds.{replies-le}
 use Rattle.statistics.proofs.RunSteps.{inbox-next, stats_of_core-next, stats_of_channel-next}
 use Rattle.statistics.proofs.Replies.{length-steps_of_channel, length-steps_of_core}
@@ -36,34 +36,16 @@ use Rattle.one_clock.proofs.Next.{queue_is, no_mail, run_none}
 -- before the first cycle nothing is counted
 
 no_core_stats : (s : Config) (traces : List (List Entry)) (core : ℕ) → stats_of_core s traces (run s traces 0) core ≡ core_none
-unfolding stats_of_core core_stats steps_of_core issued_before retired_before reads writes replies read_latency stopped_by stops finish retire_cycle
+unfolding stats_of_core steps_of_core
 no_core_stats s traces core =
     ap (λ h. stats_of_core s traces h core) (run_none s traces)
     ∙ ap (core_stats s core (trace_of traces core) []) (no_mail s traces (Core core))
-    ∙ by (eqb (length (trace_of traces core)) 0)
-  where
-    by : (b : Bool)
-        → record {
-          issued = 0;
-          retired = 0;
-          reads = 0;
-          writes = 0;
-          replies = 0;
-          read_latency = 0;
-          stop_end = 0;
-          stop_width = 0;
-          stop_window = 0;
-          stop_memory = 0;
-          stop_credit = 0;
-          finish = cond b None None;
-        }
-        ≡ core_none
-    by true = refl
-    by false = refl
+    ∙ core_stats-none s core (trace_of traces core)
 
 no_channel_stats : (s : Config) (traces : List (List Entry)) (channel : ℕ) → stats_of_channel s traces (run s traces 0) channel ≡ record channel_none { draining = draining_of s 0 }
-unfolding stats_of_channel channel_stats steps_of_channel issued_commands issued_of_kind hits queue_lengths queued queued_max idle refreshing draining
-no_channel_stats s traces channel = ap (λ h. stats_of_channel s traces h channel) (run_none s traces)
+unfolding stats_of_channel steps_of_channel
+no_channel_stats s traces channel =
+    ap (λ h. stats_of_channel s traces h channel) (run_none s traces) ∙ channel_stats-none s channel (inbox s traces [] (Channel channel))
 
 pub core_stats_none : (s : Config) (traces : List (List Entry)) (n core : ℕ) → n ≡ 0 → core_none ≡ stats_of_core s traces (run s traces n) core
 core_stats_none s traces n core e = sym (ap (λ i. stats_of_core s traces (run s traces i) core) e ∙ no_core_stats s traces core)

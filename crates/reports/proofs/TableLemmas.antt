@@ -1,5 +1,5 @@
 -- What a writer holds, with more rows.
-use Rattle.std.proofs.Common.{◌≡◌, ℕ, ◌+◌, ◌<◌, ◌≤◌, List, [], ◌∷◌, ◌++◌, length, get_or, take, map, codes, Option, Some, None, refl, sym, ap, subst, ◌∙◌, arith, zero-add, append_assoc, length-take-le}
+use Rattle.std.proofs.Common.{◌≡◌, ℕ, ◌+◌, zero, suc, ◌<◌, ◌≤◌, List, [], ◌∷◌, ◌++◌, length, get_or, take, map, codes, Option, Some, None, refl, sym, ap, subst, ◌∙◌, arith, zero-add, append_assoc, length-take-le}
 use Rattle.std.proofs.lemmas.Grind.{flat_map-append}
 use Rattle.std.proofs.lemmas.List.{append-nil, map-append, map_more, take_more}
 use Rattle.std.specs.Io.KnownBytes.{Appends}
@@ -10,6 +10,8 @@ use Rattle.reports.specs.Requests.{request_header, request_fields, request_lines
 use Rattle.reports.specs.Final as final
 use Rattle.reports.specs.Final.{final_header, final_rows, final_text, progress_rows, credits_of_core, flight_fields}
 use Rattle.reports.specs.Stats.{stats_header, value_fields, core_rows, usual_values, draining_values, channel_rows, stats_rows, stats_text}
+use Rattle.statistics.specs.Counters.{counter_of, named}
+use Rattle.statistics.specs.declared.counters.Counter.{Counter}
 use Rattle.request_table.specs.declared.times.RequestTimes.{RequestTimes}
 use Rattle.statistics.specs.Values.{RunStats, LastState}
 use Rattle.statistics.specs.declared.channels.ChannelStats.{ChannelStats}
@@ -72,20 +74,37 @@ mapped_more f xs i d here =
     ∙ rows_text-append (map f (take i xs)) (f (get_or xs i d) ∷ [])
     ∙ ap (λ t. rows_text (map f (take i xs)) ++ t) (rows_text-one (f (get_or xs i d)))
 
--- of items that are mapped twice, none give no row, and one more gives a row more
-pub mapped_twice_none : {A B : Type 0} (f : A → B) (g : B → List (List ℕ)) → rows_text (map g (map f [])) ≡ []
-unfolding rows_text
-mapped_twice_none f g = refl
+-- rows after rows, of items of one kind
+pub lines-append : {A : Type 0} (fields : A → List (List ℕ)) (rows more : List A) → rows_text (map fields (rows ++ more)) ≡ rows_text (map fields rows) ++ rows_text (map fields more)
+lines-append fields rows more = ap rows_text (map-append fields rows more) ∙ rows_text-append (map fields rows) (map fields more)
 
-pub mapped_twice_more : {A B : Type 0} (f : A → B) (g : B → List (List ℕ)) (xs : List A) (i : ℕ) (d : A) → i < length xs
-    → rows_text (map g (map f (take (i + 1) xs))) ≡ rows_text (map g (map f (take i xs))) ++ row_text (g (f (get_or xs i d)))
-mapped_twice_more f g xs i d here =
-    let few = map f (take i xs) in
-    let next = f (get_or xs i d) in
-    ap (λ ys. rows_text (map g ys)) (map_more f xs i d here)
-    ∙ ap rows_text (map-append g few (next ∷ []))
-    ∙ rows_text-append (map g few) (g next ∷ [])
-    ∙ ap (λ t. rows_text (map g few) ++ t) (rows_text-one (g next))
+-- one row more
+pub lines-more : {A : Type 0} (fields : A → List (List ℕ)) (rows : List A) (row : A) → rows_text (map fields (rows ++ row ∷ [])) ≡ rows_text (map fields rows) ++ row_text (fields row)
+lines-more fields rows row = lines-append fields rows (row ∷ []) ∙ ap (λ t. rows_text (map fields rows) ++ t) (rows_text-one (fields row))
+
+-- of numbers under their names, none give no row, and one more gives a row more
+pub named_none : (fields : List ℕ × Option ℕ → List (List ℕ)) → rows_text (map fields (named [] [])) ≡ []
+unfolding rows_text
+named_none fields = refl
+
+named-push : (counters : List Counter) (numbers : List (Option ℕ)) (i : ℕ) (d : Counter) (e : Option ℕ) → i < length counters → length numbers ≡ length counters
+    → named (map counter_of (take (i + 1) counters)) (take (i + 1) numbers)
+    ≡ named (map counter_of (take i counters)) (take i numbers) ++ ((get_or counters i d).name.now, get_or numbers i e) ∷ []
+named-push [] numbers i d e here same = absurd (omega (arith, here))
+named-push (counter ∷ counters) [] i d e here same = absurd (omega (arith, same))
+named-push (counter ∷ counters) (number ∷ numbers) zero d e here same = refl
+named-push (counter ∷ counters) (number ∷ numbers) (suc i) d e here same =
+    let next : suc i + 1 ≡ suc (i + 1) = omega arith in
+    ap (λ k. named (map counter_of (take k (counter ∷ counters))) (take k (number ∷ numbers))) next
+    ∙ ap (λ t. (counter.name.now, number) ∷ t) (named-push counters numbers i d e (omega (arith, here)) (omega (arith, same)))
+
+pub named_more : (fields : List ℕ × Option ℕ → List (List ℕ)) (counters : List Counter) (numbers : List (Option ℕ)) (i : ℕ) (d : Counter) (e : Option ℕ) → i < length counters → length numbers ≡ length counters
+    → rows_text (map fields (named (map counter_of (take (i + 1) counters)) (take (i + 1) numbers)))
+    ≡ rows_text (map fields (named (map counter_of (take i counters)) (take i numbers))) ++ row_text (fields ((get_or counters i d).name.now, get_or numbers i e))
+named_more fields counters numbers i d e here same =
+    let few = named (map counter_of (take i counters)) (take i numbers) in
+    let next : List ℕ × Option ℕ = ((get_or counters i d).name.now, get_or numbers i e) in
+    ap (λ ns. rows_text (map fields ns)) (named-push counters numbers i d e here same) ∙ lines-more fields few next
 
 -- two rows
 pub rows_text-two : (first second : List (List ℕ)) → rows_text (first ∷ second ∷ []) ≡ row_text first ++ row_text second
@@ -97,14 +116,6 @@ pub added-two : {A B C : Type 0} (old mid new : Option (List ℕ)) (first second
 added-two old mid new first second before after whole =
     let both = added-more old mid new _ _ before after whole in
     (both.0, subst (Appends old new) (sym (rows_text-two first second)) both.1)
-
--- rows after rows, of items of one kind
-pub lines-append : {A : Type 0} (fields : A → List (List ℕ)) (rows more : List A) → rows_text (map fields (rows ++ more)) ≡ rows_text (map fields rows) ++ rows_text (map fields more)
-lines-append fields rows more = ap rows_text (map-append fields rows more) ∙ rows_text-append (map fields rows) (map fields more)
-
--- one row more
-pub lines-more : {A : Type 0} (fields : A → List (List ℕ)) (rows : List A) (row : A) → rows_text (map fields (rows ++ row ∷ [])) ≡ rows_text (map fields rows) ++ row_text (fields row)
-lines-more fields rows row = lines-append fields rows (row ∷ []) ∙ ap (λ t. rows_text (map fields rows) ++ t) (rows_text-one (fields row))
 
 -- a table of commands is its header and its rows
 pub commands_text-parts : (ranks : ℕ) (rows : List IssuedCommand) → commands_text ranks rows ≡ row_text (header ranks) ++ lines_text ranks rows

@@ -1,12 +1,14 @@
 -- The text of the table of statistics.
 --     stats_header      the names of its columns
---     value_fields scope id value, count_fields scope id count      a row: a count of a unit
+--     value_fields scope id value      a row: a count of a unit
 --     core_values core, channel_values channel      the counts of a unit, each with its name, in order
 --     stats_rows stats      its rows
 --     stats_text stats      the whole table
 use Rattle.std.specs.Prelude.{ℕ, List, [], ◌∷◌, ◌++◌, map, codes, decimal, Option, Some, None}
 use Rattle.reports.specs.Rows.{optional, numbered, table_text}
-use Rattle.reports.specs.declared.stats.named.NamedCount.{NamedCount}
+use Rattle.statistics.specs.Channels.{channel_counters, channel_numbers}
+use Rattle.statistics.specs.Cores.{core_counters, core_numbers}
+use Rattle.statistics.specs.Counters.{named}
 use Rattle.statistics.specs.Values.{RunStats}
 use Rattle.statistics.specs.declared.channels.ChannelStats.{ChannelStats}
 use Rattle.statistics.specs.declared.cores.CoreStats.{CoreStats}
@@ -15,34 +17,13 @@ use Rattle.statistics.specs.declared.cores.CoreStats.{CoreStats}
 abbrev pub stats_header : List (List ℕ)
 stats_header = codes "scope" ∷ codes "id" ∷ codes "name" ∷ codes "value" ∷ []
 
--- the name and the value of a count
-abbrev pub count_named : NamedCount → List ℕ × Option ℕ
-count_named count = (count.name.now, count.value)
-
 -- a row: a count of the unit of this scope with this number
 abbrev pub value_fields : List ℕ → ℕ → List ℕ × Option ℕ → List (List ℕ)
 value_fields scope id value = scope ∷ decimal id ∷ value.0 ∷ optional value.1 ∷ []
 
--- a row: a count that has its name
-abbrev pub count_fields : List ℕ → ℕ → NamedCount → List (List ℕ)
-count_fields scope id count = value_fields scope id (count_named count)
-
--- the counts of a core; it has a finish where all its entries retired
+-- the counts of a core, each under its name
 abbrev pub core_values : CoreStats → List (List ℕ × Option ℕ)
-core_values core =
-    (codes "issued", Some core.issued)
-    ∷ (codes "retired", Some core.retired)
-    ∷ (codes "reads", Some core.reads)
-    ∷ (codes "writes", Some core.writes)
-    ∷ (codes "replies", Some core.replies)
-    ∷ (codes "read_latency", Some core.read_latency)
-    ∷ (codes "stop_end", Some core.stop_end)
-    ∷ (codes "stop_width", Some core.stop_width)
-    ∷ (codes "stop_window", Some core.stop_window)
-    ∷ (codes "stop_memory", Some core.stop_memory)
-    ∷ (codes "stop_credit", Some core.stop_credit)
-    ∷ (codes "finish", core.finish)
-    ∷ []
+core_values core = named core_counters (core_numbers core)
 
 -- the count of cycles in which a channel drained its writes, present only if it may drain them
 abbrev pub draining_values : Option ℕ → List (List ℕ × Option ℕ)
@@ -51,19 +32,7 @@ draining_values (Some cycles) = (codes "draining", Some cycles) ∷ []
 
 -- the counts that each channel has
 abbrev pub usual_values : ChannelStats → List (List ℕ × Option ℕ)
-usual_values channel =
-    (codes "act", Some channel.act)
-    ∷ (codes "rd", Some channel.rd)
-    ∷ (codes "wr", Some channel.wr)
-    ∷ (codes "pre", Some channel.pre)
-    ∷ (codes "prea", Some channel.prea)
-    ∷ (codes "ref", Some channel.refs)
-    ∷ (codes "hits", Some channel.hits)
-    ∷ (codes "queued", Some channel.queued)
-    ∷ (codes "queued_max", Some channel.queued_max)
-    ∷ (codes "idle", Some channel.idle)
-    ∷ (codes "refreshing", Some channel.refreshing)
-    ∷ []
+usual_values channel = named channel_counters (channel_numbers channel)
 
 -- the counts of a channel
 abbrev pub channel_values : ChannelStats → List (List ℕ × Option ℕ)

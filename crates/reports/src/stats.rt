@@ -2,117 +2,74 @@
 
 ghost use Rattle.std.specs.Prelude.{◌≡◌, ◌<◌, ◌≤◌, length, drop, map, IfErr};
 ghost use Rattle.reports.specs.Rows.{fields_text, row_text, rows_text, numbered, IsReportFault, WritesOnOk};
-ghost use Rattle.reports.specs.Stats.{count_named, value_fields, count_fields, core_values, usual_values, core_rows, channel_rows, stats_text};
+ghost use Rattle.reports.specs.Stats.{value_fields, core_rows, channel_rows, stats_text};
 ghost use Rattle.reports.specs.Tables.{AddsRows};
+ghost use Rattle.statistics.specs.Counters.{counter_of, named};
 
-mod named;
+mod unit;
 
-use self::named::{NamedCount, named};
+use self::unit::Unit;
 use crate::line::{Line, put, put_last_wide, put_word};
 use crate::table::RowBuffer;
 use sim_base::fault::Fault;
-use statistics::channels::ChannelStats;
-use statistics::cores::CoreStats;
+use statistics::channels::{self, ChannelStats};
+use statistics::cores::{self, CoreStats};
+use statistics::counters::Counter;
+use statistics::numbers::count;
 use statistics::stats::Stats;
 use std::alloc::Global;
 use std::io::Write;
 
-fn widened(count: Option<u64>) -> Option<u128>
-    ensures { result ≡ count }
-{
-    match count {
-        Some(count) => Some(u128::from(count)),
-        None => None,
-    }
-}
-
-fn core_counts(core: &CoreStats) -> [NamedCount; 12]
-    ensures { map count_named result ≡ core_values core.now }
-{
-    [
-        named(b"issued", core.issued),
-        named(b"retired", core.retired),
-        named(b"reads", core.reads),
-        named(b"writes", core.writes),
-        named(b"replies", core.replies),
-        NamedCount {
-            name: b"read_latency",
-            value: Some(core.read_latency),
-        },
-        named(b"stop_end", core.stop_end),
-        named(b"stop_width", core.stop_width),
-        named(b"stop_window", core.stop_window),
-        named(b"stop_memory", core.stop_memory),
-        named(b"stop_credit", core.stop_credit),
-        NamedCount {
-            name: b"finish",
-            value: widened(core.finish),
-        },
-    ]
-}
-
-fn channel_counts(channel: &ChannelStats) -> [NamedCount; 11]
-    ensures { map count_named result ≡ usual_values channel.now }
-{
-    [
-        named(b"act", channel.act),
-        named(b"rd", channel.rd),
-        named(b"wr", channel.wr),
-        named(b"pre", channel.pre),
-        named(b"prea", channel.prea),
-        named(b"ref", channel.refs),
-        named(b"hits", channel.hits),
-        NamedCount {
-            name: b"queued",
-            value: Some(channel.queued),
-        },
-        named(b"queued_max", channel.queued_max),
-        named(b"idle", channel.idle),
-        named(b"refreshing", channel.refreshing),
-    ]
-}
-
 // The fields of a row, from the last to the first.
-fn put_count(line: &mut Line, scope: &[u8], id: u64, count: NamedCount) -> usize
-    requires { length scope.now ≤ 32 }
-    ensures text { drop result line.new ≡ fields_text (count_fields scope.now id count) }
+fn put_number(line: &mut Line, unit: Unit, counter: Counter, number: Option<u128>) -> usize
+    ensures text { drop result line.new
+        ≡ fields_text (value_fields unit.scope.now unit.id (counter.name.now, number)) }
     ensures some { result < 256 }
 {
-    let start = put_last_wide(line, count.value);
-    let start = put_word(line, start, count.name);
-    let start = put(line, start, Some(id));
-    put_word(line, start, scope)
+    let start = put_last_wide(line, number);
+    let start = put_word(line, start, counter.name);
+    let start = put(line, start, Some(unit.id));
+    put_word(line, start, unit.scope)
 }
 
-fn write_count<W: Write>(
+fn write_number<W: Write>(
     table: &mut RowBuffer,
-    scope: &[u8],
-    id: u64,
-    count: NamedCount,
+    unit: Unit,
+    counter: Counter,
+    number: Option<u128>,
     writer: &mut W,
 )
-    requires { length scope.now ≤ 32 }
     ensures { AddsRows W.contents writer.old table.old writer.new table.new
-        (row_text (count_fields scope.now id count)) }
+        (row_text (value_fields unit.scope.now unit.id (counter.name.now, number))) }
 {
-    let start = put_count(&mut table.line, scope, id, count);
+    let start = put_number(&mut table.line, unit, counter, number);
     table.write_row(start, writer);
 }
 
-fn write_counts<W: Write>(
+// The numbers of a unit, each under the name of its counter.
+fn write_numbers<W: Write>(
     table: &mut RowBuffer,
-    scope: &[u8],
-    id: u64,
-    counts: &[NamedCount],
+    unit: Unit,
+    counters: &[Counter],
+    numbers: &[Option<u128>],
     writer: &mut W,
 )
-    requires { length scope.now ≤ 32 }
+    requires { length numbers.now ≡ length counters.now }
     ensures { AddsRows W.contents writer.old table.old writer.new table.new
-        (rows_text (map (value_fields scope.now id) (map count_named counts.now))) }
+        (rows_text (map (value_fields unit.scope.now unit.id)
+        (named (map counter_of counters.now) numbers.now))) }
 {
-    for count in counts {
-        write_count(table, scope, id, *count, writer);
+    for (place, counter) in counters.iter().enumerate() {
+        write_number(table, unit, *counter, numbers[place], writer);
     }
+}
+
+fn write_core<W: Write>(table: &mut RowBuffer, id: u64, core: &CoreStats, writer: &mut W)
+    ensures { AddsRows W.contents writer.old table.old writer.new table.new
+        (rows_text (core_rows id core.now)) }
+{
+    let unit = Unit { scope: b"core", id };
+    write_numbers(table, unit, &cores::counters(), &core.numbers(), writer);
 }
 
 fn write_cores<W: Write>(table: &mut RowBuffer, cores: &[CoreStats], writer: &mut W)
@@ -120,7 +77,7 @@ fn write_cores<W: Write>(table: &mut RowBuffer, cores: &[CoreStats], writer: &mu
         (rows_text (numbered core_rows cores.now)) }
 {
     for (id, core) in cores.iter().enumerate() {
-        write_counts(table, b"core", id as u64, &core_counts(core), writer);
+        write_core(table, id as u64, core, writer);
     }
 }
 
@@ -128,12 +85,22 @@ fn write_channel<W: Write>(table: &mut RowBuffer, id: u64, channel: &ChannelStat
     ensures { AddsRows W.contents writer.old table.old writer.new table.new
         (rows_text (channel_rows id channel.now)) }
 {
-    write_counts(table, b"channel", id, &channel_counts(channel), writer);
+    let unit = Unit {
+        scope: b"channel",
+        id,
+    };
+    write_numbers(
+        table,
+        unit,
+        &channels::counters(),
+        &channel.numbers(),
+        writer,
+    );
     let Some(cycles) = channel.draining else {
         return;
     };
-    let draining = named(b"draining", cycles);
-    write_count(table, b"channel", id, draining, writer);
+    let number = Some(u128::from(cycles));
+    write_number(table, unit, count(b"draining"), number, writer);
 }
 
 fn write_channels<W: Write>(table: &mut RowBuffer, channels: &[ChannelStats], writer: &mut W)
@@ -151,8 +118,12 @@ fn write_rows<W: Write>(table: &mut RowBuffer, stats: &Stats, writer: &mut W)
         (stats_text stats.now) }
 {
     table.write_text(b"scope,id,name,value", writer);
-    let cycles = named(b"cycles", stats.cycles);
-    write_count(table, b"run", 0, cycles, writer);
+    let run = Unit {
+        scope: b"run",
+        id: 0,
+    };
+    let cycles = Some(u128::from(stats.cycles));
+    write_number(table, run, count(b"cycles"), cycles, writer);
     write_cores(table, &stats.cores, writer);
     write_channels(table, &stats.channels, writer);
 }

@@ -7,8 +7,11 @@ use Rattle.sim_base.specs.declared.fault.Fault.{Fault}
 use Rattle.sim_base.specs.declared.fault.Fault.TheVariants.{CheckRow}
 use Rattle.reports.specs.Stats.{value_fields}
 use Rattle.rule_check.specs.Fields.{text_at}
-use Rattle.run_tables.specs.Lines.{◌>>=◌, or_refused, narrow, narrow_optional, line_value, value_in, sum_in, count_in, cycle_in, has_text}
-use Rattle.run_tables.specs.Units.{count_at, sum_at, cycle_at, draining_in, draining_at}
+use Rattle.run_tables.specs.Lines.{◌>>=◌, or_refused, narrow, narrow_optional, line_value, value_in, sum_in, count_in, cycle_in, number_in, has_text}
+use Rattle.run_tables.specs.Units.{count_at, number_at, draining_in, draining_at}
+use Rattle.statistics.specs.Counters.{IsNumberOf}
+use Rattle.statistics.specs.declared.counters.CounterKind.{CounterKind}
+use Rattle.statistics.specs.declared.counters.CounterKind.TheVariants.{Count, Sum, Cycle}
 use Rattle.run_tables.proofs.Exact.{IsWide, line_is, line_wide, line_back}
 use Rattle.run_tables.proofs.RowReads.{Row, Read, row_read, row_there, bind_ok, bind_err}
 
@@ -64,7 +67,7 @@ value_none row scope id name = refl
 
 -- SUMS
 
-pub sum_ok : (row : ℕ) (scope : List ℕ) (id : ℕ) (name : List ℕ) (o : Option (List (List ℕ))) (n : ℕ) → sum_in row scope id name o ≡ Ok n → IsLineOf scope id name o (Some n) × (n < 2 ^ 128)
+sum_ok : (row : ℕ) (scope : List ℕ) (id : ℕ) (name : List ℕ) (o : Option (List (List ℕ))) (n : ℕ) → sum_in row scope id name o ≡ Ok n → IsLineOf scope id name o (Some n) × (n < 2 ^ 128)
 unfolding sum_in
 sum_ok row scope id name o n h =
     let parts = bind_ok (value_in row scope id name o) (or_refused row) n h in
@@ -88,7 +91,7 @@ sum_none : (row : ℕ) (scope : List ℕ) (id : ℕ) (name : List ℕ) → sum_i
 unfolding sum_in
 sum_none row scope id name = ap (λ (r : Result (Option ℕ) Fault). r >>= or_refused row) (value_none row scope id name)
 
-pub sum_of : (row : ℕ) (scope : List ℕ) (id : ℕ) (name : List ℕ) (o : Option (List (List ℕ))) (n : ℕ) → IsLineOf scope id name o (Some n) → n < 2 ^ 128 → sum_in row scope id name o ≡ Ok n
+sum_of : (row : ℕ) (scope : List ℕ) (id : ℕ) (name : List ℕ) (o : Option (List (List ℕ))) (n : ℕ) → IsLineOf scope id name o (Some n) → n < 2 ^ 128 → sum_in row scope id name o ≡ Ok n
 sum_of row scope id name o n line h = ap (sum_in row scope id name) line ∙ sum_line row scope id name n h
 
 -- COUNTS
@@ -148,7 +151,7 @@ optional_of : (row : ℕ) (value : Option ℕ) → IsCycle value → narrow_opti
 optional_of row None h = refl
 optional_of row (Some n) h = ap (λ (r : Result ℕ Fault). r >>= (λ k. Ok (Some k))) (narrow_of row n h)
 
-pub cycle_ok : (row : ℕ) (scope : List ℕ) (id : ℕ) (name : List ℕ) (o : Option (List (List ℕ))) (value : Option ℕ) → cycle_in row scope id name o ≡ Ok value → IsLineOf scope id name o value × IsCycle value
+cycle_ok : (row : ℕ) (scope : List ℕ) (id : ℕ) (name : List ℕ) (o : Option (List (List ℕ))) (value : Option ℕ) → cycle_in row scope id name o ≡ Ok value → IsLineOf scope id name o value × IsCycle value
 unfolding cycle_in
 cycle_ok row scope id name o value h =
     let parts = bind_ok (value_in row scope id name o) (narrow_optional row) value h in
@@ -172,8 +175,57 @@ cycle_none : (row : ℕ) (scope : List ℕ) (id : ℕ) (name : List ℕ) → cyc
 unfolding cycle_in
 cycle_none row scope id name = ap (λ (r : Result (Option ℕ) Fault). r >>= narrow_optional row) (value_none row scope id name)
 
-pub cycle_of : (row : ℕ) (scope : List ℕ) (id : ℕ) (name : List ℕ) (o : Option (List (List ℕ))) (value : Option ℕ) → IsLineOf scope id name o value → IsCycle value → cycle_in row scope id name o ≡ Ok value
+cycle_of : (row : ℕ) (scope : List ℕ) (id : ℕ) (name : List ℕ) (o : Option (List (List ℕ))) (value : Option ℕ) → IsLineOf scope id name o value → IsCycle value → cycle_in row scope id name o ≡ Ok value
 cycle_of row scope id name o value line h = ap (cycle_in row scope id name) line ∙ cycle_line row scope id name value h
+
+-- NUMBERS OF COUNTERS
+
+pub number_ok : (kind : CounterKind) (row : ℕ) (scope : List ℕ) (id : ℕ) (name : List ℕ) (o : Option (List (List ℕ))) (value : Option ℕ) → number_in kind row scope id name o ≡ Ok value → IsLineOf scope id name o value × IsNumberOf kind value
+number_ok Count row scope id name o value h =
+    let parts = bind_ok (count_in row scope id name o) (λ n. Ok (Some n)) value h in
+    let same : Some parts.0 ≡ value = cc parts.2 in
+    subst (λ v. IsLineOf scope id name o v × IsNumberOf Count v) same (count_ok row scope id name o parts.0 parts.1)
+number_ok Sum row scope id name o value h =
+    let parts = bind_ok (sum_in row scope id name o) (λ n. Ok (Some n)) value h in
+    let same : Some parts.0 ≡ value = cc parts.2 in
+    subst (λ v. IsLineOf scope id name o v × IsNumberOf Sum v) same (sum_ok row scope id name o parts.0 parts.1)
+number_ok Cycle row scope id name o value h = cycle_ok row scope id name o value h
+
+pub number_of : (kind : CounterKind) (row : ℕ) (scope : List ℕ) (id : ℕ) (name : List ℕ) (o : Option (List (List ℕ))) (value : Option ℕ) → IsLineOf scope id name o value → IsNumberOf kind value → number_in kind row scope id name o ≡ Ok value
+number_of Count row scope id name o (Some n) line h = ap (λ (r : Result ℕ Fault). r >>= (λ k. Ok (Some k))) (count_of row scope id name o n line h)
+number_of Count row scope id name o None line h = absurd h
+number_of Sum row scope id name o (Some n) line h = ap (λ (r : Result ℕ Fault). r >>= (λ k. Ok (Some k))) (sum_of row scope id name o n line h)
+number_of Sum row scope id name o None line h = absurd h
+number_of Cycle row scope id name o value line h = cycle_of row scope id name o value line h
+
+made_err : (o : Result ℕ Fault) (row : ℕ) (e : Fault) → ((f : Fault) → o ≡ Err f → f ≡ CheckRow row) → (o >>= (λ n. Ok (Some n))) ≡ Err e → e ≡ CheckRow row
+made_err o row e fault h =
+    elim (bind_err o (λ n. Ok (Some n)) e h) [
+      | inl fails ↦ fault e fails
+      | inr goes ↦ let both = goes.2 in cc both
+    ]
+
+number_err : (kind : CounterKind) (row : ℕ) (scope : List ℕ) (id : ℕ) (name : List ℕ) (o : Option (List (List ℕ))) (e : Fault) → number_in kind row scope id name o ≡ Err e → e ≡ CheckRow row
+number_err Count row scope id name o e h = made_err (count_in row scope id name o) row e (count_err row scope id name o) h
+number_err Sum row scope id name o e h = made_err (sum_in row scope id name o) row e (sum_err row scope id name o) h
+number_err Cycle row scope id name o e h = cycle_err row scope id name o e h
+
+number_none : (kind : CounterKind) (row : ℕ) (scope : List ℕ) (id : ℕ) (name : List ℕ) → number_in kind row scope id name None ≡ Err (CheckRow row)
+number_none Count row scope id name = ap (λ (r : Result ℕ Fault). r >>= (λ n. Ok (Some n))) (count_none row scope id name)
+number_none Sum row scope id name = ap (λ (r : Result ℕ Fault). r >>= (λ n. Ok (Some n))) (sum_none row scope id name)
+number_none Cycle row scope id name = cycle_none row scope id name
+
+-- a number that a counter of this kind may have
+some_number : CounterKind → Option ℕ
+some_number Count = Some 0
+some_number Sum = Some 0
+some_number Cycle = None
+
+some_number-is : (kind : CounterKind) → IsNumberOf kind (some_number kind)
+unfolding some_number
+some_number-is Count = omega arith
+some_number-is Sum = omega arith
+some_number-is Cycle = tt
 
 -- THE COUNT OF CYCLES OF DRAINING
 
@@ -224,13 +276,11 @@ pub read_count : (scope : List ℕ) (id : ℕ) (name : List ℕ) (from to : ℕ)
 read_count scope id name from to next =
     row_there from to next (count_in from scope id name) (value_fields scope id (name, Some 0)) 0 (count_line from scope id name 0 (omega arith)) (count_err from scope id name) (count_none from scope id name)
 
-pub read_sum : (scope : List ℕ) (id : ℕ) (name : List ℕ) (from to : ℕ) → to ≡ from + 1 → Row from to (λ r. sum_at r from scope id name)
-read_sum scope id name from to next =
-    row_there from to next (sum_in from scope id name) (value_fields scope id (name, Some 0)) 0 (sum_line from scope id name 0 (omega arith)) (sum_err from scope id name) (sum_none from scope id name)
-
-pub read_cycle : (scope : List ℕ) (id : ℕ) (name : List ℕ) (from to : ℕ) → to ≡ from + 1 → Row from to (λ r. cycle_at r from scope id name)
-read_cycle scope id name from to next =
-    row_there from to next (cycle_in from scope id name) (value_fields scope id (name, None)) None (cycle_line from scope id name None tt) (cycle_err from scope id name) (cycle_none from scope id name)
+pub read_number : (scope : List ℕ) (id : ℕ) (counter : List ℕ × CounterKind) (from to : ℕ) → to ≡ from + 1 → Row from to (λ r. number_at r from scope id counter)
+read_number scope id counter from to next =
+    let some = some_number counter.1 in
+    row_there from to next (number_in counter.1 from scope id counter.0) (value_fields scope id (counter.0, some)) some
+    (number_of counter.1 from scope id counter.0 (Some (value_fields scope id (counter.0, some))) some refl (some_number-is counter.1)) (number_err counter.1 from scope id counter.0) (number_none counter.1 from scope id counter.0)
 
 pub read_draining : (id from to : ℕ) → to ≡ from + 1 → Read from to (λ r. draining_at r from id)
 read_draining id from to next =

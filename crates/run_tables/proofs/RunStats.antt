@@ -27,8 +27,9 @@ use Rattle.laws.specs.Commands.{channel_steps_of}
 use Rattle.statistics.specs.Channels.{ChannelFits}
 use Rattle.statistics.specs.Cores.{core_stats}
 use Rattle.statistics.specs.Runs.{stats_of, stats_of_core, stats_of_channel}
-use Rattle.statistics.proofs.ChannelBounds.{channel_stats-fit}
-use Rattle.statistics.proofs.CoreBounds.{core_stats-fit, KeepsToTrace-run}
+use Rattle.statistics.proofs.ChannelCounts.{channel_stats-fit}
+use Rattle.statistics.proofs.CoreCounts.{core_stats-fit}
+use Rattle.statistics.proofs.KeepsToTrace.{KeepsToTrace-run}
 use Rattle.statistics.proofs.Replies.{RepliesFollowReads-run, length-steps_of_core}
 use Rattle.statistics.proofs.ReplyBounds.{answered_entries, replies-le-issued}
 use Rattle.run_tables.proofs.TableLaws.InRange.{range-below, trace-short}

@@ -1,7 +1,7 @@
 -- A table of statistics is read as it was written.
-use Rattle.std.proofs.Common.{◌≡◌, ◌+◌, ◌∙◌, ℕ, List, [], ◌∷◌, map, Option, Some, None, refl, ap, arith}
+use Rattle.std.proofs.Common.{◌≡◌, ◌+◌, ◌∙◌, ℕ, List, [], ◌∷◌, map, Option, Some, None, refl, ap, arith, false, sym, subst}
 use Rattle.std.specs.Prelude.{codes}
-use Rattle.std.specs.List.{AllByRecursion as Each}
+use Rattle.std.specs.List.{AllByRecursion as Each, list_any}
 use Rattle.csv.specs.Reading.{strip_bom}
 use Rattle.csv.specs.declared.parser.State.TheVariants as st
 use Rattle.sim_base.proofs.Each.{Each-append}
@@ -17,14 +17,34 @@ use Rattle.run_tables.proofs.TableLaws.RowsBack.{IsPlainRow, rows-read}
 use Rattle.run_tables.specs.Stats.{StatsFit, IsStatsTable}
 use Rattle.run_tables.proofs.Units.{from}
 use Rattle.run_tables.proofs.RequestsBack.{value-plain}
+use Rattle.csv.specs.Writing.{needs_byte, default_writer}
+use Rattle.std.proofs.lemmas.Bool.{or_parts}
+use Rattle.std.proofs.lemmas.List.{map-append}
+use Rattle.statistics.specs.Cores.{core_counters, core_numbers}
+use Rattle.statistics.specs.Channels.{channel_counters, channel_numbers}
+use Rattle.statistics.specs.Counters.{named}
+use Rattle.statistics.specs.declared.counters.CounterKind.{CounterKind}
 
 -- so is the line of a count
 line : (scope : List ℕ) (id : ℕ) (name : List ℕ) (value : Option ℕ) → IsPlain scope → IsPlain name → IsPlainRow (value_fields scope id (name, value))
 line scope id name value h k = record { several = omega arith; plain = (h, (decimal-plain id, (k, (value-plain value, tt)))) }
 
+-- counters whose names need no quotes
+names-plain : (counters : List (List ℕ × CounterKind)) → list_any (λ c. list_any (needs_byte default_writer) c.0) counters ≡ false → Each (λ (c : List ℕ × CounterKind). IsPlain c.0) counters
+names-plain [] h = tt
+names-plain (counter ∷ counters) h =
+    let parts = or_parts (list_any (needs_byte default_writer) counter.0) (list_any (λ c. list_any (needs_byte default_writer) c.0) counters) h in
+    (parts.0, names-plain counters parts.1)
+
+-- so are the lines of their numbers
+numbers-plain : (scope : List ℕ) (id : ℕ) (counters : List (List ℕ × CounterKind)) (numbers : List (Option ℕ)) → IsPlain scope → Each (λ (c : List ℕ × CounterKind). IsPlain c.0) counters
+    → Each IsPlainRow (map (value_fields scope id) (named counters numbers))
+numbers-plain scope id [] numbers h names = tt
+numbers-plain scope id (counter ∷ counters) [] h names = tt
+numbers-plain scope id (counter ∷ counters) (number ∷ numbers) h names = (line scope id counter.0 number h names.0, numbers-plain scope id counters numbers h names.1)
+
 core-plain : (id : ℕ) (core : CoreStats) → Each IsPlainRow (core_rows id core)
-core-plain id core =
-    (line (codes "core") id (codes "issued") (Some core.issued) refl refl, (line (codes "core") id (codes "retired") (Some core.retired) refl refl, (line (codes "core") id (codes "reads") (Some core.reads) refl refl, (line (codes "core") id (codes "writes") (Some core.writes) refl refl, (line (codes "core") id (codes "replies") (Some core.replies) refl refl, (line (codes "core") id (codes "read_latency") (Some core.read_latency) refl refl, (line (codes "core") id (codes "stop_end") (Some core.stop_end) refl refl, (line (codes "core") id (codes "stop_width") (Some core.stop_width) refl refl, (line (codes "core") id (codes "stop_window") (Some core.stop_window) refl refl, (line (codes "core") id (codes "stop_memory") (Some core.stop_memory) refl refl, (line (codes "core") id (codes "stop_credit") (Some core.stop_credit) refl refl, (line (codes "core") id (codes "finish") (core.finish) refl refl, tt))))))))))))
+core-plain id core = numbers-plain (codes "core") id core_counters (core_numbers core) refl (names-plain core_counters refl)
 
 draining : (id : ℕ) (count : Option ℕ) → Each IsPlainRow (map (value_fields (codes "channel") id) (draining_values count))
 draining id None = tt
@@ -32,7 +52,9 @@ draining id (Some n) = (line (codes "channel") id (codes "draining") (Some n) re
 
 channel-plain : (id : ℕ) (channel : ChannelStats) → Each IsPlainRow (channel_rows id channel)
 channel-plain id channel =
-    (line (codes "channel") id (codes "act") (Some channel.act) refl refl, (line (codes "channel") id (codes "rd") (Some channel.rd) refl refl, (line (codes "channel") id (codes "wr") (Some channel.wr) refl refl, (line (codes "channel") id (codes "pre") (Some channel.pre) refl refl, (line (codes "channel") id (codes "prea") (Some channel.prea) refl refl, (line (codes "channel") id (codes "ref") (Some channel.refs) refl refl, (line (codes "channel") id (codes "hits") (Some channel.hits) refl refl, (line (codes "channel") id (codes "queued") (Some channel.queued) refl refl, (line (codes "channel") id (codes "queued_max") (Some channel.queued_max) refl refl, (line (codes "channel") id (codes "idle") (Some channel.idle) refl refl, (line (codes "channel") id (codes "refreshing") (Some channel.refreshing) refl refl, draining id channel.draining)))))))))))
+    subst (Each IsPlainRow) (sym (map-append (value_fields (codes "channel") id) (named channel_counters (channel_numbers channel)) (draining_values channel.draining)))
+    (Each-append IsPlainRow (map (value_fields (codes "channel") id) (named channel_counters (channel_numbers channel))) (map (value_fields (codes "channel") id) (draining_values channel.draining))
+    (numbers-plain (codes "channel") id channel_counters (channel_numbers channel) refl (names-plain channel_counters refl)) (draining id channel.draining))
 
 -- so are those of all units
 units-plain : {A : Type 0} (k : ℕ) (f : ℕ → A → List (List (List ℕ))) (xs : List A) → ((id : ℕ) (x : A) → Each IsPlainRow (f id x)) → Each IsPlainRow (from k f xs)

@@ -1,5 +1,5 @@
 -- A table that is no table of statistics is refused for its first record at fault.
-use Rattle.std.proofs.Common.{◌≡◌, ◌+◌, ◌<◌, ◌≤◌, ◌^◌, ◌==◌, ◌∙◌, ◌⊎◌, ℕ, nat_lt, Bool, true, false, List, [], ◌∷◌, ◌++◌, length, drop, take, Some, None, Result, Ok, Err, refl, sym, ap, subst, arith, inl, inr, append-nil, append_assoc, length-append}
+use Rattle.std.proofs.Common.{◌≡◌, ◌+◌, ◌<◌, ◌≤◌, ◌^◌, ◌==◌, ◌∙◌, ◌⊎◌, ℕ, nat_lt, Bool, true, false, List, [], ◌∷◌, ◌++◌, length, drop, take, Some, Result, Ok, Err, refl, sym, ap, subst, arith, inl, inr, append-nil, append_assoc, length-append}
 use Rattle.std.specs.Prelude.{codes, IfOk, IfErr, MatchResult}
 use Rattle.std.proofs.lemmas.Bool.{eqb-true, ltb-true, or_cases}
 use Rattle.std.proofs.lemmas.List.{take_at, take-append-le, take-append-drop, length-drop, length-take, length-take-le}
@@ -12,7 +12,7 @@ use Rattle.sim_base.specs.declared.fault.Fault.TheVariants.{CheckRow, Memory}
 use Rattle.reports.specs.Rows.{numbered}
 use Rattle.reports.specs.Stats.{stats_header, stats_rows, value_fields, core_rows, channel_rows}
 use Rattle.rule_check.specs.Fields.{text_at}
-use Rattle.statistics.specs.Channels.{ChannelFits}
+use Rattle.statistics.specs.Channels.{ChannelFits, channel_none}
 use Rattle.statistics.specs.Values.{RunStats}
 use Rattle.statistics.specs.declared.channels.ChannelStats.{ChannelStats}
 use Rattle.statistics.specs.declared.cores.CoreStats.{CoreStats}
@@ -20,7 +20,7 @@ use Rattle.rule_check.specs.Verdict.{IsCheckFault}
 use Rattle.run_tables.specs.Lines.{has_text, is_header_row}
 use Rattle.run_tables.specs.Records.{IsFirstWrong, IsRefusedFor}
 use Rattle.run_tables.specs.Stats.{CoreInRange, IsStatsTable, HoldsStats}
-use Rattle.run_tables.specs.Units.{AreRead, core_at, core_size, channel_at, channel_size, count_at, CoresAre, CoresStop, ChannelsAre, ChannelsStop, IsRead}
+use Rattle.run_tables.specs.Units.{AreRead, core_at, core_size, channel_at, channel_size, count_at, CoresAre, CoresStop, ChannelsAre, ChannelsStop, IsRead, core_records, channel_records}
 use Rattle.run_tables.proofs.Exact.{header_is}
 use Rattle.run_tables.proofs.RowReads.{agree_less, agree_at}
 use Rattle.run_tables.proofs.Refused.{only_memory, table_fault}
@@ -28,6 +28,9 @@ use Rattle.run_tables.proofs.RowValues.{read_count}
 use Rattle.run_tables.proofs.StatsTables.{some_there, not_below, core_lines, channel_lines, front, table_read, read_table}
 use Rattle.run_tables.proofs.UnitRows.{core_reads, core_ok, row_of, count_small, channel_reads, channel_ok, channel_long, channel_least, channel_rows_size}
 use Rattle.run_tables.proofs.Units.{from, begins, end_after}
+use Rattle.statistics.specs.Cores.{core_none}
+use Rattle.statistics.proofs.CoreCounts.{core_none-fits}
+use Rattle.statistics.proofs.ChannelCounts.{channel_none-fits}
 
 not-both : (b : Bool) → b ≡ true → b ≡ false → ⊥
 not-both b h k = let both : true ≡ false = sym h ∙ k in cc both
@@ -37,47 +40,8 @@ refused-at records e row h wrong = subst (IsRefusedFor HoldsStats records) (sym 
 
 -- A TABLE WITH THE SAME FIRST ROWS
 
-none-core : CoreStats
-none-core = record { issued = 0; retired = 0; reads = 0; writes = 0; replies = 0; read_latency = 0; stop_end = 0; stop_width = 0; stop_window = 0; stop_memory = 0; stop_credit = 0; finish = None }
-
-none-channel : ChannelStats
-none-channel = record { act = 0; rd = 0; wr = 0; pre = 0; prea = 0; refs = 0; hits = 0; queued = 0; queued_max = 0; idle = 0; refreshing = 0; draining = None }
-
-core-none : CoreInRange none-core
-unfolding none-core
-core-none = record {
-  counts = record {
-    issued = omega arith;
-    retired = omega arith;
-    reads = omega arith;
-    writes = omega arith;
-    replies = omega arith;
-    read_latency = omega arith;
-    stop_end = omega arith;
-    stop_width = omega arith;
-    stop_window = omega arith;
-    stop_memory = omega arith;
-    stop_credit = omega arith;
-  };
-  finish = tt;
-}
-
-channel-none : ChannelFits none-channel
-unfolding none-channel
-channel-none = record {
-  act = omega arith;
-  rd = omega arith;
-  wr = omega arith;
-  pre = omega arith;
-  prea = omega arith;
-  refs = omega arith;
-  hits = omega arith;
-  queued = omega arith;
-  queued_max = omega arith;
-  idle = omega arith;
-  refreshing = omega arith;
-  draining = tt;
-}
+core-none : CoreInRange core_none
+core-none = record { counts = core_none-fits; finish = tt }
 
 -- the table of some statistics
 table-of : (cycles : ℕ) (cores : List CoreStats) (channels : List ChannelStats) → cycles < 2 ^ 64 → Each CoreInRange cores → Each ChannelFits channels → 0 < length cores → 0 < length channels
@@ -128,13 +92,13 @@ agrees-with records table before unit rest more row place parts within after few
 same-header : (other records : List (List (List ℕ))) (place : ℕ) → is_header_row (slice_get other 0) ≡ true → take (place + 1) other ≡ take (place + 1) records → is_header_row (slice_get records 0) ≡ true
 same-header other records place header agrees = ap is_header_row (sym (agree_at (place + 1) 0 other records (omega arith) agrees)) ∙ header
 
-least-table : HoldsStats (stats_header ∷ value_fields (codes "run") 0 (codes "cycles", Some 0) ∷ (from 0 core_rows (none-core ∷ []) ++ from 0 channel_rows (none-channel ∷ [])))
-least-table = table-of 0 (none-core ∷ []) (none-channel ∷ []) (omega arith) (core-none, tt) (channel-none, tt) (omega arith) (omega arith)
+least-table : HoldsStats (stats_header ∷ value_fields (codes "run") 0 (codes "cycles", Some 0) ∷ (from 0 core_rows (core_none ∷ []) ++ from 0 channel_rows (channel_none ∷ [])))
+least-table = table-of 0 (core_none ∷ []) (channel_none ∷ []) (omega arith) (core-none, tt) (channel_none-fits, tt) (omega arith) (omega arith)
 
 pub header_refused : (records : List (List (List ℕ))) → is_header_row (slice_get records 0) ≡ false → IsRefusedFor HoldsStats records (CheckRow 0)
 header_refused records h =
     record {
-      table = stats_header ∷ value_fields (codes "run") 0 (codes "cycles", Some 0) ∷ (from 0 core_rows (none-core ∷ []) ++ from 0 channel_rows (none-channel ∷ []));
+      table = stats_header ∷ value_fields (codes "run") 0 (codes "cycles", Some 0) ∷ (from 0 core_rows (core_none ∷ []) ++ from 0 channel_rows (channel_none ∷ []));
       is_table = least-table;
       agrees = refl;
       differs = λ other t agrees. not-both (is_header_row (slice_get records 0)) (same-header other records 0 (table_read other t.0 t.1).header agrees) h;
@@ -159,9 +123,9 @@ cycles_refused records e header fails =
     let before = w.before in
     let place : w.place ≡ 1 = omega (arith, after, before) in
     refused-at records e 1 (w.fault ∙ ap CheckRow place) (record {
-      table = stats_header ∷ value_fields (codes "run") 0 (codes "cycles", Some 0) ∷ (from 0 core_rows (none-core ∷ []) ++ from 0 channel_rows (none-channel ∷ []));
+      table = stats_header ∷ value_fields (codes "run") 0 (codes "cycles", Some 0) ∷ (from 0 core_rows (core_none ∷ []) ++ from 0 channel_rows (channel_none ∷ []));
       is_table = least-table;
-      agrees = first-agrees records (value_fields (codes "run") 0 (codes "cycles", Some 0) ∷ (from 0 core_rows (none-core ∷ []) ++ from 0 channel_rows (none-channel ∷ []))) header;
+      agrees = first-agrees records (value_fields (codes "run") 0 (codes "cycles", Some 0) ∷ (from 0 core_rows (core_none ∷ []) ++ from 0 channel_rows (channel_none ∷ []))) header;
       differs = λ other t agrees.
           let o = table_read other t.0 t.1 in
           let back : Ok t.0.cycles ≡ Err e = sym (read.same other records t.0.cycles o.cycles (sym agrees)) ∙ fails in
@@ -180,8 +144,8 @@ core-first table row id x reads =
     ap (has_text 0 (codes "core")) (row_of row table ∙ ap (λ (t : List (List (List ℕ))). slice_get t 0) (core_ok table row id x reads).0)
 
 -- cores that are read of a table are read of each that agrees with it
-core-same : (records other : List (List (List ℕ))) (row id end : ℕ) (x : CoreStats) → core_at records row id ≡ Ok x → row + 12 ≤ end → take end other ≡ take end records → core_at other row id ≡ Ok x
-core-same records other row id end x reads few agrees = (core_reads row id).same records other x reads (agree_less (row + 12) end other records few agrees)
+core-same : (records other : List (List (List ℕ))) (row id end : ℕ) (x : CoreStats) → core_at records row id ≡ Ok x → row + core_records ≤ end → take end other ≡ take end records → core_at other row id ≡ Ok x
+core-same records other row id end x reads few agrees = (core_reads row id).same records other x reads (agree_less (row + core_records) end other records few agrees)
 
 -- a table that agrees with one up to the end of its cores goes on with a core, or it ends them there too
 abbrev GoesOn : List (List (List ℕ)) → List CoreStats → ℕ → List CoreStats → ℕ → Type 0
@@ -214,13 +178,13 @@ cores_refused records cycles e header counted s =
     let unit = core_ok w.table row (length xs) w.item w.reads in
     let parts = front records cycles xs row header counted s.some.read in
     let pushed = from-push core_rows xs w.item 0 (length xs) (omega arith) in
-    let rest = from 0 channel_rows (none-channel ∷ []) in
+    let rest = from 0 channel_rows (channel_none ∷ []) in
     refused-at records e w.place w.fault (record {
       table = stats_header ∷ value_fields (codes "run") 0 (codes "cycles", Some cycles) ∷ (from 0 core_rows (xs ++ w.item ∷ []) ++ rest);
-      is_table = table-of cycles (xs ++ w.item ∷ []) (none-channel ∷ []) (count_small (codes "run") 0 (codes "cycles") cycles 1 records counted)
-          (Each-append CoreInRange xs (w.item ∷ []) (core_lines records xs 2 0 row s.some.read).1 (unit.1, tt)) (channel-none, tt) (some-push xs w.item) (omega arith);
+      is_table = table-of cycles (xs ++ w.item ∷ []) (channel_none ∷ []) (count_small (codes "run") 0 (codes "cycles") cycles 1 records counted)
+          (Each-append CoreInRange xs (w.item ∷ []) (core_lines records xs 2 0 row s.some.read).1 (unit.1, tt)) (channel_none-fits, tt) (some-push xs w.item) (omega arith);
       agrees = ap (λ (t : List (List (List ℕ))). take w.place (stats_header ∷ value_fields (codes "run") 0 (codes "cycles", Some cycles) ∷ (t ++ rest))) pushed
-          ∙ agrees-with records w.table (stats_header ∷ value_fields (codes "run") 0 (codes "cycles", Some cycles) ∷ from 0 core_rows xs) (core_rows (length xs) w.item) (drop (row + 12) w.table) rest row
+          ∙ agrees-with records w.table (stats_header ∷ value_fields (codes "run") 0 (codes "cycles", Some cycles) ∷ from 0 core_rows xs) (core_rows (length xs) w.item) (drop (row + core_records) w.table) rest row
           w.place parts s.some.within w.after (omega (arith, before)) w.agrees unit.0;
       differs = λ other t agrees.
           let o = table_read other t.0 t.1 in
@@ -246,7 +210,7 @@ channel-same : (records other : List (List (List ℕ))) (row id end : ℕ) (x : 
     → channel_at other row id ≡ Ok x
 channel-same records other row id end x reads few agrees =
     let least = channel_least x in
-    (channel_reads row id).same records other x reads (agree_less (row + 12) (end + 1) other records (omega (arith, few, least)) agrees)
+    (channel_reads row id).same records other x reads (agree_less (row + channel_records + 1) (end + 1) other records (omega (arith, few, least)) agrees)
 
 abbrev ChannelGoesOn : List (List (List ℕ)) → List ChannelStats → ℕ → List ChannelStats → ℕ → Type 0
 ChannelGoesOn other channels row all last = ((x : ChannelStats) × (channel_at other row (length channels) ≡ Ok x)) ⊎ ((all ≡ channels) × (last ≡ row))

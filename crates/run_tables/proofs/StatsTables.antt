@@ -15,7 +15,7 @@ use Rattle.statistics.specs.declared.channels.ChannelStats.{ChannelStats}
 use Rattle.statistics.specs.declared.cores.CoreStats.{CoreStats}
 use Rattle.run_tables.specs.Lines.{has_text, is_header_row}
 use Rattle.run_tables.specs.Stats.{CoreInRange, IsStatsTable}
-use Rattle.run_tables.specs.Units.{AreRead, core_at, core_size, channel_at, channel_size, count_at, SomeCores, SomeChannels, IsRead}
+use Rattle.run_tables.specs.Units.{AreRead, core_at, core_size, channel_at, channel_size, count_at, SomeCores, SomeChannels, IsRead, core_records}
 use Rattle.run_tables.proofs.Exact.{header_is, header_back}
 use Rattle.run_tables.proofs.UnitRows.{NoDraining, count_row, count_small, count_from, row_of, core_ok, core_from, core_long, channel_ok, channel_from, channel_long}
 use Rattle.run_tables.proofs.Units.{from, rows_of_units, units_of_rows, one_more}
@@ -35,13 +35,13 @@ none-follow count b some h =
 
 -- CORES
 
-pub cores_end : (table : List (List (List ℕ))) (cores : List CoreStats) (row id end : ℕ) → AreRead (core_at table) core_size row id cores end → end ≡ row + 12 * length cores
+pub cores_end : (table : List (List (List ℕ))) (cores : List CoreStats) (row id end : ℕ) → AreRead (core_at table) core_size row id cores end → end ≡ row + core_records * length cores
 cores_end table [] row id end h = omega (arith, h)
-cores_end table (x ∷ cores) row id end h = let rest = cores_end table cores (row + 12) (id + 1) end h.1 in omega (arith, rest)
+cores_end table (x ∷ cores) row id end h = let rest = cores_end table cores (row + core_records) (id + 1) end h.1 in omega (arith, rest)
 
 pub cores_within : (table : List (List (List ℕ))) (cores : List CoreStats) (row id end : ℕ) → row ≤ length table → AreRead (core_at table) core_size row id cores end → end ≤ length table
 cores_within table [] row id end h k = omega (arith, h, k)
-cores_within table (x ∷ cores) row id end h k = cores_within table cores (row + 12) (id + 1) end (core_long table row id x k.0) k.1
+cores_within table (x ∷ cores) row id end h k = cores_within table cores (row + core_records) (id + 1) end (core_long table row id x k.0) k.1
 
 -- the rows of cores
 pub core_lines : (table : List (List (List ℕ))) (cores : List CoreStats) (row id end : ℕ) → AreRead (core_at table) core_size row id cores end
@@ -149,12 +149,12 @@ read_table table stats r =
 
 -- WHAT THE LOOPS KEEP
 
-pub core_more : (table : List (List (List ℕ))) (cores pushed : List CoreStats) (core : CoreStats) (row id next : ℕ) → SomeCores table cores row → id ≡ length cores → core_at table row id ≡ Ok core → next ≡ row + 12
+pub core_more : (table : List (List (List ℕ))) (cores pushed : List CoreStats) (core : CoreStats) (row id next : ℕ) → SomeCores table cores row → id ≡ length cores → core_at table row id ≡ Ok core → next ≡ row + core_records
     → pushed ≡ cores ++ core ∷ [] → SomeCores table pushed next
 core_more table cores pushed core row id next s number reads step push =
     let size = length-append cores (core ∷ []) in
     let end = s.end in
-    subst (λ k. SomeCores table pushed k) (sym step) (subst (λ xs. SomeCores table xs (row + 12)) (sym push) (record {
+    subst (λ k. SomeCores table pushed k) (sym step) (subst (λ xs. SomeCores table xs (row + core_records)) (sym push) (record {
       read = one_more (core_at table) core_size cores core 2 0 row id s.read (omega (arith, number)) reads;
       end = omega (arith, size, end);
       within = core_long table row id core reads;

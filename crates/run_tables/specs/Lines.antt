@@ -1,6 +1,7 @@
 -- What the reader of statistics makes of a record.
 --     line_value scope id name fields      the value of the line of a count, if a record is one
 --     count_in, sum_in, cycle_in row scope id name record      the value of a count's line, or the fault of its row
+--     number_in kind row scope id name record      the number of a counter of this kind
 --     has_text k text record      a field of a record is this text
 --     is_stats_header fields      a record is the header
 use Rattle.std.specs.Prelude.{ℕ, ◌^◌, ◌==◌, nat_lt, Bool, false, ◌&&◌, List, length, codes, decimal, option_map, option_and_then, Option, Some, None, Result, Ok, Err, if◌then◌else◌}
@@ -9,6 +10,8 @@ use Rattle.sim_base.specs.declared.fault.Fault.{Fault}
 use Rattle.sim_base.specs.declared.fault.Fault.TheVariants.{CheckRow}
 use Rattle.rule_check.specs.Fields.{is_empty, text_at}
 use Rattle.run_tables.specs.Numbers.{number_written}
+use Rattle.statistics.specs.declared.counters.CounterKind.{CounterKind}
+use Rattle.statistics.specs.declared.counters.CounterKind.TheVariants.{Count, Sum, Cycle}
 
 -- what is made of a value that may have been refused: the first fault stays
 infixl 10 ◌>>=◌
@@ -58,6 +61,12 @@ count_in row scope id name line = sum_in row scope id name line >>= narrow row
 -- a cycle that may be missing
 unfoldable pub cycle_in : ℕ → List ℕ → ℕ → List ℕ → Option (List (List ℕ)) → Result (Option ℕ) Fault
 cycle_in row scope id name line = value_in row scope id name line >>= narrow_optional row
+
+-- the number of a counter of this kind
+abbrev pub number_in : CounterKind → ℕ → List ℕ → ℕ → List ℕ → Option (List (List ℕ)) → Result (Option ℕ) Fault
+number_in Count row scope id name line = count_in row scope id name line >>= (λ count. Ok (Some count))
+number_in Sum row scope id name line = sum_in row scope id name line >>= (λ sum. Ok (Some sum))
+number_in Cycle row scope id name line = cycle_in row scope id name line
 
 -- a field of a record is this text
 abbrev pub has_text : ℕ → List ℕ → Option (List (List ℕ)) → Bool

@@ -1,8 +1,9 @@
 //! The table of statistics.
 
-ghost use Rattle.std.specs.Prelude.{◌≡◌, ◌⊎◌, ◌≤◌, ◌<◌, ◌^◌, ◌+◌, ◌*◌, ◌∷◌, codes, decimal, length, slice_get, MatchResult, IfOk, IfErr};
+ghost use Rattle.std.specs.Prelude.{◌≡◌, ◌⊎◌, ◌≤◌, ◌<◌, ◌^◌, ◌+◌, ◌*◌, ◌∷◌, decimal, length, map, slice_get, Ok, Err, MatchResult, IfOk, IfErr};
 ghost use Rattle.std.specs.Str.{bytes_eq};
 ghost use Rattle.csv.specs.Records.{fields_of};
+ghost use Rattle.statistics.specs.Counters.{counter_of};
 ghost use Rattle.statistics.specs.Values.{RunStats};
 ghost use Rattle.reports.specs.Stats.{stats_header, stats_rows};
 ghost use Rattle.rule_check.specs.Fields.{text_at};
@@ -10,7 +11,7 @@ ghost use Rattle.rule_check.specs.Verdict.{records_of, IsCheckFault};
 ghost use Rattle.run_tables.specs.Lines.{is_line, optional_written, line_value, narrow, value_in, sum_in, count_in, cycle_in, has_text, is_stats_header, is_header_row};
 ghost use Rattle.run_tables.specs.Records.{IsRefusedFor};
 ghost use Rattle.run_tables.specs.Stats.{IsStatsTable, HoldsStats};
-ghost use Rattle.run_tables.specs.Units.{entries_at, stops_at, core_at, draining_at, commands_at, queue_at, channel_at, channel_size, has_core, has_channel, CoresAre, CoresStop, ChannelsAre, ChannelsStop, IsRead};
+ghost use Rattle.run_tables.specs.Units.{number_at, numbers_at, core_records, core_at, draining_at, channel_records, channel_at, channel_size, has_core, has_channel, CoresAre, CoresStop, ChannelsAre, ChannelsStop, IsRead};
 
 use crate::fields::is_at;
 use crate::numbers::number_in;
@@ -19,60 +20,11 @@ use csv::ByteRecord;
 use rule_check::fields::text_at;
 use sim_base::fault::Fault;
 use sim_base::message::Cycle;
-use statistics::channels::ChannelStats;
-use statistics::cores::CoreStats;
+use statistics::channels::{self, ChannelStats};
+use statistics::cores::{self, CoreStats};
+use statistics::counters::{Counter, CounterKind};
 use statistics::stats::Stats;
 use std::alloc::Global;
-
-/// The records of a core.
-const CORE_RECORDS: usize = 12;
-
-/// The records that each channel has; one more tells how long it drained.
-const CHANNEL_RECORDS: usize = 11;
-
-/// What is counted of the entries of a core.
-#[derive(Clone, Copy)]
-struct EntryCounts {
-    issued: u64,
-    retired: u64,
-    reads: u64,
-    writes: u64,
-    replies: u64,
-    read_latency: u128,
-}
-
-/// In how many cycles a core issued no more, by the reason, and when it finished.
-#[derive(Clone, Copy)]
-struct StopCounts {
-    stop_end: u64,
-    stop_width: u64,
-    stop_window: u64,
-    stop_memory: u64,
-    stop_credit: u64,
-    finish: Option<Cycle>,
-}
-
-/// What is counted of the commands of a channel.
-#[derive(Clone, Copy)]
-struct CommandCounts {
-    act: u64,
-    rd: u64,
-    wr: u64,
-    pre: u64,
-    prea: u64,
-    refs: u64,
-}
-
-/// What is counted of the requests of a channel, of its queue and of its cycles.
-#[derive(Clone, Copy)]
-struct QueueCounts {
-    hits: u64,
-    queued: u128,
-    queued_max: u64,
-    idle: u64,
-    refreshing: u64,
-    draining: Option<u64>,
-}
 
 #[tactic(auto, unfolding(crate::specs::Lines::is_stats_header))]
 fn is_header(fields: &ByteRecord) -> bool
@@ -201,77 +153,55 @@ fn cycle_at(table: &RecordList, row: usize, unit: Unit, name: &[u8]) -> Result<O
     }
 }
 
-// The counts of a core's entries.
-#[tactic(auto, unfolding(crate::specs::Units::entries_at))]
-fn entries_at(table: &RecordList, row: usize, id: u64) -> Result<EntryCounts, Fault>
-    requires { row + 6 < 2 ^ 64 }
-    ensures { result ≡ entries_at table.now row id }
+// The number of a counter.
+fn number_at(
+    table: &RecordList,
+    row: usize,
+    unit: Unit,
+    counter: Counter,
+) -> Result<Option<u128>, Fault>
+    ensures { result ≡ number_at table.now row unit.scope.now unit.id (counter_of counter) }
 {
-    let core = Unit { scope: b"core", id };
-    let issued = count_at(table, row, core, b"issued")?;
-    let retired = count_at(table, row + 1, core, b"retired")?;
-    let reads = count_at(table, row + 2, core, b"reads")?;
-    let writes = count_at(table, row + 3, core, b"writes")?;
-    let replies = count_at(table, row + 4, core, b"replies")?;
-    let read_latency = sum_at(table, row + 5, core, b"read_latency")?;
-    Ok(EntryCounts {
-        issued,
-        retired,
-        reads,
-        writes,
-        replies,
-        read_latency,
-    })
+    match counter.kind {
+        CounterKind::Count => Ok(Some(u128::from(count_at(table, row, unit, counter.name)?))),
+        CounterKind::Sum => Ok(Some(sum_at(table, row, unit, counter.name)?)),
+        CounterKind::Cycle => Ok(cycle_at(table, row, unit, counter.name)?.map(u128::from)),
+    }
 }
 
-// The counts of why it stopped, and when it finished.
-#[tactic(auto, unfolding(crate::specs::Units::stops_at))]
-fn stops_at(table: &RecordList, row: usize, id: u64) -> Result<StopCounts, Fault>
-    requires { row + 6 < 2 ^ 64 }
-    ensures { result ≡ stops_at table.now row id }
+// The numbers of a unit's counters, from a row on.
+fn read_numbers(
+    table: &RecordList,
+    row: usize,
+    unit: Unit,
+    counters: &[Counter],
+    numbers: &mut [Option<u128>],
+) -> Result<(), Fault>
+    requires few { row + length counters.now < 2 ^ 64 }
+    requires each { length numbers.old ≡ length counters.now }
+    ensures read { IfOk result (λ _. numbers_at table.now row unit.scope.now unit.id
+        (map counter_of counters.now) ≡ Ok numbers.new) }
+    ensures refused { IfErr result (λ e. numbers_at table.now row unit.scope.now unit.id
+        (map counter_of counters.now) ≡ Err e) }
 {
-    let core = Unit { scope: b"core", id };
-    let stop_end = count_at(table, row, core, b"stop_end")?;
-    let stop_width = count_at(table, row + 1, core, b"stop_width")?;
-    let stop_window = count_at(table, row + 2, core, b"stop_window")?;
-    let stop_memory = count_at(table, row + 3, core, b"stop_memory")?;
-    let stop_credit = count_at(table, row + 4, core, b"stop_credit")?;
-    let finish = cycle_at(table, row + 5, core, b"finish")?;
-    Ok(StopCounts {
-        stop_end,
-        stop_width,
-        stop_window,
-        stop_memory,
-        stop_credit,
-        finish,
-    })
+    for (place, counter) in counters.iter().enumerate() {
+        numbers[place] = number_at(table, row + place, unit, *counter)?;
+    }
+    Ok(())
 }
 
 // The counts of a core, from a row on.
-#[tactic(auto, unfolding(crate::specs::Units::core_at))]
 fn core_at(table: &RecordList, row: usize, id: u64) -> Result<CoreStats, Fault>
     requires { row ≤ length table.now }
     ensures value { result ≡ core_at table.now row id }
-    ensures few { row + 12 < 2 ^ 64 }
+    ensures few { row + core_records < 2 ^ 64 }
 {
     // tells the proof that the row can be counted
     let _few = table.len();
-    let entries = entries_at(table, row, id)?;
-    let stops = stops_at(table, row + 6, id)?;
-    Ok(CoreStats {
-        issued: entries.issued,
-        retired: entries.retired,
-        reads: entries.reads,
-        writes: entries.writes,
-        replies: entries.replies,
-        read_latency: entries.read_latency,
-        stop_end: stops.stop_end,
-        stop_width: stops.stop_width,
-        stop_window: stops.stop_window,
-        stop_memory: stops.stop_memory,
-        stop_credit: stops.stop_credit,
-        finish: stops.finish,
-    })
+    let core = Unit { scope: b"core", id };
+    let mut numbers = [None; cores::COUNTERS];
+    read_numbers(table, row, core, &cores::counters(), &mut numbers)?;
+    Ok(CoreStats::of_numbers(&numbers))
 }
 
 // Whether a field of the record of a row is this text.
@@ -295,7 +225,7 @@ fn has_core(count: usize, table: &RecordList, row: usize) -> bool
 fn read_cores(alloc: Global, table: &RecordList) -> Result<Vec<CoreStats>, Fault>
     requires { 2 ≤ length table.now }
     ensures read { IfOk result (λ cores.
-        CoresAre table.now cores.items (2 + 12 * length cores.items)) }
+        CoresAre table.now cores.items (2 + core_records * length cores.items)) }
     ensures refused { IfErr result (λ e. (e ≡ Fault.Memory) ⊎ CoresStop table.now e) }
 {
     let mut cores = Vec::new(alloc);
@@ -303,7 +233,7 @@ fn read_cores(alloc: Global, table: &RecordList) -> Result<Vec<CoreStats>, Fault
     while has_core(cores.len(), table, row) {
         let core = core_at(table, row, cores.len() as u64)?;
         cores.push(core).map_err(|_| Fault::Memory)?;
-        row += CORE_RECORDS;
+        row += cores::COUNTERS;
     }
     Ok(cores)
 }
@@ -324,83 +254,22 @@ fn draining_at(table: &RecordList, row: usize, id: u64) -> Result<Option<u64>, F
     }
 }
 
-// The counts of a channel's commands.
-#[tactic(auto, unfolding(crate::specs::Units::commands_at))]
-fn commands_at(table: &RecordList, row: usize, id: u64) -> Result<CommandCounts, Fault>
-    requires { row + 6 < 2 ^ 64 }
-    ensures { result ≡ commands_at table.now row id }
-{
-    let channel = Unit {
-        scope: b"channel",
-        id,
-    };
-    let act = count_at(table, row, channel, b"act")?;
-    let rd = count_at(table, row + 1, channel, b"rd")?;
-    let wr = count_at(table, row + 2, channel, b"wr")?;
-    let pre = count_at(table, row + 3, channel, b"pre")?;
-    let prea = count_at(table, row + 4, channel, b"prea")?;
-    let refs = count_at(table, row + 5, channel, b"ref")?;
-    Ok(CommandCounts {
-        act,
-        rd,
-        wr,
-        pre,
-        prea,
-        refs,
-    })
-}
-
-// The counts of its requests and cycles.
-#[tactic(auto, unfolding(crate::specs::Units::queue_at))]
-fn queue_at(table: &RecordList, row: usize, id: u64) -> Result<QueueCounts, Fault>
-    requires { row + 6 < 2 ^ 64 }
-    ensures { result ≡ queue_at table.now row id }
-{
-    let channel = Unit {
-        scope: b"channel",
-        id,
-    };
-    let hits = count_at(table, row, channel, b"hits")?;
-    let queued = sum_at(table, row + 1, channel, b"queued")?;
-    let queued_max = count_at(table, row + 2, channel, b"queued_max")?;
-    let idle = count_at(table, row + 3, channel, b"idle")?;
-    let refreshing = count_at(table, row + 4, channel, b"refreshing")?;
-    let draining = draining_at(table, row + 5, id)?;
-    Ok(QueueCounts {
-        hits,
-        queued,
-        queued_max,
-        idle,
-        refreshing,
-        draining,
-    })
-}
-
 // The counts of a channel, from a row on.
-#[tactic(auto, unfolding(crate::specs::Units::channel_at))]
 fn channel_at(table: &RecordList, row: usize, id: u64) -> Result<ChannelStats, Fault>
     requires { row ≤ length table.now }
     ensures value { result ≡ channel_at table.now row id }
-    ensures few { row + 12 < 2 ^ 64 }
+    ensures few { row + channel_records + 1 < 2 ^ 64 }
 {
     // tells the proof that the row can be counted
     let _few = table.len();
-    let commands = commands_at(table, row, id)?;
-    let queue = queue_at(table, row + 6, id)?;
-    Ok(ChannelStats {
-        act: commands.act,
-        rd: commands.rd,
-        wr: commands.wr,
-        pre: commands.pre,
-        prea: commands.prea,
-        refs: commands.refs,
-        hits: queue.hits,
-        queued: queue.queued,
-        queued_max: queue.queued_max,
-        idle: queue.idle,
-        refreshing: queue.refreshing,
-        draining: queue.draining,
-    })
+    let channel = Unit {
+        scope: b"channel",
+        id,
+    };
+    let mut numbers = [None; channels::COUNTERS];
+    read_numbers(table, row, channel, &channels::counters(), &mut numbers)?;
+    let draining = draining_at(table, row + channels::COUNTERS, id)?;
+    Ok(ChannelStats::of_numbers(&numbers, draining))
 }
 
 // How many records the counts of a channel have.
@@ -408,8 +277,8 @@ fn channel_size(channel: &ChannelStats) -> usize
     ensures { result ≡ channel_size channel.now }
 {
     match channel.draining {
-        Some(_) => CHANNEL_RECORDS + 1,
-        None => CHANNEL_RECORDS,
+        Some(_) => channels::COUNTERS + 1,
+        None => channels::COUNTERS,
     }
 }
 
@@ -455,7 +324,7 @@ fn read_table(alloc: Global, table: &RecordList) -> Result<Stats, Fault>
     };
     let cycles = count_at(table, 1, run, b"cycles")?;
     let cores = read_cores(alloc, table)?;
-    let channels = read_channels(alloc, table, 2 + CORE_RECORDS * cores.len())?;
+    let channels = read_channels(alloc, table, 2 + cores::COUNTERS * cores.len())?;
     Ok(Stats {
         cycles,
         cores,

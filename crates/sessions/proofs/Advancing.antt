@@ -13,7 +13,7 @@ use Rattle.sim_base.specs.Scheduling.{queued_requests}
 use Rattle.sim_base.specs.declared.command.IssuedCommand.{IssuedCommand}
 use Rattle.sim_base.specs.declared.message.Message.{Message}
 use Rattle.sim_base.specs.declared.message.Request.{Request}
-use Rattle.statistics.proofs.ChannelMail.{AgreeUpTo-later}
+use Rattle.statistics.proofs.ChannelCounts.{AgreeUpTo-later}
 use Rattle.channel_step.specs.Channels.{StandsFor}
 use Rattle.channel_step.specs.Fit.{queue_room, IsUnnamed, ComeByAge, IsFit}
 use Rattle.channel_step.specs.Past.{requests_of, CarriesRequest, IsOther, Differ}

@@ -13,7 +13,7 @@ use Rattle.sim_base.specs.Scheduling.{choice}
 use Rattle.sim_base.specs.declared.command.Command.{Command}
 use Rattle.sim_base.specs.declared.message.Message.{Message}
 use Rattle.sim_base.proofs.Lists.{none-is}
-use Rattle.statistics.proofs.ChannelMail.{AgreeUpTo-later}
+use Rattle.statistics.proofs.ChannelCounts.{AgreeUpTo-later}
 use Rattle.channel_step.specs.Fit.{ComeByAge}
 use Rattle.channel_step.proofs.Requests.{carries-stamped}
 use Rattle.channel_step.specs.FrFcfs.Cycles.{IsFirstCycle, IsFirst}

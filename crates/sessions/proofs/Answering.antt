@@ -13,7 +13,7 @@ use Rattle.sim_base.specs.declared.command.IssuedCommand.{IssuedCommand}
 use Rattle.sim_base.specs.declared.message.Message.{Message}
 use Rattle.sim_base.proofs.Each.{Each-last}
 use Rattle.statistics.specs.Channels.{channel_stats}
-use Rattle.statistics.proofs.ChannelMail.{channel_stats-later}
+use Rattle.statistics.proofs.ChannelCounts.{channel_stats-later}
 use Rattle.channel_step.specs.Channels.{StandsFor}
 use Rattle.channel_step.specs.Fit.{ComeByAge}
 use Rattle.channel_step.specs.Past.{CarriesRequest}

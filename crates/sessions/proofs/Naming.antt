@@ -14,7 +14,7 @@ use Rattle.sim_base.specs.declared.command.IssuedCommand.{IssuedCommand}
 use Rattle.sim_base.specs.declared.command.Source.{Source}
 use Rattle.sim_base.specs.declared.message.Message.{Message}
 use Rattle.sim_base.specs.declared.message.Request.{Request}
-use Rattle.statistics.proofs.ChannelSteps.{issued_now, issued_commands-push}
+use Rattle.statistics.proofs.ChannelCounts.{issued_now, issued_commands-push}
 use Rattle.channel_step.specs.Fit.{is_of, is_named_by, IsUnnamed}
 use Rattle.channel_step.specs.Past.{requests_of, IsOther}
 use Rattle.channel_step.proofs.Chosen.{chosen-named}

@@ -20,7 +20,7 @@ use Rattle.sim_base.specs.declared.command.Command.{Command}
 use Rattle.sim_base.specs.declared.command.IssuedCommand.{IssuedCommand}
 use Rattle.sim_base.specs.declared.message.Message.{Message}
 use Rattle.sim_base.specs.declared.message.Request.{Request}
-use Rattle.statistics.proofs.ChannelSteps.{issued_now}
+use Rattle.statistics.proofs.ChannelCounts.{issued_now}
 use Rattle.channel_step.specs.Past.{requests_of}
 use Rattle.channel_step.proofs.Requests.{requests-append, ArrivedBefore}
 use Rattle.channel_step.proofs.Spans.{length-channel_run, issued-after}

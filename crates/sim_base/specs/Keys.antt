@@ -1,14 +1,15 @@
 -- The keys of a configuration: their names, what may stand at each, and so how large each of its numbers may be.
 --     key_name key      the key's name in a document
 --     key_accepts key      what may stand at it
---     key_default key      the number that stands for it where it is absent
---     AcceptedAt key n      a number may stand at it
---     MachineInRange cores channels      how many units there may be
---     MemoryInRange ranks groups columns rows      how large the memory of a channel may be
---     CoreInRange window width read_credits write_credits      what a core may hold and do at once
---     LatenciesInRange request reply credit, OverridesInRange overrides      how long a message may travel
---     TimingInRange t      how long the distances between commands may be
---     DrainInRange write_high write_low      where a drain may begin and end
+--     key_default key      the number that stands for it where it is absent, if there is one
+--     Within low high n      a number lies in a range
+--     IsAccepted accepts n, AcceptedAt key n      a number is accepted, may stand at a key
+--     MachineInRange cores channels      these numbers of units may stand at their keys
+--     MemoryInRange ranks groups columns rows      so may these sizes of a channel's memory
+--     CoreInRange window width read_credits write_credits      so may what a core holds and does at once
+--     LatenciesInRange request reply credit, OverridesInRange overrides      so may these latencies of messages
+--     TimingInRange t      so may these distances between commands
+--     DrainInRange write_high write_low      so may these numbers of writes, at which a drain begins and ends
 --     document_keys      the keys that a document may have, beside those of an item of `link`
 use Rattle.std.specs.Prelude.{ℕ, ◌≤◌, List, [], ◌∷◌, All, IsTrue, false, Option, Some, None, codes}
 use Rattle.std.specs.Int.{is_power_of_two}
@@ -62,7 +63,7 @@ key_name key.Id = codes "id"
 key_name key.Latency = codes "latency"
 key_name key.Unknown = codes "unknown"
 
--- what may stand at a key: most are distances between commands
+-- what may stand at a key; the last line is that of the 17 distances between commands from nRCD to nRFC
 abbrev pub key_accepts : Key → Accepts
 key_accepts key.Cores = Integer 1 256
 key_accepts key.Channels = PowerOfTwo 1 16
@@ -89,7 +90,8 @@ key_accepts key.Latency = Integer 1 1000000
 key_accepts key.Unknown = Nothing
 key_accepts _ = Integer 1 100000
 
--- the number that stands for a key that is absent
+-- the number that stands for a key that is absent; there is none where the configuration is refused without the key, or
+-- where its absence means something else: no link has a latency of its own, or the run ends at the limit
 abbrev pub key_default : Key → Option ℕ
 key_default key.Ranks = Some 1
 key_default key.NRtrs = Some 0
@@ -101,7 +103,7 @@ key_default _ = None
 abbrev pub Within : ℕ → ℕ → ℕ → Type 0
 Within low high n = (low ≤ n) × (n ≤ high)
 
--- a number is one that may stand there
+-- a number is one that is accepted: a key that takes something else accepts none
 abbrev pub IsAccepted : Accepts → ℕ → Type 0
 IsAccepted (Integer low high) n = Within low high n
 IsAccepted (PowerOfTwo low high) n = Within low high n × IsTrue (is_power_of_two n)
@@ -111,39 +113,42 @@ IsAccepted _ n = IsTrue false
 abbrev pub AcceptedAt : Key → ℕ → Type 0
 AcceptedAt k n = IsAccepted (key_accepts k) n
 
--- how many cores and channels there are
+-- these numbers of cores and of channels may stand at their keys
 pub record MachineInRange (cores channels : ℕ) : Type 0 where
   pub cores_in : AcceptedAt key.Cores cores
   pub channels_in : AcceptedAt key.Channels channels
 
--- how large the memory of a channel is: its ranks, their groups, and the rows of a bank, of so many lines
+-- these sizes of a channel's memory may stand at their keys: its ranks, their groups, the rows of a bank, and the lines
+-- of a row
 pub record MemoryInRange (ranks groups columns rows : ℕ) : Type 0 where
   pub ranks_in : AcceptedAt key.Ranks ranks
   pub groups_in : AcceptedAt key.Groups groups
   pub columns_in : AcceptedAt key.Columns columns
   pub rows_in : AcceptedAt key.Rows rows
 
--- what a core may hold in its window, issue in a cycle, and hold of credits of each kind
+-- these may stand at their keys: how many entries a core holds in its window and issues in a cycle, and how many
+-- credits of each kind it has for a channel
 pub record CoreInRange (window width read_credits write_credits : ℕ) : Type 0 where
   pub window_in : AcceptedAt key.Window window
   pub width_in : AcceptedAt key.Width width
   pub read_credits_in : AcceptedAt key.ReadCredits read_credits
   pub write_credits_in : AcceptedAt key.WriteCredits write_credits
 
--- how long a message of each kind travels
+-- these latencies of the three kinds of messages, in cycles, may stand at their keys
 pub record LatenciesInRange (request reply credit : ℕ) : Type 0 where
   pub request_in : AcceptedAt key.RequestLatency request
   pub reply_in : AcceptedAt key.ReplyLatency reply
   pub credit_in : AcceptedAt key.CreditLatency credit
 
--- how long a message travels on a link that has a latency of its own
+-- this latency may be a link's own
 abbrev pub LatencyInRange : ℕ → Type 0
 LatencyInRange latency = AcceptedAt key.Latency latency
 
+-- so may each of these
 abbrev pub OverridesInRange : List Override → Type 0
 OverridesInRange overrides = All (λ o. LatencyInRange o.latency) overrides
 
--- how long the distances between commands are
+-- these distances between commands, in cycles, may stand at their keys
 pub record TimingInRange (t : Timing) : Type 0 where
   pub n_rcd : AcceptedAt key.NRcd t.n_rcd
   pub n_rp : AcceptedAt key.NRp t.n_rp
@@ -165,7 +170,7 @@ pub record TimingInRange (t : Timing) : Type 0 where
   pub n_rtrs : AcceptedAt key.NRtrs t.n_rtrs
   pub n_refi : AcceptedAt key.NRefi t.n_refi
 
--- at how many writes a drain begins and ends
+-- these numbers of waiting writes, at which a drain begins and ends, may stand at their keys
 pub record DrainInRange (write_high write_low : ℕ) : Type 0 where
   pub write_high_in : AcceptedAt key.WriteHigh write_high
   pub write_low_in : AcceptedAt key.WriteLow write_low

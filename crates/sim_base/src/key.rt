@@ -1,5 +1,6 @@
 //! The keys of a configuration, and what is known of each, in one row: the reader, the texts that explain a refusal,
-//! `presets/make` and the table of docs/CONFIG.md are made from it or read it.
+//! `presets/make` and the table of docs/CONFIG.md are made from it or read it. Its name, what it accepts and the number
+//! that stands for it are proved to be those of `specs/Keys.antt`; words, group and meaning are for people.
 
 ghost use Rattle.std.specs.Prelude.{◌≡◌, Some};
 
@@ -111,14 +112,14 @@ pub enum Accepts {
     Nothing,
 }
 
-/// What is so where a key is absent.
+/// What an absent key means.
 #[derive(Clone, Copy)]
 pub enum WhereAbsent {
     /// The configuration is refused.
     Refused,
     /// It is as if this number stood there.
     Number(u32),
-    /// What the key's meaning says.
+    /// No number stands there: no link has a latency of its own, or the run ends at the limit (`KeyRow::meaning`).
     Usual,
 }
 
@@ -131,7 +132,7 @@ pub struct KeyRow {
     /// What it accepts, in words.
     pub words: &'static str,
     pub absent: WhereAbsent,
-    /// What it speaks of.
+    /// What part of the machine it sets, a heading of docs/CONFIG.md.
     pub group: &'static str,
     pub meaning: &'static str,
 }

@@ -12,7 +12,7 @@ use Rattle.sim_base.proofs.Added.{length-push_suc}
 use Rattle.statistics.specs.declared.channels.ChannelStats.{ChannelStats}
 use Rattle.statistics.specs.Channels.{channel_stats, channel_cycle, channel_none, channel_joined, channel_stretch, is_late_act, ActsComeFirst}
 use Rattle.statistics.specs.Counts.{sum_of_counts}
-use Rattle.statistics.proofs.ChannelSteps.{channel_stats-push}
+use Rattle.statistics.proofs.ChannelCounts.{channel_stats-push}
 
 sum_of_counts-assoc : (a b c : Option ℕ) → sum_of_counts (sum_of_counts a b) c ≡ sum_of_counts a (sum_of_counts b c)
 sum_of_counts-assoc None b c = refl

@@ -11,7 +11,7 @@ use Rattle.sim_base.specs.declared.message.Message.{Message}
 use Rattle.sim_base.specs.declared.trace.Entry.{Entry}
 use Rattle.statistics.specs.declared.cores.CoreStats.{CoreStats}
 use Rattle.statistics.specs.Cores.{core_stats, core_cycle, core_none, core_joined, core_stretch, FollowsItsRead, RepliesFollowReads}
-use Rattle.statistics.proofs.CoreSteps.{core_stats-push}
+use Rattle.statistics.proofs.CoreCounts.{core_stats-push}
 
 later_of_three : (a b c : Option ℕ) → option_or c (option_or b a) ≡ option_or (option_or c b) a
 later_of_three a b None = refl

@@ -41,7 +41,7 @@ use Rattle.sim_base.specs.declared.message.Access.{Access}
 use Rattle.sim_base.proofs.Accesses.{column_both}
 use Rattle.sim_base.proofs.Added.{length-push_suc}
 use Rattle.statistics.specs.Cores.{FollowsItsRead, RepliesFollowReads}
-use Rattle.statistics.proofs.CoreSteps.{issued_before-take-le}
+use Rattle.statistics.proofs.CoreCounts.{issued_before-take-le}
 use Rattle.statistics.proofs.Lists.{take-push}
 
 -- each message travels for a cycle at least

@@ -13,7 +13,7 @@ use Rattle.sim_base.specs.History.{issued_before}
 use Rattle.sim_base.specs.declared.history.CoreStep.{CoreStep}
 use Rattle.sim_base.specs.declared.message.Message.{Message}
 use Rattle.statistics.specs.Cores.{FollowsItsRead, RepliesFollowReads}
-use Rattle.statistics.proofs.CoreSteps.{issued_before-take-le}
+use Rattle.statistics.proofs.CoreCounts.{issued_before-take-le}
 
 -- no more than there are messages
 pub replies-le : (steps : List CoreStep) (inbox : List Message) → length (replies steps inbox) ≤ length inbox

@@ -23,10 +23,8 @@ use Rattle.statistics.specs.Channels.{channel_stats, channel_cycle, channel_join
 use Rattle.statistics.specs.Cores.{core_stats, core_cycle, core_joined, RepliesFollowReads}
 use Rattle.statistics.specs.Runs.{stats_of_core, stats_of_channel}
 use Rattle.statistics.proofs.ChannelChoices.{choice-not_late}
-use Rattle.statistics.proofs.ChannelMail.{channel_stats-same}
-use Rattle.statistics.proofs.ChannelSteps.{channel_stats-push}
-use Rattle.statistics.proofs.CoreMail.{core_stats-same, core_cycle-same}
-use Rattle.statistics.proofs.CoreSteps.{core_stats-push}
+use Rattle.statistics.proofs.ChannelCounts.{channel_stats-same, channel_stats-push}
+use Rattle.statistics.proofs.CoreCounts.{core_stats-same, core_cycle-same, core_stats-push}
 use Rattle.statistics.proofs.Lists.{take-push}
 use Rattle.statistics.proofs.Messages.{arrived-sooner}
 use Rattle.statistics.proofs.Replies.{latency_positive, length-steps_of_core, length-steps_of_channel, steps_of_core-push, steps_of_channel-push, RepliesFollowReads-run}

@@ -18,9 +18,9 @@ use Rattle.statistics.specs.Channels.{channel_stats, channel_joined, channel_str
 use Rattle.statistics.specs.Cores.{core_stats, core_joined, core_stretch, RepliesFollowReads}
 use Rattle.statistics.specs.Joining.{stretch_of_core, stretch_of_channel, CoresJoin, ChannelsJoin, CoreStepsJoin, ChannelStepsJoin, CoreCyclesMultiply, ChannelCyclesMultiply}
 use Rattle.statistics.specs.Runs.{stats_of_core, stats_of_channel}
-use Rattle.statistics.proofs.ChannelMail.{channel_stats-same}
+use Rattle.statistics.proofs.ChannelCounts.{channel_stats-same}
 use Rattle.statistics.proofs.ChannelStretches.{channel_stats-append}
-use Rattle.statistics.proofs.CoreMail.{core_stats-same}
+use Rattle.statistics.proofs.CoreCounts.{core_stats-same}
 use Rattle.statistics.proofs.CoreStretches.{core_stats-append}
 use Rattle.statistics.proofs.Lists.{take-push}
 use Rattle.statistics.proofs.Repeats.{core_stretch-replicate, channel_stretch-replicate}

@@ -7,9 +7,11 @@
 --     channel_times n a      of n cycles that are each like this one
 --     quiet_cycle drained queued has_due drains      of a cycle in which nothing is issued
 --     one_command k hit      of a command alone
+--     channel_counters, channel_numbers channel      its counters in `stats.csv`, and their numbers
+--     channel_of numbers draining      the statistics that have these numbers
 --     ChannelFits a      each count fits
 --     ActsComeFirst channel steps      no ACT is issued for an entry that was served before
-use Rattle.std.specs.Prelude.{◌≡◌, ℕ, ◌+◌, ◌*◌, ◌^◌, ◌<◌, ◌==◌, nat_lt, max, Bool, false, ◌&&◌, List, [], ◌∷◌, ◌++◌, length, take, slice_index_or, option_map, Option, Some, None, if◌then◌else◌}
+use Rattle.std.specs.Prelude.{◌≡◌, ℕ, ◌+◌, ◌*◌, ◌^◌, ◌<◌, ◌==◌, nat_lt, max, Bool, false, ◌&&◌, List, [], ◌∷◌, ◌++◌, length, take, slice_index_or, codes, option_map, Option, Some, None, if◌then◌else◌}
 use Rattle.std.specs.List.{list_any}
 use Rattle.std.specs.Option.{IfSome}
 use Rattle.sim_base.specs.declared.config.Config.{Config}
@@ -25,6 +27,9 @@ use Rattle.sim_base.specs.declared.command.IssuedCommand.{IssuedCommand}
 use Rattle.sim_base.specs.declared.command.Source.{Source}
 use Rattle.sim_base.specs.declared.message.Message.{Message}
 use Rattle.statistics.specs.declared.channels.ChannelStats.{ChannelStats}
+use Rattle.statistics.specs.Counters.{number_at}
+use Rattle.statistics.specs.declared.counters.CounterKind.{CounterKind}
+use Rattle.statistics.specs.declared.counters.CounterKind.TheVariants.{Count, Sum}
 use Rattle.statistics.specs.Counts.{one_if, sum_of_counts}
 
 -- a count of cycles of draining: there is none where the channel never drains
@@ -180,6 +185,45 @@ pub record ChannelFits (a : ChannelStats) : Type 0 where
   pub idle : a.idle < 2 ^ 64
   pub refreshing : a.refreshing < 2 ^ 64
   pub draining : IfSome a.draining (λ count. count < 2 ^ 64)
+
+-- the counters of a channel, in the order of its rows; the count of draining, which a channel may lack, is none of them
+abbrev pub channel_counters : List (List ℕ × CounterKind)
+channel_counters =
+    (codes "act", Count)
+    ∷ (codes "rd", Count)
+    ∷ (codes "wr", Count)
+    ∷ (codes "pre", Count)
+    ∷ (codes "prea", Count)
+    ∷ (codes "ref", Count)
+    ∷ (codes "hits", Count)
+    ∷ (codes "queued", Sum)
+    ∷ (codes "queued_max", Count)
+    ∷ (codes "idle", Count)
+    ∷ (codes "refreshing", Count)
+    ∷ []
+
+-- their numbers
+abbrev pub channel_numbers : ChannelStats → List (Option ℕ)
+channel_numbers channel =
+    Some channel.act ∷ Some channel.rd ∷ Some channel.wr ∷ Some channel.pre ∷ Some channel.prea ∷ Some channel.refs ∷ Some channel.hits ∷ Some channel.queued ∷ Some channel.queued_max ∷ Some channel.idle ∷ Some channel.refreshing ∷ []
+
+-- the statistics of a channel that has these numbers, and drained its writes in so many cycles, if it counts them
+abbrev pub channel_of : List (Option ℕ) → Option ℕ → ChannelStats
+channel_of numbers draining =
+    record {
+      act = number_at numbers 0;
+      rd = number_at numbers 1;
+      wr = number_at numbers 2;
+      pre = number_at numbers 3;
+      prea = number_at numbers 4;
+      refs = number_at numbers 5;
+      hits = number_at numbers 6;
+      queued = number_at numbers 7;
+      queued_max = number_at numbers 8;
+      idle = number_at numbers 9;
+      refreshing = number_at numbers 10;
+      draining = draining;
+    }
 
 -- the statistics of the cycles after these steps, in which the channel does this, one after the other
 unfoldable pub channel_stretch : Config → ℕ → List (Option Command) → List Message → List (Option Command) → ChannelStats

@@ -6,8 +6,10 @@
 --     core_stretch s core trace steps inbox more      of the cycles after these steps, in which the core does this, one after the other
 --     core_times n a      of n cycles that are each like this one
 --     CoreFits a      each count fits
+--     core_counters, core_numbers core      its counters in `stats.csv`, and their numbers
+--     core_of numbers      the statistics that have these numbers
 --     RepliesFollowReads steps inbox      each reply that arrived is of an entry that was issued before
-use Rattle.std.specs.Prelude.{ℕ, ◌+◌, ◌*◌, ◌^◌, ◌<◌, ◌==◌, nat_lt, nat_le, Bool, ◌&&◌, List, [], ◌∷◌, ◌++◌, length, take, drop, filter, count_by, sum_by, Option, Some, None, if◌then◌else◌}
+use Rattle.std.specs.Prelude.{ℕ, ◌+◌, ◌*◌, ◌^◌, ◌<◌, ◌==◌, nat_lt, nat_le, Bool, ◌&&◌, List, [], ◌∷◌, ◌++◌, length, take, drop, filter, count_by, sum_by, codes, slice_index_or, Option, Some, None, if◌then◌else◌}
 use Rattle.std.specs.Option.{IfSome, option_or}
 use Rattle.std.specs.List.{AllByRecursion as Each}
 use Rattle.sim_base.specs.declared.config.Config.{Config}
@@ -19,8 +21,11 @@ use Rattle.sim_base.specs.declared.message.Message.{Message}
 use Rattle.sim_base.specs.declared.trace.Entry.{Entry}
 use Rattle.sim_base.specs.declared.trace.Stop.{Stop}
 use Rattle.sim_base.specs.declared.trace.Stop.TheVariants as stop
+use Rattle.statistics.specs.Counters.{number_at}
 use Rattle.statistics.specs.Counts.{one_if}
 use Rattle.statistics.specs.declared.cores.CoreStats.{CoreStats}
+use Rattle.statistics.specs.declared.counters.CounterKind.{CounterKind}
+use Rattle.statistics.specs.declared.counters.CounterKind.TheVariants.{Count, Sum, Cycle}
 
 -- the statistics of all the cycles of these steps
 unfoldable pub core_stats : Config → ℕ → List Entry → List CoreStep → List Message → CoreStats
@@ -165,3 +170,43 @@ FollowsItsRead steps m = IfSome (replied_entry m.load) (λ entry. m.arrival < le
 -- each reply that arrived within these steps is of an entry that was issued in an earlier cycle
 abbrev pub RepliesFollowReads : List CoreStep → List Message → Type 0
 RepliesFollowReads steps inbox = Each (FollowsItsRead steps) inbox
+
+-- the counters of a core, in the order of its rows
+abbrev pub core_counters : List (List ℕ × CounterKind)
+core_counters =
+    (codes "issued", Count)
+    ∷ (codes "retired", Count)
+    ∷ (codes "reads", Count)
+    ∷ (codes "writes", Count)
+    ∷ (codes "replies", Count)
+    ∷ (codes "read_latency", Sum)
+    ∷ (codes "stop_end", Count)
+    ∷ (codes "stop_width", Count)
+    ∷ (codes "stop_window", Count)
+    ∷ (codes "stop_memory", Count)
+    ∷ (codes "stop_credit", Count)
+    ∷ (codes "finish", Cycle)
+    ∷ []
+
+-- their numbers
+abbrev pub core_numbers : CoreStats → List (Option ℕ)
+core_numbers core =
+    Some core.issued ∷ Some core.retired ∷ Some core.reads ∷ Some core.writes ∷ Some core.replies ∷ Some core.read_latency ∷ Some core.stop_end ∷ Some core.stop_width ∷ Some core.stop_window ∷ Some core.stop_memory ∷ Some core.stop_credit ∷ core.finish ∷ []
+
+-- the statistics of a core that has these numbers
+abbrev pub core_of : List (Option ℕ) → CoreStats
+core_of numbers =
+    record {
+      issued = number_at numbers 0;
+      retired = number_at numbers 1;
+      reads = number_at numbers 2;
+      writes = number_at numbers 3;
+      replies = number_at numbers 4;
+      read_latency = number_at numbers 5;
+      stop_end = number_at numbers 6;
+      stop_width = number_at numbers 7;
+      stop_window = number_at numbers 8;
+      stop_memory = number_at numbers 9;
+      stop_credit = number_at numbers 10;
+      finish = slice_index_or numbers 11 None;
+    }

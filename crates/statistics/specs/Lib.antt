@@ -1,5 +1,6 @@
 pub mod Values
 pub mod Counts
+pub mod Counters
 pub mod Cores
 pub mod Channels
 pub mod Runs

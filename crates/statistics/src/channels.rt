@@ -1,9 +1,13 @@
 //! Statistics of a channel.
 
 ghost use Rattle.std.specs.Option.{ForSome};
-ghost use Rattle.std.specs.Prelude.{◌≡◌, ◌*◌, ◌^◌, ◌<◌, option_map};
+ghost use Rattle.std.specs.Prelude.{◌≡◌, ◌*◌, ◌^◌, ◌<◌, map, option_map};
+ghost use Rattle.statistics.specs.Channels.{channel_counters};
+ghost use Rattle.statistics.specs.Counters.{counter_of};
 ghost use Rattle.statistics.specs.Counts.{sum_of_counts};
 
+use crate::counters::Counter;
+use crate::numbers::{count, narrow, sum, wide};
 use sim_base::command::Kind;
 
 /// What a channel did in some cycles: counts of commands and of cycles.
@@ -57,9 +61,32 @@ fn product_of(cycles: u64, count: Option<u64>) -> Option<u64>
     }
 }
 
+/// How many counters a channel has; the count of draining, which it may lack, is none of them.
+pub const COUNTERS: usize = 11;
+
+/// The counters of a channel, in the order of its rows.
+pub fn counters() -> [Counter; 11]
+    ensures { map counter_of result ≡ channel_counters }
+{
+    [
+        count(b"act"),
+        count(b"rd"),
+        count(b"wr"),
+        count(b"pre"),
+        count(b"prea"),
+        count(b"ref"),
+        count(b"hits"),
+        sum(b"queued"),
+        count(b"queued_max"),
+        count(b"idle"),
+        count(b"refreshing"),
+    ]
+}
+
 impl ChannelStats {
     ghost use Rattle.std.specs.Prelude.{◌≡◌, ◌<◌};
-    ghost use Rattle.statistics.specs.Channels.{channel_none, channel_joined, channel_times, quiet_cycle, one_command, ChannelFits};
+    ghost use Rattle.statistics.specs.Channels.{channel_none, channel_joined, channel_times, quiet_cycle, one_command, ChannelFits, channel_counters, channel_numbers, channel_of};
+    ghost use Rattle.statistics.specs.Counters.{AreNumbersOf};
 
     /// The statistics of no cycle.
     pub fn new() -> Self
@@ -156,6 +183,46 @@ impl ChannelStats {
         }
         if hit {
             self.hits += 1;
+        }
+    }
+
+    /// Its numbers, in the order of `counters`.
+    pub fn numbers(&self) -> [Option<u128>; 11]
+        ensures { result ≡ channel_numbers self.now }
+    {
+        [
+            wide(self.act),
+            wide(self.rd),
+            wide(self.wr),
+            wide(self.pre),
+            wide(self.prea),
+            wide(self.refs),
+            wide(self.hits),
+            Some(self.queued),
+            wide(self.queued_max),
+            wide(self.idle),
+            wide(self.refreshing),
+        ]
+    }
+
+    /// The statistics that have these numbers, in the order of `counters`, and this count of draining, if they have one.
+    pub fn of_numbers(numbers: &[Option<u128>; 11], draining: Option<u64>) -> ChannelStats
+        requires { AreNumbersOf channel_counters numbers.now }
+        ensures { result ≡ channel_of numbers.now draining }
+    {
+        ChannelStats {
+            act: narrow(numbers[0]),
+            rd: narrow(numbers[1]),
+            wr: narrow(numbers[2]),
+            pre: narrow(numbers[3]),
+            prea: narrow(numbers[4]),
+            refs: narrow(numbers[5]),
+            hits: narrow(numbers[6]),
+            queued: numbers[7].unwrap_or(0),
+            queued_max: narrow(numbers[8]),
+            idle: narrow(numbers[9]),
+            refreshing: narrow(numbers[10]),
+            draining,
         }
     }
 }

@@ -1,5 +1,11 @@
 //! Statistics of a core.
 
+ghost use Rattle.std.specs.Prelude.{◌≡◌, map};
+ghost use Rattle.statistics.specs.Cores.{core_counters};
+ghost use Rattle.statistics.specs.Counters.{counter_of};
+
+use crate::counters::Counter;
+use crate::numbers::{count, cycle, narrow, narrow_cycle, sum, wide, wide_cycle};
 use sim_base::message::Cycle;
 
 /// What a core did in some cycles: counts of entries, of replies and of cycles.
@@ -31,9 +37,33 @@ pub struct CoreStats {
     pub finish: Option<Cycle>,
 }
 
+/// How many counters a core has.
+pub const COUNTERS: usize = 12;
+
+/// The counters of a core, in the order of its rows.
+pub fn counters() -> [Counter; 12]
+    ensures { map counter_of result ≡ core_counters }
+{
+    [
+        count(b"issued"),
+        count(b"retired"),
+        count(b"reads"),
+        count(b"writes"),
+        count(b"replies"),
+        sum(b"read_latency"),
+        count(b"stop_end"),
+        count(b"stop_width"),
+        count(b"stop_window"),
+        count(b"stop_memory"),
+        count(b"stop_credit"),
+        cycle(b"finish"),
+    ]
+}
+
 impl CoreStats {
     ghost use Rattle.std.specs.Prelude.{◌≡◌};
-    ghost use Rattle.statistics.specs.Cores.{core_none, core_joined, core_times, CoreFits};
+    ghost use Rattle.statistics.specs.Cores.{core_none, core_joined, core_times, CoreFits, core_counters, core_numbers, core_of};
+    ghost use Rattle.statistics.specs.Counters.{AreNumbersOf};
 
     /// The statistics of no cycle.
     pub fn new() -> Self
@@ -82,6 +112,47 @@ impl CoreStats {
             stop_memory: cycles * self.stop_memory,
             stop_credit: cycles * self.stop_credit,
             finish: if cycles == 0 { None } else { self.finish },
+        }
+    }
+
+    /// Its numbers, in the order of `counters`.
+    pub fn numbers(&self) -> [Option<u128>; 12]
+        ensures { result ≡ core_numbers self.now }
+    {
+        [
+            wide(self.issued),
+            wide(self.retired),
+            wide(self.reads),
+            wide(self.writes),
+            wide(self.replies),
+            Some(self.read_latency),
+            wide(self.stop_end),
+            wide(self.stop_width),
+            wide(self.stop_window),
+            wide(self.stop_memory),
+            wide(self.stop_credit),
+            wide_cycle(self.finish),
+        ]
+    }
+
+    /// The statistics that have these numbers, in the order of `counters`.
+    pub fn of_numbers(numbers: &[Option<u128>; 12]) -> CoreStats
+        requires { AreNumbersOf core_counters numbers.now }
+        ensures { result ≡ core_of numbers.now }
+    {
+        CoreStats {
+            issued: narrow(numbers[0]),
+            retired: narrow(numbers[1]),
+            reads: narrow(numbers[2]),
+            writes: narrow(numbers[3]),
+            replies: narrow(numbers[4]),
+            read_latency: numbers[5].unwrap_or(0),
+            stop_end: narrow(numbers[6]),
+            stop_width: narrow(numbers[7]),
+            stop_window: narrow(numbers[8]),
+            stop_memory: narrow(numbers[9]),
+            stop_credit: narrow(numbers[10]),
+            finish: narrow_cycle(numbers[11]),
         }
     }
 }

@@ -54,6 +54,7 @@ order_of ds = do
   order ← fields_named ds
   if each_once order then Ok order else Err (ConfigRange key.Fields)
 
+-- the order that an array of texts states
 abbrev pub fields_from : Option Items → Result (List Field) Fault
 fields_from None = Err (ConfigKey key.Fields)
 fields_from (Some ds) = if are_texts ds then order_of ds else Err (ConfigKey key.Fields)

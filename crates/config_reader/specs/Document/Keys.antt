@@ -1,7 +1,7 @@
 -- What one key of a document gives: its value, or the fault by which the document is refused.
 --     x >>= f      what f makes of x, where x was not refused
 --     data_at, integer_at      what stands at a key
---     number_blaming, number_at      the number at a key, by what the key accepts
+--     number_refused_as named ms key, number_at ms key      the number at a key, by what the key accepts
 --     known_of      refuses a key that no configuration has
 use Rattle.std.specs.Prelude.{ℕ, suc, ℤ, pos, negsuc, List, Bool, true, nat_le, ◌&&◌, if◌then◌else◌, Option, Some, None, option_and_then, Result, Ok, Err}
 use Rattle.std.specs.Int.{is_power_of_two}
@@ -57,13 +57,14 @@ number_accepted (Integer low high) default k found = number_from default k low h
 number_accepted (PowerOfTwo low high) default k found = number_from default k low high found >>= as_power k
 number_accepted _ default k found = Err (ConfigKey k)
 
--- the number at a key, by what the key accepts and what stands for it where it is absent; a refusal names another key
-unfoldable pub number_blaming : Key → Members → Key → Result ℕ Fault
-number_blaming blamed ms k = number_accepted (key_accepts k) (key_default k) blamed (data_at ms k)
+-- the number at a key, by what the key accepts and what stands for it where it is absent; where it is refused, the
+-- fault names this other key
+unfoldable pub number_refused_as : Key → Members → Key → Result ℕ Fault
+number_refused_as named ms k = number_accepted (key_accepts k) (key_default k) named (data_at ms k)
 
--- a refusal names the key itself
+-- the number at a key; where it is refused, the fault names the key itself
 abbrev pub number_at : Members → Key → Result ℕ Fault
-number_at ms k = number_blaming k ms k
+number_at ms k = number_refused_as k ms k
 
 -- a document may have a key of this name
 unfoldable pub is_known : List ℕ → Bool

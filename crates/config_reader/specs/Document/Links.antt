@@ -7,15 +7,15 @@ use Rattle.sim_base.specs.declared.fault.Fault.{Fault}
 use Rattle.sim_base.specs.declared.fault.Fault.TheVariants.{ConfigKey}
 use Rattle.sim_base.specs.declared.key.Key.TheVariants as key
 use Rattle.sim_base.specs.declared.overrides.Override.{Override}
-use Rattle.config_reader.specs.Document.Keys.{◌>>=◌, data_at, integer_at, number_blaming, count_of}
+use Rattle.config_reader.specs.Document.Keys.{◌>>=◌, data_at, integer_at, number_refused_as, count_of}
 
--- an item has exactly the two integers, and then each is in its range; a refusal names the list of items
+-- an item has exactly the two integers, and then each is one that its key accepts; a fault names the key `link`
 unfoldable pub override_of : Members → Result Override Fault
 override_of ms =
     if is_some (integer_at ms key.Id) && is_some (integer_at ms key.Latency) && (count_of ms == 2)
     then (do
-      link ← number_blaming key.Link ms key.Id
-      latency ← number_blaming key.Link ms key.Latency
+      link ← number_refused_as key.Link ms key.Id
+      latency ← number_refused_as key.Link ms key.Latency
       Ok (record { link = link; latency = latency }))
     else Err (ConfigKey key.Link)
 
@@ -32,10 +32,12 @@ overrides_in (item d ds) = do
   others ← overrides_in ds
   Ok (first ∷ others)
 
+-- the items of an array; a key that holds something else is refused
 abbrev pub overrides_at : Option Items → Result (List Override) Fault
 overrides_at None = Err (ConfigKey key.Link)
 overrides_at (Some ds) = overrides_in ds
 
+-- what stands at the key `link`, if anything does
 abbrev pub overrides_from : Option Data → Result (List Override) Fault
 overrides_from None = Ok []
 overrides_from (Some d) = overrides_at (as_array d)

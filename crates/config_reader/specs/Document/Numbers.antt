@@ -69,7 +69,7 @@ distances_at ms k1 k2 k3 k4 = do
   fourth ← number_at ms k4
   Ok (first, second, third, fourth)
 
--- the distances between commands; no switch between ranks where its key is left out
+-- the distances between commands; 0 cycles for a change of ranks where `nRTRS` is left out
 unfoldable pub timing_of : Members → Result Timing Fault
 timing_of ms = do
   rows ← distances_at ms key.NRcd key.NRp key.NRas key.NRc
@@ -101,7 +101,7 @@ timing_of ms = do
     n_refi = n_refi;
   })
 
--- where a drain begins and ends; there is none where the keys are left out
+-- at how many writes a drain begins and ends; each is 0 where its key is left out, and with both there is no drain
 unfoldable pub drain_of : Members → Result Drain Fault
 drain_of ms = do
   write_high ← number_at ms key.WriteHigh
@@ -115,6 +115,7 @@ end_named (Some word) =
     if bytes_eq word (codes "limit") then Ok false else
     if bytes_eq word (codes "drained") then Ok true else Err (ConfigRange key.End)
 
+-- what stands at the key `end`, if anything does
 abbrev pub end_from : Option Data → Result Bool Fault
 end_from None = Ok false
 end_from (Some d) = end_named (as_str d)

@@ -23,7 +23,7 @@ use Rattle.rule_check.specs.Broken.{rows_on, stands_before, last_row, stands_wro
 use Rattle.rule_check.specs.Verdict.{KeepsRules}
 use Rattle.rule_check.proofs.Passing.{last_row-more}
 use Rattle.run_tables.proofs.TableLaws.InRange.{range-below}
-use Rattle.statistics.proofs.ChannelBounds.{fold-max-le}
+use Rattle.statistics.proofs.ChannelCounts.{fold-max-le}
 
 -- RULES 3 TO 15, 17 AND 19 TO 21: THE DISTANCES
 

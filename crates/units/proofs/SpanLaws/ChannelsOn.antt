@@ -20,7 +20,7 @@ use Rattle.sim_base.proofs.Same.{Stamped}
 use Rattle.sim_base.proofs.Spans.{inbox-stamped}
 use Rattle.statistics.specs.Channels.{channel_stats}
 use Rattle.statistics.specs.Runs.{stats_of_channel, open_rows_left, channel_last, last_of_channel}
-use Rattle.statistics.proofs.ChannelMail.{channel_stats-same}
+use Rattle.statistics.proofs.ChannelCounts.{channel_stats-same}
 use Rattle.statistics.proofs.Messages.{arrived-arrived}
 use Rattle.laws.specs.Commands.{channel_steps_of}
 use Rattle.laws.proofs.Legal.{length-channel_steps_of}

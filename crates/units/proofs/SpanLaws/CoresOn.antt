@@ -18,7 +18,7 @@ use Rattle.sim_base.specs.declared.message.Access.{Access}
 use Rattle.sim_base.specs.declared.message.Access.TheVariants as access
 use Rattle.statistics.specs.Cores.{core_stats}
 use Rattle.statistics.specs.Runs.{stats_of_core, credits_of, core_last, last_of_core}
-use Rattle.statistics.proofs.CoreMail.{core_stats-same}
+use Rattle.statistics.proofs.CoreCounts.{core_stats-same}
 use Rattle.statistics.proofs.Lists.{map_below_same}
 use Rattle.statistics.proofs.Messages.{arrived-arrived}
 use Rattle.statistics.proofs.Replies.{length-steps_of_core}

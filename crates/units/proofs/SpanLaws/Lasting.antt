@@ -18,7 +18,7 @@ use Rattle.sim_base.specs.declared.message.Message.{Message}
 use Rattle.sim_base.specs.declared.message.Unit.TheVariants.{Core}
 use Rattle.sim_base.specs.declared.trace.Entry.{Entry}
 use Rattle.sim_base.proofs.Lists.{count-cons}
-use Rattle.statistics.proofs.CoreSteps.{retired_before-push}
+use Rattle.statistics.proofs.CoreCounts.{retired_before-push}
 use Rattle.statistics.proofs.RunSteps.{steps_of_core-next}
 use Rattle.laws.proofs.Counting.{count-filter, count-weaker}
 use Rattle.laws.proofs.Sent.{count-by_age, count-messages}

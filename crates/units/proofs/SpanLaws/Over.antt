@@ -28,8 +28,8 @@ use Rattle.sim_base.proofs.Each.{Each-filter}
 use Rattle.sim_base.proofs.Grows.{issued_before-push, inbox-grows}
 use Rattle.sim_base.proofs.Ordered.{Each-weaker}
 use Rattle.sim_base.proofs.Spans.{length-run, step_of_core-next, step_of_channel-next}
-use Rattle.statistics.proofs.CoreBounds.{KeepsToTrace-run}
-use Rattle.statistics.proofs.CoreSteps.{retired_before-push}
+use Rattle.statistics.proofs.CoreCounts.{retired_before-push}
+use Rattle.statistics.proofs.KeepsToTrace.{KeepsToTrace-run}
 use Rattle.statistics.proofs.RunSteps.{steps_of_core-next}
 use Rattle.laws.specs.Commands.{channel_steps_of, history_of}
 use Rattle.laws.proofs.Chosen.{choice-needed}

@@ -1,6 +1,6 @@
 -- The table is read, or refused for its first record at fault.
 use Rattle.std.proofs.Common.{◌≡◌, ◌+◌, ◌*◌, Err, length, rules, sym, subst, arith}
-use Rattle.run_tables.specs.Units.{CoresAre}
+use Rattle.run_tables.specs.Units.{CoresAre, core_records}
 use Rattle.run_tables.proofs.StatsRefused.{header_refused, cycles_refused, cycles_long, cores_stop, channels_stop}
 use Rattle.run_tables.proofs.stats.read_table.Goals as goal
 
@@ -24,19 +24,19 @@ pub returns-in_err-channels-clause-refused : goal.returns-in_err-channels-clause
 returns-in_err-channels-clause-refused c =
     let gives : c.from_residual-in_err-channels.result ≡ Err c.in_err-channels.field-0.0 = search rules in
     let count : c.len.result ≡ length c.in_ok-cores.cores.items = search rules in
-    let place : 2 + 12 * length c.in_ok-cores.cores.items ≡ 2 + 12 * c.len.result = omega (arith, count) in
+    let place : 2 + core_records * length c.in_ok-cores.cores.items ≡ 2 + core_records * c.len.result = omega (arith, count) in
     rw gives
-    (channels_stop c.args.table.now c.in_ok-cycles.cycles c.in_ok-cores.cores.items (2 + 12 * c.len.result) c.in_err-channels.field-0.0 (sym c.if-not-has_header.ensures) (sym c.in_ok-cycles.ensures)
+    (channels_stop c.args.table.now c.in_ok-cycles.cycles c.in_ok-cores.cores.items (2 + core_records * c.len.result) c.in_err-channels.field-0.0 (sym c.if-not-has_header.ensures) (sym c.in_ok-cycles.ensures)
     (subst (CoresAre c.args.table.now c.in_ok-cores.cores.items) place c.in_ok-cores.ensures.read) c.in_err-channels.ensures.refused)
 
 pub returns-clause-read : goal.returns-clause-read
 returns-clause-read c =
     let count : c.len.result ≡ length c.in_ok-cores.cores.items = search rules in
-    let place : 2 + 12 * length c.in_ok-cores.cores.items ≡ 2 + 12 * c.len.result = omega (arith, count) in
+    let place : 2 + core_records * length c.in_ok-cores.cores.items ≡ 2 + core_records * c.len.result = omega (arith, count) in
     record {
       header = sym c.if-not-has_header.ensures;
       cycles = sym c.in_ok-cycles.ensures;
-      row = 2 + 12 * c.len.result;
+      row = 2 + core_records * c.len.result;
       cores = subst (CoresAre c.args.table.now c.in_ok-cores.cores.items) place c.in_ok-cores.ensures.read;
       channels = c.in_ok-channels.ensures.read;
     }

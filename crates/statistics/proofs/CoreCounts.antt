@@ -1,30 +1,40 @@
--- What one cycle more adds to each statistic of a core.
-use Rattle.std.proofs.Common.{◌≡◌, ℕ, zero, suc, ◌+◌, ◌-◌, ◌<◌, ◌≤◌, Bool, true, false, cond, eqb, ltb, leb, ◌&&◌, List, [], ◌∷◌, ◌++◌, length, map, take, Option, Some, None, refl, sym, ap, ap₂, ◌∙◌, ⊎_elim, add-one, zero-add, arith}
+-- The counts of a core: what one cycle more adds to each, that only the messages that arrived by then change them, and
+-- that each fits its number.
+use Rattle.std.proofs.Common.{◌≡◌, ℕ, zero, suc, ◌+◌, ◌-◌, ◌<◌, ◌≤◌, Bool, true, false, cond, eqb, ltb, leb, ◌&&◌, List, [], ◌∷◌, ◌++◌, length, map, take, Option, Some, None, refl, sym, ap, ap₂, ◌∙◌, ⊎_elim, add-one, zero-add, arith, ◌*◌, ◌^◌}
 use Rattle.std.specs.Prelude.{count_by, sum_by, find, filter}
 use Rattle.std.specs.List.{prefix_len, range_with_len}
 use Rattle.std.specs.Option.{IfSome, option_or}
 use Rattle.std.proofs.Math.Seq.{take-add, take-append_seam, take-length}
-use Rattle.std.proofs.lemmas.Bool.{cond_both, ltb-true, lt-ltb, le-ltb, le-leb, lt-leb, eqb-true, eqb-false, and_parts, cases_lt, false≢true}
+use Rattle.std.proofs.lemmas.Bool.{cond_both, ltb-true, lt-ltb, le-ltb, le-leb, lt-leb, eqb-true, eqb-false, and_parts, cases_lt, false≢true, and_right, ne_eqb}
 use Rattle.std.proofs.lemmas.Bool.Decides.{nat_tests}
-use Rattle.std.proofs.lemmas.List.{length_push}
+use Rattle.std.proofs.lemmas.List.{length_push, length-take-le, length-map, length-take}
 use Rattle.std.proofs.lemmas.List.Folds.{length-prefix_len}
-use Rattle.std.proofs.lemmas.List.Sums.{sum_by-append, sum_by-cons, sum_by_push, sum_by-take-le, prefix_len_passes, prefix_len-le-length}
+use Rattle.std.proofs.lemmas.List.Sums.{sum_by-append, sum_by-cons, sum_by_push, sum_by-take-le, prefix_len_passes, prefix_len-le-length, count_by-le-length}
 use Rattle.std.proofs.lemmas.List.FromFn.{length-range_with_len, get_or-range_with_len}
 use Rattle.sim_base.specs.declared.config.Config.{Config}
 use Rattle.sim_base.specs.Counts.{is_read, is_write, reads, writes, replied_entry, is_reply, is_reply_before, replies, is_unissued_after, issue_cycle, wait_of, read_latency, stop_in, stops, is_stop, stopped_by, has_retired_after, retire_cycle, finish}
 use Rattle.sim_base.proofs.Below.{below_more}
-use Rattle.sim_base.specs.History.{below, retired_before, issued_before}
+use Rattle.sim_base.specs.History.{below, retired_before, issued_before, inbox}
 use Rattle.sim_base.specs.Windows.{step}
 use Rattle.sim_base.specs.declared.history.CoreStep.{CoreStep}
 use Rattle.sim_base.specs.declared.message.Message.{Message}
 use Rattle.sim_base.specs.declared.trace.Entry.{Entry}
 use Rattle.sim_base.specs.declared.trace.Stop.{Stop}
-use Rattle.sim_base.specs.declared.trace.Stop.TheVariants as stop
 use Rattle.sim_base.proofs.Added.{length-push_suc}
 use Rattle.sim_base.proofs.Grows.{issued_before-push}
-use Rattle.statistics.specs.Cores.{issued_in, is_reply_in, replies_in, waited, finish_in, core_stats, core_cycle_with, core_cycle, core_joined, RepliesFollowReads}
+use Rattle.statistics.specs.Cores.{issued_in, is_reply_in, replies_in, waited, finish_in, core_stats, core_cycle_with, core_cycle, core_joined, RepliesFollowReads, core_stretch, CoreFits, core_none, core_counters, core_numbers, core_of}
 use Rattle.statistics.specs.Counts.{one_if}
 use Rattle.statistics.proofs.Lists.{take-push, map_below_more, map_below_same, find_below_more, find_below_same, option_or-none, prefix_len-append_stop}
+use Rattle.sim_base.proofs.Arrived.{arrived, NotBefore, filter-arrived}
+use Rattle.sim_base.proofs.Same.{step-same}
+use Rattle.sim_base.proofs.Kept.{arrived-added}
+use Rattle.statistics.proofs.Messages.{arrived-sooner}
+use Rattle.std.proofs.lemmas.Nat.{mul-le}
+use Rattle.sim_base.specs.Machine.{run}
+use Rattle.sim_base.specs.declared.trace.Stop.TheVariants as stop
+use Rattle.statistics.specs.Counters.{AreNumbersOf}
+use Rattle.statistics.specs.declared.cores.CoreStats.{CoreStats}
+use Rattle.statistics.proofs.NumbersOf.{numbers-are}
 
 pub retired_before-push : (steps : List CoreStep) (core_step : CoreStep) → retired_before (steps ++ core_step ∷ []) ≡ retired_before steps + core_step.retired
 unfolding retired_before
@@ -295,3 +305,150 @@ core_stats-push s core trace steps core_step inbox h =
     let e10 = stopped_by-push s core trace steps core_step inbox stop.Credit in
     let e11 = finish-push trace steps core_step in
     cc
+
+replies-arrived : (steps : List CoreStep) (inbox : List Message) → replies steps (arrived inbox (length steps)) ≡ replies steps inbox
+unfolding replies
+replies-arrived steps inbox =
+    filter-arrived (is_reply_before (length steps)) (length steps) (λ m h. and_right (is_reply m) _ (le-ltb m.arrival (length steps) h)) inbox
+
+pub replies-same : (steps : List CoreStep) (a b : List Message) → arrived a (length steps) ≡ arrived b (length steps) → replies steps a ≡ replies steps b
+replies-same steps a b h = sym (replies-arrived steps a) ∙ ap (replies steps) h ∙ replies-arrived steps b
+
+pub read_latency-same : (steps : List CoreStep) (a b : List Message) → arrived a (length steps) ≡ arrived b (length steps) → read_latency steps a ≡ read_latency steps b
+unfolding read_latency
+read_latency-same steps a b h = ap (sum_by (λ m. wait_of steps m.arrival (replied_entry m.load))) (replies-same steps a b h)
+
+replies_in-arrived : (cycle : ℕ) (inbox : List Message) → replies_in cycle (arrived inbox (cycle + 1)) ≡ replies_in cycle inbox
+unfolding replies_in
+replies_in-arrived cycle inbox =
+    filter-arrived (is_reply_in cycle) (cycle + 1) (λ m h. and_right (is_reply m) _ (ne_eqb m.arrival cycle (λ e. omega arith))) inbox
+
+pub replies_in-same : (cycle : ℕ) (a b : List Message) → arrived a (cycle + 1) ≡ arrived b (cycle + 1) → replies_in cycle a ≡ replies_in cycle b
+replies_in-same cycle a b h = sym (replies_in-arrived cycle a) ∙ ap (replies_in cycle) h ∙ replies_in-arrived cycle b
+
+pub stops-same : (s : Config) (core : ℕ) (trace : List Entry) (steps : List CoreStep) (a b : List Message) → arrived a (length steps) ≡ arrived b (length steps)
+    → stops s core trace steps a ≡ stops s core trace steps b
+unfolding stops stop_in
+stops-same s core trace steps a b h = map_below_same _ _ (length steps) same
+  where
+    same : (k : ℕ) → k < length steps → (step s core trace (take k steps) a).1 ≡ (step s core trace (take k steps) b).1
+    same k l =
+        let len : length (take k steps) ≡ k = length-take-le k steps (omega arith) in
+        ap (λ x. x.1) (step-same s core trace (take k steps) a b (arrived-sooner (length (take k steps) + 1) (length steps) (omega arith) a b h))
+
+pub core_stats-same : (s : Config) (core : ℕ) (trace : List Entry) (steps : List CoreStep) (a b : List Message) → arrived a (length steps) ≡ arrived b (length steps)
+    → core_stats s core trace steps a ≡ core_stats s core trace steps b
+unfolding core_stats stopped_by
+core_stats-same s core trace steps a b h =
+    let e = replies-same steps a b h in
+    let f = read_latency-same steps a b h in
+    let g = stops-same s core trace steps a b h in
+    cc
+
+pub core_cycle-same : (s : Config) (core : ℕ) (trace : List Entry) (steps : List CoreStep) (a b : List Message) → arrived a (length steps + 1) ≡ arrived b (length steps + 1)
+    → (core_step : CoreStep) → core_cycle s core trace steps a core_step ≡ core_cycle s core trace steps b core_step
+unfolding core_cycle
+core_cycle-same s core trace steps a b h core_step =
+    ap₂ (λ x y. core_cycle_with trace steps core_step x.1 y) (step-same s core trace steps a b h) (replies_in-same (length steps) a b h)
+
+pub core_stretch-same : (s : Config) (core : ℕ) (trace : List Entry) (steps : List CoreStep) (a b : List Message) (more : List CoreStep)
+    → arrived a (length steps + length more) ≡ arrived b (length steps + length more)
+    → core_stretch s core trace steps a more ≡ core_stretch s core trace steps b more
+unfolding core_stretch
+core_stretch-same s core trace steps a b [] h = refl
+core_stretch-same s core trace steps a b (row ∷ more) h =
+    let len : length (steps ++ row ∷ []) ≡ suc (length steps) = length-push_suc steps row in
+    ap₂ core_joined
+    (core_cycle-same s core trace steps a b (arrived-sooner (length steps + 1) _ (omega arith) a b h) row)
+    (core_stretch-same s core trace (steps ++ row ∷ []) a b more (arrived-sooner _ _ (omega arith) a b h))
+
+-- messages that arrive after these cycles
+pub core_stats-later : (s : Config) (core : ℕ) (trace : List Entry) (steps : List CoreStep) (mail later : List Message) → NotBefore (length steps) later
+    → core_stats s core trace steps (mail ++ later) ≡ core_stats s core trace steps mail
+core_stats-later s core trace steps mail later h = core_stats-same s core trace steps (mail ++ later) mail (arrived-added (length steps) mail later h)
+
+pub count-take-le : (p : Entry → Bool) (n : ℕ) (trace : List Entry) → count_by p (take n trace) ≤ n
+count-take-le p n trace = omega (arith, count_by-le-length p (take n trace), length-take n trace)
+
+wait_of-le : (steps : List CoreStep) (arrival : ℕ) (o : Option ℕ) → wait_of steps arrival o ≤ arrival
+wait_of-le steps arrival None = omega arith
+wait_of-le steps arrival (Some entry) = omega arith
+
+waits-le : (steps : List CoreStep) (cycles : ℕ) (ms : List Message)
+    → sum_by (λ m. wait_of steps m.arrival (replied_entry m.load)) (filter (is_reply_before cycles) ms) ≤ length (filter (is_reply_before cycles) ms) * cycles
+waits-le steps cycles [] = omega arith
+waits-le steps cycles (m ∷ ms) =
+    let kept = filter (is_reply_before cycles) ms in
+    let wait = λ (x : Message). wait_of steps x.arrival (replied_entry x.load) in
+    cond_both (is_reply_before cycles m) (m ∷ kept) kept (λ x. sum_by wait x ≤ length x * cycles)
+    (λ e.
+    let l : m.arrival < cycles = ltb-true m.arrival cycles (and_parts (is_reply m) (ltb m.arrival cycles) e).1 in
+    let rest : sum_by wait kept ≤ length kept * cycles = waits-le steps cycles ms in
+    let one : suc (length kept) * cycles ≡ length kept * cycles + cycles = grind arith in
+    omega (arith, sum_by-cons wait m kept, wait_of-le steps m.arrival (replied_entry m.load)))
+    (λ e. waits-le steps cycles ms)
+
+pub read_latency-le : (steps : List CoreStep) (inbox : List Message) → read_latency steps inbox ≤ length (replies steps inbox) * length steps
+unfolding read_latency replies
+read_latency-le steps inbox = waits-le steps (length steps) inbox
+
+pub stopped_by-le : (s : Config) (core : ℕ) (trace : List Entry) (steps : List CoreStep) (inbox : List Message) (why : Stop) → stopped_by s core trace steps inbox why ≤ length steps
+unfolding stopped_by stops
+stopped_by-le s core trace steps inbox why =
+    omega (arith, count_by-le-length (is_stop why) (stops s core trace steps inbox), length-map (below (length steps)) (stop_in s core trace steps inbox), length-range_with_len 0 (length steps))
+
+-- the counts of a run fit, since a cycle and the length of a trace do
+pub core_stats-fit : (s : Config) (core : ℕ) (trace : List Entry) (steps : List CoreStep) (inbox : List Message) → length steps ≤ 2 ^ 62 → issued_before steps ≤ 2 ^ 62
+    → retired_before steps ≤ 2 ^ 62 → length (replies steps inbox) ≤ 2 ^ 62 → CoreFits (core_stats s core trace steps inbox)
+unfolding core_stats reads writes
+core_stats-fit s core trace steps inbox cycles issued retired replied =
+    let most : length (replies steps inbox) * length steps ≤ 2 ^ 62 * 2 ^ 62 = mul-le _ _ (2 ^ 62) (2 ^ 62) replied cycles in
+    record {
+      issued = omega arith;
+      retired = omega arith;
+      reads = omega (arith, count-take-le is_read (issued_before steps) trace);
+      writes = omega (arith, count-take-le is_write (issued_before steps) trace);
+      replies = omega arith;
+      read_latency = omega (arith, read_latency-le steps inbox);
+      stop_end = omega (arith, stopped_by-le s core trace steps inbox stop.End);
+      stop_width = omega (arith, stopped_by-le s core trace steps inbox stop.Width);
+      stop_window = omega (arith, stopped_by-le s core trace steps inbox stop.Window);
+      stop_memory = omega (arith, stopped_by-le s core trace steps inbox stop.Memory);
+      stop_credit = omega (arith, stopped_by-le s core trace steps inbox stop.Credit);
+    }
+
+-- NUMBERS
+
+-- numbers of a core's counters are those of the statistics that have them
+pub core_numbers-of : (numbers : List (Option ℕ)) → AreNumbersOf core_counters numbers → core_numbers (core_of numbers) ≡ numbers
+core_numbers-of numbers h = numbers-are core_counters numbers h
+
+-- counts that fit are numbers of the counters
+pub core_numbers-fit : (stats : CoreStats) → CoreFits stats → IfSome stats.finish (λ cycle. cycle < 2 ^ 64) → AreNumbersOf core_counters (core_numbers stats)
+core_numbers-fit stats h finish =
+    (h.issued, (h.retired, (h.reads, (h.writes, (h.replies, (h.read_latency, (h.stop_end, (h.stop_width, (h.stop_window, (h.stop_memory, (h.stop_credit, (finish, tt))))))))))))
+
+pub core_fits : (stats : CoreStats) → AreNumbersOf core_counters (core_numbers stats) → CoreFits stats
+core_fits stats h =
+    record {
+      issued = h.0;
+      retired = h.1.0;
+      reads = h.1.1.0;
+      writes = h.1.1.1.0;
+      replies = h.1.1.1.1.0;
+      read_latency = h.1.1.1.1.1.0;
+      stop_end = h.1.1.1.1.1.1.0;
+      stop_width = h.1.1.1.1.1.1.1.0;
+      stop_window = h.1.1.1.1.1.1.1.1.0;
+      stop_memory = h.1.1.1.1.1.1.1.1.1.0;
+      stop_credit = h.1.1.1.1.1.1.1.1.1.1.0;
+    }
+
+-- those of no cycle fit
+pub core_none-fits : CoreFits core_none
+core_none-fits = record { issued = omega arith; retired = omega arith; reads = omega arith; writes = omega arith; replies = omega arith; read_latency = omega arith; stop_end = omega arith; stop_width = omega arith; stop_window = omega arith; stop_memory = omega arith; stop_credit = omega arith }
+
+-- before the first cycle nothing is counted
+pub core_stats-none : (s : Config) (core : ℕ) (trace : List Entry) → core_stats s core trace [] [] ≡ core_none
+unfolding core_stats issued_before retired_before reads writes replies read_latency stopped_by stops finish retire_cycle
+core_stats-none s core trace = cond_both (eqb (length trace) 0) None None (λ o. record core_none { finish = o } ≡ core_none) (λ e. refl) (λ e. refl)

@@ -1,35 +1,44 @@
--- What one cycle more adds to each statistic of a channel.
-use Rattle.std.proofs.Common.{◌≡◌, ℕ, zero, suc, ◌+◌, ◌≤◌, Bool, true, false, cond, eqb, ltb, ◌||◌, List, [], ◌∷◌, ◌++◌, length, map, Option, Some, None, refl, sym, ap, ap₂, ◌∙◌, add-zero, zero-add, arith}
+-- The counts of a channel: what one cycle more adds to each, that only the messages that arrived by then change them, and
+-- that each fits its number.
+use Rattle.std.proofs.Common.{◌≡◌, ℕ, zero, suc, ◌+◌, ◌≤◌, Bool, true, false, cond, eqb, ltb, ◌||◌, List, [], ◌∷◌, ◌++◌, length, map, Option, Some, None, refl, sym, ap, ap₂, ◌∙◌, add-zero, zero-add, arith, ◌*◌, ◌^◌, ◌<◌}
 use Rattle.std.specs.Prelude.{count_by, sum, fold, max, filter_map, not, is_some}
 use Rattle.std.specs.List.{AllByRecursion as Each, cons_option, enumerate_from, list_any}
-use Rattle.std.proofs.lemmas.Bool.{or_parts}
+use Rattle.std.proofs.lemmas.Bool.{or_parts, cond_both}
 use Rattle.std.proofs.lemmas.Bool.Decides.{nat_tests}
-use Rattle.std.proofs.lemmas.List.{append-nil}
+use Rattle.std.proofs.lemmas.List.{append-nil, length-map}
 use Rattle.std.proofs.lemmas.List.Elements.{filter_map-append}
 use Rattle.std.proofs.lemmas.List.Folds.{list_any-append}
-use Rattle.std.proofs.lemmas.List.Sums.{sum_by-cons, sum_by_push, fold_push}
+use Rattle.std.proofs.lemmas.List.Sums.{sum_by-cons, sum_by_push, fold_push, count_by-le-length}
 use Rattle.std.proofs.Math.Bool.{or-false}
-use Rattle.sim_base.proofs.Each.{Each-all}
+use Rattle.sim_base.proofs.Each.{Each-all, Each-append}
 use Rattle.sim_base.specs.declared.config.Config.{Config}
 use Rattle.sim_base.specs.Counts.{is_act_for, is_hit_of, is_hit, hits, issued_of_kind, queue_length, queue_lengths, queued, queued_max, idle, has_refresh_due, refreshing, draining}
 use Rattle.sim_base.specs.History.{below, issued_at, issued_commands}
 use Rattle.sim_base.specs.Rules.{is_kind, kind_of}
 use Rattle.sim_base.specs.Scheduling.{queued_requests, queue_in, writes_in, drains_with, drains_before, drains, lowest_due}
 use Rattle.sim_base.specs.declared.command.Kind.{Kind}
-use Rattle.sim_base.specs.declared.command.Kind.TheVariants as kind
 use Rattle.sim_base.specs.declared.command.Command.{Command}
 use Rattle.sim_base.specs.declared.command.Command.TheVariants.{Act, Rd, Wr, Pre, Prea, Ref}
 use Rattle.sim_base.specs.declared.command.IssuedCommand.{IssuedCommand}
 use Rattle.sim_base.specs.declared.command.Source.{Source}
 use Rattle.sim_base.specs.declared.message.Message.{Message}
 use Rattle.sim_base.specs.declared.place.BankId.{BankId}
-use Rattle.sim_base.specs.declared.message.Access.TheVariants as access
 use Rattle.sim_base.specs.Access.{is_access}
 use Rattle.sim_base.proofs.Added.{length-push_suc}
-use Rattle.statistics.specs.Counts.{one_if}
-use Rattle.statistics.specs.Channels.{draining_of, channel_stats, issues, issues_hit, channel_cycle_with, channel_cycle, channel_joined, is_entry, is_column_command_of, is_late_act}
-use Rattle.statistics.specs.Counts.{sum_of_counts}
+use Rattle.statistics.specs.Counts.{one_if, sum_of_counts}
+use Rattle.statistics.specs.Channels.{draining_of, channel_stats, issues, issues_hit, channel_cycle_with, channel_cycle, channel_joined, is_entry, is_column_command_of, is_late_act, channel_stretch, ChannelFits, channel_none, channel_counters, channel_numbers, channel_of}
 use Rattle.statistics.proofs.Lists.{take-push, map_below_more, map_below_same, count_below_more, count_below_same, sum_push}
+use Rattle.sim_base.proofs.Arrived.{NotBefore, NotBefore-weaker}
+use Rattle.sim_base.proofs.Same.{Stamped, AgreeUpTo, sooner, queue-same, drains-same}
+use Rattle.sim_base.proofs.Kept.{arrived-added}
+use Rattle.std.specs.Option.{IfSome}
+use Rattle.std.proofs.lemmas.List.FromFn.{length-range_with_len, length-enumerate_from}
+use Rattle.std.proofs.lemmas.Nat.{mul-le}
+use Rattle.sim_base.specs.declared.command.Kind.TheVariants as kind
+use Rattle.sim_base.specs.declared.message.Access.TheVariants as access
+use Rattle.statistics.specs.Counters.{AreNumbersOf}
+use Rattle.statistics.specs.declared.channels.ChannelStats.{ChannelStats}
+use Rattle.statistics.proofs.NumbersOf.{numbers-are}
 
 enumerate_from-push : {X : Type 0} (n : ℕ) (xs : List X) (x : X) → enumerate_from n (xs ++ x ∷ []) ≡ enumerate_from n xs ++ (n + length xs, x) ∷ []
 enumerate_from-push n [] x = ap (λ k. (k, x) ∷ []) (sym (add-zero n))
@@ -253,3 +262,179 @@ channel_stats-push s channel steps o inbox h =
     let e10 = refreshing-push s channel steps o in
     let e11 = ap (draining_of s) (draining-push s channel steps o inbox) ∙ draining_of-sum s _ _ in
     cc
+
+queue_length-same : (channel : ℕ) (steps : List (Option Command)) (a b : List Message) (cycle : ℕ) → AgreeUpTo (cycle + 1) a b
+    → queue_length channel steps a cycle ≡ queue_length channel steps b cycle
+unfolding queue_length
+queue_length-same channel steps a b cycle h = ap length (queue-same channel steps a b cycle h)
+
+pub queue_lengths-same : (channel : ℕ) (steps : List (Option Command)) (a b : List Message) → AgreeUpTo (length steps) a b
+    → queue_lengths channel steps a ≡ queue_lengths channel steps b
+unfolding queue_lengths
+queue_lengths-same channel steps a b h =
+    map_below_same (queue_length channel steps a) (queue_length channel steps b) (length steps) (λ k l. queue_length-same channel steps a b k (sooner (omega arith) h))
+
+pub draining-same : (s : Config) (channel : ℕ) (steps : List (Option Command)) (a b : List Message) → AgreeUpTo (length steps) a b
+    → draining s channel steps a ≡ draining s channel steps b
+unfolding draining
+draining-same s channel steps a b h =
+    count_below_same (drains s channel steps a) (drains s channel steps b) (length steps) (λ k l. drains-same s channel steps a b (k + 1) (sooner (omega arith) h))
+
+pub channel_stats-same : (s : Config) (channel : ℕ) (steps : List (Option Command)) (a b : List Message) → AgreeUpTo (length steps) a b
+    → channel_stats s channel steps a ≡ channel_stats s channel steps b
+unfolding channel_stats queued queued_max idle
+channel_stats-same s channel steps a b h =
+    let e = queue_lengths-same channel steps a b h in
+    let f = draining-same s channel steps a b h in
+    cc
+
+pub channel_cycle-same : (s : Config) (channel : ℕ) (steps : List (Option Command)) (a b : List Message) → AgreeUpTo (length steps + 1) a b
+    → (o : Option Command) → channel_cycle s channel steps a o ≡ channel_cycle s channel steps b o
+unfolding channel_cycle
+channel_cycle-same s channel steps a b h o =
+    ap₂ (λ n d. channel_cycle_with s (issued_commands channel steps) n (has_refresh_due s channel steps (length steps)) d o)
+    (queue_length-same channel steps a b (length steps) h) (drains-same s channel steps a b (length steps + 1) h)
+
+pub channel_stretch-same : (s : Config) (channel : ℕ) (steps : List (Option Command)) (a b : List Message) (more : List (Option Command))
+    → AgreeUpTo (length steps + length more) a b → channel_stretch s channel steps a more ≡ channel_stretch s channel steps b more
+unfolding channel_stretch
+channel_stretch-same s channel steps a b [] h = refl
+channel_stretch-same s channel steps a b (o ∷ more) h =
+    let len : length (steps ++ o ∷ []) ≡ suc (length steps) = length-push_suc steps o in
+    ap₂ channel_joined
+    (channel_cycle-same s channel steps a b (sooner (omega arith) h) o)
+    (channel_stretch-same s channel (steps ++ o ∷ []) a b more (sooner (omega arith) h))
+
+-- messages that arrive later
+pub AgreeUpTo-later : (until : ℕ) (mail later : List Message) → Each Stamped mail → Each Stamped later → NotBefore until later → AgreeUpTo until (mail ++ later) mail
+AgreeUpTo-later until mail later h k l =
+    record {
+      one = Each-append Stamped mail later h k;
+      other = h;
+      same = λ u b. arrived-added u mail later (NotBefore-weaker u until b later l);
+    }
+
+pub channel_stats-later : (s : Config) (channel : ℕ) (steps : List (Option Command)) (mail later : List Message) → Each Stamped mail → Each Stamped later
+    → NotBefore (length steps) later → channel_stats s channel steps (mail ++ later) ≡ channel_stats s channel steps mail
+channel_stats-later s channel steps mail later h k l = channel_stats-same s channel steps (mail ++ later) mail (AgreeUpTo-later (length steps) mail later h k l)
+
+length-filter_map-le : {X Y : Type 0} (f : X → Option Y) (xs : List X) → length (filter_map f xs) ≤ length xs
+length-filter_map-le f [] = omega arith
+length-filter_map-le {X} {Y} f (x ∷ xs) = by (f x) (length-filter_map-le f xs)
+  where
+    by : (o : Option Y) → length (filter_map f xs) ≤ length xs → length (cons_option o (filter_map f xs)) ≤ suc (length xs)
+    by None h = omega arith
+    by (Some y) h = omega arith
+
+pub length-issued_commands-le : (channel : ℕ) (steps : List (Option Command)) → length (issued_commands channel steps) ≤ length steps
+unfolding issued_commands
+length-issued_commands-le channel steps =
+    omega (arith, length-filter_map-le (λ (e : ℕ × Option Command). issued_at channel e.0 e.1) (enumerate_from 0 steps), length-enumerate_from 0 steps)
+
+pub issued_of_kind-le : (kind : Kind) (history : List IssuedCommand) → issued_of_kind kind history ≤ length history
+unfolding issued_of_kind
+issued_of_kind-le kind history = count_by-le-length (λ (i : IssuedCommand). is_kind (kind_of i.command) kind) history
+
+pub hits-le : (history : List IssuedCommand) → hits history ≤ length history
+unfolding hits
+hits-le history = count_by-le-length (λ (i : IssuedCommand). is_hit history i.command) history
+
+pub fold-max-le : (m : ℕ) (xs : List ℕ) → m ≤ fold max m xs
+fold-max-le m [] = omega arith
+fold-max-le m (x ∷ xs) = omega (arith, fold-max-le (max m x) xs)
+
+sum-le : (m most : ℕ) (xs : List ℕ) → fold max m xs ≤ most → sum xs ≤ length xs * most
+sum-le m most [] h = omega arith
+sum-le m most (x ∷ xs) h =
+    let rest : sum xs ≤ length xs * most = sum-le (max m x) most xs h in
+    let one : suc (length xs) * most ≡ length xs * most + most = grind arith in
+    omega (arith, sum_by-cons (λ n. n) x xs, fold-max-le (max m x) xs)
+
+length-queue_lengths : (channel : ℕ) (steps : List (Option Command)) (inbox : List Message) → length (queue_lengths channel steps inbox) ≡ length steps
+unfolding queue_lengths
+length-queue_lengths channel steps inbox = omega (arith, length-map (below (length steps)) (queue_length channel steps inbox), length-range_with_len 0 (length steps))
+
+pub queued-le : (channel : ℕ) (steps : List (Option Command)) (inbox : List Message) → queued channel steps inbox ≤ length steps * queued_max channel steps inbox
+unfolding queued queued_max
+queued-le channel steps inbox =
+    let lengths = queue_lengths channel steps inbox in
+    let h : sum lengths ≤ length lengths * fold max 0 lengths = sum-le 0 (fold max 0 lengths) lengths (omega arith) in
+    rw (← length-queue_lengths channel steps inbox) h
+
+count-below-le : (p : ℕ → Bool) (n : ℕ) → count_by p (below n) ≤ n
+count-below-le p n = omega (arith, count_by-le-length p (below n), length-range_with_len 0 n)
+
+pub idle-le : (channel : ℕ) (steps : List (Option Command)) (inbox : List Message) → idle channel steps inbox ≤ length steps
+unfolding idle
+idle-le channel steps inbox = omega (arith, count_by-le-length (λ n. eqb n 0) (queue_lengths channel steps inbox), length-queue_lengths channel steps inbox)
+
+pub refreshing-le : (s : Config) (channel : ℕ) (steps : List (Option Command)) → refreshing s channel steps ≤ length steps
+unfolding refreshing
+refreshing-le s channel steps = count-below-le (has_refresh_due s channel steps) (length steps)
+
+pub draining-le : (s : Config) (channel : ℕ) (steps : List (Option Command)) (inbox : List Message) → draining s channel steps inbox ≤ length steps
+unfolding draining
+draining-le s channel steps inbox = count-below-le (drains s channel steps inbox) (length steps)
+
+draining_of-fits : (s : Config) (n : ℕ) → n < 2 ^ 64 → IfSome (draining_of s n) (λ count. count < 2 ^ 64)
+draining_of-fits s n h = cond_both (ltb 0 s.write_high) (Some n) None (λ o. IfSome o (λ count. count < 2 ^ 64)) (λ e. h) (λ e. tt)
+
+-- the counts of a run fit, since a cycle and the greatest length of the queue do
+pub channel_stats-fit : (s : Config) (channel : ℕ) (steps : List (Option Command)) (inbox : List Message) → length steps ≤ 2 ^ 62
+    → queued_max channel steps inbox < 2 ^ 64 → ChannelFits (channel_stats s channel steps inbox)
+unfolding channel_stats
+channel_stats-fit s channel steps inbox cycles longest =
+    let history = issued_commands channel steps in
+    let few : length history ≤ length steps = length-issued_commands-le channel steps in
+    let most : length steps * queued_max channel steps inbox ≤ 2 ^ 62 * 2 ^ 64 = mul-le _ _ (2 ^ 62) (2 ^ 64) cycles (omega arith) in
+    record {
+      act = omega (arith, issued_of_kind-le kind.Act history);
+      rd = omega (arith, issued_of_kind-le kind.Rd history);
+      wr = omega (arith, issued_of_kind-le kind.Wr history);
+      pre = omega (arith, issued_of_kind-le kind.Pre history);
+      prea = omega (arith, issued_of_kind-le kind.Prea history);
+      refs = omega (arith, issued_of_kind-le kind.Ref history);
+      hits = omega (arith, hits-le history);
+      queued = omega (arith, queued-le channel steps inbox);
+      queued_max = longest;
+      idle = omega (arith, idle-le channel steps inbox);
+      refreshing = omega (arith, refreshing-le s channel steps);
+      draining = draining_of-fits s (draining s channel steps inbox) (omega (arith, draining-le s channel steps inbox));
+    }
+
+-- NUMBERS
+
+-- numbers of a channel's counters are those of the statistics that have them
+pub channel_numbers-of : (numbers : List (Option ℕ)) (drained : Option ℕ) → AreNumbersOf channel_counters numbers → channel_numbers (channel_of numbers drained) ≡ numbers
+channel_numbers-of numbers drained h = numbers-are channel_counters numbers h
+
+-- counts that fit are numbers of the counters
+pub channel_numbers-fit : (stats : ChannelStats) → ChannelFits stats → AreNumbersOf channel_counters (channel_numbers stats)
+channel_numbers-fit stats h =
+    (h.act, (h.rd, (h.wr, (h.pre, (h.prea, (h.refs, (h.hits, (h.queued, (h.queued_max, (h.idle, (h.refreshing, tt)))))))))))
+
+pub channel_fits : (stats : ChannelStats) → AreNumbersOf channel_counters (channel_numbers stats) → IfSome stats.draining (λ count. count < 2 ^ 64) → ChannelFits stats
+channel_fits stats h draining =
+    record {
+      act = h.0;
+      rd = h.1.0;
+      wr = h.1.1.0;
+      pre = h.1.1.1.0;
+      prea = h.1.1.1.1.0;
+      refs = h.1.1.1.1.1.0;
+      hits = h.1.1.1.1.1.1.0;
+      queued = h.1.1.1.1.1.1.1.0;
+      queued_max = h.1.1.1.1.1.1.1.1.0;
+      idle = h.1.1.1.1.1.1.1.1.1.0;
+      refreshing = h.1.1.1.1.1.1.1.1.1.1.0;
+      draining = draining;
+    }
+
+-- those of no cycle fit
+pub channel_none-fits : ChannelFits channel_none
+channel_none-fits = record { act = omega arith; rd = omega arith; wr = omega arith; pre = omega arith; prea = omega arith; refs = omega arith; hits = omega arith; queued = omega arith; queued_max = omega arith; idle = omega arith; refreshing = omega arith; draining = tt }
+
+-- before the first cycle nothing is counted
+pub channel_stats-none : (s : Config) (channel : ℕ) (inbox : List Message) → channel_stats s channel [] inbox ≡ record channel_none { draining = draining_of s 0 }
+unfolding channel_stats issued_commands issued_of_kind hits queue_lengths queued queued_max idle refreshing draining
+channel_stats-none s channel inbox = refl

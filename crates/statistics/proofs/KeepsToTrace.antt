@@ -1,16 +1,15 @@
--- How great the statistics of a core get: what lets each count fit.
-use Rattle.std.proofs.Common.{◌≡◌, ℕ, zero, suc, ◌+◌, ◌-◌, ◌*◌, ◌^◌, ◌<◌, ◌≤◌, Bool, true, cond, eqb, ltb, min, List, [], ◌∷◌, ◌++◌, length, take, Option, Some, None, sym, ap, subst, ◌∙◌, ⊎_elim, arith}
-use Rattle.std.specs.Prelude.{count_by, sum_by, filter, find, unwrap_or, is_some}
+-- What a core issues and retires keeps to its trace: it issues no more entries than there are, and retires none before
+-- it is issued.
+use Rattle.std.proofs.Common.{◌≡◌, ℕ, zero, suc, ◌+◌, ◌-◌, ◌<◌, ◌≤◌, Bool, true, cond, eqb, min, List, [], ◌∷◌, ◌++◌, length, Option, Some, None, sym, ap, subst, ◌∙◌, ⊎_elim, arith}
+use Rattle.std.specs.Prelude.{find, unwrap_or, is_some}
 use Rattle.std.specs.List.{range_with_len}
 use Rattle.std.specs.Option.{IfSome, option_or}
-use Rattle.std.proofs.lemmas.Bool.{cond_both, cond-true, cases_lt, and_parts, ltb-true, eq-eqb}
-use Rattle.std.proofs.lemmas.List.{length-map, length-take}
+use Rattle.std.proofs.lemmas.Bool.{cond_both, cond-true, cases_lt, eq-eqb}
 use Rattle.std.proofs.lemmas.List.Folds.{length-prefix_len}
 use Rattle.std.proofs.lemmas.List.FromFn.{length-range_with_len}
-use Rattle.std.proofs.lemmas.List.Sums.{sum_by-cons, count_by-le-length, prefix_len-le-length}
-use Rattle.std.proofs.lemmas.Nat.{mul-le}
+use Rattle.std.proofs.lemmas.List.Sums.{prefix_len-le-length}
 use Rattle.sim_base.specs.declared.config.Config.{Config}
-use Rattle.sim_base.specs.Counts.{is_read, is_write, reads, writes, replied_entry, is_reply, is_reply_before, replies, wait_of, read_latency, stop_in, stops, is_stop, stopped_by}
+use Rattle.sim_base.specs.Counts.{stops}
 use Rattle.sim_base.specs.History.{below, trace_of, steps_of_core, retired_before, issued_before, core_messages, inbox}
 use Rattle.sim_base.specs.Machine.{run, core_run}
 use Rattle.sim_base.specs.Windows.{done_from, is_done, retires, stop_after, has_cause, first_stop, step}
@@ -18,63 +17,10 @@ use Rattle.sim_base.specs.declared.history.CoreStep.{CoreStep}
 use Rattle.sim_base.specs.declared.message.Message.{Message}
 use Rattle.sim_base.specs.declared.message.Unit.TheVariants.{Core}
 use Rattle.sim_base.specs.declared.trace.Entry.{Entry}
-use Rattle.sim_base.specs.declared.trace.Stop.{Stop}
-use Rattle.sim_base.specs.declared.trace.Stop.TheVariants as stop
 use Rattle.sim_base.proofs.Grows.{issued_before-push}
-use Rattle.statistics.specs.Cores.{core_stats, CoreFits}
-use Rattle.statistics.proofs.CoreSteps.{retired_before-push}
+use Rattle.statistics.proofs.CoreCounts.{retired_before-push}
 use Rattle.statistics.proofs.Lists.{find_below_more}
 use Rattle.statistics.proofs.RunSteps.{steps_of_core-next}
-
-pub count-take-le : (p : Entry → Bool) (n : ℕ) (trace : List Entry) → count_by p (take n trace) ≤ n
-count-take-le p n trace = omega (arith, count_by-le-length p (take n trace), length-take n trace)
-
-wait_of-le : (steps : List CoreStep) (arrival : ℕ) (o : Option ℕ) → wait_of steps arrival o ≤ arrival
-wait_of-le steps arrival None = omega arith
-wait_of-le steps arrival (Some entry) = omega arith
-
-waits-le : (steps : List CoreStep) (cycles : ℕ) (ms : List Message)
-    → sum_by (λ m. wait_of steps m.arrival (replied_entry m.load)) (filter (is_reply_before cycles) ms) ≤ length (filter (is_reply_before cycles) ms) * cycles
-waits-le steps cycles [] = omega arith
-waits-le steps cycles (m ∷ ms) =
-    let kept = filter (is_reply_before cycles) ms in
-    let wait = λ (x : Message). wait_of steps x.arrival (replied_entry x.load) in
-    cond_both (is_reply_before cycles m) (m ∷ kept) kept (λ x. sum_by wait x ≤ length x * cycles)
-    (λ e.
-    let l : m.arrival < cycles = ltb-true m.arrival cycles (and_parts (is_reply m) (ltb m.arrival cycles) e).1 in
-    let rest : sum_by wait kept ≤ length kept * cycles = waits-le steps cycles ms in
-    let one : suc (length kept) * cycles ≡ length kept * cycles + cycles = grind arith in
-    omega (arith, sum_by-cons wait m kept, wait_of-le steps m.arrival (replied_entry m.load)))
-    (λ e. waits-le steps cycles ms)
-
-pub read_latency-le : (steps : List CoreStep) (inbox : List Message) → read_latency steps inbox ≤ length (replies steps inbox) * length steps
-unfolding read_latency replies
-read_latency-le steps inbox = waits-le steps (length steps) inbox
-
-pub stopped_by-le : (s : Config) (core : ℕ) (trace : List Entry) (steps : List CoreStep) (inbox : List Message) (why : Stop) → stopped_by s core trace steps inbox why ≤ length steps
-unfolding stopped_by stops
-stopped_by-le s core trace steps inbox why =
-    omega (arith, count_by-le-length (is_stop why) (stops s core trace steps inbox), length-map (below (length steps)) (stop_in s core trace steps inbox), length-range_with_len 0 (length steps))
-
--- the counts of a run fit, since a cycle and the length of a trace do
-pub core_stats-fit : (s : Config) (core : ℕ) (trace : List Entry) (steps : List CoreStep) (inbox : List Message) → length steps ≤ 2 ^ 62 → issued_before steps ≤ 2 ^ 62
-    → retired_before steps ≤ 2 ^ 62 → length (replies steps inbox) ≤ 2 ^ 62 → CoreFits (core_stats s core trace steps inbox)
-unfolding core_stats reads writes
-core_stats-fit s core trace steps inbox cycles issued retired replied =
-    let most : length (replies steps inbox) * length steps ≤ 2 ^ 62 * 2 ^ 62 = mul-le _ _ (2 ^ 62) (2 ^ 62) replied cycles in
-    record {
-      issued = omega arith;
-      retired = omega arith;
-      reads = omega (arith, count-take-le is_read (issued_before steps) trace);
-      writes = omega (arith, count-take-le is_write (issued_before steps) trace);
-      replies = omega arith;
-      read_latency = omega (arith, read_latency-le steps inbox);
-      stop_end = omega (arith, stopped_by-le s core trace steps inbox stop.End);
-      stop_width = omega (arith, stopped_by-le s core trace steps inbox stop.Width);
-      stop_window = omega (arith, stopped_by-le s core trace steps inbox stop.Window);
-      stop_memory = omega (arith, stopped_by-le s core trace steps inbox stop.Memory);
-      stop_credit = omega (arith, stopped_by-le s core trace steps inbox stop.Credit);
-    }
 
 -- a core retires no more than it issued
 pub retires-le : (s : Config) (trace : List Entry) (steps : List CoreStep) (inbox : List Message) → retires s trace steps inbox ≤ issued_before steps - retired_before steps

@@ -1,5 +1,0 @@
-use Rattle.reports.proofs.RowLemmas.{line-row}
-use Rattle.reports.proofs.stats.write_count.Goals as goal
-
-pub returns : goal.returns
-returns g c = rw (c.put_count-start.ensures.text, line-row) at c.write_row.ensures
