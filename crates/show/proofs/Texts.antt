@@ -9,7 +9,7 @@ use Rattle.measures.specs.declared.request_measures.latency.Latencies.{Latencies
 use Rattle.request_table.specs.declared.times.RequestTimes.{RequestTimes}
 use Rattle.show.specs.Requests.{replies_of}
 use Rattle.show.specs.Rows.{time_text}
-use Rattle.show.specs.Screen.{IsBelow, AreChannels, AreCores, IsScreen, channels_head, cores_head}
+use Rattle.show.specs.Screen.{IsBelow, AreChannels, AreCores, IsScreen, channels_head, cores_head, finished}
 use Rattle.show.specs.declared.options.Options.{Options}
 use Rattle.sim_base.specs.declared.config.Config.{Config}
 use Rattle.statistics.specs.Values.{RunStats}
@@ -29,10 +29,10 @@ table_as {label} {label'} {headings} {headings'} {rows} {rows'} all text l h r t
 -- the cores of a run, and the time of its cycles
 pub record IsBottom (stats : RunStats) (options : Options) (text : List ℕ) : Type 0 where
   pub cores : List ℕ
-  pub cores_are : IsBelow (cores_head (length stats.cores)) (AreCores stats options) cores
+  pub cores_are : IsBelow (cores_head (length stats.cores) (finished stats.cores)) (AreCores stats options) cores
   pub text_is : text ≡ cores ++ time_text options.khz stats.cycles
 
-pub bottom_of : (stats : RunStats) (options : Options) (cores time : List ℕ) → IsBelow (cores_head (length stats.cores)) (AreCores stats options) cores
+pub bottom_of : (stats : RunStats) (options : Options) (cores time : List ℕ) → IsBelow (cores_head (length stats.cores) (finished stats.cores)) (AreCores stats options) cores
     → time ≡ time_text options.khz stats.cycles → IsBottom stats options (cores ++ time)
 bottom_of stats options cores time are is = record { cores = cores; cores_are = are; text_is = ap (λ t. cores ++ t) is }
 

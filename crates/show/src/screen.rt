@@ -2,7 +2,7 @@
 
 ghost use Rattle.std.specs.Prelude.{◌≡◌, IfOk, length, map, string_bytes};
 ghost use Rattle.show.specs.Rows.{channel_headings, core_headings, machine_in, time_text};
-ghost use Rattle.show.specs.Screen.{IsBelow, AreChannels, AreCores, IsScreen, channels_head, cores_head};
+ghost use Rattle.show.specs.Screen.{IsBelow, AreChannels, AreCores, IsScreen, channels_head, cores_head, finished};
 ghost use Rattle.measures.specs.Texts.{Puts, PutsWords};
 
 use crate::options::Options;
@@ -12,6 +12,7 @@ use crate::rows::{
 use crate::table::TableLayout;
 use measures::text_builder::TextBuilder;
 use sim_base::config::Config;
+use statistics::cores::CoreStats;
 use statistics::stats::Stats;
 use std::alloc::{AllocError, Global};
 
@@ -62,15 +63,23 @@ fn put_channels(
     table.put(alloc, rows, out);
 }
 
+// How many cores have finished.
+fn finished(cores: &[CoreStats]) -> usize
+    ensures { result ≡ finished cores.now }
+{
+    cores.iter().filter(|core| core.finish.is_some()).count()
+}
+
 // The cores of a run.
 fn put_cores(alloc: Global, stats: &Stats, options: Options, out: &mut TextBuilder)
-    ensures { Puts (IsBelow (cores_head (length stats.now.cores)) (AreCores stats.now options))
-        out.old out.new }
+    ensures { Puts (IsBelow (cores_head (length stats.now.cores) (finished stats.now.cores))
+        (AreCores stats.now options)) out.old out.new }
 {
     let cores = stats.cores.len();
+    let finished = finished(&stats.cores);
     write!(
         out,
-        "\nCores ({cores}): finish and latency in cycles, why no more was issued in % of the cycles\n"
+        "\nCores ({cores}, {finished} finished): finish and latency in cycles, why no more was issued in % of the cycles\n"
     );
     let table = TableLayout {
         label: "core",
@@ -114,9 +123,10 @@ pub(crate) fn put_screen(
 ///   data bus was taken (4 cycles for each RD and WR), the mean and the greatest length of its queue, and the
 ///   percentages of cycles in which its queue was empty, a refresh was due, and it drained its writes; and, where the
 ///   configuration is given, the percentage of cycles that its REFs take, nRFC each.
-/// - Of a core: the entries that it retired, in total and per cycle, the cycle in which the last one retired, and the
-///   entries per cycle up to that one, the reads that it issued, the mean latency in cycles of those that were
-///   answered, and, for each reason, the percentage of cycles in which it issued no more for that reason.
+/// - How many cores have finished, and of a core: the entries that it retired, in total and per cycle, the cycle in
+///   which the last one retired, and the entries per cycle up to that one, the reads that it issued, the mean latency
+///   in cycles of those that were answered, and, for each reason, the percentage of cycles in which it issued no more
+///   for that reason.
 /// - Where the clock is given: of a channel the data that it moved in GB/s, 64 bytes for each RD and WR, of a core the
 ///   finish and the mean latency in ns, and last the cycles in ns.
 ///
