@@ -6,14 +6,16 @@ use Rattle.std.specs.Prelude.{ℕ, List, Option, Some, None, Result, Ok, Err, if
 use Rattle.std.specs.Str.{is_utf8}
 use Rattle.toml.specs.Data.{Members}
 use Rattle.toml.specs.Parse.{parse_document}
-use Rattle.sim_base.specs.Values.{Values}
+use Rattle.toml.specs.View.{table_view}
+use Rattle.sim_base.specs.Keys.{numbers_before_fields, numbers_behind_fields}
+use Rattle.sim_base.specs.Values.{Values, values_from}
 use Rattle.config_reader.specs.declared.draft.Draft.{Draft}
 use Rattle.sim_base.specs.declared.fault.Fault.{Fault}
 use Rattle.sim_base.specs.declared.fault.Fault.TheVariants.{ConfigSyntax}
 use Rattle.config_reader.specs.Document.Fields.{fields_of}
 use Rattle.config_reader.specs.Document.Keys.{◌>>=◌, known_of}
 use Rattle.config_reader.specs.Document.Links.{overrides_of}
-use Rattle.config_reader.specs.Document.Numbers.{machine_of, memory_of, core_of, latencies_of, timing_of, drain_of, end_of}
+use Rattle.config_reader.specs.Document.Numbers.{numbers_of, number_in, end_of}
 use Rattle.config_reader.specs.Document.Relations.{relations_of}
 pub mod Keys
 pub mod Numbers
@@ -23,62 +25,19 @@ pub mod Relations
 
 -- what a draft says
 abbrev pub draft_values : Draft → Values
-draft_values d = record {
-  cores = d.machine.cores;
-  channels = d.machine.channels;
-  ranks = d.memory.ranks;
-  groups = d.memory.groups;
-  columns = d.memory.columns;
-  rows = d.memory.rows;
-  fields = d.fields.items;
-  window = d.core.window;
-  width = d.core.width;
-  read_credits = d.core.read_credits;
-  write_credits = d.core.write_credits;
-  request_latency = d.latencies.request;
-  reply_latency = d.latencies.reply;
-  credit_latency = d.latencies.credit;
-  timing = d.timing;
-  write_high = d.drain.write_high;
-  write_low = d.drain.write_low;
-  overrides = d.overrides.items;
-  ends_drained = d.ends_drained;
-}
+draft_values d = values_from (number_in (table_view d.numbers.table.now)) d.fields.items d.overrides.items d.ends_drained
 
--- what the keys say, one after the other; then a key that no configuration has is refused
+-- what the keys say: the numbers are tested one after the other, with the order of the fields among them; then comes
+-- what else there is, and a key that no configuration has is refused
 unfoldable pub keys_of : Members → Result Values Fault
 keys_of ms = do
-  machine ← machine_of ms
-  memory ← memory_of ms
+  _ ← numbers_of ms numbers_before_fields
   fields ← fields_of ms
-  core ← core_of ms
-  latencies ← latencies_of ms
-  timing ← timing_of ms
-  drain ← drain_of ms
+  _ ← numbers_of ms numbers_behind_fields
   ends_drained ← end_of ms
   overrides ← overrides_of ms
   _ ← known_of ms
-  Ok (record {
-    cores = machine.cores;
-    channels = machine.channels;
-    ranks = memory.ranks;
-    groups = memory.groups;
-    columns = memory.columns;
-    rows = memory.rows;
-    fields = fields;
-    window = core.window;
-    width = core.width;
-    read_credits = core.read_credits;
-    write_credits = core.write_credits;
-    request_latency = latencies.request;
-    reply_latency = latencies.reply;
-    credit_latency = latencies.credit;
-    timing = timing;
-    write_high = drain.write_high;
-    write_low = drain.write_low;
-    overrides = overrides;
-    ends_drained = ends_drained;
-  })
+  Ok (values_from (number_in ms) fields overrides ends_drained)
 
 -- what the keys say, where the relations between them hold
 unfoldable pub config_of : Members → Result Values Fault

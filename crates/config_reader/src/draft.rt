@@ -1,19 +1,20 @@
 //! What the keys of a document say.
 
 ghost use Rattle.sim_base.specs.Fields.{FieldsInOrder};
-ghost use Rattle.sim_base.specs.Keys.{MachineInRange, MemoryInRange, CoreInRange, LatenciesInRange, OverridesInRange, TimingInRange, DrainInRange};
+ghost use Rattle.sim_base.specs.Keys.{OverridesInRange};
 
 use crate::end::read_end;
 use crate::fields::read_fields;
 use crate::keys::check_keys;
 use crate::links::read_overrides;
-use crate::numbers::{CoreLimits, Drain, Latencies, MachineSize, MemoryShape};
+use crate::numbers::{Numbers, check_numbers};
 use crate::relations::{
     check_credits, check_distances, check_drain, check_links, check_ranks, check_refresh,
 };
-use crate::timing::read_timing;
 use sim_base::config::Config;
 use sim_base::fault::Fault;
+use sim_base::key::{Key, numbers_before_fields, numbers_behind_fields};
+use sim_base::key_numbers::KeyNumbers;
 use sim_base::overrides::{Override, Overrides};
 use sim_base::place::{Field, FieldOrder};
 use sim_base::timing::Timing;
@@ -22,60 +23,40 @@ use toml::Table;
 
 /// A configuration whose keys are right, but whose relations have not been tested yet.
 #[derive(Drop)]
-pub(super) struct Draft {
-    machine: MachineSize,
-    memory: MemoryShape,
+pub(super) struct Draft<'t> {
+    numbers: Numbers<'t>,
     fields: Vec<Field>,
-    core: CoreLimits,
-    latencies: Latencies,
-    timing: Timing,
-    drain: Drain,
-    ends_drained: bool,
     overrides: Vec<Override>,
-    ghost machine_in_range: { MachineInRange machine.cores machine.channels },
-    ghost memory_in_range: { MemoryInRange memory.ranks memory.groups memory.columns memory.rows },
+    ends_drained: bool,
     ghost fields_in_order: { FieldsInOrder fields.items },
-    ghost core_in_range: { CoreInRange core.window core.width core.read_credits core.write_credits },
-    ghost latencies_in_range: { LatenciesInRange latencies.request latencies.reply latencies.credit },
-    ghost timing_in_range: { TimingInRange timing },
-    ghost drain_in_range: { DrainInRange drain.write_high drain.write_low },
     ghost overrides_in_range: { OverridesInRange overrides.items },
 }
 
-impl Draft {
+impl<'t> Draft<'t> {
     ghost use Rattle.std.specs.Prelude.{◌≡◌, ◌↔◌, Ok, IfOk, IfErr, IsOk};
     ghost use Rattle.toml.specs.View.{table_view};
-    ghost use Rattle.sim_base.specs.Values.{values_of};
+    ghost use Rattle.sim_base.specs.Values.{IsRelated, values_of};
     ghost use Rattle.config_reader.specs.Document.{draft_values, keys_of};
-    ghost use Rattle.config_reader.specs.Document.Relations.{IsRelated, relations_of};
+    ghost use Rattle.config_reader.specs.Document.Relations.{relations_of};
     ghost use Rattle.config_reader.specs.Refusals.{IsRefusalOf};
 
     /// Reads the keys of a document one after the other, and then refuses a key that no configuration has.
     #[tactic(auto, unfolding(crate::specs::Document::keys_of))]
-    pub(super) fn read(alloc: Global, table: &Table) -> Result<Draft, Fault>
+    pub(super) fn read(alloc: Global, table: &'t Table) -> Result<Draft<'t>, Fault>
         ensures ok { IfOk result (λ d. keys_of (table_view table.now) ≡ Ok (draft_values d)) }
         ensures refused { IfErr result (IsRefusalOf (keys_of (table_view table.now))) }
     {
-        let machine = MachineSize::read(table)?;
-        let memory = MemoryShape::read(table)?;
+        check_numbers(table, numbers_before_fields())?;
         let fields = read_fields(alloc, table)?;
-        let core = CoreLimits::read(table)?;
-        let latencies = Latencies::read(table)?;
-        let timing = read_timing(table)?;
-        let drain = Drain::read(table)?;
+        check_numbers(table, numbers_behind_fields())?;
         let ends_drained = read_end(table)?;
         let overrides = read_overrides(alloc, table)?;
         check_keys(table)?;
         Ok(Draft {
-            machine,
-            memory,
+            numbers: Numbers { table },
             fields,
-            core,
-            latencies,
-            timing,
-            drain,
-            ends_drained,
             overrides,
+            ends_drained,
         })
     }
 
@@ -85,39 +66,29 @@ impl Draft {
         ensures value { result ≡ relations_of (draft_values self.now) }
         ensures related { IsOk result ↔ IsRelated (draft_values self.now) }
     {
-        check_distances(&self.timing)?;
-        check_refresh(&self.timing, self.memory.ranks)?;
-        check_credits(self.machine.cores, self.core)?;
-        check_links(self.machine, &self.overrides)?;
-        check_ranks(self.memory.ranks, &self.fields)?;
-        check_drain(self.machine.cores, self.core.write_credits, self.drain)
+        let timing = Timing::from_numbers(&self.numbers);
+        let ranks = self.numbers.number(Key::Ranks);
+        let cores = self.numbers.number(Key::Cores);
+        let channels = self.numbers.number(Key::Channels);
+        let read_credits = self.numbers.number(Key::ReadCredits);
+        let write_credits = self.numbers.number(Key::WriteCredits);
+        let write_high = self.numbers.number(Key::WriteHigh);
+        let write_low = self.numbers.number(Key::WriteLow);
+        check_distances(&timing)?;
+        check_refresh(&timing, ranks)?;
+        check_credits(cores, read_credits, write_credits)?;
+        check_links(cores, channels, &self.overrides)?;
+        check_ranks(ranks, &self.fields)?;
+        check_drain(cores, write_credits, write_high, write_low)
     }
 
     /// The configuration.
     pub(super) fn into_config(self) -> Config
         requires { IsRelated (draft_values self) }
-        ensures { values_of result ≡ draft_values self }
+        ensures { values_of result ≡ draft_values self.entry }
     {
-        Config {
-            cores: self.machine.cores,
-            channels: self.machine.channels,
-            ranks: self.memory.ranks,
-            groups: self.memory.groups,
-            columns: self.memory.columns,
-            rows: self.memory.rows,
-            fields: FieldOrder::new(self.fields),
-            window: self.core.window,
-            width: self.core.width,
-            read_credits: self.core.read_credits,
-            write_credits: self.core.write_credits,
-            request_latency: self.latencies.request,
-            reply_latency: self.latencies.reply,
-            credit_latency: self.latencies.credit,
-            timing: self.timing,
-            write_high: self.drain.write_high,
-            write_low: self.drain.write_low,
-            overrides: Overrides::new(self.overrides),
-            ends_drained: self.ends_drained,
-        }
+        let fields = FieldOrder::new(self.fields);
+        let overrides = Overrides::new(self.overrides);
+        Config::from_numbers(&self.numbers, fields, overrides, self.ends_drained)
     }
 }

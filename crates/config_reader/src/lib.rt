@@ -15,7 +15,6 @@ mod keys;
 mod links;
 mod numbers;
 mod relations;
-mod timing;
 
 use draft::Draft;
 use sim_base::config::Config;

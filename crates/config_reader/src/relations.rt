@@ -2,13 +2,12 @@
 
 ghost use Rattle.std.specs.Prelude.{◌≡◌, ◌↔◌, ◌*◌, ◌≤◌, ◌==◌, ◌<◌, All, IsOk, IsTrue, nat_lt};
 ghost use Rattle.std.specs.List.{list_all, list_any};
-ghost use Rattle.sim_base.specs.Keys.{MachineInRange, CoreInRange, TimingInRange, DrainInRange, AcceptedAt};
+ghost use Rattle.sim_base.specs.Keys.{TimingInRange, AcceptedAt};
 ghost use Rattle.sim_base.specs.declared.key.Key.TheVariants as key;
 ghost use Rattle.sim_base.specs.Relations.{refresh_slack_of, DistancesFit, RefreshFits, CreditsFit, LinksDiffer, RanksHaveField, DrainFits};
 ghost use Rattle.config_reader.specs.Document.Relations.{LinksFit, relation, distances_of, refresh_of, credits_of, links_differ, links_of, ranks_of, drain_fits_of};
 
 use crate::fields::count;
-use crate::numbers::{CoreLimits, Drain, MachineSize};
 use sim_base::fault::Fault;
 use sim_base::overrides::Override;
 use sim_base::place::Field;
@@ -69,15 +68,14 @@ pub(super) fn check_refresh(timing: &Timing, ranks: u32) -> Result<(), Fault>
 
 /// Relation 7.
 #[tactic(auto, unfolding(crate::specs::Document::Relations::credits_of))]
-pub(super) fn check_credits(cores: u16, core: CoreLimits) -> Result<(), Fault>
-    requires { CoreInRange core.window core.width core.read_credits core.write_credits }
-    ensures value { result ≡ credits_of cores core.read_credits core.write_credits }
-    ensures fit { IsOk result ↔ CreditsFit cores core.read_credits core.write_credits }
+pub(super) fn check_credits(cores: u32, read_credits: u32, write_credits: u32) -> Result<(), Fault>
+    requires cores { AcceptedAt key.Cores cores }
+    requires reads { AcceptedAt key.ReadCredits read_credits }
+    requires writes { AcceptedAt key.WriteCredits write_credits }
+    ensures value { result ≡ credits_of cores read_credits write_credits }
+    ensures fit { IsOk result ↔ CreditsFit cores read_credits write_credits }
 {
-    relation(
-        7,
-        u32::from(cores) * (core.read_credits + core.write_credits) <= 8192,
-    )
+    relation(7, cores * (read_credits + write_credits) <= 8192)
 }
 
 /// Whether each override is for a link below a bound.
@@ -121,12 +119,13 @@ fn links_differ(overrides: &[Override]) -> bool
 
 /// Relations 8 and 9.
 #[tactic(auto, unfolding(crate::specs::Document::Relations::links_of))]
-pub(super) fn check_links(machine: MachineSize, overrides: &[Override]) -> Result<(), Fault>
-    requires { MachineInRange machine.cores machine.channels }
-    ensures value { result ≡ links_of machine.cores machine.channels overrides.now }
-    ensures fit { IsOk result ↔ LinksFit machine.cores machine.channels overrides.now }
+pub(super) fn check_links(cores: u32, channels: u32, overrides: &[Override]) -> Result<(), Fault>
+    requires cores { AcceptedAt key.Cores cores }
+    requires channels { AcceptedAt key.Channels channels }
+    ensures value { result ≡ links_of cores channels overrides.now }
+    ensures fit { IsOk result ↔ LinksFit cores channels overrides.now }
 {
-    let links = 3 * u64::from(machine.cores) * u64::from(machine.channels);
+    let links = 3 * u64::from(cores) * u64::from(channels);
     relation(8, are_below(overrides, links))?;
     relation(9, links_differ(overrides))
 }
@@ -143,15 +142,19 @@ pub(super) fn check_ranks(ranks: u32, fields: &[Field]) -> Result<(), Fault>
 
 /// Relations 11 and 12.
 #[tactic(auto, unfolding(crate::specs::Document::Relations::drain_fits_of))]
-pub(super) fn check_drain(cores: u16, write_credits: u32, drain: Drain) -> Result<(), Fault>
+pub(super) fn check_drain(
+    cores: u32,
+    write_credits: u32,
+    write_high: u32,
+    write_low: u32,
+) -> Result<(), Fault>
+    requires cores { AcceptedAt key.Cores cores }
     requires credits { AcceptedAt key.WriteCredits write_credits }
-    requires drain { DrainInRange drain.write_high drain.write_low }
-    ensures value { result ≡ drain_fits_of cores write_credits drain.write_high drain.write_low }
-    ensures fits { IsOk result ↔ DrainFits cores write_credits drain.write_high drain.write_low }
+    requires high { AcceptedAt key.WriteHigh write_high }
+    requires low { AcceptedAt key.WriteLow write_low }
+    ensures value { result ≡ drain_fits_of cores write_credits write_high write_low }
+    ensures fits { IsOk result ↔ DrainFits cores write_credits write_high write_low }
 {
-    relation(
-        11,
-        drain.write_high + drain.write_low == 0 || drain.write_low < drain.write_high,
-    )?;
-    relation(12, drain.write_high <= u32::from(cores) * write_credits)
+    relation(11, write_high + write_low == 0 || write_low < write_high)?;
+    relation(12, write_high <= cores * write_credits)
 }

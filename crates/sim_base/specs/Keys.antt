@@ -10,8 +10,11 @@
 --     LatenciesInRange request reply credit, OverridesInRange overrides      so may these latencies of messages
 --     TimingInRange t      so may these distances between commands
 --     DrainInRange write_high write_low      so may these numbers of writes, at which a drain begins and ends
+--     numbers_before_fields, numbers_behind_fields      the keys of numbers, in the order in which they are tested
 --     document_keys      the keys that a document may have, beside those of an item of `link`
-use Rattle.std.specs.Prelude.{ℕ, ◌≤◌, List, [], ◌∷◌, All, IsTrue, false, Option, Some, None, codes}
+--     has_number key      a document has a number at this key
+--     timing_from number      the distances between commands, from the number at each key
+use Rattle.std.specs.Prelude.{ℕ, ◌≤◌, List, [], ◌∷◌, ◌++◌, All, IsTrue, Bool, true, false, Option, Some, None, codes}
 use Rattle.std.specs.Int.{is_power_of_two}
 use Rattle.sim_base.specs.declared.key.Key.{Key}
 use Rattle.sim_base.specs.declared.key.Key.TheVariants as key
@@ -175,11 +178,52 @@ pub record DrainInRange (write_high write_low : ℕ) : Type 0 where
   pub write_high_in : AcceptedAt key.WriteHigh write_high
   pub write_low_in : AcceptedAt key.WriteLow write_low
 
+-- the keys of numbers that are tested before the order of the fields of an address, one after the other
+abbrev pub numbers_before_fields : List Key
+numbers_before_fields = key.Cores ∷ key.Channels ∷ key.Groups ∷ key.Ranks ∷ key.Columns ∷ key.Rows ∷ []
+
+-- the keys of numbers that are tested behind it
+abbrev pub numbers_behind_fields : List Key
+numbers_behind_fields =
+    key.Window ∷ key.Width ∷ key.ReadCredits ∷ key.WriteCredits ∷ key.RequestLatency ∷ key.ReplyLatency ∷ key.CreditLatency
+    ∷ key.NRcd ∷ key.NRp ∷ key.NRas ∷ key.NRc ∷ key.NCl ∷ key.NCwl ∷ key.NCcdS ∷ key.NCcdL ∷ key.NRrdS ∷ key.NRrdL ∷ key.NFaw
+    ∷ key.NRtp ∷ key.NWr ∷ key.NWtrS ∷ key.NWtrL ∷ key.NRtw ∷ key.NRfc ∷ key.NRtrs ∷ key.NRefi ∷ key.WriteHigh
+    ∷ key.WriteLow ∷ []
+
 -- the keys that a document may have, beside those of an item of `link`
 abbrev pub document_keys : List Key
-document_keys =
-    key.Cores ∷ key.Channels ∷ key.Groups ∷ key.Ranks ∷ key.Columns ∷ key.Rows ∷ key.Fields ∷ key.Window ∷ key.Width
-    ∷ key.ReadCredits ∷ key.WriteCredits ∷ key.RequestLatency ∷ key.ReplyLatency ∷ key.CreditLatency ∷ key.NRcd ∷ key.NRp
-    ∷ key.NRas ∷ key.NRc ∷ key.NCl ∷ key.NCwl ∷ key.NCcdS ∷ key.NCcdL ∷ key.NRrdS ∷ key.NRrdL ∷ key.NFaw ∷ key.NRtp
-    ∷ key.NWr ∷ key.NWtrS ∷ key.NWtrL ∷ key.NRtw ∷ key.NRfc ∷ key.NRtrs ∷ key.NRefi ∷ key.WriteHigh ∷ key.WriteLow
-    ∷ key.End ∷ key.Link ∷ []
+document_keys = numbers_before_fields ++ key.Fields ∷ numbers_behind_fields ++ key.End ∷ key.Link ∷ []
+
+-- a document has a number at this key: at each of its keys but three
+abbrev pub has_number : Key → Bool
+has_number key.Fields = false
+has_number key.End = false
+has_number key.Link = false
+has_number key.Id = false
+has_number key.Latency = false
+has_number key.Unknown = false
+has_number _ = true
+
+-- the distances between commands of a configuration whose number at each key is this
+abbrev pub timing_from : (Key → ℕ) → Timing
+timing_from number = record {
+  n_rcd = number key.NRcd;
+  n_rp = number key.NRp;
+  n_ras = number key.NRas;
+  n_rc = number key.NRc;
+  n_cl = number key.NCl;
+  n_cwl = number key.NCwl;
+  n_ccd_s = number key.NCcdS;
+  n_ccd_l = number key.NCcdL;
+  n_rrd_s = number key.NRrdS;
+  n_rrd_l = number key.NRrdL;
+  n_faw = number key.NFaw;
+  n_rtp = number key.NRtp;
+  n_wr = number key.NWr;
+  n_wtr_s = number key.NWtrS;
+  n_wtr_l = number key.NWtrL;
+  n_rtw = number key.NRtw;
+  n_rfc = number key.NRfc;
+  n_rtrs = number key.NRtrs;
+  n_refi = number key.NRefi;
+}

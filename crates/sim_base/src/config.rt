@@ -5,6 +5,8 @@ ghost use Rattle.sim_base.specs.Fields.{FieldsInOrder};
 ghost use Rattle.std.proofs.Props.{props};
 ghost use Rattle.sim_base.specs.Relations.{DistancesFit, RefreshFits, CreditsFit, LinksExist, LinksDiffer, RanksHaveField, DrainFits};
 
+use crate::key::Key;
+use crate::key_numbers::KeyNumbers;
 use crate::message::{ChannelId, CoreId, LinkId};
 use crate::overrides::{Override, Overrides};
 use crate::place::FieldOrder;
@@ -63,6 +65,42 @@ pub struct Config {
 impl Config {
     ghost use Rattle.std.specs.Prelude.{◌≡◌, ◌+◌, ◌*◌, ◌≤◌, ◌<◌, ◌^◌, ◌==◌, find, IfOk};
     ghost use Rattle.sim_base.specs.Config.{request_link, reply_link, credit_link, usual_latency, latency};
+    ghost use Rattle.sim_base.specs.Values.{IsRelated, values_of, values_from};
+
+    /// The configuration of these numbers, with these fields and overrides.
+    pub fn from_numbers<N: KeyNumbers>(
+        numbers: &N,
+        fields: FieldOrder,
+        overrides: Overrides,
+        ends_drained: bool,
+    ) -> Config
+        requires in_order { FieldsInOrder fields }
+        requires in_range { OverridesInRange overrides }
+        requires related { IsRelated (values_from (N.number_at numbers.now) fields overrides ends_drained) }
+        ensures { values_of result ≡ values_from (N.number_at numbers.now) fields overrides ends_drained }
+    {
+        Config {
+            cores: numbers.number(Key::Cores) as u16,
+            channels: numbers.number(Key::Channels) as u16,
+            ranks: numbers.number(Key::Ranks),
+            groups: numbers.number(Key::Groups),
+            columns: numbers.number(Key::Columns),
+            rows: numbers.number(Key::Rows),
+            fields,
+            window: numbers.number(Key::Window),
+            width: numbers.number(Key::Width) as u16,
+            read_credits: numbers.number(Key::ReadCredits),
+            write_credits: numbers.number(Key::WriteCredits),
+            request_latency: numbers.number(Key::RequestLatency),
+            reply_latency: numbers.number(Key::ReplyLatency),
+            credit_latency: numbers.number(Key::CreditLatency),
+            timing: Timing::from_numbers(numbers),
+            write_high: numbers.number(Key::WriteHigh),
+            write_low: numbers.number(Key::WriteLow),
+            overrides,
+            ends_drained,
+        }
+    }
 
     /// A copy of the configuration. The only error is out of memory.
     #[tactic(auto, using(crate::proofs::SameValues::same_from_values))]

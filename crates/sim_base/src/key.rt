@@ -3,6 +3,7 @@
 //! that stands for it are proved to be those of `specs/Keys.antt`; words, group and meaning are for people.
 
 ghost use Rattle.std.specs.Prelude.{◌≡◌, Some};
+ghost use Rattle.sim_base.specs.Keys.{numbers_before_fields, numbers_behind_fields};
 
 use Accepts::{End, Fields, Integer, Links, Nothing, PowerOfTwo};
 use WhereAbsent::{Number, Refused, Usual};
@@ -94,6 +95,20 @@ pub static DOCUMENT_KEYS: [Key; 37] = [
     Key::End,
     Key::Link,
 ];
+
+/// The keys of numbers that are tested before the order of the fields of an address, one after the other.
+pub fn numbers_before_fields() -> &'static [Key]
+    ensures { result.now ≡ numbers_before_fields }
+{
+    &DOCUMENT_KEYS[..6]
+}
+
+/// The keys of numbers that are tested behind it.
+pub fn numbers_behind_fields() -> &'static [Key]
+    ensures { result.now ≡ numbers_behind_fields }
+{
+    &DOCUMENT_KEYS[7..35]
+}
 
 /// What may stand at a key.
 #[derive(Clone, Copy)]

@@ -6,6 +6,7 @@ pub mod config;
 pub mod fault;
 pub mod history;
 pub mod key;
+pub mod key_numbers;
 pub mod locality;
 pub mod message;
 pub mod overrides;

@@ -1,12 +1,11 @@
 -- The tests of what must hold between the numbers of a configuration, by their numbers from 1 to 12.
 --     relation n holds      refuses a relation that does not hold, by its number
 --     relations_of v      the first relation that does not hold
---     IsRelated v      each relation holds
 --     distances_of, refresh_of, credits_of, links_of, ranks_of, drain_fits_of      one relation after the other
 use Rattle.std.specs.Prelude.{ℕ, ◌+◌, ◌*◌, List, [], ◌∷◌, Bool, true, not, nat_lt, nat_le, ◌==◌, ◌&&◌, ◌||◌, if◌then◌else◌, count_by, Result, Ok, Err}
 use Rattle.std.specs.List.{list_any, list_all}
 use Rattle.sim_base.specs.Fields.{is_field}
-use Rattle.sim_base.specs.Relations.{refresh_slack_of, DistancesFit, RefreshFits, CreditsFit, LinksExist, LinksDiffer, RanksHaveField, DrainFits}
+use Rattle.sim_base.specs.Relations.{refresh_slack_of, LinksExist, LinksDiffer}
 use Rattle.sim_base.specs.Values.{Values}
 use Rattle.sim_base.specs.declared.fault.Fault.{Fault}
 use Rattle.sim_base.specs.declared.fault.Fault.TheVariants.{ConfigRelation}
@@ -71,13 +70,3 @@ relations_of v = do
   _ ← links_of v.cores v.channels v.overrides
   _ ← ranks_of v.ranks v.fields
   drain_fits_of v.cores v.write_credits v.write_high v.write_low
-
--- each relation holds, in the words of a configuration
-pub record IsRelated (v : Values) : Type 0 where
-  pub distances_fit : DistancesFit v.timing
-  pub refresh_fits : RefreshFits v.timing v.ranks
-  pub credits_fit : CreditsFit v.cores v.read_credits v.write_credits
-  pub links_exist : LinksExist v.cores v.channels v.overrides
-  pub links_differ : LinksDiffer v.overrides
-  pub ranks_have_field : RanksHaveField v.ranks v.fields
-  pub drain_fits : DrainFits v.cores v.write_credits v.write_high v.write_low

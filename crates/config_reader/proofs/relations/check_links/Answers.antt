@@ -8,6 +8,6 @@ pub returns-in_err-relation-clause-value : goal.returns-in_err-relation-clause-v
 unfolding links_of
 returns-in_err-relation-clause-value c =
     let kept : c.from_residual.result ≡ Err c.in_err-relation.field-0.0 = same_fault _ _ c.from_residual.ensures in
-    let links = 3 * c.args.machine.cores * c.args.machine.channels in
+    let links = 3 * c.args.cores * c.args.channels in
     let tested : c.are_below.result ≡ list_all (λ o. nat_lt o.link links) c.args.overrides.now = rw (c.from.ensures, c.from-2.ensures) at c.are_below.ensures.value in
     rw (kept, ← tested, ← c.in_err-relation.ensures {u = tt})
