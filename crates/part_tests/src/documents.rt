@@ -1,35 +1,13 @@
 //! Configurations that are read, and their copies.
 
 use crate::expect::expect;
-use fixtures::small::{RANK_FIELD, small};
+use fixtures::small::{RANK_FIELD, SMALL_TIMING, small};
 use fixtures::worked_runs::FAST_LINK;
 use sim_base::config::Config;
 use sim_base::place::Field;
 use sim_base::timing::Timing;
 use std::alloc::Global;
 use std::process::Abort;
-
-const TIMING: Timing = Timing {
-    n_rcd: 3,
-    n_rp: 3,
-    n_ras: 8,
-    n_rc: 11,
-    n_cl: 4,
-    n_cwl: 3,
-    n_ccd_s: 4,
-    n_ccd_l: 5,
-    n_rrd_s: 2,
-    n_rrd_l: 3,
-    n_faw: 12,
-    n_rtp: 2,
-    n_wr: 4,
-    n_wtr_s: 1,
-    n_wtr_l: 2,
-    n_rtw: 7,
-    n_rfc: 20,
-    n_rtrs: 0,
-    n_refi: 0,
-};
 
 const ORDER: &[Field] = &[
     Field::Channel,
@@ -66,7 +44,7 @@ const UNCHANGED: Case<'static> = Case {
     changes: &[],
     more: "",
     ranks: 1,
-    timing: TIMING,
+    timing: SMALL_TIMING,
     order: ORDER,
     ends_drained: false,
     overrides: 0,
@@ -82,7 +60,7 @@ static CASES: [Case<'static>; 3] = [
         timing: Timing {
             n_rtrs: 2,
             n_refi: 39,
-            ..TIMING
+            ..SMALL_TIMING
         },
         order: ORDER_WITH_RANKS,
         ends_drained: true,

@@ -76,8 +76,10 @@ impl Config {
     ) -> Config
         requires in_order { FieldsInOrder fields }
         requires in_range { OverridesInRange overrides }
-        requires related { IsRelated (values_from (N.number_at numbers.now) fields overrides ends_drained) }
-        ensures { values_of result ≡ values_from (N.number_at numbers.now) fields overrides ends_drained }
+        requires related { IsRelated
+            (values_from (N.number_at numbers.now) fields overrides ends_drained) }
+        ensures { values_of result
+            ≡ values_from (N.number_at numbers.now) fields overrides ends_drained }
     {
         Config {
             cores: numbers.number(Key::Cores) as u16,
