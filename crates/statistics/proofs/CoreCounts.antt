@@ -397,12 +397,12 @@ unfolding stopped_by stops
 stopped_by-le s core trace steps inbox why =
     omega (arith, count_by-le-length (is_stop why) (stops s core trace steps inbox), length-map (below (length steps)) (stop_in s core trace steps inbox), length-range_with_len 0 (length steps))
 
--- the counts of a run fit, since a cycle and the length of a trace do
-pub core_stats-fit : (s : Config) (core : ℕ) (trace : List Entry) (steps : List CoreStep) (inbox : List Message) → length steps ≤ 2 ^ 62 → issued_before steps ≤ 2 ^ 62
-    → retired_before steps ≤ 2 ^ 62 → length (replies steps inbox) ≤ 2 ^ 62 → CoreFits (core_stats s core trace steps inbox)
+-- the counts of a run fit, since its cycles, its entries and its replies do
+pub core_stats-fit : (s : Config) (core : ℕ) (trace : List Entry) (steps : List CoreStep) (inbox : List Message) → length steps ≤ 2 ^ 62 → issued_before steps < 2 ^ 64
+    → retired_before steps < 2 ^ 64 → length (replies steps inbox) < 2 ^ 64 → CoreFits (core_stats s core trace steps inbox)
 unfolding core_stats reads writes
 core_stats-fit s core trace steps inbox cycles issued retired replied =
-    let most : length (replies steps inbox) * length steps ≤ 2 ^ 62 * 2 ^ 62 = mul-le _ _ (2 ^ 62) (2 ^ 62) replied cycles in
+    let most : length (replies steps inbox) * length steps ≤ 2 ^ 64 * 2 ^ 62 = mul-le _ _ (2 ^ 64) (2 ^ 62) (omega arith) cycles in
     record {
       issued = omega arith;
       retired = omega arith;
@@ -447,6 +447,23 @@ core_fits stats h =
 -- those of no cycle fit
 pub core_none-fits : CoreFits core_none
 core_none-fits = record { issued = omega arith; retired = omega arith; reads = omega arith; writes = omega arith; replies = omega arith; read_latency = omega arith; stop_end = omega arith; stop_width = omega arith; stop_window = omega arith; stop_memory = omega arith; stop_credit = omega arith }
+
+-- where the counts of two stretches fit together, those of the first fit
+pub core_fits-before : (a b : CoreStats) → CoreFits (core_joined a b) → CoreFits a
+core_fits-before a b h =
+    record {
+      issued = omega (arith, h.issued);
+      retired = omega (arith, h.retired);
+      reads = omega (arith, h.reads);
+      writes = omega (arith, h.writes);
+      replies = omega (arith, h.replies);
+      read_latency = omega (arith, h.read_latency);
+      stop_end = omega (arith, h.stop_end);
+      stop_width = omega (arith, h.stop_width);
+      stop_window = omega (arith, h.stop_window);
+      stop_memory = omega (arith, h.stop_memory);
+      stop_credit = omega (arith, h.stop_credit);
+    }
 
 -- before the first cycle nothing is counted
 pub core_stats-none : (s : Config) (core : ℕ) (trace : List Entry) → core_stats s core trace [] [] ≡ core_none

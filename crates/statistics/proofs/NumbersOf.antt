@@ -1,5 +1,5 @@
 -- Numbers of counters, one by one and all together.
-use Rattle.std.proofs.Common.{◌≡◌, ℕ, zero, suc, ◌<◌, ◌^◌, List, [], ◌∷◌, length, Option, Some, None, refl, ap, ap₂, arith}
+use Rattle.std.proofs.Common.{◌≡◌, ℕ, zero, suc, ◌<◌, ◌^◌, List, [], ◌∷◌, Option, Some, None, refl, ap, ap₂, arith}
 use Rattle.std.specs.Prelude.{slice_index_or, unwrap_or}
 use Rattle.statistics.specs.Counters.{IsBelow, IsNumberOf, AreNumbersOf}
 use Rattle.statistics.specs.declared.counters.CounterKind.{CounterKind}
@@ -31,10 +31,3 @@ numbers-are [] [] h = refl
 numbers-are [] (number ∷ numbers) h = absurd h
 numbers-are (counter ∷ counters) [] h = absurd h
 numbers-are (counter ∷ counters) (number ∷ numbers) h = ap₂ (λ n ns. n ∷ ns) (number-is counter.1 number h.0) (numbers-are counters numbers h.1)
-
--- there is one for each counter
-pub as_many : (counters : List (List ℕ × CounterKind)) (numbers : List (Option ℕ)) → AreNumbersOf counters numbers → length numbers ≡ length counters
-as_many [] [] h = refl
-as_many [] (number ∷ numbers) h = absurd h
-as_many (counter ∷ counters) [] h = absurd h
-as_many (counter ∷ counters) (number ∷ numbers) h = ap suc (as_many counters numbers h.1)

@@ -24,6 +24,14 @@ no_times x = grind arith
 not_none : (n : ℕ) → eqb (suc n) 0 ≡ false
 not_none n = ne_eqb (suc n) 0 (λ e. absurd (omega arith))
 
+times_more : (n x : ℕ) → n * x + x ≡ suc n * x
+times_more n x = grind arith
+
+finish_last : (b : Bool) (o : Option ℕ) → option_or o (cond b None o) ≡ o
+finish_last true None = refl
+finish_last false None = refl
+finish_last b (Some x) = refl
+
 finish_once_more : (b : Bool) (o : Option ℕ) → option_or (cond b None o) o ≡ o
 finish_once_more true o = refl
 finish_once_more false None = refl
@@ -32,7 +40,11 @@ finish_once_more false (Some x) = refl
 core_times-suc : (n : ℕ) (a : CoreStats) → core_joined a (core_times n a) ≡ core_times (suc n) a
 core_times-suc n a = simp (once_more, finish_once_more, not_none)
 
-core_times-zero : (a : CoreStats) → core_times 0 a ≡ core_none
+-- one cycle more, after the others
+pub core_times-more : (n : ℕ) (a : CoreStats) → core_joined (core_times n a) a ≡ core_times (suc n) a
+core_times-more n a = simp (times_more, finish_last, not_none)
+
+pub core_times-zero : (a : CoreStats) → core_times 0 a ≡ core_none
 core_times-zero a = simp no_times
 
 append_replicate : {X : Type 0} (xs : List X) (x : X) (k : ℕ) → (xs ++ x ∷ []) ++ replicate k x ≡ xs ++ replicate (suc k) x

@@ -27,7 +27,7 @@ use Rattle.sim_base.specs.declared.command.IssuedCommand.{IssuedCommand}
 use Rattle.sim_base.specs.declared.command.Source.{Source}
 use Rattle.sim_base.specs.declared.message.Message.{Message}
 use Rattle.statistics.specs.declared.channels.ChannelStats.{ChannelStats}
-use Rattle.statistics.specs.Counters.{number_at}
+use Rattle.statistics.specs.Counters.{number_or_zero}
 use Rattle.statistics.specs.declared.counters.CounterKind.{CounterKind}
 use Rattle.statistics.specs.declared.counters.CounterKind.TheVariants.{Count, Sum}
 use Rattle.statistics.specs.Counts.{one_if, sum_of_counts}
@@ -211,17 +211,17 @@ channel_numbers channel =
 abbrev pub channel_of : List (Option ℕ) → Option ℕ → ChannelStats
 channel_of numbers draining =
     record {
-      act = number_at numbers 0;
-      rd = number_at numbers 1;
-      wr = number_at numbers 2;
-      pre = number_at numbers 3;
-      prea = number_at numbers 4;
-      refs = number_at numbers 5;
-      hits = number_at numbers 6;
-      queued = number_at numbers 7;
-      queued_max = number_at numbers 8;
-      idle = number_at numbers 9;
-      refreshing = number_at numbers 10;
+      act = number_or_zero numbers 0;
+      rd = number_or_zero numbers 1;
+      wr = number_or_zero numbers 2;
+      pre = number_or_zero numbers 3;
+      prea = number_or_zero numbers 4;
+      refs = number_or_zero numbers 5;
+      hits = number_or_zero numbers 6;
+      queued = number_or_zero numbers 7;
+      queued_max = number_or_zero numbers 8;
+      idle = number_or_zero numbers 9;
+      refreshing = number_or_zero numbers 10;
       draining = draining;
     }
 

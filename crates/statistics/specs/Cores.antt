@@ -1,6 +1,8 @@
 -- Statistics of a core, over the steps of its run, one a cycle, and its inbox.
 --     core_stats s core trace steps inbox      of all the cycles of these steps
 --     core_cycle s core trace steps inbox done      of the one cycle after these steps, in which the core does this
+--     unanswered_cycle done why reads writes finish      of a cycle in which no reply arrives
+--     only_replies steps arrived      of these replies alone
 --     core_none      of no cycle
 --     core_joined a b      of two stretches of cycles, the first and what follows it
 --     core_stretch s core trace steps inbox more      of the cycles after these steps, in which the core does this, one after the other
@@ -21,7 +23,7 @@ use Rattle.sim_base.specs.declared.message.Message.{Message}
 use Rattle.sim_base.specs.declared.trace.Entry.{Entry}
 use Rattle.sim_base.specs.declared.trace.Stop.{Stop}
 use Rattle.sim_base.specs.declared.trace.Stop.TheVariants as stop
-use Rattle.statistics.specs.Counters.{number_at}
+use Rattle.statistics.specs.Counters.{number_or_zero}
 use Rattle.statistics.specs.Counts.{one_if}
 use Rattle.statistics.specs.declared.cores.CoreStats.{CoreStats}
 use Rattle.statistics.specs.declared.counters.CounterKind.{CounterKind}
@@ -66,23 +68,31 @@ unfoldable pub finish_in : List Entry → List CoreStep → CoreStep → Option 
 finish_in trace steps done =
     if nat_lt (retired_before steps) (length trace) && nat_le (length trace) (retired_before steps + done.retired) then Some (length steps) else None
 
--- the statistics of a cycle, in which the core does this, stops for this cause, and these replies arrive
-unfoldable pub core_cycle_with : List Entry → List CoreStep → CoreStep → Stop → List Message → CoreStats
-core_cycle_with trace steps done why arrived =
+-- the statistics of a cycle in which no reply arrives: the core does this, stops for this cause and issues so many
+-- Reads and Writes, and the last entry of its trace retires in the cycle that is given, if it does
+abbrev pub unanswered_cycle : CoreStep → Stop → ℕ → ℕ → Option ℕ → CoreStats
+unanswered_cycle done why reads_issued writes_issued finish_cycle =
     record {
       issued = done.issued;
       retired = done.retired;
-      reads = count_by is_read (issued_in trace steps done);
-      writes = count_by is_write (issued_in trace steps done);
-      replies = length arrived;
-      read_latency = waited steps arrived;
+      reads = reads_issued;
+      writes = writes_issued;
+      replies = 0;
+      read_latency = 0;
       stop_end = one_if (is_stop stop.End why);
       stop_width = one_if (is_stop stop.Width why);
       stop_window = one_if (is_stop stop.Window why);
       stop_memory = one_if (is_stop stop.Memory why);
       stop_credit = one_if (is_stop stop.Credit why);
-      finish = finish_in trace steps done;
+      finish = finish_cycle;
     }
+
+-- the statistics of a cycle, in which the core does this, stops for this cause, and these replies arrive
+unfoldable pub core_cycle_with : List Entry → List CoreStep → CoreStep → Stop → List Message → CoreStats
+core_cycle_with trace steps done why arrived =
+    let reads_issued = count_by is_read (issued_in trace steps done) in
+    let writes_issued = count_by is_write (issued_in trace steps done) in
+    record (unanswered_cycle done why reads_issued writes_issued (finish_in trace steps done)) { replies = length arrived; read_latency = waited steps arrived }
 
 -- the statistics of the cycle after these steps, in which the core does this
 unfoldable pub core_cycle : Config → ℕ → List Entry → List CoreStep → List Message → CoreStep → CoreStats
@@ -106,6 +116,10 @@ core_none =
       stop_credit = 0;
       finish = None;
     }
+
+-- the statistics of replies that arrive in the cycle after these steps, and of nothing else
+abbrev pub only_replies : List CoreStep → List Message → CoreStats
+only_replies steps arrived = record core_none { replies = length arrived; read_latency = waited steps arrived }
 
 -- the statistics of two stretches of cycles: each count is the sum of both, and the finish is the last that is there
 abbrev pub core_joined : CoreStats → CoreStats → CoreStats
@@ -197,16 +211,16 @@ core_numbers core =
 abbrev pub core_of : List (Option ℕ) → CoreStats
 core_of numbers =
     record {
-      issued = number_at numbers 0;
-      retired = number_at numbers 1;
-      reads = number_at numbers 2;
-      writes = number_at numbers 3;
-      replies = number_at numbers 4;
-      read_latency = number_at numbers 5;
-      stop_end = number_at numbers 6;
-      stop_width = number_at numbers 7;
-      stop_window = number_at numbers 8;
-      stop_memory = number_at numbers 9;
-      stop_credit = number_at numbers 10;
+      issued = number_or_zero numbers 0;
+      retired = number_or_zero numbers 1;
+      reads = number_or_zero numbers 2;
+      writes = number_or_zero numbers 3;
+      replies = number_or_zero numbers 4;
+      read_latency = number_or_zero numbers 5;
+      stop_end = number_or_zero numbers 6;
+      stop_width = number_or_zero numbers 7;
+      stop_window = number_or_zero numbers 8;
+      stop_memory = number_or_zero numbers 9;
+      stop_credit = number_or_zero numbers 10;
       finish = slice_index_or numbers 11 None;
     }

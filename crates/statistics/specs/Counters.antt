@@ -3,7 +3,7 @@
 --     IsNumberOf kind number      a number that a counter of this kind may have
 --     AreNumbersOf counters numbers      numbers, one for each counter, that they may have
 --     named counters numbers      each number under its counter's name
---     number_at numbers k      one of them, where each is there
+--     number_or_zero numbers k      one of them, or zero where it is not there
 use Rattle.std.specs.Prelude.{ℕ, ◌<◌, ◌^◌, List, [], ◌∷◌, map, slice_index_or, unwrap_or, ⊤, Option, Some, None}
 use Rattle.std.specs.Option.{IfSome}
 use Rattle.statistics.specs.declared.counters.Counter.{Counter}
@@ -38,6 +38,6 @@ named [] numbers = []
 named (counter ∷ counters) [] = []
 named (counter ∷ counters) (number ∷ numbers) = (counter.0, number) ∷ named counters numbers
 
--- one of several numbers, where each is there
-abbrev pub number_at : List (Option ℕ) → ℕ → ℕ
-number_at numbers k = unwrap_or (slice_index_or numbers k None) 0
+-- one of several numbers; where it is not there, zero
+abbrev pub number_or_zero : List (Option ℕ) → ℕ → ℕ
+number_or_zero numbers k = unwrap_or (slice_index_or numbers k None) 0

@@ -65,7 +65,7 @@ fn product_of(cycles: u64, count: Option<u64>) -> Option<u64>
 pub const COUNTERS: usize = 11;
 
 /// The counters of a channel, in the order of its rows.
-pub fn counters() -> [Counter; 11]
+pub fn counters() -> [Counter; COUNTERS]
     ensures { map counter_of result ≡ channel_counters }
 {
     [
@@ -187,7 +187,7 @@ impl ChannelStats {
     }
 
     /// Its numbers, in the order of `counters`.
-    pub fn numbers(&self) -> [Option<u128>; 11]
+    pub fn numbers(&self) -> [Option<u128>; COUNTERS]
         ensures { result ≡ channel_numbers self.now }
     {
         [
@@ -206,7 +206,7 @@ impl ChannelStats {
     }
 
     /// The statistics that have these numbers, in the order of `counters`, and this count of draining, if they have one.
-    pub fn of_numbers(numbers: &[Option<u128>; 11], draining: Option<u64>) -> ChannelStats
+    pub fn of_numbers(numbers: &[Option<u128>; COUNTERS], draining: Option<u64>) -> ChannelStats
         requires { AreNumbersOf channel_counters numbers.now }
         ensures { result ≡ channel_of numbers.now draining }
     {

@@ -41,7 +41,7 @@ pub struct CoreStats {
 pub const COUNTERS: usize = 12;
 
 /// The counters of a core, in the order of its rows.
-pub fn counters() -> [Counter; 12]
+pub fn counters() -> [Counter; COUNTERS]
     ensures { map counter_of result ≡ core_counters }
 {
     [
@@ -116,7 +116,7 @@ impl CoreStats {
     }
 
     /// Its numbers, in the order of `counters`.
-    pub fn numbers(&self) -> [Option<u128>; 12]
+    pub fn numbers(&self) -> [Option<u128>; COUNTERS]
         ensures { result ≡ core_numbers self.now }
     {
         [
@@ -136,7 +136,7 @@ impl CoreStats {
     }
 
     /// The statistics that have these numbers, in the order of `counters`.
-    pub fn of_numbers(numbers: &[Option<u128>; 12]) -> CoreStats
+    pub fn of_numbers(numbers: &[Option<u128>; COUNTERS]) -> CoreStats
         requires { AreNumbersOf core_counters numbers.now }
         ensures { result ≡ core_of numbers.now }
     {
