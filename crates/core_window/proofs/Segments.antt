@@ -1,10 +1,9 @@
 -- The entries of a trace, one more at a time.
-use Rattle.std.proofs.Common.{◌≡◌, ℕ, zero, suc, ◌+◌, ◌-◌, ◌<◌, ◌≤◌, Bool, true, false, ◌||◌, List, [], ◌++◌, take, drop, Option, Some, None, refl, sym, ap, ap₂, ◌∙◌, zero-add, ltb, cond, arith, ⊎_elim}
-use Rattle.std.specs.Prelude.{slice_get, option_map, option_and_then, count_by}
+use Rattle.std.proofs.Common.{◌≡◌, ℕ, zero, suc, ◌+◌, ◌-◌, ◌<◌, ◌≤◌, Bool, true, false, ◌||◌, List, [], ◌++◌, take, drop, refl, sym, ap, ap₂, ◌∙◌, ltb, cond, arith, ⊎_elim}
+use Rattle.std.specs.Prelude.{slice_get, option_and_then, count_by}
 use Rattle.std.specs.Option.{option_to_list}
-use Rattle.std.specs.List.{filter_map, list_any, enumerate_from, cons_option}
+use Rattle.std.specs.List.{list_any}
 use Rattle.std.proofs.lemmas.Bool.{lt-ltb, le-ltb, cases_lt}
-use Rattle.std.proofs.lemmas.List.Elements.{filter_map-append}
 use Rattle.std.proofs.lemmas.List.Folds.{list_any-append}
 use Rattle.std.proofs.lemmas.List.Sums.{sum_by-append}
 use Rattle.std.proofs.lemmas.List.{append-nil}

@@ -1,15 +1,15 @@
 -- A core that has done nothing yet.
-use Rattle.std.proofs.Common.{◌≡◌, ℕ, zero, suc, ◌+◌, ◌-◌, ◌^◌, ◌<◌, ◌≤◌, Bool, true, false, cond, eqb, List, [], length, Option, Some, None, refl, sym, ap, ap₂, ◌∙◌, arith}
+use Rattle.std.proofs.Common.{◌≡◌, ℕ, zero, suc, ◌+◌, ◌-◌, ◌^◌, ◌<◌, ◌≤◌, List, [], length, Some, refl, sym, ap, ap₂, ◌∙◌, arith}
 use Rattle.std.specs.Prelude.{slice_get, replicate}
 use Rattle.sim_base.specs.declared.config.Config.{Config}
-use Rattle.sim_base.specs.Counts.{reads, writes, replies, read_latency, stops, stopped_by, retire_cycle, finish}
 use Rattle.sim_base.specs.Final.{credits_left}
 use Rattle.sim_base.specs.History.{retired_before, issued_before, core_messages}
 use Rattle.sim_base.specs.Windows.{held}
 use Rattle.sim_base.specs.declared.trace.Entry.{Entry}
-use Rattle.statistics.specs.Cores.{core_stats, core_none}
+use Rattle.statistics.specs.Cores.{core_none}
 use Rattle.statistics.specs.Runs.{credits_of}
 use Rattle.statistics.specs.declared.final_state.Credits.{Credits}
+use Rattle.statistics.proofs.CoreCounts.{core_stats-none}
 use Rattle.core_window.specs.Stands.{IsPast, StandsFor}
 use Rattle.core_window.specs.Views.{CoreView}
 use Rattle.core_window.specs.Outstanding.{outstanding_reads}
@@ -34,18 +34,6 @@ credits-first s core trace channel =
     let r : s.read_credits + 0 - 0 ≡ s.read_credits = omega arith in
     let w : s.write_credits + 0 - 0 ≡ s.write_credits = omega arith in
     ap₂ both r w
-
-none-first : (trace : List Entry) → finish trace [] ≡ None
-unfolding finish retire_cycle
-none-first trace = by (eqb (length trace) 0)
-  where
-    by : (b : Bool) → cond {A = Option ℕ} b None None ≡ None
-    by true = refl
-    by false = refl
-
-stats-first : (s : Config) (core : ℕ) (trace : List Entry) → core_stats s core trace [] [] ≡ core_none
-unfolding core_stats issued_before retired_before reads writes replies read_latency stopped_by stops
-stats-first s core trace = rw (none-first trace) refl
 
 past-first : (s : Config) (core : ℕ) (trace : List Entry) → length trace ≤ 2 ^ 62 → IsPast s core trace [] []
 unfolding issued_before retired_before outstanding_reads core_messages
@@ -74,7 +62,7 @@ start-stands s core trace v config number entries now outstanding credits stats 
       outstanding = outstanding;
       channels = ap length credits ∙ length-same s.channels (first_credits s);
       credits = λ channel b. ap (λ (cs : List Credits). slice_get cs channel) credits ∙ slice_get-same s.channels (first_credits s) channel b ∙ ap Some (sym (credits-first s core trace channel));
-      stats = stats ∙ sym (stats-first s core trace);
+      stats = stats ∙ sym (core_stats-none s core trace);
       before = tt;
       past = past-first s core trace l;
     }

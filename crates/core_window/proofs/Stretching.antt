@@ -1,6 +1,5 @@
 -- Cycles in which a core does the same count as a product.
-use Rattle.std.proofs.Common.{◌≡◌, ℕ, zero, suc, ◌+◌, ◌-◌, ◌*◌, ◌^◌, ◌<◌, ◌≤◌, ◌⊎◌, Bool, true, false, cond, ◌&&◌, ltb, leb, eqb, List, [], length, Option, Some, None, refl, sym, ap, ap₂, subst, ◌∙◌, add-zero, inl, inr, arith, ⊎_elim}
-use Rattle.std.specs.Option.{option_or}
+use Rattle.std.proofs.Common.{◌≡◌, ℕ, zero, suc, ◌+◌, ◌-◌, ◌*◌, ◌^◌, ◌<◌, ◌≤◌, ◌⊎◌, Bool, true, false, cond, ◌&&◌, ltb, leb, List, [], length, Option, Some, None, refl, sym, ap, ap₂, subst, ◌∙◌, add-zero, inl, inr, arith, ⊎_elim}
 use Rattle.std.specs.Prelude.{Result, Ok, Err}
 use Rattle.std.specs.Prelude.{OnOk}
 use Rattle.std.proofs.lemmas.List.{append-nil}
@@ -8,15 +7,14 @@ use Rattle.std.proofs.lemmas.Bool.{cases_lt, le-ltb, lt-leb}
 use Rattle.std.proofs.Math.Nat.{suc-mul}
 use Rattle.sim_base.specs.History.{issued_before}
 use Rattle.sim_base.specs.Machine.{core_run}
-use Rattle.sim_base.specs.Counts.{is_stop}
 use Rattle.sim_base.specs.declared.history.CoreStep.{CoreStep}
 use Rattle.sim_base.specs.declared.message.Message.{Message}
 use Rattle.sim_base.specs.declared.trace.Entry.{Entry}
 use Rattle.sim_base.specs.declared.trace.Stop.{Stop}
-use Rattle.sim_base.specs.declared.trace.Stop.TheVariants as stop
 use Rattle.cpu_trace.specs.declared.entries.MemoryEntry.{MemoryEntry}
-use Rattle.statistics.specs.Counts.{one_if}
-use Rattle.statistics.specs.Cores.{core_joined, core_times, CoreFits}
+use Rattle.statistics.specs.Cores.{core_joined, core_times, CoreFits, unanswered_cycle}
+use Rattle.statistics.proofs.CoreStretches.{core_joined-assoc, core_joined-none}
+use Rattle.statistics.proofs.Repeats.{core_times-more, core_times-zero}
 use Rattle.statistics.specs.declared.cores.CoreStats.{CoreStats}
 use Rattle.core_window.specs.Inside.{StandsAt, IsStanding, IsLike, Advances, GoesOn, GoesQuietly, Does}
 use Rattle.core_window.specs.Rests.{idle_step}
@@ -25,13 +23,6 @@ use Rattle.core_window.specs.OneCycle.{IsWork, IsIssued, cycle_counts}
 use Rattle.core_window.specs.Views.{CoreView}
 use Rattle.core_window.proofs.Running.{IsUnderway, advances-none, advances-add}
 use Rattle.core_window.proofs.Stepping.{IsStep, step-advances, step-fits}
-
-times_more : (a n x : ℕ) → a + n * x + x ≡ a + suc n * x
-times_more a n x = let e : suc n * x ≡ n * x + x = grind arith in omega arith
-
-both_none : (b : Bool) → cond {A = Option ℕ} b None None ≡ None
-both_none true = refl
-both_none false = refl
 
 -- the last entry does not retire in a cycle
 no_finish : (before r len now : ℕ) → (r ≡ 0) ⊎ (before + r < len) → cond {A = Option ℕ} (ltb before len && leb len (before + r)) (Some now) None ≡ None
@@ -55,26 +46,13 @@ no_finish before r len now (inr h) =
 pub steady-more : (a : CoreStats) (core_step : CoreStep) (why : Stop) (n before len later : ℕ) → (core_step.retired ≡ 0) ⊎ (before + core_step.retired < len)
     → core_joined (core_joined a (core_times n (steady_counts core_step why))) (cycle_counts core_step why None before len later) ≡ core_joined a (core_times (suc n) (steady_counts core_step why))
 steady-more a core_step why n before len later h =
-    let f1 = no_finish before core_step.retired len later h in
-    let f2 = both_none (eqb n 0) in
-    let f3 = both_none (eqb (suc n) 0) in
-    let e0 = times_more a.issued n core_step.issued in
-    let e1 = times_more a.retired n core_step.retired in
-    let e2 = times_more a.reads n 0 in
-    let e3 = times_more a.writes n 0 in
-    let e4 = times_more a.replies n 0 in
-    let e5 = times_more a.read_latency n 0 in
-    let e6 = times_more a.stop_end n (one_if (is_stop stop.End why)) in
-    let e7 = times_more a.stop_width n (one_if (is_stop stop.Width why)) in
-    let e8 = times_more a.stop_window n (one_if (is_stop stop.Window why)) in
-    let e9 = times_more a.stop_memory n (one_if (is_stop stop.Memory why)) in
-    let e10 = times_more a.stop_credit n (one_if (is_stop stop.Credit why)) in
-    let e11 : option_or (cond (ltb before len && leb len (before + core_step.retired)) (Some later) None) (option_or (cond (eqb n 0) None None) a.finish) ≡ option_or (cond {A = Option ℕ} (eqb (suc n) 0) None None) a.finish =
-    ap₂ (λ x y. option_or x (option_or y a.finish)) f1 f2 ∙ ap (λ x. option_or x a.finish) (sym f3) in
-    cc
+    let each = steady_counts core_step why in
+    core_joined-assoc a (core_times n each) (cycle_counts core_step why None before len later)
+    ∙ ap (λ o. core_joined a (core_joined (core_times n each) (unanswered_cycle core_step why 0 0 o))) (no_finish before core_step.retired len later h)
+    ∙ ap (core_joined a) (core_times-more n each)
 
 none_counted : (x : CoreStats) (core_step : CoreStep) (why : Stop) → core_joined x (core_times 0 (steady_counts core_step why)) ≡ x
-none_counted x core_step why = let z : (k : ℕ) → 0 * k ≡ 0 = λ k. omega arith in simp (z, add-zero)
+none_counted x core_step why = ap (core_joined x) (core_times-zero (steady_counts core_step why)) ∙ core_joined-none x
 
 pub steady-none : (a : CoreView) (core_step : CoreStep) (why : Stop) → a ≡ steady_view a core_step why 0
 steady-none a core_step why =

@@ -5,7 +5,7 @@
 --     GoesOn until a b sent      a core goes some cycles, at most up to a cycle
 --     GoesQuietly until a b      a core goes zero or more cycles, and sends nothing
 --     Does view core_step why memory      what a core does in the next cycle
-use Rattle.std.specs.Prelude.{◌≡◌, ℕ, ◌-◌, ◌<◌, ◌≤◌, List, ◌++◌, length, take, drop, slice_get, Option, Some, None}
+use Rattle.std.specs.Prelude.{◌≡◌, ℕ, ◌-◌, ◌<◌, ◌≤◌, List, ◌++◌, length, take, drop, slice_get, Option, Some}
 use Rattle.std.specs.List.{AllByRecursion as Each}
 use Rattle.sim_base.specs.declared.config.Config.{Config}
 use Rattle.sim_base.specs.History.{core_messages}
@@ -16,7 +16,7 @@ use Rattle.sim_base.specs.declared.message.Message.{Message}
 use Rattle.sim_base.specs.declared.trace.Entry.{Entry}
 use Rattle.sim_base.specs.declared.trace.Stop.{Stop}
 use Rattle.cpu_trace.specs.declared.entries.MemoryEntry.{MemoryEntry}
-use Rattle.statistics.specs.Cores.{core_stats, core_joined, replies_in, waited}
+use Rattle.statistics.specs.Cores.{core_stats, core_joined, replies_in, only_replies}
 use Rattle.statistics.specs.declared.cores.CoreStats.{CoreStats}
 use Rattle.statistics.specs.declared.final_state.Credits.{Credits}
 use Rattle.core_window.specs.Fit.{IsDue}
@@ -35,21 +35,7 @@ credits_now s core trace steps mail channel =
 
 -- the statistics of the replies that came in the cycle after these steps, and of nothing else
 abbrev pub core_arrived : List CoreStep → List Message → CoreStats
-core_arrived steps mail =
-    record {
-      issued = 0;
-      retired = 0;
-      reads = 0;
-      writes = 0;
-      replies = length (replies_in (length steps) mail);
-      read_latency = waited steps (replies_in (length steps) mail);
-      stop_end = 0;
-      stop_width = 0;
-      stop_window = 0;
-      stop_memory = 0;
-      stop_credit = 0;
-      finish = None;
-    }
+core_arrived steps mail = only_replies steps (replies_in (length steps) mail)
 
 -- a core did what these steps say, and had these messages in those cycles or in the one after them, where it stands
 pub record StandsAt (s : Config) (core : ℕ) (trace : List Entry) (steps : List CoreStep) (mail : List Message) (view : CoreView) : Type 0 where

@@ -6,7 +6,7 @@
 --     cycle_counts ..      what statistics count in a cycle, except for replies
 use Rattle.std.specs.Prelude.{◌≡◌, ℕ, ◌+◌, ◌-◌, ◌<◌, ◌≤◌, nat_lt, nat_le, Bool, true, false, ◌&&◌, List, [], ◌∷◌, ◌==◌, length, slice_get, Option, Some, None, if◌then◌else◌}
 use Rattle.std.specs.Option.{IfSome, option_to_list}
-use Rattle.sim_base.specs.Counts.{is_read, is_write, is_stop}
+use Rattle.sim_base.specs.Counts.{is_read, is_write}
 use Rattle.sim_base.specs.Windows.{is_memory, is_memory_in, lacks_credit, stop_after, first_stop, step}
 use Rattle.sim_base.specs.History.{retired_before, issued_before, core_messages, request_of}
 use Rattle.sim_base.specs.Places.{place_of}
@@ -19,10 +19,10 @@ use Rattle.sim_base.specs.declared.history.CoreStep.{CoreStep}
 use Rattle.sim_base.specs.declared.trace.Entry.{Entry}
 use Rattle.sim_base.specs.declared.trace.Entry.TheVariants.{Plain, Read, Write}
 use Rattle.sim_base.specs.declared.trace.Stop.{Stop}
-use Rattle.sim_base.specs.declared.trace.Stop.TheVariants as stop
 use Rattle.cpu_trace.specs.NextMemory.{IsPlainBetween}
 use Rattle.cpu_trace.specs.declared.entries.MemoryEntry.{MemoryEntry}
 use Rattle.statistics.specs.Counts.{one_if}
+use Rattle.statistics.specs.Cores.{unanswered_cycle}
 use Rattle.statistics.specs.declared.cores.CoreStats.{CoreStats}
 use Rattle.statistics.specs.declared.final_state.Credits.{Credits}
 
@@ -86,20 +86,10 @@ is_write_among (Some e) = is_write e.entry
 -- entry; the numbers are the entries of the trace retired before it, the length of the trace, and the cycle
 abbrev pub cycle_counts : CoreStep → Stop → Option MemoryEntry → ℕ → ℕ → ℕ → CoreStats
 cycle_counts core_step why memory before len now =
-    record {
-      issued = core_step.issued;
-      retired = core_step.retired;
-      reads = one_if (is_read_among memory);
-      writes = one_if (is_write_among memory);
-      replies = 0;
-      read_latency = 0;
-      stop_end = one_if (is_stop stop.End why);
-      stop_width = one_if (is_stop stop.Width why);
-      stop_window = one_if (is_stop stop.Window why);
-      stop_memory = one_if (is_stop stop.Memory why);
-      stop_credit = one_if (is_stop stop.Credit why);
-      finish = if nat_lt before len && nat_le len (before + core_step.retired) then Some now else None;
-    }
+    let reads = one_if (is_read_among memory) in
+    let writes = one_if (is_write_among memory) in
+    let finish = if nat_lt before len && nat_le len (before + core_step.retired) then Some now else None in
+    unanswered_cycle core_step why reads writes finish
 
 -- the cause for which a core issues no more than m entries, and that it has none before
 pub record IsLast (s : Config) (core : ℕ) (trace : List Entry) (inbox sent : List Message) (now number retired_by_end first_at second_at : ℕ) (lacks : Bool) (m : ℕ) (why : Stop) : Type 0 where

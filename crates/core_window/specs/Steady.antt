@@ -12,18 +12,18 @@ use Rattle.sim_base.specs.declared.trace.Stop.{Stop}
 use Rattle.sim_base.specs.declared.trace.Stop.TheVariants as stop
 use Rattle.cpu_trace.specs.declared.entries.MemoryEntry.{MemoryEntry}
 use Rattle.statistics.specs.Counts.{one_if}
-use Rattle.statistics.specs.Cores.{core_joined, core_times}
+use Rattle.statistics.specs.Cores.{core_joined, core_times, unanswered_cycle}
 use Rattle.statistics.specs.declared.cores.CoreStats.{CoreStats}
 use Rattle.core_window.specs.Causes.{first_undone}
 use Rattle.core_window.specs.Inside.{StandsAt}
-use Rattle.core_window.specs.OneCycle.{IsWork, cycle_counts, is_read_among, is_write_among}
+use Rattle.core_window.specs.OneCycle.{IsWork, is_read_among, is_write_among}
 use Rattle.core_window.specs.Views.{CoreView}
 use Rattle.core_window.specs.declared.outstanding.OutstandingRead.{OutstandingRead}
 
 -- what statistics count in a cycle with this core_step and this cause to stop, in which neither a memory entry issues
 -- nor the last entry of the trace retires
 abbrev pub steady_counts : CoreStep → Stop → CoreStats
-steady_counts core_step why = cycle_counts core_step why None 0 0 0
+steady_counts core_step why = unanswered_cycle core_step why 0 0 None
 
 -- a core after n such cycles: it only counts
 abbrev pub steady_view : CoreView → CoreStep → Stop → ℕ → CoreView

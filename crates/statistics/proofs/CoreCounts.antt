@@ -30,7 +30,6 @@ use Rattle.sim_base.proofs.Same.{step-same}
 use Rattle.sim_base.proofs.Kept.{arrived-added}
 use Rattle.statistics.proofs.Messages.{arrived-sooner}
 use Rattle.std.proofs.lemmas.Nat.{mul-le}
-use Rattle.sim_base.specs.Machine.{run}
 use Rattle.sim_base.specs.declared.trace.Stop.TheVariants as stop
 use Rattle.statistics.specs.Counters.{AreNumbersOf}
 use Rattle.statistics.specs.declared.cores.CoreStats.{CoreStats}

@@ -9,7 +9,6 @@ use Rattle.std.proofs.lemmas.List.Folds.{length-prefix_len}
 use Rattle.std.proofs.lemmas.List.FromFn.{length-range_with_len}
 use Rattle.std.proofs.lemmas.List.Sums.{prefix_len-le-length}
 use Rattle.sim_base.specs.declared.config.Config.{Config}
-use Rattle.sim_base.specs.Counts.{stops}
 use Rattle.sim_base.specs.History.{below, trace_of, steps_of_core, retired_before, issued_before, core_messages, inbox}
 use Rattle.sim_base.specs.Machine.{run, core_run}
 use Rattle.sim_base.specs.Windows.{done_from, is_done, retires, stop_after, has_cause, first_stop, step}

@@ -1,5 +1,5 @@
 -- Numbers of counters, one by one and all together.
-use Rattle.std.proofs.Common.{◌≡◌, ℕ, zero, suc, ◌<◌, ◌^◌, List, [], ◌∷◌, Option, Some, None, refl, ap, ap₂, arith}
+use Rattle.std.proofs.Common.{◌≡◌, ℕ, suc, ◌^◌, List, [], ◌∷◌, Option, Some, None, refl, ap₂}
 use Rattle.std.specs.Prelude.{slice_index_or, unwrap_or}
 use Rattle.statistics.specs.Counters.{IsBelow, IsNumberOf, AreNumbersOf}
 use Rattle.statistics.specs.declared.counters.CounterKind.{CounterKind}

@@ -4,7 +4,7 @@
 --     AreNumbersOf counters numbers      numbers, one for each counter, that they may have
 --     named counters numbers      each number under its counter's name
 --     number_or_zero numbers k      one of them, or zero where it is not there
-use Rattle.std.specs.Prelude.{ℕ, ◌<◌, ◌^◌, List, [], ◌∷◌, map, slice_index_or, unwrap_or, ⊤, Option, Some, None}
+use Rattle.std.specs.Prelude.{ℕ, ◌<◌, ◌^◌, List, [], ◌∷◌, slice_index_or, unwrap_or, ⊤, Option, Some, None}
 use Rattle.std.specs.Option.{IfSome}
 use Rattle.statistics.specs.declared.counters.Counter.{Counter}
 use Rattle.statistics.specs.declared.counters.CounterKind.{CounterKind}

@@ -19,7 +19,7 @@ pub count_memory-requires : goal.count_memory-requires
 count_memory-requires c =
     let h = c.requires.stands in
     let a = view_of c.args.self.now in
-    memory-fits a.stats c.args.cycle_work.core_step c.args.cycle_work.why c.args.cycle_work.memory a.stats.retired (length a.trace) a.now
+    memory-fits a.stats c.args.cycle_work.core_step c.args.cycle_work.why c.args.cycle_work.memory (length a.trace) a.now
     (step-fits h.s h.core h.trace h.steps h.mail a c.args.cycle_work.core_step c.args.cycle_work.why c.args.cycle_work.memory h.stands
     (c.requires.cycle_work a h.s h.core h.trace h.steps h.mail (like-self a) h.stands) (omega (arith, c.len-len.ensures.value, c.len-len.ensures.limit)) c.requires.early)
 
