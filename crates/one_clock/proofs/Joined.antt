@@ -1,16 +1,14 @@
 -- The statistics of each unit, one cycle more, and why they fit.
-use Rattle.std.proofs.Common.{◌≡◌, ℕ, suc, ◌+◌, ◌*◌, ◌^◌, ◌<◌, ◌≤◌, List, [], length, sym, ap, ap₂, subst, ◌∙◌, add-one, arith}
+use Rattle.std.proofs.Common.{◌≡◌, ℕ, suc, ◌+◌, ◌^◌, ◌<◌, ◌≤◌, List, [], length, sym, ap, ap₂, subst, ◌∙◌, add-one, arith}
 use Rattle.std.specs.Prelude.{is_some, max}
 use Rattle.std.proofs.Math.Seq.{take-length}
-use Rattle.std.proofs.lemmas.Nat.{mul-le}
 use Rattle.sim_base.specs.declared.config.Config.{Config}
 use Rattle.sim_base.specs.declared.history.CoreStep.{CoreStep}
 use Rattle.sim_base.specs.declared.message.Message.{Message}
 use Rattle.sim_base.specs.declared.message.Unit.TheVariants.{Core, Channel}
 use Rattle.sim_base.specs.declared.trace.Entry.{Entry}
 use Rattle.sim_base.specs.declared.trace.Stop.{Stop}
-use Rattle.sim_base.specs.declared.trace.Stop.TheVariants as stop
-use Rattle.sim_base.specs.Counts.{is_read, is_write, reads, writes, replies, read_latency, queue_length, queued_max, has_refresh_due, draining}
+use Rattle.sim_base.specs.Counts.{replies, queue_length, queued_max, has_refresh_due, draining}
 use Rattle.sim_base.specs.History.{trace_of, steps_of_core, steps_of_channel, issued_commands, retired_before, issued_before, inbox}
 use Rattle.sim_base.specs.Machine.{next_command, run}
 use Rattle.sim_base.specs.Scheduling.{lowest_due, drains, choice}
@@ -22,8 +20,8 @@ use Rattle.statistics.specs.Channels.{draining_of, channel_stats, channel_cycle_
 use Rattle.statistics.specs.Cores.{replies_in, core_stats, core_cycle_with, core_cycle, core_none, core_joined, CoreFits}
 use Rattle.statistics.specs.Runs.{stats_of_core, stats_of_channel}
 use Rattle.statistics.proofs.ChannelCounts.{channel_stats-fit, channel_stats-none}
-use Rattle.statistics.proofs.CoreCounts.{read_latency-le, stopped_by-le, count-take-le, replies-same, core_stats-none}
-use Rattle.statistics.proofs.KeepsToTrace.{KeepsToTrace, KeepsToTrace-run}
+use Rattle.statistics.proofs.CoreCounts.{core_stats-fit, replies-same, core_stats-none}
+use Rattle.statistics.proofs.KeepsToTrace.{KeepsToTrace-run}
 use Rattle.statistics.proofs.ReplyBounds.{replies-le}
 use Rattle.statistics.proofs.RunSteps.{inbox-next, stats_of_core-next, stats_of_channel-next}
 use Rattle.statistics.proofs.Replies.{length-steps_of_channel, length-steps_of_core}
@@ -101,27 +99,6 @@ core_stats_next s traces n core view step counts more l e f g h =
     ∙ sym (stats_of_core-next s traces n core l)
     ∙ ap (λ i. stats_of_core s traces (run s traces i) core) (sym (add-one n))
 
-fits : (s : Config) (core : ℕ) (trace : List Entry) (past_steps : List CoreStep) (mail : List Message) → length past_steps ≤ 2 ^ 62 → KeepsToTrace trace past_steps → length trace < 2 ^ 64
-    → length (replies past_steps mail) < 2 ^ 64 → CoreFits (core_stats s core trace past_steps mail)
-unfolding core_stats reads writes
-fits s core trace past_steps mail cycles keeps short replied =
-    let most : length (replies past_steps mail) * length past_steps ≤ 2 ^ 64 * 2 ^ 62 = mul-le _ _ (2 ^ 64) (2 ^ 62) (omega arith) cycles in
-    let issued : issued_before past_steps ≤ length trace = keeps.issued in
-    let retired : retired_before past_steps ≤ issued_before past_steps = keeps.retired in
-    record {
-      issued = omega arith;
-      retired = omega arith;
-      reads = omega (arith, count-take-le is_read (issued_before past_steps) trace);
-      writes = omega (arith, count-take-le is_write (issued_before past_steps) trace);
-      replies = omega arith;
-      read_latency = omega (arith, read_latency-le past_steps mail);
-      stop_end = omega (arith, stopped_by-le s core trace past_steps mail stop.End);
-      stop_width = omega (arith, stopped_by-le s core trace past_steps mail stop.Width);
-      stop_window = omega (arith, stopped_by-le s core trace past_steps mail stop.Window);
-      stop_memory = omega (arith, stopped_by-le s core trace past_steps mail stop.Memory);
-      stop_credit = omega (arith, stopped_by-le s core trace past_steps mail stop.Credit);
-    }
-
 pub core_stats_fit : (s : Config) (traces : List (List Entry)) (n core : ℕ) (view : CoreView) (step : CoreStep × Stop) (counts more : CoreStats)
     → core < s.cores
     → view ≡ core_view s traces (run s traces n) core
@@ -140,9 +117,10 @@ core_stats_fit s traces n core view step counts more l e f g h early short few =
     let len : length past_steps ≡ n + 1 = length-steps_of_core core (run s traces (suc n)) ∙ length-run s traces (suc n) ∙ sym (add-one n) in
     let same : replies past_steps then ≡ replies past_steps mail = replies-same past_steps then mail (subst (λ i. arrived then i ≡ arrived mail i) (sym len) (inbox-next s traces n (Core core))) in
     let kept : length view.inbox ≡ length mail = ap (λ (v : CoreView). length v.inbox) e in
+    let keeps = KeepsToTrace-run s traces core l (suc n) in
     let replied : length (replies past_steps then) ≤ length mail = subst (λ x. length x ≤ length mail) (sym same) (replies-le past_steps mail) in
     subst CoreFits (ap (λ i. stats_of_core s traces (run s traces i) core) (sym (add-one n)) ∙ sym (core_stats_next s traces n core view step counts more l e f g h))
-    (fits s core (trace_of traces core) past_steps then (omega arith) (KeepsToTrace-run s traces core l (suc n)) short (omega arith))
+    (core_stats-fit s core (trace_of traces core) past_steps then (omega arith) (omega (arith, keeps.issued)) (omega (arith, keeps.issued, keeps.retired)) (omega arith))
 
 -- a channel, one cycle more
 
