@@ -5,6 +5,7 @@ use Rattle.std.proofs.lemmas.Bool.{false≢true}
 use Rattle.std.proofs.lemmas.List.{take-append-drop, length-drop}
 use Rattle.std.specs.Io.KnownBytes.{Appends}
 use Rattle.refusal.specs.Lines.{TakesUntil, AppendsBeginning, IsExplained, IsExplainedWhole}
+use Rattle.refusal.specs.Warnings.{IsLine}
 
 appends_more : (a b c : Option (List ℕ)) (x y : List ℕ) → Appends a b x → Appends b c y → Appends a c (x ++ y)
 appends_more None b c x y first second = tt
@@ -68,5 +69,17 @@ explained_by (Ok _) refused old mid new lines text more same first whole part is
 explained_by (Err _) refused old mid new lines text more same first whole part is = record {
   more = more;
   begun = beginning_by old mid new lines more (subst (Appends old mid) same first) part;
+  whole = λ taken. absurd (false≢true (sym taken ∙ is));
+}
+
+-- a line that the stream took, whole or a beginning of it as the answer to the write says
+pub line_told : {T E : Type 0} (answer : Result T E) (refused : Bool) (old new : Option (List ℕ)) (line text : List ℕ) → text ≡ line
+    → OnOk answer (Appends old new text) → AppendsBeginning old new text → OnErr answer (IsTrue refused) → IsLine refused old new line
+line_told (Ok _) refused old new line text same whole part is = record {
+  begun = subst (AppendsBeginning old new) same part;
+  whole = λ _. subst (Appends old new) same whole;
+}
+line_told (Err _) refused old new line text same whole part is = record {
+  begun = subst (AppendsBeginning old new) same part;
   whole = λ taken. absurd (false≢true (sym taken ∙ is));
 }
