@@ -21,6 +21,7 @@ fn counts_in(
     ensures { IfOk result (λ counts. counts ≡ counts_in commands.now bank) }
 {
     let own = of_bank(alloc, bank, commands)?;
+    let hits = hits(alloc, &own)?;
     let rank = of_rank(alloc, bank.rank, commands)?;
     let conflicts = count_of_kind(Kind::Pre, &own);
     Ok(BankCounts {
@@ -30,7 +31,7 @@ fn counts_in(
         writes: count_of_kind(Kind::Wr, &own),
         precharges: conflicts + count_of_kind(Kind::Prea, &rank),
         conflicts,
-        hits: hits(alloc, &own)?,
+        hits,
     })
 }
 

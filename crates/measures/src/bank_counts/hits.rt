@@ -56,7 +56,7 @@ fn count_hits(entries: &Entries, commands: &[IssuedCommand]) -> u64
 {
     commands
         .iter()
-        .filter(|issued| is_hit(entries, **issued))
+        .filter(move |issued| is_hit(entries, **issued))
         .count() as u64
 }
 

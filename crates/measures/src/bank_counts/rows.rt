@@ -3,7 +3,7 @@
 ghost use Rattle.std.specs.Prelude.{◌≡◌, ◌<◌, ◌^◌, IfOk};
 ghost use Rattle.sim_base.specs.Counts.{issued_of_kind};
 ghost use Rattle.sim_base.specs.Rules.{is_kind, kind_of};
-ghost use Rattle.measures.specs.Banks.{is_of_channel, of_channel, is_named, names_bank, of_bank, is_of_rank, of_rank, bank_at, every_bank, is_used, used_banks};
+ghost use Rattle.measures.specs.Banks.{is_of_channel, of_channel, is_named, names_bank, of_bank, is_of_rank, of_rank, bank_at, is_used, used_banks};
 
 use command_table::list::CommandList;
 use sim_base::command::{IssuedCommand, Kind};
@@ -115,13 +115,6 @@ fn bank_at(place: u32) -> BankId
     }
 }
 
-#[tactic(auto, unfolding(crate::specs::Banks::every_bank))]
-fn every_bank(alloc: Global) -> Result<Vec<BankId>, AllocError>
-    ensures { IfOk result (λ banks. banks.items ≡ every_bank) }
-{
-    (0..MOST_BANKS).map(bank_at).collect(alloc)
-}
-
 #[tactic(auto, unfolding(crate::specs::Banks::is_used))]
 fn is_used(commands: &[IssuedCommand], bank: BankId) -> bool
     ensures { result ≡ is_used commands.now bank }
@@ -130,17 +123,15 @@ fn is_used(commands: &[IssuedCommand], bank: BankId) -> bool
 }
 
 /// The banks that commands of a channel name.
-#[tactic(auto, unfolding(crate::specs::Banks::used_banks))]
+#[tactic(auto, unfolding(crate::specs::Banks::every_bank, crate::specs::Banks::used_banks))]
 pub(crate) fn used_banks(
     alloc: Global,
     commands: &[IssuedCommand],
 ) -> Result<Vec<BankId>, AllocError>
     ensures { IfOk result (λ banks. banks.items ≡ used_banks commands.now) }
 {
-    let banks = every_bank(alloc)?;
-    banks
-        .iter()
-        .filter(|bank| is_used(commands, **bank))
-        .copied()
+    (0..MOST_BANKS)
+        .map(bank_at)
+        .filter(move |bank| is_used(commands, *bank))
         .collect(alloc)
 }
