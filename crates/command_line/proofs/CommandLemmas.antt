@@ -1,5 +1,5 @@
 -- What a command is, whose settings are plain.
-use Rattle.std.proofs.Common.{◌≡◌, ◌&&◌, ◌+◌, ◌<◌, ℕ, Bool, true, false, not, List, [], ◌∷◌, fold, get_or, length, take, refl, sym, ap, ap₂, ◌∙◌}
+use Rattle.std.proofs.Common.{◌≡◌, ◌&&◌, ◌+◌, ◌<◌, ℕ, Bool, true, false, not, List, [], ◌∷◌, fold, get_or, length, take, refl, sym, ap, ◌∙◌}
 use Rattle.std.proofs.lemmas.List.Sums.{fold_more}
 use Rattle.clap.specs.Words.{AddsSubcommand, App, app_of, new_app, with_subcommand}
 use Rattle.clap.specs.declared.builder.command.Command.{Command}
@@ -25,11 +25,14 @@ plain : (app : App) (arguments : List Argument) → app.top.is_plain ≡ true �
 plain app [] is = is
 plain app (x ∷ xs) is = plain (with_argument app x) xs is
 
--- a command with one more of the program's below it
-pub one_more : (below old new : Command) (app : App) (commands : List Subcommand) (i : ℕ) (default : Subcommand) → app_of old ≡ fold with_below app (take i commands)
-    → i < length commands → app_of below ≡ app_in (get_or commands i default) → AddsSubcommand old below new → app_of new ≡ fold with_below app (take (i + 1) commands)
-one_more below old new app commands i default above lt is adds =
-    let command = get_or commands i default in
+-- a command with one of the program's below it
+pub with_one : (below old new : Command) (command : Subcommand) → app_of below ≡ app_in command → AddsSubcommand old below new → app_of new ≡ with_below (app_of old) command
+with_one below old new command is adds =
     adds.shape (no_global _ _ _ _ _ _ is (plain (new_app command.name.now) command.arguments.now refl) refl)
-    ∙ ap₂ with_subcommand above (ap (λ (a : App). a.top) is)
-    ∙ sym (fold_more with_below app commands i default lt)
+    ∙ ap (λ (a : App). with_subcommand (app_of old) a.top) is
+
+-- a command with one more argument, or one more command below it
+pub one_more : {A : Type 0} (step : App → A → App) (old new : Command) (app : App) (parts : List A) (i : ℕ) (default : A) → app_of old ≡ fold step app (take i parts)
+    → i < length parts → app_of new ≡ step (app_of old) (get_or parts i default) → app_of new ≡ fold step app (take (i + 1) parts)
+one_more step old new app parts i default above lt is =
+    is ∙ ap (λ (a : App). step a (get_or parts i default)) above ∙ sym (fold_more step app parts i default lt)

@@ -1,7 +1,7 @@
 //! The frequency of a clock, as words state it in MHz.
 
 ghost use Rattle.std.specs.Prelude.{◌≡◌, ◌<◌, ◌≤◌, fold};
-ghost use Rattle.command_line.specs.Clock.{with_point, with_digit, with_byte, read_on, clock_of};
+ghost use Rattle.command_line.specs.Clock.{with_point, with_digit, with_byte, read_on, in_range, clock_of};
 
 /// The place of the next digit of a decimal number.
 #[derive(Clone, Copy)]
@@ -65,12 +65,22 @@ fn with_byte(read: Reading, byte: u8) -> Option<Reading>
     }
 }
 
-fn read_on(read: Option<Reading>, byte: u8) -> Option<Reading>
-    ensures { result ≡ read_on read byte }
+fn read_on(read: Option<Reading>, byte: &u8) -> Option<Reading>
+    ensures { result ≡ read_on read byte.now }
 {
     match read {
-        Some(read) => with_byte(read, byte),
+        Some(read) => with_byte(read, *byte),
         None => None,
+    }
+}
+
+// A number of thousandths that is above 0 and below a million.
+fn in_range(read: Option<Reading>) -> Option<u64>
+    ensures { result ≡ in_range read }
+{
+    match read {
+        Some(read) if 0 < read.thousandths && read.thousandths < LIMIT => Some(read.thousandths),
+        _ => None,
     }
 }
 
@@ -84,12 +94,5 @@ pub fn read_clock(text: &str) -> Option<u64>
         thousandths: 0,
         place: DigitPlace::Whole,
     });
-    let read = text
-        .as_bytes()
-        .iter()
-        .fold(start, |read, byte| read_on(read, *byte));
-    match read {
-        Some(read) if 0 < read.thousandths && read.thousandths < LIMIT => Some(read.thousandths),
-        _ => None,
-    }
+    in_range(text.as_bytes().iter().fold(start, read_on))
 }

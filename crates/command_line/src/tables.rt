@@ -38,8 +38,8 @@ fn with_table(tables: Tables, name: &str) -> Option<Tables>
     }
 }
 
-fn and_table(tables: Option<Tables>, name: &str) -> Option<Tables>
-    ensures { result ≡ and_table tables name.now }
+fn and_table(tables: Option<Tables>, name: &&str) -> Option<Tables>
+    ensures { result ≡ and_table tables name.now.now }
 {
     match tables {
         Some(tables) => with_table(tables, name),
@@ -51,9 +51,7 @@ fn and_table(tables: Option<Tables>, name: &str) -> Option<Tables>
 fn tables_named(names: &[&str]) -> Option<Tables>
     ensures { result ≡ fold and_table (Some no_tables) (map (λ name. name.now) names.now) }
 {
-    names
-        .iter()
-        .fold(Some(NONE), |tables, name| and_table(tables, name))
+    names.iter().fold(Some(NONE), and_table)
 }
 
 /// The tables that a text lists: their names, joined by commas, each at most once. The only error is out of memory.
