@@ -1,7 +1,7 @@
 -- What the candidates of all banks stand for, when those of one bank change.
 use Rattle.std.proofs.Common.{◌≡◌, ◌≢◌, ℕ, ◌+◌, ◌*◌, ◌/◌, ◌%◌, ◌^◌, ◌<◌, ◌≤◌, Bool, true, false, cond, ◌&&◌, eqb, ltb, List, [], ◌∷◌, ◌++◌, length, map, get_or, set, take, drop, replicate, Option, Some, None, refl, sym, ap, subst, ◌∙◌, inl, inr, arith, get_or-set_same, get_or-set_other}
 use Rattle.std.proofs.lemmas.Bool.{cases_lt, cases_eq, eq-eqb, ne_eqb, cond-true, cond-false, lt-ltb, le-ltb, and_from, and_parts, eqb-true, false_from_ne_true}
-use Rattle.std.proofs.lemmas.List.{get_or-replicate, length-replicate, length-set, length-take-le, map-append, get_or_at}
+use Rattle.std.proofs.lemmas.List.{get_or-replicate, get_or_past, length-replicate, length-set, length-take-le, map-append, get_or_at}
 use Rattle.std.proofs.lemmas.List.Elements.{All-push}
 use Rattle.std.specs.List.{All, position, zip}
 use Rattle.std.proofs.Math.Bool.{and-false}
@@ -364,6 +364,13 @@ bank_named n b group bank = elim (cases_eq n (number_of b)) [
       apart (omega arith)))
 ]
 
+-- no row is open where all banks are closed
+pub none_open : (rows : List (Option ℕ)) (banks bank : ℕ) → rows ≡ replicate banks None → get_or rows bank None ≡ None
+none_open rows banks bank closed = elim (cases_lt bank (length rows)) [
+  | inl within ↦ ap (λ xs. get_or xs bank None) closed ∙ get_or-replicate banks bank None None (omega (arith, ap length closed, length-replicate banks (let none : Option ℕ = None in none)))
+  | inr beyond ↦ get_or_past rows bank None beyond
+]
+
 -- candidates of closed banks and of no request
 pub first_stand : (candidates : BankCandidates) (banks : ℕ) → candidates.rows.items ≡ replicate banks None → candidates.counts.items ≡ replicate (2 * banks) 0
     → ((number : ℕ) (hit : Bool) → candidate_in candidates.places.words.items number hit ≡ None) → StandsFor candidates [] (λ bank. None)
@@ -371,7 +378,7 @@ unfolding waiting
 first_stand candidates banks closed counts none = from_parts candidates [] (λ bank. None) (record {
   within = λ k d there. absurd (omega arith);
   fit = λ k d there. absurd (omega arith);
-  opened = λ bank exists. ap (λ xs. get_or xs bank None) closed ∙ get_or-replicate banks bank None None (omega (arith, ap length closed, length-replicate banks (let none : Option ℕ = None in none)));
+  opened = λ bank exists. none_open candidates.rows.items banks bank closed;
   first = λ bank access exists. record { oldest_is = none (access_number bank access) false; hit_is = none (access_number bank access) true };
 }) (λ number exists. ap (λ xs. get_or xs number 0) counts ∙ get_or-replicate (2 * banks) number 0 0 (omega (arith, ap length counts, length-replicate {A = ℕ} (2 * banks) 0)))
 

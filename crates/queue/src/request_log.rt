@@ -121,7 +121,6 @@ impl RequestLog {
 
     /// No requests, with places for so many of them, of which at most `room` wait at a time. Only this call allocates
     /// memory.
-    #[tactic(auto, unfolding(crate::specs::Log::waiting, crate::specs::Log::eligible_column, crate::specs::Columns::tag_column))]
     pub fn with_places(alloc: Global, places: usize, room: usize) -> Result<Self, AllocError>
         requires { places < 2 ^ 16 - 1 }
         ensures { IfOk result (λ log. log ≡ record { places = places; log = [] }) }

@@ -1,6 +1,6 @@
 //! The candidates of all banks.
 
-ghost use Rattle.std.specs.Prelude.{◌≡◌, ℕ, ◌*◌, ◌≤◌, length, slice_index_or, None, is_some};
+ghost use Rattle.std.specs.Prelude.{◌≡◌, ℕ, ◌*◌, ◌≤◌, length, replicate, slice_index_or, None, is_some, IfOk};
 ghost use Rattle.queue.specs.Sets.{is_in};
 
 use crate::bank_candidates::entry::{AccessCandidates, access_number, is_open, number_of};
@@ -11,6 +11,13 @@ use crate::request_log::words::bank_number;
 use sim_base::message::{Access, Request};
 use sim_base::place::BankId;
 use std::alloc::{AllocError, Global};
+
+/// The rows of banks that are all closed.
+fn closed_rows(alloc: Global, banks: usize) -> Result<Vec<Option<u32>>, AllocError>
+    ensures { IfOk result (λ rows. rows.items ≡ replicate banks None) }
+{
+    vec![in alloc; None; banks]
+}
 
 /// Of each bank of a channel, by number, the first requests that may be served, to read and to write, and the row that
 /// is open.
@@ -51,10 +58,10 @@ impl BankCandidates {
         ensures stands { IfOk result (λ candidates. StandsFor candidates [] (λ bank. None)) }
     {
         Ok(BankCandidates {
-            rows: vec![in alloc; None; banks]?,
+            rows: closed_rows(alloc, banks)?,
+            counts: vec![in alloc; 0; 2 * banks]?,
             open_banks: BankSet::none(),
             places: Places::with_room(alloc, banks)?,
-            counts: vec![in alloc; 0; 2 * banks]?,
         })
     }
 

@@ -5,7 +5,7 @@ use Rattle.std.proofs.lemmas.List.{get_or_default, get_or-set_same, length-set}
 use Rattle.std.specs.Vec.{with_item}
 use Rattle.queue.specs.declared.request_log.Arrived.{Arrived}
 use Rattle.queue.specs.Marks.{is_marked}
-use Rattle.queue.specs.Log.{absent, served_at, waits_at, waiting_requests, eligible_column, unblocked_by}
+use Rattle.queue.specs.Log.{LogView, absent, served_at, waits_at, waiting_requests, eligible_column, unblocked_by}
 use Rattle.queue.specs.Columns.{slot_of_line, slot_of_row, line_slot, bank_number, tag_word, left_tag, tag_column, blocked_count, AreCounted}
 use Rattle.queue.specs.Lines.{NoneTold, IsFoundAt}
 use Rattle.queue.specs.RequestLogKept.{AreKept}
@@ -33,6 +33,15 @@ log_is : (c : After-index_mut) → set c.self.inside.log.items c.args.slot (reco
 log_is c =
     ap (λ (a : Arrived). set c.self.inside.log.items c.args.slot (record a { waits = false }))
     (c.index_mut.ensures.value ∙ get_or_default c.self.inside.log.items c.args.slot c.index_mut.result.now absent (within c))
+
+-- what is seen of a log
+abbrev seen : ℕ → List Arrived → LogView
+seen places log = record { places = places; log = log }
+
+-- what is seen of the log that is left
+seen_left : (c : After-index_mut) (was : LogView) → seen c.self.inside.places c.self.inside.log.items ≡ was
+    → seen c.self.inside.places (set c.self.inside.log.items c.args.slot (record c.index_mut.result.now { waits = false })) ≡ record was { log = served_at was.log c.args.slot }
+seen_left c was view_is = ap (seen c.self.inside.places) (log_is c) ∙ ap (λ (v : LogView). record v { log = served_at v.log c.args.slot }) view_is
 
 -- whether it was first of its line
 mark_is : (c : After-index_mut) (first : Bool) → c.is_eligible-was_first.result ≡ first → is_marked (get_or (eligible_column c.self.inside.log.items) c.args.slot 0) ≡ first
@@ -294,3 +303,15 @@ returns-clause-newly whole =
     let found : IsFoundAt false whole.index.result.now.request.place whole.deref.result.now whole.deref-2.result.now (whole.args.slot + 1) place = whole.in_ok-next.ensures {u = tt} in
     let next = next_found c whole.deref.result.now whole.deref-2.result.now place whole.deref.ensures.value whole.deref-2.ensures.value found in
     ap (λ v. is_marked (get_or (eligible_column v.log) place 0)) (sym c.self.view_is) ∙ blocked_behind log c.args.slot place next.behind next.within (waits c) next.here
+
+pub returns-then-not-was_first-clause-log : goal.returns-then-not-was_first-clause-log
+returns-then-not-was_first-clause-log whole = let c = (goal.at.returns-then-not-was_first-clause-log whole).After-index_mut in seen_left c _ c.self.view_is
+
+pub returns-then-self-eq0-clause-log : goal.returns-then-self-eq0-clause-log
+returns-then-self-eq0-clause-log whole = let c = (goal.at.returns-then-self-eq0-clause-log whole).After-index_mut in seen_left c _ c.self.view_is
+
+pub returns-in_err-next-clause-log : goal.returns-in_err-next-clause-log
+returns-in_err-next-clause-log whole = let c = (goal.at.returns-in_err-next-clause-log whole).After-index_mut in seen_left c _ c.self.view_is
+
+pub returns-clause-log : goal.returns-clause-log
+returns-clause-log whole = let c = (goal.at.returns-clause-log whole).After-index_mut in seen_left c _ c.self.view_is
