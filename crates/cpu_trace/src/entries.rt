@@ -13,7 +13,7 @@ use std::marker::Model;
 pub(crate) const MOST_ENTRIES: u64 = 1 << 62;
 
 /// A Read or a Write entry, and its number in its trace, counted from 0.
-#[derive(Clone, Copy, PartialEq, Eq, Debug)]
+#[derive(Clone, Copy)]
 pub struct MemoryEntry {
     pub number: u64,
     pub entry: Entry,

@@ -53,7 +53,7 @@ fn read_pieces<R: Threads + Sync>(
         .par_iter()
         .with_min_len(1)
         .map(
-            |piece: &&[u8]| -> Result<Reading, Unread>
+            move |piece: &&[u8]| -> Result<Reading, Unread>
                 ensures { IsRead (lines_of piece.now.now) result }
             { read_piece(alloc, piece) },
         )
