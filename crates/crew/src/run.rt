@@ -10,6 +10,7 @@ use crate::seats::PutSeat;
 use crate::shared::{Shared, TaskContext};
 use crate::signal::WaitLimits;
 use crate::work::{DoneOf, Work};
+use crossbeam_queue::ArrayQueue;
 use std::alloc::{AllocError, Global};
 use std::marker::Brand;
 use std::sync::Wait;
@@ -66,33 +67,14 @@ fn start<
 {
     for worker in 1..workers {
         let theirs = shared.board.deal(seat);
-        let thread = scope.spawn(
-            move ||
-                requires { theirs ≡ [] }
-            { shared.serve(worker, theirs) },
-        );
-        if thread.is_err() {
+        let serve = move ||
+            requires { theirs ≡ [] }
+        { shared.serve(worker, theirs) };
+        if scope.spawn(serve).is_err() {
             return Err(Refused::Start);
         }
     }
     Ok(())
-}
-
-// Runs the phases with the threads that were started.
-fn run_phased<
-    T: Drop,
-    D: DoneOf<T> + Drop,
-    W: Work<T, D>,
-    B: BoardName,
-    R: Wait,
-    E,
-    C: PhasedRun<T, D, E>,
->(shared: &Shared<'_, T, D, W, B, R>, seat: PutSeat<T, B>, phased: C) -> Result<E, AllocError>
-    requires { seat ≡ put_view [] [] }
-    ensures { IfOk result (C.gives phased) }
-{
-    let mut crew = Crew::new(shared, seat);
-    phased.run(shared.context.alloc, &mut crew)
 }
 
 // Starts the threads, and runs the phases with them.
@@ -119,7 +101,8 @@ fn run_started<
 {
     let mut seat = seat;
     start(scope, shared, &mut seat, workers)?;
-    match run_phased(shared, seat, phased) {
+    let mut crew = Crew::new(shared, seat);
+    match phased.run(shared.context.alloc, &mut crew) {
         Ok(end) => Ok(end),
         Err(AllocError) => Err(Refused::Memory),
     }
@@ -149,7 +132,7 @@ fn run_in_scope<
     thread::scope(
         thread::scope_env(),
         shared.context.rt,
-        |scope| -> Result<E, Refused>
+        move |scope| -> Result<E, Refused>
             requires { seat ≡ put_view [] [] }
             ensures end { IfOk result (C.gives phased) }
             ensures refused { IfErr result (λ e. e ≡ Refused.Start → 2 ≤ workers) }
@@ -181,14 +164,16 @@ fn run_named<
     ensures refused { IfErr result (λ e. e ≡ Refused.Start → 2 ≤ options.workers) }
 {
     let CrewOptions {
+        room,
         workers,
         limits,
-        ..
     } = options;
-    let (board, seat) = blank.named::<B>();
-    let Ok(shared) = Shared::<T, D, W, B, R>::new(context, board, workers, limits) else {
+    let results = room.saturating_add(workers).saturating_add(1);
+    let Ok(returned) = ArrayQueue::new(context.alloc, results) else {
         return Err(Refused::Memory);
     };
+    let (board, seat) = blank.named::<B>();
+    let shared = Shared::<T, D, W, B, R>::new(context, board, returned, limits);
     run_in_scope(&shared, seat, workers, phased)
 }
 

@@ -49,18 +49,16 @@ impl<'a, T: Drop, D: DoneOf<T> + Drop, W: Work<T, D>, B: BoardName, R: Wait> Sha
     B,
     R,
 > {
-    /// What this number of threads shares, with this board. The only error is out of memory.
+    /// What threads share that return what came of tasks to this queue.
     pub(crate) fn new(
         context: TaskContext<'a, W, R>,
         board: Board<T, B>,
-        threads: usize,
+        returned: ArrayQueue<ThreadResult<T, D, B>>,
         limits: WaitLimits,
-    ) -> Result<Shared<'a, T, D, W, B, R>, AllocError>
-        ensures { IfOk result (λ h. h.board ≡ board) }
+    ) -> Shared<'a, T, D, W, B, R>
+        ensures { result.board ≡ board }
     {
-        let room = board.room().saturating_add(threads).saturating_add(1);
-        let returned = ArrayQueue::new(context.alloc, room)?;
-        Ok(Shared {
+        Shared {
             context,
             board,
             returned,
@@ -69,7 +67,7 @@ impl<'a, T: Drop, D: DoneOf<T> + Drop, W: Work<T, D>, B: BoardName, R: Wait> Sha
             over: AtomicBool::new(false),
             next_worker: AtomicUsize::new(0),
             limits,
-        })
+        }
     }
 
     // Waits until the workers with lower numbers have taken, but not for long.
