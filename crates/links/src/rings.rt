@@ -15,7 +15,7 @@ use std::alloc::AllocError;
 pub type Ring = HeapCircularBuffer<Message>;
 
 /// The least capacity of a ring that holds any message.
-const FEW: usize = 4;
+const FEW: usize = 32;
 
 /// Makes room for `more` further messages.
 pub fn make_room(ring: &mut Ring, more: usize) -> Result<(), AllocError>

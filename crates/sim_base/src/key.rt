@@ -147,7 +147,7 @@ pub struct KeyRow {
     /// What it accepts, in words.
     pub words: &'static str,
     pub absent: WhereAbsent,
-    /// What part of the machine it sets, a heading of docs/CONFIG.md.
+    /// What part of the machine it sets.
     pub group: &'static str,
     pub meaning: &'static str,
 }

@@ -1,5 +1,5 @@
 -- The counts of a channel: what one cycle more adds to each, that only the messages that arrived by then change them, and
--- that each fits its number.
+-- that each fits the bits of its number.
 use Rattle.std.proofs.Common.{◌≡◌, ℕ, zero, suc, ◌+◌, ◌≤◌, Bool, true, false, cond, eqb, ltb, ◌||◌, List, [], ◌∷◌, ◌++◌, length, map, Option, Some, None, refl, sym, ap, ap₂, ◌∙◌, add-zero, zero-add, arith, ◌*◌, ◌^◌, ◌<◌}
 use Rattle.std.specs.Prelude.{count_by, sum, fold, max, filter_map, not, is_some}
 use Rattle.std.specs.List.{AllByRecursion as Each, cons_option, enumerate_from, list_any}

@@ -1,5 +1,5 @@
 -- The counts of a core: what one cycle more adds to each, that only the messages that arrived by then change them, and
--- that each fits its number.
+-- that each fits the bits of its number.
 use Rattle.std.proofs.Common.{◌≡◌, ℕ, zero, suc, ◌+◌, ◌-◌, ◌<◌, ◌≤◌, Bool, true, false, cond, eqb, ltb, leb, ◌&&◌, List, [], ◌∷◌, ◌++◌, length, map, take, Option, Some, None, refl, sym, ap, ap₂, ◌∙◌, ⊎_elim, add-one, zero-add, arith, ◌*◌, ◌^◌}
 use Rattle.std.specs.Prelude.{count_by, sum_by, find, filter}
 use Rattle.std.specs.List.{prefix_len, range_with_len}

@@ -14,10 +14,10 @@ use Rattle.statistics.specs.declared.counters.CounterKind.TheVariants.{Count, Su
 abbrev pub counter_of : Counter → List ℕ × CounterKind
 counter_of counter = (counter.name.now, counter.kind)
 
--- a number that is there and is less than another one
+-- a number that is there and is less than a bound
 abbrev pub IsBelow : ℕ → Option ℕ → Type 0
-IsBelow most (Some n) = n < most
-IsBelow most None = ⊥
+IsBelow bound (Some n) = n < bound
+IsBelow bound None = ⊥
 
 -- a number that a counter of this kind may have: a count has 64 bits and a sum 128, and a cycle may be missing
 abbrev pub IsNumberOf : CounterKind → Option ℕ → Type 0
