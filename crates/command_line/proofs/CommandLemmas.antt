@@ -31,7 +31,7 @@ with_one below old new command is adds =
     adds.shape (no_global _ _ _ _ _ _ is (plain (new_app command.name.now) command.arguments.now refl) refl)
     ∙ ap (λ (a : App). with_subcommand (app_of old) a.top) is
 
--- a command with one more argument, or one more command below it
+-- a command with one more part
 pub one_more : {A : Type 0} (step : App → A → App) (old new : Command) (app : App) (parts : List A) (i : ℕ) (default : A) → app_of old ≡ fold step app (take i parts)
     → i < length parts → app_of new ≡ step (app_of old) (get_or parts i default) → app_of new ≡ fold step app (take (i + 1) parts)
 one_more step old new app parts i default above lt is =

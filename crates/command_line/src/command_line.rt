@@ -1,8 +1,8 @@
 //! The command line, as `clap` reads it.
 
-ghost use Rattle.std.specs.Prelude.{◌≡◌, fold, codes, IfOk, false};
+ghost use Rattle.std.specs.Prelude.{◌≡◌, fold, IfOk, false};
 ghost use Rattle.clap.specs.Words.{app_of, new_app, rule_of};
-ghost use Rattle.command_line.specs.CommandLine.{positional_rule, optional_text_rule, flag_rule, rule_in, with_argument, app_in, with_below, with_version, with_subcommand_required, program_app};
+ghost use Rattle.command_line.specs.CommandLine.{rule_in, app_in, with_below, program_app};
 
 use clap::{Arg, ArgAction, Command, value_parser};
 use std::alloc::{AllocError, Global};
@@ -66,56 +66,36 @@ struct Subcommand {
     arguments: &'static [Argument],
 }
 
-// A word that has to be given.
-fn positional<'a>(alloc: Global, argument: &Argument) -> Arg<'a>
-    ensures rule { rule_of result ≡ positional_rule argument.now.id.now }
-    ensures own { result.global ≡ false }
-{
-    Arg::new(alloc, argument.id)
-        .help(argument.help)
-        .value_name(argument.name)
-        .required(true)
-}
-
-// An option that takes a word and may be left out.
-fn optional<'a>(alloc: Global, argument: &Argument) -> Arg<'a>
-    ensures rule { rule_of result ≡ optional_text_rule argument.now.id.now }
-    ensures own { result.global ≡ false }
-{
-    Arg::new(alloc, argument.id)
-        .help(argument.help)
-        .value_name(argument.name)
-        .long(argument.id)
-}
-
-// An option that takes nothing.
-fn flag<'a>(alloc: Global, argument: &Argument) -> Arg<'a>
-    ensures rule { rule_of result ≡ flag_rule argument.now.id.now }
-    ensures own { result.global ≡ false }
-{
-    Arg::new(alloc, argument.id)
-        .help(argument.help)
-        .long(argument.id)
-        .action(ArgAction::SetTrue)
-}
-
 // An argument as `clap` takes it.
 fn arg_of<'a>(alloc: Global, argument: &Argument) -> Arg<'a>
     ensures rule { rule_of result ≡ rule_in argument.now }
     ensures own { result.global ≡ false }
 {
-    match argument.kind {
-        ArgumentKind::Positional => positional(alloc, argument),
-        ArgumentKind::Positionals => positional(alloc, argument).action(ArgAction::Append),
-        ArgumentKind::RequiredText => positional(alloc, argument).long(argument.id),
-        ArgumentKind::RequiredNumber => positional(alloc, argument)
-            .long(argument.id)
+    let Argument {
+        id,
+        kind,
+        name,
+        help,
+    } = *argument;
+    let bare = Arg::new(alloc, id).help(help);
+    match kind {
+        ArgumentKind::Positional => bare.value_name(name).required(true),
+        ArgumentKind::Positionals => bare
+            .value_name(name)
+            .required(true)
+            .action(ArgAction::Append),
+        ArgumentKind::RequiredText => bare.value_name(name).required(true).long(id),
+        ArgumentKind::RequiredNumber => bare
+            .value_name(name)
+            .required(true)
+            .long(id)
             .value_parser(value_parser!(u64)),
-        ArgumentKind::OptionalText => optional(alloc, argument),
-        ArgumentKind::OptionalNumber => {
-            optional(alloc, argument).value_parser(value_parser!(u64))
-        }
-        ArgumentKind::Flag => flag(alloc, argument),
+        ArgumentKind::OptionalText => bare.value_name(name).long(id),
+        ArgumentKind::OptionalNumber => bare
+            .value_name(name)
+            .long(id)
+            .value_parser(value_parser!(u64)),
+        ArgumentKind::Flag => bare.long(id).action(ArgAction::SetTrue),
     }
 }
 
@@ -309,24 +289,13 @@ fn bare_command<'a>(alloc: Global, name: &'a str, about: &'a str, example: &'a s
     Command::new(alloc, name).about(about).after_help(example)
 }
 
-// A command with one argument more.
-fn with_argument<'a>(
-    alloc: Global,
-    command: Command<'a>,
-    argument: &Argument,
-) -> Result<Command<'a>, AllocError>
-    ensures { IfOk result (λ c. app_of c ≡ with_argument (app_of command.entry) argument.now) }
-{
-    command.arg(arg_of(alloc, argument))
-}
-
 // A command with its arguments.
 fn command_of<'a>(alloc: Global, subcommand: &Subcommand) -> Result<Command<'a>, AllocError>
     ensures { IfOk result (λ c. app_of c ≡ app_in subcommand.now) }
 {
     let mut command = bare_command(alloc, subcommand.name, subcommand.about, subcommand.example);
     for argument in subcommand.arguments {
-        let longer = with_argument(alloc, command, argument)?;
+        let longer = command.arg(arg_of(alloc, argument))?;
         command = longer;
     }
     Ok(command)
@@ -360,19 +329,12 @@ fn with_subcommands<'a>(
     Ok(command)
 }
 
-// The program's command line with no command yet.
-fn bare_program<'a>(alloc: Global) -> Command<'a>
-    ensures { app_of result
-        ≡ with_subcommand_required (with_version (new_app (codes "dramsim"))) }
-{
-    bare_command(alloc, "dramsim", "Simulates DDR4 main memory", RUN_EXAMPLE)
-        .version(VERSION)
-        .subcommand_required(true)
-}
-
 /// The program's command line.
 pub fn program<'a>(alloc: Global) -> Result<Command<'a>, AllocError>
     ensures { IfOk result (λ c. app_of c ≡ program_app) }
 {
-    with_subcommands(alloc, bare_program(alloc), &SUBCOMMANDS)
+    let bare = bare_command(alloc, "dramsim", "Simulates DDR4 main memory", RUN_EXAMPLE)
+        .version(VERSION)
+        .subcommand_required(true);
+    with_subcommands(alloc, bare, &SUBCOMMANDS)
 }
