@@ -62,7 +62,7 @@ inline void check(std::uint32_t status) {
     if (status != DRAMSIM_OK) throw Refused(status);
 }
 
-// The same of a call that read a configuration.
+// Throws where a call that read a configuration was refused, with the line of its fault.
 inline void check_configured(std::uint32_t status, std::string_view configuration) {
     if (status != DRAMSIM_CONFIGURATION) return check(status);
     std::uint8_t line[DRAMSIM_FAULT_ROOM];

@@ -40,7 +40,7 @@ static bool plays_memory(const uint8_t *text, size_t length) {
     return true;
 }
 
-/* The same for the channel 1, with its three commands. */
+/* Plays the channel 1, with its three commands, while memory is refused. */
 static bool plays_channel(const uint8_t *text, size_t length) {
     const uint64_t cycles[] = {2, 5, 10};
     struct dramsim_channel channel = DRAMSIM_CLOSED_CHANNEL;

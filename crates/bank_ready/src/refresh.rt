@@ -8,7 +8,7 @@ ghost use Rattle.sim_base.specs.declared.config.Config.{Config};
 ghost use Rattle.sim_base.specs.declared.command.Command.TheVariants.{Ref};
 ghost use Rattle.sim_base.specs.declared.command.IssuedCommand.{IssuedCommand};
 ghost use Rattle.bank_ready.specs.Refreshes.{RefreshCounts, never_refreshed, refreshed, owed, lowest_owed};
-ghost use Rattle.bank_ready.specs.Refreshes.{IsFirstDue, IsDueFrom, StandsFor, IsNoRefresh};
+ghost use Rattle.bank_ready.specs.Refreshes.{IsFirstDue, IsDueFrom, StandsFor};
 
 use sim_base::message::Cycle;
 use std::marker::Model;
@@ -162,12 +162,3 @@ impl Refresh {
         self.quiet_to = (fewest + 1) * u64::from(self.refresh_interval) - 1;
     }
 }
-
-/// A law about the counts: those that stand for some commands still do after one more that refreshes no rank.
-#[tactic(auto, using(crate::proofs::Due::stands_without_refresh))]
-pub fn other_commands_change_nothing()
-    ensures { (counts : RefreshCounts) (s : Config)
-        (history : List IssuedCommand) (i : IssuedCommand)
-        → IsNoRefresh s i.command
-        → StandsFor counts s history → StandsFor counts s (history ++ i ∷ []) }
-{}

@@ -57,7 +57,7 @@ pub record IsFit (s : Config) (channel : ℕ) (steps : Steps) (mail inbox : List
   pub room : (n : ℕ) → from + n < until
       → queue_length channel (channel_run s channel steps (mail ++ inbox) n) (mail ++ inbox) (from + n) ≤ queue_room s
 
--- the same of a past
+-- an inbox may come behind a past, in this span
 abbrev pub IsFitAfter : Past → List Message → ℕ → ℕ → Type 0
 IsFitAfter p inbox from until = IsFit p.config p.channel p.steps p.mail inbox from until
 

@@ -89,7 +89,7 @@ pub record IsDone (c : Channel) (s : Config) (channel : ℕ) (steps : Steps) (ma
   pub commands_behind : commands_then ≡ with_more commands issued
   pub messages_behind : messages_then ≡ messages ++ sent
 
--- the same of a past
+-- a channel ran these cycles behind a past, with this inbox, and put commands and messages behind those that were there
 abbrev pub IsDoneAfter : Channel → Past → List Message → ℕ → ℕ → Option (List IssuedCommand) → Option (List IssuedCommand) → List Message → List Message → Type 0
 IsDoneAfter c p inbox from until commands commands_then messages messages_then =
     IsDone c p.config p.channel p.steps p.mail inbox from until commands commands_then messages messages_then

@@ -9,8 +9,8 @@ ghost use Rattle.command_line.specs.Arguments.{rows_in, word_at, one_at, all_at,
 use crate::clock::read_clock;
 use crate::command_line::{VERSION, program};
 use crate::tables::read_tables;
+use clap::ArgMatches;
 use clap::error::{Error, ErrorKind};
-use clap::{ArgMatches, Command};
 use cpu_trace::number::read_number;
 use refusal::reason::Reason;
 use sim_base::fault::Fault;

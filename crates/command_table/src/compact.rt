@@ -5,7 +5,6 @@ ghost use Rattle.sim_base.specs.Rules.{kind_of};
 ghost use Rattle.command_table.specs.Rows.{command_with, operands_in, IsUsual};
 
 use sim_base::command::{Command, IssuedCommand, Kind, Source};
-use sim_base::message::Cycle;
 use sim_base::place::BankId;
 use std::marker::Model;
 use std::mem::size_of;

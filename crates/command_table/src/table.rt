@@ -7,7 +7,6 @@ ghost use Rattle.command_table.specs.Lefts.{IsNext};
 use crate::left::{Left, add};
 use crate::list::CommandList;
 use sim_base::command::IssuedCommand;
-use sim_base::message::Cycle;
 use std::alloc::{AllocError, Global};
 use std::marker::Model;
 

@@ -1,6 +1,7 @@
 -- Each key of a number is tested, and so its number is right.
 use Rattle.std.proofs.Common.{List, [], ◌∷◌, ℕ, IsTrue, Result, Ok, Err, IfOk, refl}
 use Rattle.std.proofs.lemmas.Bool.{false≢true}
+use Rattle.std.specs.List.{AllByRecursion as Each}
 use Rattle.std.specs.Result.{result_unwrap_or}
 use Rattle.std.specs.Prelude.{IsOk}
 use Rattle.toml.specs.Data.{Members}
@@ -10,11 +11,6 @@ use Rattle.sim_base.specs.declared.key.Key.{Key}
 use Rattle.sim_base.specs.declared.key.Key.TheVariants as key
 use Rattle.config_reader.specs.Document.Keys.{◌>>=◌, number_at}
 use Rattle.config_reader.specs.Document.Numbers.{AreNumbers, numbers_of}
-
--- P holds of each of these keys
-abbrev Each : (Key → Type 0) → List Key → Type 0
-Each P [] = Unit {0}
-Each P (k ∷ ks) = P k × Each P ks
 
 -- what holds of each key of both lists holds of each at which a number stands
 listed : (P : Key → Type 0) → Each P numbers_before_fields → Each P numbers_behind_fields → (k : Key) → IsTrue (has_number k) → P k

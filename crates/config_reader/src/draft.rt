@@ -40,7 +40,8 @@ impl<'t> Draft<'t> {
     ghost use Rattle.config_reader.specs.Document.Relations.{relations_of};
     ghost use Rattle.config_reader.specs.Refusals.{IsRefusalOf};
 
-    /// Reads the keys of a document one after the other, and then refuses a key that no configuration has.
+    /// Tests the keys of a document one after the other, and reads what is no number; then refuses a key that no
+    /// configuration has.
     #[tactic(auto, unfolding(crate::specs::Document::keys_of))]
     pub(super) fn read(alloc: Global, table: &'t Table) -> Result<Draft<'t>, Fault>
         ensures ok { IfOk result (λ d. keys_of (table_view table.now) ≡ Ok (draft_values d)) }

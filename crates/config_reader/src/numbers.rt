@@ -31,7 +31,7 @@ pub(super) struct Numbers<'t> {
 impl KeyNumbers for Numbers<'_> {
     ghost use Rattle.config_reader.specs.Document.Numbers.{number_in};
 
-    ghost number_at = { λ numbers. number_in (table_view numbers.table.now) };
+    ghost number_of = { λ numbers. number_in (table_view numbers.table.now) };
 
     #[tactic(auto, unfolding(crate::specs::Document::Numbers::number_in))]
     fn number(&self, key: Key) -> u32 {

@@ -168,8 +168,9 @@ fn run_named<
         workers,
         limits,
     } = options;
-    let results = room.saturating_add(workers).saturating_add(1);
-    let Ok(returned) = ArrayQueue::new(context.alloc, results) else {
+    // the board has room for so many tasks: each may have a result, and each worker may return none
+    let room_for_results = room.saturating_add(workers).saturating_add(1);
+    let Ok(returned) = ArrayQueue::new(context.alloc, room_for_results) else {
         return Err(Refused::Memory);
     };
     let (board, seat) = blank.named::<B>();

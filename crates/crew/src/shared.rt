@@ -1,6 +1,6 @@
 //! Where tasks wait for threads, and what came of them for the caller; and what a thread does there.
 
-ghost use Rattle.std.specs.Prelude.{◌≡◌, ◌<◌, [], ◌∷◌, ◌++◌, map, IsTrue, IfSome, IfNone, OnOk, IfOk};
+ghost use Rattle.std.specs.Prelude.{◌≡◌, ◌<◌, [], ◌∷◌, ◌++◌, map, IsTrue, IfSome, IfNone, OnOk};
 
 use crate::returned::Returned;
 use crate::rule::BoardName;

@@ -59,7 +59,7 @@ impl Signal {
         false
     }
 
-    // The same, but leaves the processor to another thread behind each look.
+    // Whether the signal is raised within so many looks; leaves the processor to another thread behind each.
     fn yield_past(&self, looks: u32, seen: u64) -> bool {
         for _ in 0..looks {
             if self.count() != seen {

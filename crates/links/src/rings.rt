@@ -80,7 +80,8 @@ fn sink(messages: &mut [Message], message: &Message)
     messages[place] = *message;
 }
 
-/// Does the same in a ring, also where it goes on at the beginning of its block.
+/// Puts a message among others by age in a ring, as `sink` does in a slice, also where the ring goes on at the beginning
+/// of its block.
 #[cold]
 #[inline(never)]
 fn sink_wrapped(ring: &mut Ring, message: &Message)

@@ -83,9 +83,6 @@ flushed n width words a b c all before last =
     sym (length-append (blanks (width - length words)) words ∙ ap (λ k. k + length words) (length-blanks (width - length words) ∙ sym all)) in
     (words_as same (words_both before.0 last.0), room_as a c (n + length words) _ long (room_both n (length words) a b c before.1 last.1))
 
-pub grows_on : {A B : List ℕ → Type 0} {a b c : TextBuilder} → Puts A a b → Puts B b c → Grows a c
-grows_on first second = puts_both (λ x y h k. tt) first second
-
 -- a text was put, unless memory was refused for it
 pub pushed : {a b : TextBuilder} (made : Result (String Global) AllocError) → ((words : List ℕ) → IfOk made (λ text. string_bytes text ≡ words) → PutsWords words a b) → Grows a b
 pushed (Ok text) put = puts_as (λ x is. tt) (put (string_bytes text) refl)

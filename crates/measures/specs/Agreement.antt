@@ -92,7 +92,7 @@ pub record IsNextOfChannels (stats : RunStats) (requests : List RequestTimes) (t
   pub channels : (earlier : ℕ) → earlier < channel → IsChannelOfRun stats requests earlier
   pub next : IsNextOfChannel stats requests channel tally
 
--- the same, where the counts of all cores are told too
+-- the first channel of which a count is not told, behind the cores, of which each is told
 pub record IsNextAfterCores (stats : RunStats) (requests : List RequestTimes) (tally : Tally) : Type 0 where
   pub cores : (core : ℕ) → core < length stats.cores → IsCoreOfRun stats requests core
   pub next : IsNextOfChannels stats requests tally

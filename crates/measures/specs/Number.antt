@@ -58,7 +58,7 @@ fits form power halves = (nat_lt 3 power || nat_le (decimals_of power) (most_dec
 unfoldable pub least_power : NumberForm → ℕ → Option ℕ
 least_power form halves = find (λ power. fits form power halves) (range_with_len 0 21)
 
--- the same, or the last place
+-- the place of the last digit, or the last place of all where none fits
 unfoldable pub power_of : NumberForm → ℕ → ℕ
 power_of form halves = unwrap_or (least_power form halves) 21
 

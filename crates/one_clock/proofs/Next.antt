@@ -358,10 +358,6 @@ issued_all s traces n =
 
 -- before the first cycle nothing is kept
 
-flat_map_nothing : {X : Type 0} (f : ℕ → List X) (n : ℕ) → ((k : ℕ) → f k ≡ []) → flat_map f (below n) ≡ []
-flat_map_nothing f zero h = refl
-flat_map_nothing f (suc n) h = flat_map_below_suc f n ∙ ap₂ (λ a b. a ++ b) (flat_map_nothing f n h) (h n)
-
 no_core_messages : (s : Config) (traces : List (List Entry)) (c : ℕ) → messages_of_core s traces [] c ≡ []
 unfolding messages_of_core steps_of_core core_messages
 no_core_messages s traces c = refl

@@ -1,7 +1,8 @@
 //! Configurations that are read, and their copies.
 
 use crate::expect::expect;
-use fixtures::small::{RANK_FIELD, SMALL_TIMING, small};
+use fixtures::numbers::SMALL_TIMING;
+use fixtures::small::{RANK_FIELD, small};
 use fixtures::worked_runs::FAST_LINK;
 use sim_base::config::Config;
 use sim_base::place::Field;

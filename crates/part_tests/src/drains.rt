@@ -7,7 +7,6 @@ use crate::expect::expect;
 use queue::Queue;
 use sim_base::message::{Access, Request};
 use sim_base::place::Place;
-use std::alloc::Global;
 use std::test::Fail;
 
 fn write(entry: u64) -> Request

@@ -8,7 +8,6 @@ use program::perform::perform;
 use program::streams::Streams;
 use refusal::error_stream::ErrorStream;
 use simulation::watch::Unwatched;
-use std::alloc::Global;
 use std::process::Abort;
 use std::sync::Wait;
 use std::thread::Threads;

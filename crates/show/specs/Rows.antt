@@ -43,7 +43,7 @@ absent = record { halves = None; form = form.Count }
 abbrev pub time : ℕ → ℕ → ℕ → Number
 time cycles divisor khz = mean (cycles * 1000000) (divisor * khz)
 
--- the same where the clock is given
+-- a quotient of cycles, in ns, where the clock is given
 abbrev pub time_by : Option ℕ → ℕ → ℕ → Number
 time_by (Some khz) cycles divisor = time cycles divisor khz
 time_by None cycles divisor = absent
@@ -53,7 +53,7 @@ time_by None cycles divisor = absent
 abbrev pub data_rate : ℕ → ChannelStats → ℕ → Number
 data_rate cycles channel khz = mean ((channel.rd + channel.wr) * khz) (15625 * cycles)
 
--- the same where the clock is given
+-- the data that a channel moved, in GB/s, where the clock is given
 abbrev pub rate_by : Option ℕ → ℕ → ChannelStats → Number
 rate_by (Some khz) cycles channel = data_rate cycles channel khz
 rate_by None cycles channel = absent

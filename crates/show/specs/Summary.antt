@@ -41,7 +41,7 @@ pub record IsSummaryOf (rows : List (List Number)) (column : ℕ) (three : List 
   pub found_is : IsSummaryOfValues (known_in column rows) found
   pub three_are : three ≡ map (λ halves. record { halves = halves; form = form_in column rows }) (found.least ∷ found.median ∷ found.greatest ∷ [])
 
--- the same of the first so many columns
+-- the least, the median and the greatest numbers of each of the first so many columns
 pub record AreSummaries (rows : List (List Number)) (count : ℕ) (columns : List (List Number)) : Type 0 where
   pub count_is : length columns ≡ count
   pub each : (column : ℕ) → column < count → IsSummaryOf rows column (slice_index_or columns column [])

@@ -136,7 +136,7 @@ fn data_rate(cycles: u64, channel: &ChannelStats, khz: u64) -> Number
     number_of(rates::data_rate(cycles, channel, khz))
 }
 
-// The same, where the clock is given.
+// The data that a channel moved, in GB/s, where the clock is given.
 fn rate_by(khz: Option<u64>, cycles: u64, channel: &ChannelStats) -> Number
     ensures { result ≡ rate_by khz cycles channel.now }
 {

@@ -67,7 +67,8 @@ impl Config {
     ghost use Rattle.sim_base.specs.Config.{request_link, reply_link, credit_link, usual_latency, latency};
     ghost use Rattle.sim_base.specs.Values.{IsRelated, values_of, values_from};
 
-    /// The configuration of these numbers, with these fields and overrides.
+    /// The configuration of these numbers, fields and overrides, whose relations hold; `ends_drained` says whether it
+    /// ends as soon as all is done.
     pub fn from_numbers<N: KeyNumbers>(
         numbers: &N,
         fields: FieldOrder,
@@ -77,9 +78,9 @@ impl Config {
         requires in_order { FieldsInOrder fields }
         requires in_range { OverridesInRange overrides }
         requires related { IsRelated
-            (values_from (N.number_at numbers.now) fields overrides ends_drained) }
+            (values_from (N.number_of numbers.now) fields overrides ends_drained) }
         ensures { values_of result
-            ≡ values_from (N.number_at numbers.now) fields overrides ends_drained }
+            ≡ values_from (N.number_of numbers.now) fields overrides ends_drained }
     {
         Config {
             cores: numbers.number(Key::Cores) as u16,

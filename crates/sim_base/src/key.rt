@@ -103,7 +103,7 @@ pub fn numbers_before_fields() -> &'static [Key]
     &DOCUMENT_KEYS[..6]
 }
 
-/// The keys of numbers that are tested behind it.
+/// The keys of numbers that are tested behind the order of the fields, one after the other.
 pub fn numbers_behind_fields() -> &'static [Key]
     ensures { result.now ≡ numbers_behind_fields }
 {

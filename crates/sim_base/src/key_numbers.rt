@@ -8,11 +8,12 @@ use crate::key::Key;
 
 /// A number for each key at which a document has one, each such that it may stand there.
 pub trait KeyNumbers {
-    ghost number_at: { Self → Key → ℕ };
+    /// Its numbers, by their keys.
+    ghost number_of: { Self → Key → ℕ };
 
     /// The number at a key.
     fn number(&self, key: Key) -> u32
         requires { IsTrue (has_number key) }
-        ensures value { result ≡ number_at self.now key }
+        ensures value { result ≡ number_of self.now key }
         ensures accepted { AcceptedAt key result };
 }

@@ -63,9 +63,6 @@ pub bytes-next : (texts : List (Bor (List ℕ))) (sources : List (Option ℕ)) (
     → bytes_to_read (texts_from texts i) (drop i sources) ≡ len_to_read (get_or texts i d).now (get_or sources i none) + bytes_to_read (texts_from texts (i + 1)) (drop (i + 1) sources)
 bytes-next texts sources i d none l m = rw (drop-cons texts i d l, drop-cons sources i none m, add-one i) refl
 
-pub bytes-end : (texts : List (Bor (List ℕ))) (sources : List (Option ℕ)) (i : ℕ) → length texts ≤ i → bytes_to_read (texts_from texts i) (drop i sources) ≡ 0
-bytes-end texts sources i l = rw (drop_of_length-le texts l) refl
-
 -- the trace of a core is what its text means, be it its own or that of an earlier core
 pub answer-found : (texts : List (List ℕ)) (traces : List (List Entry)) (found : CoreTrace) → AreRead texts traces → IsTraceFor texts (length traces) found
     → trace_answer (length traces) (text_of texts (length traces)) ≡ Ok (trace_in traces found)

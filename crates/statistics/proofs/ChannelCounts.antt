@@ -295,16 +295,6 @@ channel_cycle-same s channel steps a b h o =
     ap₂ (λ n d. channel_cycle_with s (issued_commands channel steps) n (has_refresh_due s channel steps (length steps)) d o)
     (queue_length-same channel steps a b (length steps) h) (drains-same s channel steps a b (length steps + 1) h)
 
-pub channel_stretch-same : (s : Config) (channel : ℕ) (steps : List (Option Command)) (a b : List Message) (more : List (Option Command))
-    → AgreeUpTo (length steps + length more) a b → channel_stretch s channel steps a more ≡ channel_stretch s channel steps b more
-unfolding channel_stretch
-channel_stretch-same s channel steps a b [] h = refl
-channel_stretch-same s channel steps a b (o ∷ more) h =
-    let len : length (steps ++ o ∷ []) ≡ suc (length steps) = length-push_suc steps o in
-    ap₂ channel_joined
-    (channel_cycle-same s channel steps a b (sooner (omega arith) h) o)
-    (channel_stretch-same s channel (steps ++ o ∷ []) a b more (sooner (omega arith) h))
-
 -- messages that arrive later
 pub AgreeUpTo-later : (until : ℕ) (mail later : List Message) → Each Stamped mail → Each Stamped later → NotBefore until later → AgreeUpTo until (mail ++ later) mail
 AgreeUpTo-later until mail later h k l =

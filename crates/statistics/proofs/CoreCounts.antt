@@ -350,17 +350,6 @@ unfolding core_cycle
 core_cycle-same s core trace steps a b h core_step =
     ap₂ (λ x y. core_cycle_with trace steps core_step x.1 y) (step-same s core trace steps a b h) (replies_in-same (length steps) a b h)
 
-pub core_stretch-same : (s : Config) (core : ℕ) (trace : List Entry) (steps : List CoreStep) (a b : List Message) (more : List CoreStep)
-    → arrived a (length steps + length more) ≡ arrived b (length steps + length more)
-    → core_stretch s core trace steps a more ≡ core_stretch s core trace steps b more
-unfolding core_stretch
-core_stretch-same s core trace steps a b [] h = refl
-core_stretch-same s core trace steps a b (row ∷ more) h =
-    let len : length (steps ++ row ∷ []) ≡ suc (length steps) = length-push_suc steps row in
-    ap₂ core_joined
-    (core_cycle-same s core trace steps a b (arrived-sooner (length steps + 1) _ (omega arith) a b h) row)
-    (core_stretch-same s core trace (steps ++ row ∷ []) a b more (arrived-sooner _ _ (omega arith) a b h))
-
 -- messages that arrive after these cycles
 pub core_stats-later : (s : Config) (core : ℕ) (trace : List Entry) (steps : List CoreStep) (mail later : List Message) → NotBefore (length steps) later
     → core_stats s core trace steps (mail ++ later) ≡ core_stats s core trace steps mail

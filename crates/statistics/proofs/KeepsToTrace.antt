@@ -109,12 +109,6 @@ KeepsToTrace-step s core trace steps inbox h =
       retired = omega (arith, issued_before-push steps row, retired_before-push steps row);
     }
 
-pub KeepsToTrace-core_run : (s : Config) (core : ℕ) (trace : List Entry) (steps : List CoreStep) (mail : List Message) → KeepsToTrace trace steps
-    → (n : ℕ) → KeepsToTrace trace (core_run s core trace steps mail n)
-unfolding core_run
-KeepsToTrace-core_run s core trace steps mail h zero = h
-KeepsToTrace-core_run s core trace steps mail h (suc n) = KeepsToTrace-step s core trace (core_run s core trace steps mail n) mail (KeepsToTrace-core_run s core trace steps mail h n)
-
 pub KeepsToTrace-run : (s : Config) (traces : List (List Entry)) (core : ℕ) → core < s.cores → (n : ℕ) → KeepsToTrace (trace_of traces core) (steps_of_core core (run s traces n))
 unfolding run steps_of_core issued_before retired_before
 KeepsToTrace-run s traces core l zero = record { issued = omega arith; retired = omega arith }

@@ -10,5 +10,4 @@ pub mod Repeats
 pub mod Replies
 pub mod RunSteps
 pub mod KeepsToTrace
-pub mod RunStretches
 pub mod ReplyBounds

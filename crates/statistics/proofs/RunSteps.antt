@@ -125,14 +125,6 @@ ActsComeFirst-push channel steps o h k cycle l =
     ∙ ap₂ (λ x c. is_late_act (issued_commands channel x) c) (take-append_seam steps (o ∷ [])) (get_or-append_seam steps o [] None) ∙ k)
     (cases_lt cycle (length steps))
 
-pub ActsComeFirst-channel_run : (s : Config) (channel : ℕ) (steps : List (Option Command)) (mail : List Message) → ActsComeFirst channel steps
-    → (n : ℕ) → ActsComeFirst channel (channel_run s channel steps mail n)
-unfolding channel_run
-ActsComeFirst-channel_run s channel steps mail h zero = h
-ActsComeFirst-channel_run s channel steps mail h (suc n) =
-    let before = channel_run s channel steps mail n in
-    ActsComeFirst-push channel before (choice s channel before mail) (ActsComeFirst-channel_run s channel steps mail h n) (choice-not_late s channel before mail)
-
 pub ActsComeFirst-run : (s : Config) (traces : List (List Entry)) (channel : ℕ) → channel < s.channels → (n : ℕ) → ActsComeFirst channel (steps_of_channel channel (run s traces n))
 unfolding run steps_of_channel
 ActsComeFirst-run s traces channel l zero = λ cycle b. absurd (omega arith)

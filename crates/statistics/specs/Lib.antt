@@ -4,5 +4,4 @@ pub mod Counters
 pub mod Cores
 pub mod Channels
 pub mod Runs
-pub mod Joining
 pub mod Outcomes

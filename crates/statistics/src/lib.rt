@@ -6,7 +6,6 @@ pub mod channels;
 pub mod cores;
 pub mod counters;
 pub mod final_state;
-pub mod laws;
 pub mod numbers;
 pub mod outcome;
 pub mod stats;

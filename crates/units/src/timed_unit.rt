@@ -14,7 +14,7 @@ use crate::mail::Mail;
 use crate::part::UnitState;
 use links::flight::Links;
 use sim_base::message::{Cycle, Message, Unit};
-use std::alloc::{AllocError, Global};
+use std::alloc::AllocError;
 
 /// A span over which units of a kind go on: from where they stand up to a cycle, while those that send to them stand
 /// at a cycle of theirs.

@@ -26,7 +26,7 @@ pub record AreNumbers (ms : Members) : Type 0 where
   pub before_fields : IsOk (numbers_of ms numbers_before_fields)
   pub behind_fields : IsOk (numbers_of ms numbers_behind_fields)
 
--- the number at a key of a document that is not refused for it
+-- the number at a key; 0 where it is refused, which no number of a document is that is refused for none (`AreNumbers`)
 unfoldable pub number_in : Members → Key → ℕ
 number_in ms k = result_unwrap_or (number_at ms k) 0
 

@@ -1,6 +1,6 @@
 //! What is said of a relation between the numbers of a configuration.
 
-use crate::explain_text::fragments::Fragment::{Entry, Number, Words};
+use crate::explain_text::fragments::Fragment::{Entry, Number};
 use crate::explain_text::keys::key_named;
 use crate::explain_text::links::{id_of, integer_at, items_of};
 use measures::text_builder::TextBuilder;
