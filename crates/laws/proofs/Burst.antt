@@ -22,7 +22,8 @@ use Rattle.sim_base.proofs.Lists.{count-push}
 use Rattle.laws.specs.Commands.{channel_steps_of, history_of}
 use Rattle.laws.specs.DataBus.{is_in_burst, has_data_in, moves_data_in, DataBusIsShared}
 use Rattle.laws.proofs.Counting.{count-none, Each-list_all}
-use Rattle.laws.proofs.Legal.{chosen, channel_steps_of-more, IsLegalStep, legal_step, issued_commands-push}
+use Rattle.statistics.proofs.ChannelCounts.{issued_commands-push}
+use Rattle.laws.proofs.Legal.{chosen, channel_steps_of-more, IsLegalStep, legal_step}
 
 -- an earlier command at a cycle does not hold back a later one now
 abbrev IsPast : Config → Kind → Kind → Relation → ℕ → ℕ → Type 0

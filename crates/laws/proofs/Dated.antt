@@ -1,11 +1,10 @@
 -- A request is sent in the cycle in which its entry issues.
-use Rattle.std.proofs.Common.{◌≡◌, ℕ, zero, suc, ◌+◌, ◌<◌, ◌≤◌, Bool, true, false, cond, leb, List, [], ◌∷◌, ◌++◌, length, map, take, refl, sym, ap, ap₂, subst, ◌∙◌, add-one, zero-add, arith}
+use Rattle.std.proofs.Common.{◌≡◌, ℕ, zero, suc, ◌+◌, ◌<◌, ◌≤◌, Bool, true, false, cond, leb, List, [], ◌∷◌, ◌++◌, length, take, refl, sym, ap, ap₂, subst, ◌∙◌, add-one, zero-add, arith}
 use Rattle.std.specs.Prelude.{filter}
 use Rattle.std.specs.Option.{IfSome}
 use Rattle.std.specs.List.{AllByRecursion as Each, prefix_len, range_with_len}
 use Rattle.std.proofs.Math.Seq.{take-length}
 use Rattle.std.proofs.lemmas.Bool.{eqb-true, le-leb, lt-leb}
-use Rattle.std.proofs.lemmas.List.{map-append}
 use Rattle.std.proofs.lemmas.List.Elements.{All-from_recursion}
 use Rattle.std.proofs.lemmas.List.Folds.{length-prefix_len}
 use Rattle.sim_base.specs.declared.message.Access.{Access}
@@ -32,6 +31,7 @@ use Rattle.sim_base.proofs.Added.{length-push_suc}
 use Rattle.sim_base.proofs.Grows.{issued_before-push}
 use Rattle.statistics.proofs.CoreCounts.{issued_before-take-le, issue_cycle-push}
 use Rattle.statistics.proofs.Lists.{take-push}
+use Rattle.statistics.proofs.Replies.{length-steps_of_core, steps_of_core-push}
 use Rattle.laws.proofs.Chosen.{IfSome-weaker}
 use Rattle.laws.proofs.Receivers.{receiver_request, place_in, Each-filter_passes}
 use Rattle.laws.proofs.Sent.{Each-messages, messages-none, issues-each, commands-each, sends-each}
@@ -74,11 +74,6 @@ record DatedIn (s : Config) (history : List MachineStep) (m : Message) (r : Requ
 abbrev IsDated : Config → List MachineStep → Message → Type 0
 IsDated s history m = IfSome (request_in m.load) (DatedIn s history m)
 
--- the steps of a core, and one more
-steps-more : (history : List MachineStep) (machine_step : MachineStep) (c : ℕ) → steps_of_core c (history ++ machine_step ∷ []) ≡ steps_of_core c history ++ step_of_core c machine_step ∷ []
-unfolding steps_of_core
-steps-more history machine_step c = map-append (step_of_core c) history (machine_step ∷ [])
-
 dated-more : (s : Config) (history : List MachineStep) (machine_step : MachineStep) (m : Message) → IsDated s history m → IsDated s (history ++ machine_step ∷ []) m
 dated-more s history machine_step m h = IfSome-weaker _ _ (λ r k. more r k) (request_in m.load) h
   where
@@ -86,7 +81,7 @@ dated-more s history machine_step m h = IfSome-weaker _ _ (λ r k. more r k) (re
     more r k =
         let steps = steps_of_core r.core history in
         let one = step_of_core r.core machine_step in
-        let e = steps-more history machine_step r.core in
+        let e = steps_of_core-push r.core history machine_step in
         let grown : issued_before (steps ++ one ∷ []) ≡ issued_before steps + one.issued = issued_before-push steps one in
         let old : r.entry < issued_before steps = k.issued in
         let later : r.entry < issued_before (steps ++ one ∷ []) = omega (arith, grown, old) in
@@ -110,14 +105,6 @@ request_of-dated s history c cycle entry Plain l i = tt
 request_of-dated s history c cycle entry (Read address) l i = request-dated s history c cycle entry access.Read address l i
 request_of-dated s history c cycle entry (Write address) l i = request-dated s history c cycle entry access.Write address l i
 
-length-steps : (history : List MachineStep) (c : ℕ) → length (steps_of_core c history) ≡ length history
-unfolding steps_of_core
-length-steps history c = mapped (step_of_core c) history
-  where
-    mapped : {X Y : Type 0} (f : X → Y) (xs : List X) → length (map f xs) ≡ length xs
-    mapped f [] = refl
-    mapped f (x ∷ xs) = ap suc (mapped f xs)
-
 sends-dated : (s : Config) (traces : List (List Entry)) (history : List MachineStep) → Each (IsDated s (history ++ next_step s traces history ∷ [])) (sends s traces history (next_step s traces history))
 unfolding channel_sends reply credit
 sends-dated s traces history =
@@ -129,13 +116,13 @@ sends-dated s traces history =
     let steps = steps_of_core c history in
     let one = step_of_core c machine_step in
     let entry = issued_before steps + j in
-    let more = steps-more history machine_step c in
+    let more = steps_of_core-push c history machine_step in
     let grown : issued_before (steps ++ one ∷ []) ≡ issued_before steps + one.issued = issued_before-push steps one in
     let until : entry < issued_before (steps ++ one ∷ []) = omega (arith, grown, b) in
     let from : issued_before steps ≤ entry = omega arith in
     request_of-dated s (history ++ machine_step ∷ []) c (length history) entry e
     (subst (λ x. entry < issued_before x) (sym more) until)
-    (ap (λ x. issue_cycle x entry) more ∙ issue_cycle-new steps one entry from until ∙ length-steps history c)))
+    (ap (λ x. issue_cycle x entry) more ∙ issue_cycle-new steps one entry from until ∙ length-steps_of_core c history)))
     (λ k l. commands-each P s k (length history) (λ source. tt) (λ access source. tt) (step_of_channel k machine_step))
 
 messages-dated : (s : Config) (traces : List (List Entry)) (n : ℕ) → Each (IsDated s (run s traces n)) (messages s traces (run s traces n))

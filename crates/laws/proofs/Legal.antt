@@ -1,5 +1,5 @@
 -- The commands of a run, cycle by cycle.
-use Rattle.std.proofs.Common.{◌≡◌, ℕ, zero, suc, ◌+◌, ◌<◌, ◌≤◌, Bool, cond, List, [], ◌∷◌, ◌++◌, length, get_or, take, Option, Some, None, sym, ap, subst, ◌∙◌, ◌⊎◌, inl, inr, arith, zero-add, add-zero}
+use Rattle.std.proofs.Common.{◌≡◌, ℕ, zero, suc, ◌+◌, ◌<◌, ◌≤◌, Bool, cond, List, [], ◌∷◌, ◌++◌, length, get_or, take, Option, Some, None, sym, ap, subst, ◌∙◌, ◌⊎◌, inl, inr, arith, add-zero}
 use Rattle.std.specs.Prelude.{count_by, filter_map}
 use Rattle.std.specs.Option.{IfSome}
 use Rattle.std.specs.List.{AllByRecursion as Each, AllPairs, enumerate_from, cons_option}
@@ -7,7 +7,7 @@ use Rattle.std.proofs.Math.ListN.{get_or-append}
 use Rattle.std.proofs.Math.Seq.{get_or-append_seam, take-append_seam}
 use Rattle.std.proofs.lemmas.Bool.{cases_lt}
 use Rattle.std.proofs.lemmas.List.{map-append, append-nil, length-map, length_push, length-take-le, take-append-le, take_all, get_or-take, get_or_push}
-use Rattle.std.proofs.lemmas.List.Elements.{filter_map-append, All-from_recursion}
+use Rattle.std.proofs.lemmas.List.Elements.{All-from_recursion}
 use Rattle.sim_base.specs.declared.config.Config.{Config}
 use Rattle.sim_base.specs.MachineStep.{step_of_channel}
 use Rattle.sim_base.specs.History.{steps_of_channel, issued_at, issued_commands, inbox}
@@ -22,7 +22,8 @@ use Rattle.sim_base.proofs.Ordered.{Each-weaker}
 use Rattle.sim_base.proofs.Spans.{length-run, step_of_channel-next}
 use Rattle.laws.specs.Commands.{channel_steps_of, history_of, CommandsAreLegal, IsLegalHistory, HistoriesAreLegal, CyclesAscend}
 use Rattle.sim_base.proofs.Each.{Each-append}
-use Rattle.sim_base.proofs.Lists.{count-push, enumerate-append}
+use Rattle.sim_base.proofs.Lists.{count-push}
+use Rattle.statistics.proofs.ChannelCounts.{issued_commands-push}
 use Rattle.laws.proofs.Counting.{test_in}
 use Rattle.laws.proofs.Chosen.{IsLegalNow, choice-legal}
 
@@ -83,16 +84,6 @@ commands_are_legal s traces n k t command l b e =
     let h : IsLegalStep s k (take t steps) (get_or steps t None) = at_each_cycle (IsLegalStep s k) s traces k l (legal_step s traces k) n t None (omega arith) in
     subst (λ x. IsLegalNow s (issued_commands k (take t steps)) x command) (length-take-le t steps (omega arith))
     (subst (λ o. IfSome o (IsLegalNow s (issued_commands k (take t steps)) (length (take t steps)))) e h)
-
--- one row more
-pub issued_commands-push : (k : ℕ) (steps : List (Option Command)) (o : Option Command)
-    → issued_commands k (steps ++ o ∷ []) ≡ issued_commands k steps ++ cons_option (issued_at k (length steps) o) []
-unfolding issued_commands
-issued_commands-push k steps o =
-    let f = λ (e : ℕ × Option Command). issued_at k e.0 e.1 in
-    ap (filter_map f) (enumerate-append 0 steps (o ∷ []))
-    ∙ filter_map-append f (enumerate_from 0 steps) (enumerate_from (0 + length steps) (o ∷ []))
-    ∙ ap (λ j. filter_map f (enumerate_from 0 steps) ++ cons_option (issued_at k j o) []) (zero-add (length steps))
 
 -- a command is legal over those before it
 abbrev IsLegalAfter : Config → List IssuedCommand → IssuedCommand → Type 0

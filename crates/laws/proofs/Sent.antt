@@ -214,12 +214,12 @@ sends-each P s traces history machine_step h k =
     (Each-flat_map_below P (core_sends s traces history machine_step) s.cores h)
     (Each-flat_map_below P (channel_sends s history machine_step) s.channels k)
 
-flat_map-none : (f : ℕ → List Message) → ((i : ℕ) → f i ≡ []) → (n : ℕ) → flat_map f (below n) ≡ []
-flat_map-none f h zero = refl
-flat_map-none f h (suc n) = flat_map_below_more f n ∙ ap₂ (λ x y. x ++ y) (flat_map-none f h n) (h n)
+pub flat_map-none : (f : ℕ → List Message) (n : ℕ) → ((i : ℕ) → i < n → f i ≡ []) → flat_map f (below n) ≡ []
+flat_map-none f zero h = refl
+flat_map-none f (suc n) h = flat_map_below_more f n ∙ ap₂ (λ x y. x ++ y) (flat_map-none f n (λ i l. h i (omega arith))) (h n (omega arith))
 
 -- nothing was sent before the first cycle
 pub messages-none : (s : Config) (traces : List (List Entry)) → messages s traces [] ≡ []
 unfolding messages messages_of_core messages_of_channel steps_of_core steps_of_channel core_messages channel_messages
 messages-none s traces =
-    ap₂ (λ x y. x ++ y) (flat_map-none (messages_of_core s traces []) (λ i. refl) s.cores) (flat_map-none (messages_of_channel s []) (λ i. refl) s.channels)
+    ap₂ (λ x y. x ++ y) (flat_map-none (messages_of_core s traces []) s.cores (λ i l. refl)) (flat_map-none (messages_of_channel s []) s.channels (λ i l. refl))
