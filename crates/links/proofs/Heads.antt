@@ -4,7 +4,7 @@ use Rattle.std.specs.Prelude.{filter, fold, slice_get}
 use Rattle.std.specs.Option.{option_map_or}
 use Rattle.std.specs.List.{prefix_len, AllByRecursion as Each}
 use Rattle.std.proofs.lemmas.Bool.{lt-ltb, eqb-true, le-ltb}
-use Rattle.std.proofs.lemmas.List.{take-append-le}
+use Rattle.std.proofs.lemmas.List.{take-append-le, drop_more, drop_all}
 use Rattle.std.proofs.lemmas.List.Folds.{prefix_len-append}
 use Rattle.std.proofs.lemmas.List.Sums.{prefix_len-le-length}
 use Rattle.std.proofs.lemmas.Bool.Decides.{nat_tests}
@@ -14,7 +14,7 @@ use Rattle.sim_base.proofs.Ordered.{Sorted}
 use Rattle.links.specs.InFlight.{arrives_before}
 use Rattle.links.specs.Rings.{arrives_later, head_of}
 use Rattle.links.proofs.Ages.{in_order-Sorted, by_age-same}
-use Rattle.links.proofs.Merging.{Merges, Merges-second, Merges-first, Merges-end, one_less, append_one, drop_past}
+use Rattle.links.proofs.Merging.{Merges, Merges-second, Merges-first, Merges-end, append_one}
 use Rattle.links.proofs.Steps.{head_true, head_false, head_due}
 
 pub length_head : (until : ℕ) (zs : List Message) → length (head_of until zs) ≤ length zs
@@ -88,12 +88,12 @@ one_copied until i zs m done all l h k =
     let at = found until i zs m l h in (
       omega (arith, at.0),
       append_one m done (drop (i + 1) (head_of until zs)) all
-          (ap (λ x. done ++ x) (sym (one_less m i (head_of until zs) at.0 ∙ ap (λ x. x ∷ drop (i + 1) (head_of until zs)) at.1)) ∙ k),
+          (ap (λ x. done ++ x) (sym (drop_more (head_of until zs) i m at.0 ∙ ap (λ x. x ∷ drop (i + 1) (head_of until zs)) at.1)) ∙ k),
     )
 
 pub all_copied : (until i : ℕ) (zs done all : List Message) → i ≡ length (head_of until zs) → done ++ drop i (head_of until zs) ≡ all → done ≡ all
 all_copied until i zs done all e h =
-    sym (ap (λ x. done ++ x) (drop_past i (head_of until zs) (omega (arith, e))) ∙ append-nil done) ∙ h
+    sym (ap (λ x. done ++ x) (drop_all i (head_of until zs) (omega (arith, e))) ∙ append-nil done) ∙ h
 
 pub merged_second : (until i j : ℕ) (xs ys : List Message) (a b : Message) (done : List Message) → IsThere until i xs a → IsThere until j ys b → is_before b a ≡ true
     → Merges i j (head_of until xs) (head_of until ys) done → Merges i (j + 1) (head_of until xs) (head_of until ys) (done ++ b ∷ [])

@@ -4,7 +4,7 @@ use Rattle.std.specs.Prelude.{fold}
 use Rattle.std.specs.List.{AllByRecursion as Each}
 use Rattle.std.proofs.lemmas.Bool.{cond-true, cond-false, cases_lt, lt-ltb, true≢false}
 use Rattle.std.proofs.lemmas.Bool.Decides.{nat_tests}
-use Rattle.std.proofs.lemmas.List.{map-append, take_all, length-drop}
+use Rattle.std.proofs.lemmas.List.{map-append, drop_more, drop_all, take-append-drop}
 use Rattle.circular_buffer.specs.Buffer.{Buffer}
 use Rattle.sim_base.specs.History.{is_before, insert_by_age, by_age}
 use Rattle.sim_base.specs.declared.message.Message.{Message}
@@ -55,11 +55,6 @@ by_age-merge xs ys =
     ∙ puts-puts (puts [] xs) [] ys tt
     ∙ sym (by_age-puts (xs ++ ys) ∙ puts-append [] xs ys)
 
-pub one_less : (d : Message) (i : ℕ) (xs : List Message) → i < length xs → drop i xs ≡ get_or xs i d ∷ drop (i + 1) xs
-one_less d i [] l = absurd (omega arith)
-one_less d zero (x ∷ xs) l = refl
-one_less d (suc i) (x ∷ xs) l = let e : suc i + 1 ≡ suc (i + 1) = omega arith in one_less d i xs (omega arith) ∙ ap (λ k. get_or xs i d ∷ drop k (x ∷ xs)) (sym e)
-
 -- what is merged so far, and what is left of both lists
 pub record Merges (i j : ℕ) (xs ys done : List Message) : Type 0 where
   pub first_within : i ≤ length xs
@@ -78,8 +73,8 @@ pub Merges-second : (i j : ℕ) (d e : Message) (xs ys done : List Message) → 
 Merges-second i j d e xs ys done l k h b =
     let a = get_or xs i d in
     let c = get_or ys j e in
-    let left : drop i xs ≡ a ∷ drop (i + 1) xs = one_less d i xs l in
-    let right : drop j ys ≡ c ∷ drop (j + 1) ys = one_less e j ys k in
+    let left : drop i xs ≡ a ∷ drop (i + 1) xs = drop_more xs i d l in
+    let right : drop j ys ≡ c ∷ drop (j + 1) ys = drop_more ys j e k in
     let order : by_age (c ∷ drop (j + 1) ys) ≡ c ∷ drop (j + 1) ys = subst (λ z. by_age z ≡ z) right h.in_order in
     record {
       first_within = h.first_within;
@@ -96,8 +91,8 @@ pub Merges-first : (i j : ℕ) (d e : Message) (xs ys done : List Message) → i
 Merges-first i j d e xs ys done l k h b =
     let a = get_or xs i d in
     let c = get_or ys j e in
-    let left : drop i xs ≡ a ∷ drop (i + 1) xs = one_less d i xs l in
-    let right : drop j ys ≡ c ∷ drop (j + 1) ys = one_less e j ys k in
+    let left : drop i xs ≡ a ∷ drop (i + 1) xs = drop_more xs i d l in
+    let right : drop j ys ≡ c ∷ drop (j + 1) ys = drop_more ys j e k in
     let order : by_age (c ∷ drop (j + 1) ys) ≡ c ∷ drop (j + 1) ys = subst (λ z. by_age z ≡ z) right h.in_order in
     record {
       first_within = omega arith;
@@ -109,12 +104,6 @@ Merges-first i j d e xs ys done l k h b =
       in_order = h.in_order;
     }
 
-pub drop_past : (i : ℕ) (xs : List Message) → length xs ≤ i → drop i xs ≡ []
-drop_past zero [] l = refl
-drop_past (suc i) [] l = refl
-drop_past zero (x ∷ xs) l = absurd (omega arith)
-drop_past (suc i) (x ∷ xs) l = drop_past i xs (omega arith)
-
 -- where nothing is left of one list, the rest is what is left of the other
 pub Merges-end : (i j : ℕ) (xs ys done : List Message) → Merges i j xs ys done → (ltb i (length xs) && ltb j (length ys)) ≡ false
     → (done ++ drop i xs) ++ drop j ys ≡ fold insert_by_age xs ys
@@ -123,14 +112,14 @@ Merges-end i j xs ys done h b = by (cases_lt i (length xs)) (cases_lt j (length 
     by : (i < length xs) ⊎ (length xs ≤ i) → (j < length ys) ⊎ (length ys ≤ j) → (done ++ drop i xs) ++ drop j ys ≡ fold insert_by_age xs ys
     by (inl l) (inl k) = absurd (true≢false (sym (ap₂ (λ x y. x && y) (lt-ltb i (length xs) l) (lt-ltb j (length ys) k)) ∙ b))
     by (inr l) k =
-        let none = drop_past i xs l in
+        let none = drop_all i xs l in
         ap (λ z. (done ++ z) ++ drop j ys) none
         ∙ ap (λ z. z ++ drop j ys) (append-nil done)
         ∙ ap (λ z. done ++ z) (sym (fold-puts [] (drop j ys) ∙ sym (by_age-puts (drop j ys)) ∙ h.in_order))
         ∙ ap (λ z. done ++ fold insert_by_age z (drop j ys)) (sym none)
         ∙ h.merged
     by (inl l) (inr k) =
-        let none = drop_past j ys k in
+        let none = drop_all j ys k in
         ap (λ z. (done ++ drop i xs) ++ z) none
         ∙ append-nil (done ++ drop i xs)
         ∙ ap (λ z. done ++ fold insert_by_age (drop i xs) z) (sym none)
@@ -159,24 +148,14 @@ in_order-drop (suc i) [] h = tt
 in_order-drop zero (r ∷ rings) h = h
 in_order-drop (suc i) (r ∷ rings) h = in_order-drop i rings h.1
 
-halves : (i : ℕ) (rings : List (Buffer Message)) → take i rings ++ drop i rings ≡ rings
-halves zero [] = refl
-halves (suc i) [] = refl
-halves zero (r ∷ rings) = refl
-halves (suc i) (r ∷ rings) = ap (λ z. r ∷ z) (halves i rings)
-
 -- the messages of both halves of the rings
 pub messages_of_halves : (i : ℕ) (xs ys : List Message) (a b rings : List (Buffer Message)) → a ≡ take i rings → b ≡ drop i rings → xs ≡ by_age (joined (contents a)) → ys ≡ by_age (joined (contents b))
     → fold insert_by_age xs ys ≡ by_age (joined (contents rings))
 messages_of_halves i xs ys a b rings e f h k =
     ap₂ (λ x y. fold insert_by_age x y) h k
     ∙ messages_of_both a b
-    ∙ ap (λ z. by_age (joined (contents z))) (ap₂ (λ x y. x ++ y) e f ∙ halves i rings)
+    ∙ ap (λ z. by_age (joined (contents z))) (ap₂ (λ x y. x ++ y) e f ∙ take-append-drop i rings)
 
 pub messages_of_none : (rings : List (Buffer Message)) → length rings < 1 → [] ≡ by_age (joined (contents rings))
 messages_of_none [] l = sym by_age-nil
 messages_of_none (r ∷ rings) l = absurd (omega arith)
-
--- what is left of a list is all of it from some place on
-pub rest_all : (i : ℕ) (xs : List Message) → take (length xs - i) (drop i xs) ≡ drop i xs
-rest_all i xs = take_all _ (drop i xs) (omega (arith, length-drop i xs))

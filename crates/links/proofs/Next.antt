@@ -5,9 +5,9 @@ use Rattle.std.specs.Option.{option_map_or, IfSome, IsSomeAnd, IsNone}
 use Rattle.std.specs.List.{AllByRecursion as Each, list_any, list_all}
 use Rattle.std.proofs.lemmas.Bool.{cond_both, eqb-true, eq-eqb, cases_lt, both_ways, true≢false, and_parts, or_right}
 use Rattle.std.proofs.lemmas.Bool.Decides.{nat_tests}
-use Rattle.std.proofs.lemmas.List.Elements.{All-nil, All-cons}
+use Rattle.std.proofs.lemmas.List.Elements.{All-from_recursion}
 use Rattle.std.proofs.lemmas.List.Folds.{Any-from_list_any}
-use Rattle.std.proofs.Math.Bool.{or-false}
+use Rattle.std.proofs.Math.Bool.{or-false, or_comm, or_assoc}
 use Rattle.circular_buffer.specs.Buffer.{Buffer}
 use Rattle.sim_base.specs.History.{is_before, by_age}
 use Rattle.sim_base.specs.declared.message.Message.{Message}
@@ -38,41 +38,26 @@ arrival_more (Some a) arrival ms h k = by (cases_lt a arrival)
     by (inl l) = let e : a ≡ min a arrival = omega arith in subst (λ x. list_any (λ (m : Message). eqb m.arrival x) ms ≡ true) e h
     by (inr l) = let e : arrival ≡ min a arrival = omega arith in subst (λ x. list_any (λ (m : Message). eqb m.arrival x) ms ≡ true) e k
 
-or_swap : (a b c : Bool) → (a || (b || c)) ≡ (b || (a || c))
-or_swap true true c = refl
-or_swap true false c = refl
-or_swap false true c = refl
-or_swap false false c = refl
-
 list_any-put : (p : Message → Bool) (m : Message) (ns : List Message) → list_any p (put m ns) ≡ (p m || list_any p ns)
 list_any-put p m [] = refl
 list_any-put p m (n ∷ ns) =
     cond_both (is_before m n) (m ∷ n ∷ ns) (n ∷ put m ns) (λ x. list_any p x ≡ (p m || list_any p (n ∷ ns)))
     (λ e. refl)
-    (λ e. ap (λ b. p n || b) (list_any-put p m ns) ∙ or_swap (p n) (p m) (list_any p ns))
+    (λ e. ap (λ b. p n || b) (list_any-put p m ns) ∙ sym (or_assoc (p n) (p m) (list_any p ns)) ∙ ap (λ b. b || list_any p ns) (or_comm (p n) (p m)) ∙ or_assoc (p m) (p n) (list_any p ns))
 
 list_any-puts : (p : Message → Bool) (acc ms : List Message) → list_any p (puts acc ms) ≡ (list_any p ms || list_any p acc)
 list_any-puts p acc [] = refl
 list_any-puts p acc (m ∷ ms) =
-    list_any-puts p (put m acc) ms ∙ ap (λ b. list_any p ms || b) (list_any-put p m acc) ∙ or_regroup (p m) (list_any p ms) (list_any p acc)
-  where
-    or_regroup : (a b c : Bool) → (b || (a || c)) ≡ ((a || b) || c)
-    or_regroup true true c = refl
-    or_regroup true false c = refl
-    or_regroup false true c = refl
-    or_regroup false false c = refl
+    list_any-puts p (put m acc) ms ∙ ap (λ b. list_any p ms || b) (list_any-put p m acc)
+    ∙ sym (or_assoc (list_any p ms) (p m) (list_any p acc)) ∙ ap (λ b. b || list_any p acc) (or_comm (list_any p ms) (p m))
 
 list_any-by_age : (p : Message → Bool) (ms : List Message) → list_any p (by_age ms) ≡ list_any p ms
 list_any-by_age p ms = ap (list_any p) (by_age-puts ms) ∙ list_any-puts p [] ms ∙ or-false (list_any p ms)
 
-All-from_each : {X : Type 0} (P : X → Type 0) (xs : List X) → Each P xs → All P xs
-All-from_each P [] h = All-nil P
-All-from_each P (x ∷ xs) h = All-cons P x xs h.0 (All-from_each P xs h.1)
-
 -- what is the least arrival over units is the least of the messages by age
 pub least_of_all : (least : Option ℕ) (ms : List Message) → Each (λ (m : Message). IsSomeAnd least (λ a. a ≤ m.arrival)) ms → IfSome least (λ a. All (λ m. a ≤ m.arrival) (by_age ms))
 least_of_all None ms h = tt
-least_of_all (Some a) ms h = All-from_each (λ m. a ≤ m.arrival) (by_age ms) (Each-by_age (λ m. a ≤ m.arrival) ms h)
+least_of_all (Some a) ms h = All-from_recursion (λ m. a ≤ m.arrival) (by_age ms) (Each-by_age (λ m. a ≤ m.arrival) ms h)
 
 pub attained : (least : Option ℕ) (ms : List Message) → IsArrival least ms → IfSome least (λ a. Any (λ m. m.arrival ≡ a) (by_age ms))
 attained None ms h = tt

@@ -1,12 +1,12 @@
 -- The overrides of links: where a kind has fewer than links, some link of it has its usual latency; and the least
 -- latency of some of them.
 use Rattle.std.proofs.Common.{ℕ, zero, suc, ◌+◌, ◌*◌, ◌/◌, ◌%◌, ◌<◌, ◌≤◌, ◌≡◌, Bool, true, false, ◌&&◌, ◌||◌, cond, eqb, min, List, [], ◌∷◌, length, map, Option, Some, None, refl, sym, ap, ap₂, ◌∙◌, subst, inl, inr, ◌⊎◌, arith}
-use Rattle.std.specs.Prelude.{fold, filter, count_by, find, All, unwrap_or}
+use Rattle.std.specs.Prelude.{fold, filter, count_by, find, unwrap_or}
 use Rattle.std.specs.Option.{IfSome, option_map}
 use Rattle.std.specs.List.{AllByRecursion as Each, list_any, IsDistinct}
 use Rattle.std.proofs.lemmas.Bool.{cond_both, cond-true, cond-false, eqb-true, eq-eqb, lt-ltb, ltb-true, cases_lt, cases_Bool, or_parts}
 use Rattle.std.proofs.lemmas.Bool.Decides.{nat_tests}
-use Rattle.std.proofs.lemmas.List.Elements.{All-head, All-tail}
+use Rattle.std.proofs.lemmas.List.Elements.{recursion_from_All}
 use Rattle.std.proofs.lemmas.List.Sums.{length-filter}
 use Rattle.std.proofs.lemmas.List.{length-map}
 use Rattle.std.proofs.lemmas.Map.Steps.{length-le_from_distinct_below, le-length_from_below}
@@ -16,7 +16,6 @@ use Rattle.sim_base.specs.declared.overrides.Override.{Override}
 use Rattle.sim_base.specs.Config.{usual_latency, latency}
 use Rattle.sim_base.specs.Keys.{LatencyInRange}
 use Rattle.sim_base.proofs.Each.{IfSome-find}
-use Rattle.sim_base.proofs.Ordered.{Each-weaker}
 use Rattle.sim_base.proofs.LinkNumbers.{override_in_range}
 use Rattle.links.specs.Latencies.{has_usual}
 
@@ -31,10 +30,6 @@ is_kind kind o = eqb (o.link % 3) kind
 -- the pairs of units between which the links of a kind with an override run
 abbrev pairs : ℕ → List Override → List ℕ
 pairs kind os = map (λ (o : Override). o.link / 3) (filter (is_kind kind) os)
-
-pub Each-from_all : {X : Type 0} (P : X → Type 0) (xs : List X) → All P xs → Each P xs
-Each-from_all P [] h = tt
-Each-from_all P (x ∷ xs) h = (All-head P x xs h, Each-from_all P xs (All-tail P x xs h))
 
 -- an override of the link between a pair, of a kind
 of_pair : (kind q link : ℕ) → kind < 3 → (eqb (link % 3) kind && eqb q (link / 3)) ≡ eqb link (3 * q + kind)
@@ -129,7 +124,7 @@ usual_counts s link l free =
     pairs-any kind q k s.overrides ∙ ap (λ x. list_any (is_of x) s.overrides) here ∙ free in
     let in_range : q < s.cores * s.channels = omega (arith, links_count s) in
     let differ : IsDistinct eqb (q ∷ pairs kind s.overrides) = (none_same q (pairs kind s.overrides) open_pair, pairs_distinct kind s.overrides s.links_differ) in
-    let exist : Each (λ (o : Override). o.link < 3 * s.cores * s.channels) s.overrides = Each-from_all (λ (o : Override). o.link < 3 * s.cores * s.channels) s.overrides s.links_exist in
+    let exist : Each (λ (o : Override). o.link < 3 * s.cores * s.channels) s.overrides = recursion_from_All (λ (o : Override). o.link < 3 * s.cores * s.channels) s.overrides s.links_exist in
     let all : length (q ∷ pairs kind s.overrides) ≤ s.cores * s.channels =
     length-le_from_distinct_below (q ∷ pairs kind s.overrides) (s.cores * s.channels) differ (λ p h. below p h exist in_range k) in
     lt-ltb (count_by (is_kind kind) s.overrides) (s.cores * s.channels) (omega (arith, length-pairs kind s.overrides))

@@ -4,13 +4,14 @@ use Rattle.std.specs.Prelude.{filter, find}
 use Rattle.std.specs.Option.{IfSome}
 use Rattle.std.specs.List.{AllByRecursion as Each, list_any, IsDistinct}
 use Rattle.std.proofs.lemmas.Bool.{cond_both, cond-true, cond-false, eqb-true, eq-eqb, cases_lt, cases_Bool, true≢false}
+use Rattle.std.proofs.lemmas.List.Elements.{recursion_from_All}
 use Rattle.sim_base.specs.declared.config.Config.{Config}
 use Rattle.sim_base.specs.declared.overrides.Override.{Override}
 use Rattle.sim_base.specs.Config.{latency}
 use Rattle.sim_base.proofs.Added.{link_below}
 use Rattle.sim_base.proofs.Each.{IfSome-find}
 use Rattle.links.specs.Latencies.{has_usual, least_own_of, least_of_kind}
-use Rattle.links.proofs.Overrides.{is_of, is_kind, kind_latency, least_from-each, Each-from_all, find_none, latency_free, latency_own, latency_in_range, found_least, usual_link, usual_counts}
+use Rattle.links.proofs.Overrides.{is_of, is_kind, kind_latency, least_from-each, find_none, latency_free, latency_own, latency_in_range, found_least, usual_link, usual_counts}
 
 -- an override of a link is looked for among those of the link's kind
 find-kind : (link kind : ℕ) → eqb (link % 3) kind ≡ true → (os : List Override) → find (is_of link) (filter (is_kind kind) os) ≡ find (is_of link) os
@@ -58,7 +59,7 @@ own-attained s kind = by (found_least 1000000 (own_of s kind) (distinct-filter (
     by (inl e) = inr e
     by (inr (o, f, g)) =
         let has = λ (p : Override). is_kind kind p ≡ true in
-        let exist : Each (λ (p : Override). p.link < 3 * s.cores * s.channels) s.overrides = Each-from_all (λ (p : Override). p.link < 3 * s.cores * s.channels) s.overrides s.links_exist in
+        let exist : Each (λ (p : Override). p.link < 3 * s.cores * s.channels) s.overrides = recursion_from_All (λ (p : Override). p.link < 3 * s.cores * s.channels) s.overrides s.links_exist in
         let own : is_kind kind o ≡ true = subst (λ r. IfSome r has) f (IfSome-find has (is_of o.link) (own_of s kind) (all-of_kind kind s.overrides)) in
         let found : find (is_of o.link) s.overrides ≡ Some o = sym (find-kind o.link kind own s.overrides) ∙ f in
         let low : o.link < 3 * s.cores * s.channels =

@@ -1,7 +1,7 @@
 use Rattle.std.proofs.Common.{◌<◌, ltb, length, sym, ap, ap₂, subst, ◌∙◌, ◌++◌, arith}
 use Rattle.std.proofs.lemmas.Bool.{and_parts, ltb-true}
-use Rattle.std.proofs.lemmas.List.{length-drop}
-use Rattle.links.proofs.Merging.{Merges, Merges-start, Merges-second, Merges-first, Merges-end, rest_all}
+use Rattle.std.proofs.lemmas.List.{length-drop, take_rest}
+use Rattle.links.proofs.Merging.{Merges, Merges-start, Merges-second, Merges-first, Merges-end}
 use Rattle.links.proofs.merge.merge_into.Goals as goal
 
 pub loop-a-init : goal.loop-a-init
@@ -43,7 +43,7 @@ loop-a-preserved c =
     }
 
 pub append_all-requires : goal.append_all-requires
-append_all-requires c = omega (arith, c.loop-a.invariant.room, ap length (rest_all c.loop-a.i c.args.first.now), length-drop c.loop-a.i c.args.first.now)
+append_all-requires c = omega (arith, c.loop-a.invariant.room, ap length (take_rest c.args.first.now c.loop-a.i), length-drop c.loop-a.i c.args.first.now)
 
 pub append_all-requires-2 : goal.append_all-requires-2
 append_all-requires-2 c =
@@ -52,14 +52,14 @@ append_all-requires-2 c =
       c.loop-a.invariant.room,
       c.append_all.ensures.len,
       c.append_all.ensures.capacity,
-      ap length (rest_all c.loop-a.i c.args.first.now),
+      ap length (take_rest c.args.first.now c.loop-a.i),
       length-drop c.loop-a.i c.args.first.now,
-      ap length (rest_all c.loop-a.j c.args.second.now),
+      ap length (take_rest c.args.second.now c.loop-a.j),
       length-drop c.loop-a.j c.args.second.now,
     )
 
 pub returns : goal.returns
 returns c =
     c.append_all-2.ensures.items
-    ∙ ap₂ (λ xs ys. xs ++ ys) (c.append_all.ensures.items ∙ ap (λ xs. c.loop-a.inbox.items ++ xs) (rest_all c.loop-a.i c.args.first.now)) (rest_all c.loop-a.j c.args.second.now)
+    ∙ ap₂ (λ xs ys. xs ++ ys) (c.append_all.ensures.items ∙ ap (λ xs. c.loop-a.inbox.items ++ xs) (take_rest c.args.first.now c.loop-a.i)) (take_rest c.args.second.now c.loop-a.j)
     ∙ Merges-end _ _ _ _ _ c.loop-a.invariant.merges (sym c.are_left.ensures ∙ c.loop-a-test.false)
