@@ -11,53 +11,53 @@ use Rattle.queue.specs.Columns.{tag_of, tags_of, tag_column, is_blocked, blocked
 use Rattle.queue.proofs.Waiting.{waiting_first, if_waits}
 use Rattle.queue.proofs.Eligible.{asked_with, marks_after, eligible_is}
 
-pub length-activated : (log : List Arrived) (slot : ℕ) → length (activated_at log slot) ≡ length log
-length-activated log slot = length-set log slot (record (get_or log slot absent) { activated = true })
+pub length-activated : (log : List Arrived) (place : ℕ) → length (activated_at log place) ≡ length log
+length-activated log place = length-set log place (record (get_or log place absent) { activated = true })
 
-pub all_activated : (log : List Arrived) (slot : ℕ) → all_requests (activated_at log slot) ≡ all_requests log
-all_activated [] slot = refl
+pub all_activated : (log : List Arrived) (place : ℕ) → all_requests (activated_at log place) ≡ all_requests log
+all_activated [] place = refl
 all_activated (a ∷ log) zero = refl
-all_activated (a ∷ log) (suc slot) = ap (λ rs. a.request ∷ rs) (all_activated log slot)
+all_activated (a ∷ log) (suc place) = ap (λ rs. a.request ∷ rs) (all_activated log place)
 
 -- the same requests wait
-pub waiting_activated : (log : List Arrived) (slot : ℕ) → waiting_requests (activated_at log slot) ≡ waiting_requests log
-waiting_activated [] slot = refl
+pub waiting_activated : (log : List Arrived) (place : ℕ) → waiting_requests (activated_at log place) ≡ waiting_requests log
+waiting_activated [] place = refl
 waiting_activated (a ∷ log) zero = waiting_first (record a { activated = true }) log ∙ sym (waiting_first a log)
-waiting_activated (a ∷ log) (suc slot) =
-    waiting_first a (activated_at log slot) ∙ ap (λ rs. if_waits a ++ rs) (waiting_activated log slot) ∙ sym (waiting_first a log)
+waiting_activated (a ∷ log) (suc place) =
+    waiting_first a (activated_at log place) ∙ ap (λ rs. if_waits a ++ rs) (waiting_activated log place) ∙ sym (waiting_first a log)
 
-marks_activated : (asked : Place → Bool) (log : List Arrived) (slot : ℕ) → marks_after asked (activated_at log slot) ≡ marks_after asked log
-marks_activated asked [] slot = refl
+marks_activated : (asked : Place → Bool) (log : List Arrived) (place : ℕ) → marks_after asked (activated_at log place) ≡ marks_after asked log
+marks_activated asked [] place = refl
 marks_activated asked (a ∷ log) zero = refl
-marks_activated asked (a ∷ log) (suc slot) = ap (λ ms. mark (a.waits && not (asked a.request.place)) ∷ ms) (marks_activated (asked_with asked a) log slot)
+marks_activated asked (a ∷ log) (suc place) = ap (λ ms. mark (a.waits && not (asked a.request.place)) ∷ ms) (marks_activated (asked_with asked a) log place)
 
 -- the marks are the same
-pub eligible_activated : (log : List Arrived) (slot : ℕ) → eligible_column (activated_at log slot) ≡ eligible_column log
-eligible_activated log slot = eligible_is (activated_at log slot) ∙ marks_activated (λ p. false) log slot ∙ sym (eligible_is log)
+pub eligible_activated : (log : List Arrived) (place : ℕ) → eligible_column (activated_at log place) ≡ eligible_column log
+eligible_activated log place = eligible_is (activated_at log place) ∙ marks_activated (λ p. false) log place ∙ sym (eligible_is log)
 
-tags_activated : (log : List Arrived) (marks : List ℕ) (slot : ℕ) → tags_of (activated_at log slot) marks ≡ tags_of log marks
-tags_activated [] marks slot = refl
+tags_activated : (log : List Arrived) (marks : List ℕ) (place : ℕ) → tags_of (activated_at log place) marks ≡ tags_of log marks
+tags_activated [] marks place = refl
 tags_activated (a ∷ log) [] zero = refl
-tags_activated (a ∷ log) [] (suc slot) = refl
+tags_activated (a ∷ log) [] (suc place) = refl
 tags_activated (a ∷ log) (m ∷ marks) zero = refl
-tags_activated (a ∷ log) (m ∷ marks) (suc slot) = ap (λ tags. tag_of (is_marked m) a ∷ tags) (tags_activated log marks slot)
+tags_activated (a ∷ log) (m ∷ marks) (suc place) = ap (λ tags. tag_of (is_marked m) a ∷ tags) (tags_activated log marks place)
 
 -- the tags are the same
-pub tag_activated : (log : List Arrived) (slot : ℕ) → tag_column (activated_at log slot) ≡ tag_column log
+pub tag_activated : (log : List Arrived) (place : ℕ) → tag_column (activated_at log place) ≡ tag_column log
 unfolding tag_column
-tag_activated log slot = ap (tags_of (activated_at log slot)) (eligible_activated log slot) ∙ tags_activated log (eligible_column log) slot
+tag_activated log place = ap (tags_of (activated_at log place)) (eligible_activated log place) ∙ tags_activated log (eligible_column log) place
 
-counted_activated : (log : List Arrived) (marks : List ℕ) (slot : ℕ) → count_by is_blocked (zip (activated_at log slot) marks) ≡ count_by is_blocked (zip log marks)
-counted_activated [] marks slot = refl
+counted_activated : (log : List Arrived) (marks : List ℕ) (place : ℕ) → count_by is_blocked (zip (activated_at log place) marks) ≡ count_by is_blocked (zip log marks)
+counted_activated [] marks place = refl
 counted_activated (a ∷ log) [] zero = refl
-counted_activated (a ∷ log) [] (suc slot) = refl
+counted_activated (a ∷ log) [] (suc place) = refl
 counted_activated (a ∷ log) (m ∷ marks) zero =
     sum_by-cons (λ e. cond (is_blocked e) 1 0) (record a { activated = true }, m) (zip log marks) ∙ sym (sum_by-cons (λ e. cond (is_blocked e) 1 0) (a, m) (zip log marks))
-counted_activated (a ∷ log) (m ∷ marks) (suc slot) =
-    sum_by-cons (λ e. cond (is_blocked e) 1 0) (a, m) (zip (activated_at log slot) marks)
-    ∙ ap (λ n. cond (is_blocked (a, m)) 1 0 + n) (counted_activated log marks slot)
+counted_activated (a ∷ log) (m ∷ marks) (suc place) =
+    sum_by-cons (λ e. cond (is_blocked e) 1 0) (a, m) (zip (activated_at log place) marks)
+    ∙ ap (λ n. cond (is_blocked (a, m)) 1 0 + n) (counted_activated log marks place)
     ∙ sym (sum_by-cons (λ e. cond (is_blocked e) 1 0) (a, m) (zip log marks))
 
 -- as many are blocked
-pub blocked_activated : (log : List Arrived) (slot : ℕ) → blocked_count (activated_at log slot) ≡ blocked_count log
-blocked_activated log slot = ap (λ ms. count_by is_blocked (zip (activated_at log slot) ms)) (eligible_activated log slot) ∙ counted_activated log (eligible_column log) slot
+pub blocked_activated : (log : List Arrived) (place : ℕ) → blocked_count (activated_at log place) ≡ blocked_count log
+blocked_activated log place = ap (λ ms. count_by is_blocked (zip (activated_at log place) ms)) (eligible_activated log place) ∙ counted_activated log (eligible_column log) place

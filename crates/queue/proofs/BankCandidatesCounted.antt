@@ -55,14 +55,14 @@ counted_push counts rs r value counted below short value_is =
     (omega (arith, step own, one, few, value_is, counted own below))
 
 -- one request less
-pub counted_removed : (counts : List ℕ) (rs : List Request) (slot : ℕ) (r : Request) (value : ℕ) → AreCounted counts rs → access_number_of r < length counts → slot < length rs
-    → r ≡ get_or rs slot r → value ≡ get_or counts (access_number_of r) 0 - 1 → AreCounted (set counts (access_number_of r) value) (remove rs slot)
-counted_removed counts rs slot r value counted below exists here value_is =
+pub counted_removed : (counts : List ℕ) (rs : List Request) (place : ℕ) (r : Request) (value : ℕ) → AreCounted counts rs → access_number_of r < length counts → place < length rs
+    → r ≡ get_or rs place r → value ≡ get_or counts (access_number_of r) 0 - 1 → AreCounted (set counts (access_number_of r) value) (remove rs place)
+counted_removed counts rs place r value counted below exists here value_is =
     let own = access_number_of r in
-    let step : (k : ℕ) → access_count k (remove rs slot) + counts_it k r ≡ access_count k rs =
-    λ k. (λ i. access_count k (remove rs slot) + counts_it k (here i)) ∙ sum_by-remove (counts_it k) rs slot r exists in
+    let step : (k : ℕ) → access_count k (remove rs place) + counts_it k r ≡ access_count k rs =
+    λ k. (λ i. access_count k (remove rs place) + counts_it k (here i)) ∙ sum_by-remove (counts_it k) rs place r exists in
     let one : counts_it own r ≡ 1 = one_if (eqb own own) (eq-eqb own own refl) in
-    changed counts rs (remove rs slot) r value counted below
+    changed counts rs (remove rs place) r value counted below
     (λ k apart.
     let none : counts_it k r ≡ 0 = none_if (eqb own k) apart in
     omega (arith, step k, none))
@@ -93,14 +93,14 @@ no_first log bank access none =
     false_from_ne_true (asks bank access r) (λ is. true≢false (sym (wants_access bank access None r is) ∙ none_asks (access_number bank access) (waiting_requests log) none k d exists)))
 
 -- the requests that wait, without the one that was served
-pub counted_served : (counts : List ℕ) (log : List Arrived) (slot : ℕ) (value : ℕ) → AreCounted counts (waiting_requests log) → slot < length log → waits_at log slot ≡ true
-    → access_number_of (get_or log slot absent).request < length counts → value ≡ get_or counts (access_number_of (get_or log slot absent).request) 0 - 1
-    → AreCounted (set counts (access_number_of (get_or log slot absent).request) value) (waiting_requests (served_at log slot))
-counted_served counts log slot value counted within waits below value_is =
-    let r = (get_or log slot absent).request in
-    let place = length (waiting_requests (take slot log)) in
-    subst (AreCounted (set counts (access_number_of r) value)) (sym (waiting_served log slot within waits))
-    (counted_removed counts (waiting_requests log) place r value counted below (waiting_within log slot within waits) (sym (waiting_at log slot r within waits)) value_is)
+pub counted_served : (counts : List ℕ) (log : List Arrived) (place : ℕ) (value : ℕ) → AreCounted counts (waiting_requests log) → place < length log → waits_at log place ≡ true
+    → access_number_of (get_or log place absent).request < length counts → value ≡ get_or counts (access_number_of (get_or log place absent).request) 0 - 1
+    → AreCounted (set counts (access_number_of (get_or log place absent).request) value) (waiting_requests (served_at log place))
+counted_served counts log place value counted within waits below value_is =
+    let r = (get_or log place absent).request in
+    let older = length (waiting_requests (take place log)) in
+    subst (AreCounted (set counts (access_number_of r) value)) (sym (waiting_served log place within waits))
+    (counted_removed counts (waiting_requests log) older r value counted below (waiting_within log place within waits) (sym (waiting_at log place r within waits)) value_is)
 
 pub number_below : (bank banks : ℕ) (access : Access) → bank < banks → access_number bank access < 2 * banks
 number_below bank banks access.Write exists = omega arith

@@ -102,40 +102,40 @@ zip_set (r ∷ rs) (n ∷ marks) (suc k) m d within = ap (λ es. (r, n) ∷ es) 
 
 -- the first place that is left, before another request may be served
 abbrev pub left_place : (Request → Bool) → List Arrived → ℕ → Option ℕ
-left_place test log slot = position (passes test) (zip (all_requests log) (set (eligible_column log) slot 0))
+left_place test log place = position (passes test) (zip (all_requests log) (set (eligible_column log) place 0))
 
 all_long : (log : List Arrived) → length (all_requests log) ≡ length log
 all_long log = length-map log (λ (a : Arrived). a.request)
 
-pub left_stays : (test : Request → Bool) (log : List Arrived) (slot : ℕ) → slot < length log → (first_place test log ≡ Some slot → ⊥) → left_place test log slot ≡ first_place test log
-left_stays test log slot within apart =
-    ap (position (passes test)) (zip_set (all_requests log) (eligible_column log) slot 0 absent.request (omega (arith, all_long log)))
-    ∙ position_fails (passes test) (entries log) slot (get_or (all_requests log) slot absent.request, 0) refl apart
+pub left_stays : (test : Request → Bool) (log : List Arrived) (place : ℕ) → place < length log → (first_place test log ≡ Some place → ⊥) → left_place test log place ≡ first_place test log
+left_stays test log place within apart =
+    ap (position (passes test)) (zip_set (all_requests log) (eligible_column log) place 0 absent.request (omega (arith, all_long log)))
+    ∙ position_fails (passes test) (entries log) place (get_or (all_requests log) place absent.request, 0) refl apart
 
 -- with the one that may be served now
-pub with_next : (test : Request → Bool) (was log : List Arrived) (slot : ℕ) (unblocked : Option ℕ) → IsServed was slot unblocked log
-    → earlier (left_place test was slot) (passing test log unblocked) ≡ first_place test log
-with_next test was log slot None served =
+pub with_next : (test : Request → Bool) (was log : List Arrived) (place : ℕ) (unblocked : Option ℕ) → IsServed was place unblocked log
+    → earlier (left_place test was place) (passing test log unblocked) ≡ first_place test log
+with_next test was log place None served =
     let rs = all_requests was in
-    let all : all_requests log ≡ rs = ap all_requests served.log_is ∙ all_served was slot in
-    earlier_none (left_place test was slot) ∙ sym (λ i. position (passes test) (zip (all i) (served.marks_are i)))
-with_next test was log slot (Some next) served =
+    let all : all_requests log ≡ rs = ap all_requests served.log_is ∙ all_served was place in
+    earlier_none (left_place test was place) ∙ sym (λ i. position (passes test) (zip (all i) (served.marks_are i)))
+with_next test was log place (Some next) served =
     let rs = all_requests was in
-    let marks = set (eligible_column was) slot 0 in
-    let all : all_requests log ≡ rs = ap all_requests served.log_is ∙ all_served was slot in
+    let marks = set (eligible_column was) place 0 in
+    let all : all_requests log ≡ rs = ap all_requests served.log_is ∙ all_served was place in
     let long : next < length rs = omega (arith, served.next, ap length all, all_long log) in
     let r = get_or rs next absent.request in
     let r_is : r ≡ (get_or log next absent).request = ap (λ xs. get_or xs next absent.request) (sym all) ∙ get_or-map (λ (a : Arrived). a.request) log next absent absent.request served.next in
-    let marks_long : length marks ≡ length rs = omega (arith, length-set (eligible_column was) slot 0, length-eligible was, all_long was) in
+    let marks_long : length marks ≡ length rs = omega (arith, length-set (eligible_column was) place 0, length-eligible was, all_long was) in
     let more : (d : Request × ℕ) → passes test (get_or (zip rs marks) next d) ≡ true → passes test (r, 1) ≡ true =
     λ d is.
     let entry = get_or-zip rs marks next d long (omega arith) in
     let parts = and_parts (is_marked (get_or marks next d.1)) (test (get_or rs next d.0)) (sym (ap (passes test) entry) ∙ is) in
     ap test (get_or_default rs next absent.request d.0 long) ∙ parts.1 in
-    let marked : position (passes test) (zip rs (set marks next 1)) ≡ earlier (left_place test was slot) (cond (test r) (Some next) None) =
+    let marked : position (passes test) (zip rs (set marks next 1)) ≡ earlier (left_place test was place) (cond (test r) (Some next) None) =
     ap (position (passes test)) (zip_set rs marks next 1 absent.request long)
     ∙ position_passes (passes test) (zip rs marks) next (r, 1) (omega (arith, zip_long rs marks marks_long)) more in
-    ap (λ x. earlier (left_place test was slot) (cond (test x) (Some next) None)) (sym r_is) ∙ sym marked
+    ap (λ x. earlier (left_place test was place) (cond (test x) (Some next) None)) (sym r_is) ∙ sym marked
     ∙ sym (λ i. position (passes test) (zip (all i) (served.marks_are i)))
 
 -- a mark says nothing of the requests behind it
@@ -149,64 +149,64 @@ marks_front log n k sooner within =
     ap (λ xs. get_or (eligible_column xs) k 0) (sym (take-append-drop n log)) ∙ marks_before (take n log) (drop n log) k (omega (arith, length-take-le n log within))
 
 -- none stands before the place behind the request that was served, if that was the first
-pub none_left : (test : Request → Bool) (was log : List Arrived) (slot : ℕ) (unblocked : Option ℕ) → IsServed was slot unblocked log → first_place test was ≡ Some slot
-    → NoneBefore test log (slot + 1)
-none_left test was log slot unblocked served is =
-    let long : length log ≡ length was = ap length served.log_is ∙ length-served was slot in
-    let front : take slot log ≡ take slot was = ap (take slot) served.log_is ∙ take-set was slot _ in
-    let fails = none_before_first test was slot (sym is) in
-    none_more test log slot
+pub none_left : (test : Request → Bool) (was log : List Arrived) (place : ℕ) (unblocked : Option ℕ) → IsServed was place unblocked log → first_place test was ≡ Some place
+    → NoneBefore test log (place + 1)
+none_left test was log place unblocked served is =
+    let long : length log ≡ length was = ap length served.log_is ∙ length-served was place in
+    let front : take place log ≡ take place was = ap (take place) served.log_is ∙ take-set was place _ in
+    let fails = none_before_first test was place (sym is) in
+    none_more test log place
     (λ k d sooner exists.
-    let apart : k ≡ slot → ⊥ = λ same. omega arith in
+    let apart : k ≡ place → ⊥ = λ same. omega arith in
     let mark_is : get_or (eligible_column log) k 0 ≡ get_or (eligible_column was) k 0 =
-    marks_front log slot k sooner (omega arith) ∙ ap (λ xs. get_or (eligible_column xs) k 0) front ∙ sym (marks_front was slot k sooner (omega arith)) in
-    let item_is : get_or log k absent ≡ get_or was k absent = ap (λ xs. get_or xs k absent) served.log_is ∙ get_or-set_other was slot k _ absent apart in
+    marks_front log place k sooner (omega arith) ∙ ap (λ xs. get_or (eligible_column xs) k 0) front ∙ sym (marks_front was place k sooner (omega arith)) in
+    let item_is : get_or log k absent ≡ get_or was k absent = ap (λ xs. get_or xs k absent) served.log_is ∙ get_or-set_other was place k _ absent apart in
     here_is test log k absent d exists ∙ (λ i. is_marked (mark_is i) && test (item_is i).request) ∙ sym (here_is test was k absent d (omega arith)) ∙ fails k d sooner (omega arith))
     (λ d within.
-    let m = is_marked (get_or (eligible_column log) slot 0) in
-    let gone : (get_or log slot absent).waits ≡ false = ap (λ xs. (get_or xs slot absent).waits) served.log_is ∙ ap (λ (a : Arrived). a.waits) (get_or-set_same was slot _ absent served.within) in
-    let unmarked : m ≡ false = false_from_ne_true m (λ marked. true≢false (sym (marked_waits log slot absent within marked) ∙ gone)) in
-    here_is test log slot absent d within ∙ ap (λ b. b && test (get_or log slot absent).request) unmarked)
+    let m = is_marked (get_or (eligible_column log) place 0) in
+    let gone : (get_or log place absent).waits ≡ false = ap (λ xs. (get_or xs place absent).waits) served.log_is ∙ ap (λ (a : Arrived). a.waits) (get_or-set_same was place _ absent served.within) in
+    let unmarked : m ≡ false = false_from_ne_true m (λ marked. true≢false (sym (marked_waits log place absent within marked) ∙ gone)) in
+    here_is test log place absent d within ∙ ap (λ b. b && test (get_or log place absent).request) unmarked)
 
-is_there : (candidate : Option ℕ) (slot : ℕ) → (candidate ≡ Some slot) ⊎ (candidate ≡ Some slot → ⊥)
-is_there None slot = inr (λ same. cc)
-is_there (Some k) slot = elim (cases_eq k slot) [
+is_there : (candidate : Option ℕ) (place : ℕ) → (candidate ≡ Some place) ⊎ (candidate ≡ Some place → ⊥)
+is_there None place = inr (λ same. cc)
+is_there (Some k) place = elim (cases_eq k place) [
   | inl same ↦ inl (ap Some same)
   | inr apart ↦ inr (λ same. apart (cc))
 ]
 
 -- a candidate that stays, or is replaced by the next one where it was the request that was served
-pub left_candidate : (test : Request → Bool) (was log : List Arrived) (slot : ℕ) (unblocked : Option ℕ) (old new : Option ℕ) → IsServed was slot unblocked log → old ≡ first_place test was
-    → ((old ≡ Some slot → ⊥) → new ≡ old) → (old ≡ Some slot → NoneBefore test log (slot + 1) → new ≡ first_place test log)
+pub left_candidate : (test : Request → Bool) (was log : List Arrived) (place : ℕ) (unblocked : Option ℕ) (old new : Option ℕ) → IsServed was place unblocked log → old ≡ first_place test was
+    → ((old ≡ Some place → ⊥) → new ≡ old) → (old ≡ Some place → NoneBefore test log (place + 1) → new ≡ first_place test log)
     → earlier new (passing test log unblocked) ≡ first_place test log
-left_candidate test was log slot unblocked old new served is kept found =
+left_candidate test was log place unblocked old new served is kept found =
     let next = passing test log unblocked in
-    let whole = with_next test was log slot unblocked served in
-    elim (is_there old slot) [
+    let whole = with_next test was log place unblocked served in
+    elim (is_there old place) [
       | inl there ↦
-          ap (λ o. earlier o next) (found there (none_left test was log slot unblocked served (sym is ∙ there)) ∙ sym whole) ∙ earlier_twice (left_place test was slot) next ∙ whole
+          ap (λ o. earlier o next) (found there (none_left test was log place unblocked served (sym is ∙ there)) ∙ sym whole) ∙ earlier_twice (left_place test was place) next ∙ whole
       | inr apart ↦
-          ap (λ o. earlier o next) (kept apart ∙ is ∙ sym (left_stays test was slot served.within (λ same. apart (is ∙ same)))) ∙ whole
+          ap (λ o. earlier o next) (kept apart ∙ is ∙ sym (left_stays test was place served.within (λ same. apart (is ∙ same)))) ∙ whole
     ]
 
 -- a request that fails a test is not the first that passes it
-not_there : (test : Request → Bool) (log : List Arrived) (slot : ℕ) → slot < length log → test (get_or log slot absent).request ≡ false → first_place test log ≡ Some slot → ⊥
-not_there test log slot within fails is =
+not_there : (test : Request → Bool) (log : List Arrived) (place : ℕ) → place < length log → test (get_or log place absent).request ≡ false → first_place test log ≡ Some place → ⊥
+not_there test log place within fails is =
     let d : Request × ℕ = (absent.request, 0) in
-    let m = is_marked (get_or (eligible_column log) slot 0) in
-    let passed : passes test (get_or (entries log) slot d) ≡ true = (position-Some (passes test) (entries log) slot d is).1 in
-    let parts = and_parts m (test (get_or log slot absent).request) (sym (here_is test log slot absent d within) ∙ passed) in
+    let m = is_marked (get_or (eligible_column log) place 0) in
+    let passed : passes test (get_or (entries log) place d) ≡ true = (position-Some (passes test) (entries log) place d is).1 in
+    let parts = and_parts m (test (get_or log place absent).request) (sym (here_is test log place absent d within) ∙ passed) in
     true≢false (sym parts.1 ∙ fails)
 
 -- a candidate that the request that was served is not for
-pub other_candidate : (test : Request → Bool) (was log : List Arrived) (slot : ℕ) (unblocked : Option ℕ) (old : Option ℕ) → IsServed was slot unblocked log
-    → test (get_or was slot absent).request ≡ false → old ≡ first_place test was → earlier old (passing test log unblocked) ≡ first_place test log
-other_candidate test was log slot unblocked old served fails is =
-    left_candidate test was log slot unblocked old old served is (λ apart. refl) (λ there none. absurd (not_there test was slot served.within fails (sym is ∙ there)))
+pub other_candidate : (test : Request → Bool) (was log : List Arrived) (place : ℕ) (unblocked : Option ℕ) (old : Option ℕ) → IsServed was place unblocked log
+    → test (get_or was place absent).request ≡ false → old ≡ first_place test was → earlier old (passing test log unblocked) ≡ first_place test log
+other_candidate test was log place unblocked old served fails is =
+    left_candidate test was log place unblocked old old served is (λ apart. refl) (λ there none. absurd (not_there test was place served.within fails (sym is ∙ there)))
 
 -- none, where there is none
-pub no_candidate : (test : Request → Bool) (was log : List Arrived) (slot : ℕ) (unblocked : Option ℕ) (new : Option ℕ) → IsServed was slot unblocked log → new ≡ None → None ≡ first_place test log
+pub no_candidate : (test : Request → Bool) (was log : List Arrived) (place : ℕ) (unblocked : Option ℕ) (new : Option ℕ) → IsServed was place unblocked log → new ≡ None → None ≡ first_place test log
     → earlier new (passing test log unblocked) ≡ first_place test log
-no_candidate test was log slot unblocked new served is none =
+no_candidate test was log place unblocked new served is none =
     let next = passing test log unblocked in
-    ap (λ o. earlier o next) is ∙ earlier_neither (left_place test was slot) next (with_next test was log slot unblocked served ∙ sym none) ∙ none
+    ap (λ o. earlier o next) is ∙ earlier_neither (left_place test was place) next (with_next test was log place unblocked served ∙ sym none) ∙ none

@@ -18,7 +18,7 @@ use Rattle.sim_base.specs.declared.message.Request.{Request}
 use Rattle.sim_base.specs.declared.place.Place.{Place}
 use Rattle.queue.specs.declared.request_log.Arrived.{Arrived}
 use Rattle.queue.specs.Log.{arrived_now, waiting, waiting_requests, eligible_column}
-use Rattle.queue.specs.Columns.{line_slot, slot_of_line, slot_count, AreCounted, is_blocked, blocked_count, bank_number, asks_for_row}
+use Rattle.queue.specs.Columns.{line_counter, counter_of_line, counted_by, AreCounted, is_blocked, blocked_count, bank_number, asks_for_row}
 use Rattle.queue.proofs.SameLine.{line_same}
 use Rattle.queue.proofs.Waiting.{waiting_append, waiting_one}
 use Rattle.queue.proofs.Eligible.{length-eligible}
@@ -26,81 +26,81 @@ use Rattle.queue.proofs.BankCandidatesCounted.{one_if, none_if}
 
 -- whether a counter counts a request
 abbrev counts_it : (Request → ℕ) → ℕ → Request → ℕ
-counts_it slot_of slot r = cond (eqb (slot_of r) slot) 1 0
+counts_it counter_of counter r = cond (eqb (counter_of r) counter) 1 0
 
-none_counted : (mask : ℕ) (place : Place) (rs : List Request) → slot_count (slot_of_line mask) rs (line_slot mask place) ≡ 0 → list_any (λ q. is_line q.place place) rs ≡ false
+none_counted : (mask : ℕ) (place : Place) (rs : List Request) → counted_by (counter_of_line mask) rs (line_counter mask place) ≡ 0 → list_any (λ q. is_line q.place place) rs ≡ false
 none_counted mask place [] none = refl
 none_counted mask place (r ∷ rs) none =
-    let slot = line_slot mask place in
-    let slot_of = slot_of_line mask in
-    let counted : slot_count slot_of (r ∷ rs) slot ≡ counts_it slot_of slot r + slot_count slot_of rs slot = sum_by-cons (counts_it slot_of slot) r rs in
+    let counter = line_counter mask place in
+    let counter_of = counter_of_line mask in
+    let counted : counted_by counter_of (r ∷ rs) counter ≡ counts_it counter_of counter r + counted_by counter_of rs counter = sum_by-cons (counts_it counter_of counter) r rs in
     elim (cases_Bool (is_line r.place place)) [
       | inl same ↦
-          let one : counts_it slot_of slot r ≡ 1 = one_if (eqb (slot_of r) slot) (eq-eqb (slot_of r) slot (ap (line_slot mask) (line_same r.place place same))) in
+          let one : counts_it counter_of counter r ≡ 1 = one_if (eqb (counter_of r) counter) (eq-eqb (counter_of r) counter (ap (line_counter mask) (line_same r.place place same))) in
           absurd (omega (arith, counted, one, none))
       | inr apart ↦ ap (λ b. b || list_any (λ (q : Request). is_line q.place place) rs) apart ∙ none_counted mask place rs (omega (arith, counted, none))
     ]
 
 -- where the counter for a line counts none, no request asks for it
-pub none_asks : (mask : ℕ) (counts : List ℕ) (rs : List Request) (place : Place) → AreCounted (slot_of_line mask) counts rs → line_slot mask place < length counts
-    → get_or counts (line_slot mask place) 0 ≡ 0 → asks_for_line place rs ≡ false
+pub none_asks : (mask : ℕ) (counts : List ℕ) (rs : List Request) (place : Place) → AreCounted (counter_of_line mask) counts rs → line_counter mask place < length counts
+    → get_or counts (line_counter mask place) 0 ≡ 0 → asks_for_line place rs ≡ false
 unfolding asks_for_line
-none_asks mask counts rs place counted below none = none_counted mask place rs (sym (counted (line_slot mask place) below) ∙ none)
+none_asks mask counts rs place counted below none = none_counted mask place rs (sym (counted (line_counter mask place) below) ∙ none)
 
-changed : (slot_of : Request → ℕ) (counts : List ℕ) (rs others : List Request) (r : Request) (slot value : ℕ) → AreCounted slot_of counts rs → slot ≡ slot_of r → slot < length counts
-    → ((k : ℕ) → eqb (slot_of r) k ≡ false → slot_count slot_of others k ≡ slot_count slot_of rs k) → value ≡ slot_count slot_of others slot
-    → AreCounted slot_of (set counts slot value) others
-changed slot_of counts rs others r slot value counted slot_is below same value_is k within = elim (cases_Bool (eqb (slot_of r) k)) [
+changed : (counter_of : Request → ℕ) (counts : List ℕ) (rs others : List Request) (r : Request) (counter value : ℕ) → AreCounted counter_of counts rs → counter ≡ counter_of r → counter < length counts
+    → ((k : ℕ) → eqb (counter_of r) k ≡ false → counted_by counter_of others k ≡ counted_by counter_of rs k) → value ≡ counted_by counter_of others counter
+    → AreCounted counter_of (set counts counter value) others
+changed counter_of counts rs others r counter value counted counter_is below same value_is k within = elim (cases_Bool (eqb (counter_of r) k)) [
   | inl here ↦
-      let k_is : k ≡ slot = sym (eqb-true (slot_of r) k here) ∙ sym slot_is in
-      ap (λ j. get_or (set counts slot value) j 0) k_is ∙ get_or-set_same counts slot value 0 below ∙ value_is ∙ ap (slot_count slot_of others) (sym k_is)
+      let k_is : k ≡ counter = sym (eqb-true (counter_of r) k here) ∙ sym counter_is in
+      ap (λ j. get_or (set counts counter value) j 0) k_is ∙ get_or-set_same counts counter value 0 below ∙ value_is ∙ ap (counted_by counter_of others) (sym k_is)
   | inr apart ↦
-      get_or-set_other counts slot k value 0 (λ e. eqb-false (slot_of r) k apart (sym slot_is ∙ sym e))
-      ∙ counted k (omega (arith, within, length-set counts slot value))
+      get_or-set_other counts counter k value 0 (λ e. eqb-false (counter_of r) k apart (sym counter_is ∙ sym e))
+      ∙ counted k (omega (arith, within, length-set counts counter value))
       ∙ sym (same k apart)
 ]
 
 -- one request more
-pub counted_push : (slot_of : Request → ℕ) (counts : List ℕ) (rs more : List Request) (r : Request) (slot value : ℕ) → AreCounted slot_of counts rs → slot ≡ slot_of r → slot < length counts
-    → more ≡ rs ++ r ∷ [] → value ≡ get_or counts slot 0 + 1 → AreCounted slot_of (set counts slot value) more
-counted_push slot_of counts rs more r slot value counted slot_is below more_is value_is =
-    let step : (k : ℕ) → slot_count slot_of more k ≡ slot_count slot_of rs k + counts_it slot_of k r = λ k. ap (λ xs. slot_count slot_of xs k) more_is ∙ sum_by_push (counts_it slot_of k) rs r in
-    let one : counts_it slot_of slot r ≡ 1 = one_if (eqb (slot_of r) slot) (eq-eqb (slot_of r) slot (sym slot_is)) in
-    changed slot_of counts rs more r slot value counted slot_is below
+pub counted_push : (counter_of : Request → ℕ) (counts : List ℕ) (rs more : List Request) (r : Request) (counter value : ℕ) → AreCounted counter_of counts rs → counter ≡ counter_of r → counter < length counts
+    → more ≡ rs ++ r ∷ [] → value ≡ get_or counts counter 0 + 1 → AreCounted counter_of (set counts counter value) more
+counted_push counter_of counts rs more r counter value counted counter_is below more_is value_is =
+    let step : (k : ℕ) → counted_by counter_of more k ≡ counted_by counter_of rs k + counts_it counter_of k r = λ k. ap (λ xs. counted_by counter_of xs k) more_is ∙ sum_by_push (counts_it counter_of k) rs r in
+    let one : counts_it counter_of counter r ≡ 1 = one_if (eqb (counter_of r) counter) (eq-eqb (counter_of r) counter (sym counter_is)) in
+    changed counter_of counts rs more r counter value counted counter_is below
     (λ k apart.
-    let none : counts_it slot_of k r ≡ 0 = none_if (eqb (slot_of r) k) apart in
+    let none : counts_it counter_of k r ≡ 0 = none_if (eqb (counter_of r) k) apart in
     omega (arith, step k, none))
-    (omega (arith, step slot, one, value_is, counted slot below))
+    (omega (arith, step counter, one, value_is, counted counter below))
 
-removed_step : (slot_of : Request → ℕ) (k n : ℕ) (rs fewer : List Request) (r : Request) → n < length rs → r ≡ get_or rs n r → fewer ≡ remove rs n
-    → slot_count slot_of fewer k + counts_it slot_of k r ≡ slot_count slot_of rs k
-removed_step slot_of k n rs fewer r exists here fewer_is =
-    (λ i. slot_count slot_of (fewer_is i) k + counts_it slot_of k (here i)) ∙ sum_by-remove (counts_it slot_of k) rs n r exists
+removed_step : (counter_of : Request → ℕ) (k n : ℕ) (rs fewer : List Request) (r : Request) → n < length rs → r ≡ get_or rs n r → fewer ≡ remove rs n
+    → counted_by counter_of fewer k + counts_it counter_of k r ≡ counted_by counter_of rs k
+removed_step counter_of k n rs fewer r exists here fewer_is =
+    (λ i. counted_by counter_of (fewer_is i) k + counts_it counter_of k (here i)) ∙ sum_by-remove (counts_it counter_of k) rs n r exists
 
 -- one request less
-pub counted_removed : (slot_of : Request → ℕ) (n : ℕ) (counts : List ℕ) (rs fewer : List Request) (r : Request) (slot value : ℕ) → AreCounted slot_of counts rs → slot ≡ slot_of r
-    → slot < length counts → n < length rs → r ≡ get_or rs n r → fewer ≡ remove rs n → value ≡ get_or counts slot 0 - 1 → AreCounted slot_of (set counts slot value) fewer
-counted_removed slot_of n counts rs fewer r slot value counted slot_is below exists here fewer_is value_is =
-    let step : (k : ℕ) → slot_count slot_of fewer k + counts_it slot_of k r ≡ slot_count slot_of rs k = λ k. removed_step slot_of k n rs fewer r exists here fewer_is in
-    let one : counts_it slot_of slot r ≡ 1 = one_if (eqb (slot_of r) slot) (eq-eqb (slot_of r) slot (sym slot_is)) in
-    changed slot_of counts rs fewer r slot value counted slot_is below
+pub counted_removed : (counter_of : Request → ℕ) (n : ℕ) (counts : List ℕ) (rs fewer : List Request) (r : Request) (counter value : ℕ) → AreCounted counter_of counts rs → counter ≡ counter_of r
+    → counter < length counts → n < length rs → r ≡ get_or rs n r → fewer ≡ remove rs n → value ≡ get_or counts counter 0 - 1 → AreCounted counter_of (set counts counter value) fewer
+counted_removed counter_of n counts rs fewer r counter value counted counter_is below exists here fewer_is value_is =
+    let step : (k : ℕ) → counted_by counter_of fewer k + counts_it counter_of k r ≡ counted_by counter_of rs k = λ k. removed_step counter_of k n rs fewer r exists here fewer_is in
+    let one : counts_it counter_of counter r ≡ 1 = one_if (eqb (counter_of r) counter) (eq-eqb (counter_of r) counter (sym counter_is)) in
+    changed counter_of counts rs fewer r counter value counted counter_is below
     (λ k apart.
-    let none : counts_it slot_of k r ≡ 0 = none_if (eqb (slot_of r) k) apart in
+    let none : counts_it counter_of k r ≡ 0 = none_if (eqb (counter_of r) k) apart in
     omega (arith, step k, none))
-    (omega (arith, step slot, one, value_is, counted slot below))
+    (omega (arith, step counter, one, value_is, counted counter below))
 
 -- the counter of a request counts it
-pub some_counted : (slot_of : Request → ℕ) (n : ℕ) (counts : List ℕ) (rs : List Request) (r : Request) (slot : ℕ) → AreCounted slot_of counts rs → slot ≡ slot_of r → slot < length counts
-    → n < length rs → r ≡ get_or rs n r → 1 ≤ get_or counts slot 0
-some_counted slot_of n counts rs r slot counted slot_is below exists here =
-    let step : slot_count slot_of (remove rs n) slot + counts_it slot_of slot r ≡ slot_count slot_of rs slot = removed_step slot_of slot n rs (remove rs n) r exists here refl in
-    let one : counts_it slot_of slot r ≡ 1 = one_if (eqb (slot_of r) slot) (eq-eqb (slot_of r) slot (sym slot_is)) in
-    omega (arith, step, one, counted slot below)
+pub some_counted : (counter_of : Request → ℕ) (n : ℕ) (counts : List ℕ) (rs : List Request) (r : Request) (counter : ℕ) → AreCounted counter_of counts rs → counter ≡ counter_of r → counter < length counts
+    → n < length rs → r ≡ get_or rs n r → 1 ≤ get_or counts counter 0
+some_counted counter_of n counts rs r counter counted counter_is below exists here =
+    let step : counted_by counter_of (remove rs n) counter + counts_it counter_of counter r ≡ counted_by counter_of rs counter = removed_step counter_of counter n rs (remove rs n) r exists here refl in
+    let one : counts_it counter_of counter r ≡ 1 = one_if (eqb (counter_of r) counter) (eq-eqb (counter_of r) counter (sym counter_is)) in
+    omega (arith, step, one, counted counter below)
 
 -- no counter counts more requests than there are
-pub few_counted : (slot_of : Request → ℕ) (counts : List ℕ) (rs : List Request) (slot : ℕ) → AreCounted slot_of counts rs → slot < length counts → get_or counts slot 0 ≤ length rs
-few_counted slot_of counts rs slot counted below =
-    omega (arith, counted slot below, count_by-le-length (λ (r : Request). eqb (slot_of r) slot) rs)
+pub few_counted : (counter_of : Request → ℕ) (counts : List ℕ) (rs : List Request) (counter : ℕ) → AreCounted counter_of counts rs → counter < length counts → get_or counts counter 0 ≤ length rs
+few_counted counter_of counts rs counter counted below =
+    omega (arith, counted counter below, count_by-le-length (λ (r : Request). eqb (counter_of r) counter) rs)
 
 -- one that arrives waits behind all others
 pub requests_push : (log : List Arrived) (r : Request) → waiting_requests (log ++ arrived_now r ∷ []) ≡ waiting_requests log ++ r ∷ []

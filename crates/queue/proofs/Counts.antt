@@ -20,15 +20,15 @@ pub writes_arrived : (log : List Arrived) (r : Request) → write_count (waiting
 writes_arrived log r = ap write_count (requests_push log r) ∙ sum_by_push (λ x. cond (is_access access.Write x.access) 1 0) (waiting_requests log) r
 
 -- one waits no longer
-pub length_served : (log : List Arrived) (slot : ℕ) → slot < length log → waits_at log slot ≡ true → length (waiting_requests (served_at log slot)) + 1 ≡ length (waiting_requests log)
-length_served log slot within waits =
-    let below = waiting_within log slot within waits in
-    omega (arith, below, ap length (waiting_served log slot within waits), length-remove (waiting_requests log) (length (waiting_requests (take slot log))) below)
+pub length_served : (log : List Arrived) (place : ℕ) → place < length log → waits_at log place ≡ true → length (waiting_requests (served_at log place)) + 1 ≡ length (waiting_requests log)
+length_served log place within waits =
+    let below = waiting_within log place within waits in
+    omega (arith, below, ap length (waiting_served log place within waits), length-remove (waiting_requests log) (length (waiting_requests (take place log))) below)
 
-pub writes_served : (log : List Arrived) (slot : ℕ) → slot < length log → waits_at log slot ≡ true
-    → write_count (waiting_requests (served_at log slot)) + cond (is_access access.Write (get_or log slot absent).request.access) 1 0 ≡ write_count (waiting_requests log)
-writes_served log slot within waits =
-    let n = length (waiting_requests (take slot log)) in
-    let r = (get_or log slot absent).request in
-    (λ i. write_count (waiting_served log slot within waits i) + cond (is_access access.Write (sym (waiting_at log slot r within waits) i).access) 1 0)
-    ∙ sum_by-remove (λ x. cond (is_access access.Write x.access) 1 0) (waiting_requests log) n r (waiting_within log slot within waits)
+pub writes_served : (log : List Arrived) (place : ℕ) → place < length log → waits_at log place ≡ true
+    → write_count (waiting_requests (served_at log place)) + cond (is_access access.Write (get_or log place absent).request.access) 1 0 ≡ write_count (waiting_requests log)
+writes_served log place within waits =
+    let n = length (waiting_requests (take place log)) in
+    let r = (get_or log place absent).request in
+    (λ i. write_count (waiting_served log place within waits i) + cond (is_access access.Write (sym (waiting_at log place r within waits) i).access) 1 0)
+    ∙ sum_by-remove (λ x. cond (is_access access.Write x.access) 1 0) (waiting_requests log) n r (waiting_within log place within waits)

@@ -2,7 +2,7 @@
 use Rattle.std.proofs.Common.{◌≡◌, ℕ, zero, suc, ◌+◌, ◌<◌, Bool, true, false, not, ◌&&◌, ◌||◌, List, [], ◌∷◌, ◌++◌, length, map, take, get_or, refl, sym, ap, ◌∙◌, arith}
 use Rattle.std.proofs.lemmas.List.{take_at, length_push, append_assoc}
 use Rattle.std.specs.List.{enumerate_from}
-use Rattle.std.proofs.Math.Bool.{or-false}
+use Rattle.std.proofs.Math.Bool.{or-false, or_assoc}
 use Rattle.sim_base.specs.Places.{is_line}
 use Rattle.sim_base.specs.Scheduling.{asks_for_line}
 use Rattle.sim_base.specs.declared.place.Place.{Place}
@@ -58,10 +58,6 @@ marks_wait asked (a ∷ log) (suc k) d within marked = marks_wait (asked_with as
 -- what is marked waits
 pub marked_waits : (log : List Arrived) (k : ℕ) (d : Arrived) → k < length log → is_marked (get_or (eligible_column log) k 0) ≡ true → (get_or log k d).waits ≡ true
 marked_waits log k d within marked = marks_wait (λ p. false) log k d within (ap (λ ms. is_marked (get_or ms k 0)) (sym (eligible_is log)) ∙ marked)
-
-pub or_assoc : (a b c : Bool) → ((a || b) || c) ≡ (a || (b || c))
-or_assoc true b c = refl
-or_assoc false b c = refl
 
 -- the marks of a log that goes on
 pub marks-append : (asked : Place → Bool) (log more : List Arrived)

@@ -23,9 +23,9 @@ first_kept : (test : Request → Bool) (older : List Arrived) (a : Arrived) → 
 first_kept test older a fails =
     sym (first_push test older a ∙ ap (λ b. or_else (first_place test older) (cond b (Some (length older)) None)) fails ∙ else_none (first_place test older))
 
-first_joined : (test : Request → Bool) (older : List Arrived) (a : Arrived) (slot : ℕ) → slot ≡ length older → (may_follow older a && test a.request) ≡ true
-    → or_else (first_place test older) (Some slot) ≡ first_place test (older ++ a ∷ [])
-first_joined test older a slot long is =
+first_joined : (test : Request → Bool) (older : List Arrived) (a : Arrived) (place : ℕ) → place ≡ length older → (may_follow older a && test a.request) ≡ true
+    → or_else (first_place test older) (Some place) ≡ first_place test (older ++ a ∷ [])
+first_joined test older a place long is =
     ap (λ n. or_else (first_place test older) (Some n)) long
     ∙ sym (first_push test older a ∙ ap (λ b. or_else (first_place test older) (cond b (Some (length older)) None)) is)
 
@@ -42,22 +42,22 @@ access_kept older a bank access row h none first = record {
 }
 
 -- candidates that it is for
-pub access_joined : (older : List Arrived) (a : Arrived) (bank slot : ℕ) (access : Access) (row : Option ℕ) (hit : Bool) (h j : AccessCandidates) → slot ≡ length older
-    → may_follow older a ≡ true → asks bank access a.request ≡ true → hit ≡ is_row a.request.place.row row → j.oldest ≡ or_else h.oldest (Some slot)
-    → j.hit ≡ cond hit (or_else h.hit (Some slot)) h.hit → AreFirst older bank access row h → AreFirst (older ++ a ∷ []) bank access row j
-access_joined older a bank slot access row hit h j long follows is hit_is oldest_joined hit_joined first =
+pub access_joined : (older : List Arrived) (a : Arrived) (bank place : ℕ) (access : Access) (row : Option ℕ) (hit : Bool) (h j : AccessCandidates) → place ≡ length older
+    → may_follow older a ≡ true → asks bank access a.request ≡ true → hit ≡ is_row a.request.place.row row → j.oldest ≡ or_else h.oldest (Some place)
+    → j.hit ≡ cond hit (or_else h.hit (Some place)) h.hit → AreFirst older bank access row h → AreFirst (older ++ a ∷ []) bank access row j
+access_joined older a bank place access row hit h j long follows is hit_is oldest_joined hit_joined first =
     let may : (b : Bool) → (may_follow older a && b) ≡ b = λ b. ap (λ t. t && b) follows in
     let wants : hits bank access row a.request ≡ hit = ap (λ t. t && is_row a.request.place.row row) is ∙ sym hit_is in
     record {
       oldest_is =
-          oldest_joined ∙ ap (λ o. or_else o (Some slot)) first.oldest_is
-          ∙ first_joined (asks bank access) older a slot long (may (asks bank access a.request) ∙ is);
+          oldest_joined ∙ ap (λ o. or_else o (Some place)) first.oldest_is
+          ∙ first_joined (asks bank access) older a place long (may (asks bank access a.request) ∙ is);
       hit_is = elim (cases_Bool hit) [
         | inl on ↦
-            hit_joined ∙ cond-true hit (or_else h.hit (Some slot)) h.hit on ∙ ap (λ o. or_else o (Some slot)) first.hit_is
-            ∙ first_joined (hits bank access row) older a slot long (may (hits bank access row a.request) ∙ wants ∙ on)
+            hit_joined ∙ cond-true hit (or_else h.hit (Some place)) h.hit on ∙ ap (λ o. or_else o (Some place)) first.hit_is
+            ∙ first_joined (hits bank access row) older a place long (may (hits bank access row a.request) ∙ wants ∙ on)
         | inr off ↦
-            hit_joined ∙ cond-false hit (or_else h.hit (Some slot)) h.hit off ∙ first.hit_is
+            hit_joined ∙ cond-false hit (or_else h.hit (Some place)) h.hit off ∙ first.hit_is
             ∙ first_kept (hits bank access row) older a (may (hits bank access row a.request) ∙ wants ∙ off)
       ];
     }

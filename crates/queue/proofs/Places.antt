@@ -22,52 +22,52 @@ abbrev pub left_off : Arrived → Arrived
 left_off a = record a { waits = false }
 
 -- the log round a place whose request is served
-pub served_around : (log : List Arrived) (slot : ℕ) → slot < length log
-    → served_at log slot ≡ take slot log ++ left_off (get_or log slot absent) ∷ drop (slot + 1) log
-served_around log slot within =
-    let next : suc slot ≡ slot + 1 = omega arith in
-    set_split log slot (left_off (get_or log slot absent)) within ∙ ap (λ k. take slot log ++ left_off (get_or log slot absent) ∷ drop k log) next
+pub served_around : (log : List Arrived) (place : ℕ) → place < length log
+    → served_at log place ≡ take place log ++ left_off (get_or log place absent) ∷ drop (place + 1) log
+served_around log place within =
+    let next : suc place ≡ place + 1 = omega arith in
+    set_split log place (left_off (get_or log place absent)) within ∙ ap (λ k. take place log ++ left_off (get_or log place absent) ∷ drop k log) next
 
 waiting_split : (older later : List Arrived) (a : Arrived) → waiting_requests (older ++ a ∷ later) ≡ waiting_requests older ++ (if_waits a ++ waiting_requests later)
 waiting_split older later a = waiting_append older (a ∷ later) ∙ ap (λ rest. waiting_requests older ++ rest) (waiting_first a later)
 
 -- the requests that wait, round a place whose request waits
-waiting_around : (log : List Arrived) (slot : ℕ) → slot < length log → waits_at log slot ≡ true
-    → waiting_requests log ≡ waiting_requests (take slot log) ++ (get_or log slot absent).request ∷ waiting_requests (drop (slot + 1) log)
-waiting_around log slot within waits =
-    ap waiting_requests (around log slot absent within)
-    ∙ waiting_split (take slot log) (drop (slot + 1) log) (get_or log slot absent)
-    ∙ ap (λ b. waiting_requests (take slot log) ++ (cond b ((get_or log slot absent).request ∷ []) [] ++ waiting_requests (drop (slot + 1) log))) waits
+waiting_around : (log : List Arrived) (place : ℕ) → place < length log → waits_at log place ≡ true
+    → waiting_requests log ≡ waiting_requests (take place log) ++ (get_or log place absent).request ∷ waiting_requests (drop (place + 1) log)
+waiting_around log place within waits =
+    ap waiting_requests (around log place absent within)
+    ∙ waiting_split (take place log) (drop (place + 1) log) (get_or log place absent)
+    ∙ ap (λ b. waiting_requests (take place log) ++ (cond b ((get_or log place absent).request ∷ []) [] ++ waiting_requests (drop (place + 1) log))) waits
 
 -- the request at a place that waits is among those that wait, behind as many as wait before the place
-pub waiting_at : (log : List Arrived) (slot : ℕ) (d : Request) → slot < length log → waits_at log slot ≡ true
-    → get_or (waiting_requests log) (length (waiting_requests (take slot log))) d ≡ (get_or log slot absent).request
-waiting_at log slot d within waits =
-    ap (λ rs. get_or rs (length (waiting_requests (take slot log))) d) (waiting_around log slot within waits)
-    ∙ get_or_at (waiting_requests (take slot log)) (get_or log slot absent).request (waiting_requests (drop (slot + 1) log)) d (length (waiting_requests (take slot log))) refl
+pub waiting_at : (log : List Arrived) (place : ℕ) (d : Request) → place < length log → waits_at log place ≡ true
+    → get_or (waiting_requests log) (length (waiting_requests (take place log))) d ≡ (get_or log place absent).request
+waiting_at log place d within waits =
+    ap (λ rs. get_or rs (length (waiting_requests (take place log))) d) (waiting_around log place within waits)
+    ∙ get_or_at (waiting_requests (take place log)) (get_or log place absent).request (waiting_requests (drop (place + 1) log)) d (length (waiting_requests (take place log))) refl
 
-pub waiting_within : (log : List Arrived) (slot : ℕ) → slot < length log → waits_at log slot ≡ true → length (waiting_requests (take slot log)) < length (waiting_requests log)
-waiting_within log slot within waits =
-    let whole = ap length (waiting_around log slot within waits) in
-    let parts = length-append (waiting_requests (take slot log)) ((get_or log slot absent).request ∷ waiting_requests (drop (slot + 1) log)) in
+pub waiting_within : (log : List Arrived) (place : ℕ) → place < length log → waits_at log place ≡ true → length (waiting_requests (take place log)) < length (waiting_requests log)
+waiting_within log place within waits =
+    let whole = ap length (waiting_around log place within waits) in
+    let parts = length-append (waiting_requests (take place log)) ((get_or log place absent).request ∷ waiting_requests (drop (place + 1) log)) in
     omega (arith, whole, parts)
 
 -- a request that is served no longer waits, and all others do as before
-pub waiting_served : (log : List Arrived) (slot : ℕ) → slot < length log → waits_at log slot ≡ true
-    → waiting_requests (served_at log slot) ≡ remove (waiting_requests log) (length (waiting_requests (take slot log)))
-waiting_served log slot within waits =
-    let older = take slot log in
-    let later = drop (slot + 1) log in
-    ap waiting_requests (served_around log slot within)
-    ∙ waiting_split older later (left_off (get_or log slot absent))
-    ∙ sym (remove_at (waiting_requests older) (waiting_requests later) (get_or log slot absent).request (length (waiting_requests older)) refl)
-    ∙ ap (λ rs. remove rs (length (waiting_requests older))) (sym (waiting_around log slot within waits))
+pub waiting_served : (log : List Arrived) (place : ℕ) → place < length log → waits_at log place ≡ true
+    → waiting_requests (served_at log place) ≡ remove (waiting_requests log) (length (waiting_requests (take place log)))
+waiting_served log place within waits =
+    let older = take place log in
+    let later = drop (place + 1) log in
+    ap waiting_requests (served_around log place within)
+    ∙ waiting_split older later (left_off (get_or log place absent))
+    ∙ sym (remove_at (waiting_requests older) (waiting_requests later) (get_or log place absent).request (length (waiting_requests older)) refl)
+    ∙ ap (λ rs. remove rs (length (waiting_requests older))) (sym (waiting_around log place within waits))
 
-pub length-served : (log : List Arrived) (slot : ℕ) → length (served_at log slot) ≡ length log
-length-served log slot = length-set log slot (left_off (get_or log slot absent))
+pub length-served : (log : List Arrived) (place : ℕ) → length (served_at log place) ≡ length log
+length-served log place = length-set log place (left_off (get_or log place absent))
 
 -- all requests are the same
-pub all_served : (log : List Arrived) (slot : ℕ) → all_requests (served_at log slot) ≡ all_requests log
-all_served [] slot = refl
+pub all_served : (log : List Arrived) (place : ℕ) → all_requests (served_at log place) ≡ all_requests log
+all_served [] place = refl
 all_served (a ∷ log) zero = refl
-all_served (a ∷ log) (suc slot) = ap (λ rs. a.request ∷ rs) (all_served log slot)
+all_served (a ∷ log) (suc place) = ap (λ rs. a.request ∷ rs) (all_served log place)

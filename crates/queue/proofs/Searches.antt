@@ -16,30 +16,30 @@ use Rattle.queue.proofs.Entries.{length-entries, none_before}
 use Rattle.queue.proofs.Waits.{waiting_request_at}
 
 -- what is tested at a place
-pub here_is : (test : Request → Bool) (log : List Arrived) (slot : ℕ) (a : Arrived) (d : Request × ℕ) → slot < length log
-    → passes test (get_or (entries log) slot d) ≡ (is_marked (get_or (eligible_column log) slot 0) && test (get_or log slot a).request)
-here_is test log slot a d within =
-    let long : slot < length (eligible_column log) = omega (arith, length-eligible log) in
-    let all : slot < length (all_requests log) = omega (arith, length-map log (λ (x : Arrived). x.request)) in
-    let request : get_or (all_requests log) slot d.0 ≡ (get_or log slot a).request = get_or-map (λ (x : Arrived). x.request) log slot a d.0 within in
-    let marked : get_or (eligible_column log) slot d.1 ≡ get_or (eligible_column log) slot 0 = get_or_default (eligible_column log) slot d.1 0 long in
-    ap (passes test) (get_or-zip (all_requests log) (eligible_column log) slot d all long) ∙ (λ i. is_marked (marked i) && test (request i))
+pub here_is : (test : Request → Bool) (log : List Arrived) (place : ℕ) (a : Arrived) (d : Request × ℕ) → place < length log
+    → passes test (get_or (entries log) place d) ≡ (is_marked (get_or (eligible_column log) place 0) && test (get_or log place a).request)
+here_is test log place a d within =
+    let long : place < length (eligible_column log) = omega (arith, length-eligible log) in
+    let all : place < length (all_requests log) = omega (arith, length-map log (λ (x : Arrived). x.request)) in
+    let request : get_or (all_requests log) place d.0 ≡ (get_or log place a).request = get_or-map (λ (x : Arrived). x.request) log place a d.0 within in
+    let marked : get_or (eligible_column log) place d.1 ≡ get_or (eligible_column log) place 0 = get_or_default (eligible_column log) place d.1 0 long in
+    ap (passes test) (get_or-zip (all_requests log) (eligible_column log) place d all long) ∙ (λ i. is_marked (marked i) && test (request i))
 
 -- one place more at which none passes
-pub none_more : (test : Request → Bool) (log : List Arrived) (slot : ℕ) → NoneBefore test log slot
-    → ((d : Request × ℕ) → slot < length log → passes test (get_or (entries log) slot d) ≡ false) → NoneBefore test log (slot + 1)
-none_more test log slot fails here k d below exists = elim (cases_lt k slot) [
+pub none_more : (test : Request → Bool) (log : List Arrived) (place : ℕ) → NoneBefore test log place
+    → ((d : Request × ℕ) → place < length log → passes test (get_or (entries log) place d) ≡ false) → NoneBefore test log (place + 1)
+none_more test log place fails here k d below exists = elim (cases_lt k place) [
   | inl sooner ↦ fails k d sooner exists
-  | inr late ↦ let same : slot ≡ k = omega arith in subst (λ n. passes test (get_or (entries log) n d) ≡ false) same (here d (omega arith))
+  | inr late ↦ let same : place ≡ k = omega arith in subst (λ n. passes test (get_or (entries log) n d) ≡ false) same (here d (omega arith))
 ]
 
-pub found_here : (test : Request → Bool) (log : List Arrived) (slot : ℕ) → slot < length log → NoneBefore test log slot
-    → ((d : Request × ℕ) → passes test (get_or (entries log) slot d) ≡ true) → Some slot ≡ first_place test log
-found_here test log slot within fails here =
-    sym (position_here (passes test) (entries log) slot (omega (arith, length-entries log)) (λ k d sooner exists. fails k d sooner (omega (arith, length-entries log))) here)
+pub found_here : (test : Request → Bool) (log : List Arrived) (place : ℕ) → place < length log → NoneBefore test log place
+    → ((d : Request × ℕ) → passes test (get_or (entries log) place d) ≡ true) → Some place ≡ first_place test log
+found_here test log place within fails here =
+    sym (position_here (passes test) (entries log) place (omega (arith, length-entries log)) (λ k d sooner exists. fails k d sooner (omega (arith, length-entries log))) here)
 
-pub found_none : (test : Request → Bool) (log : List Arrived) (slot : ℕ) → length log ≤ slot → NoneBefore test log slot → None ≡ first_place test log
-found_none test log slot all fails =
+pub found_none : (test : Request → Bool) (log : List Arrived) (place : ℕ) → length log ≤ place → NoneBefore test log place → None ≡ first_place test log
+found_none test log place all fails =
     sym (position_none (passes test) (entries log) (λ k d exists. fails k d (omega (arith, length-entries log)) (omega (arith, length-entries log))))
 
 pub and_weaker : (m a b : Bool) → (b ≡ false → a ≡ false) → (m && b) ≡ false → (m && a) ≡ false
@@ -62,11 +62,11 @@ none_narrower_all p q log weaker is =
 
 -- whether a request at a place may be served and passes a test, where the test was made of the request that was read
 -- there
-pub tested : (test : Request → Bool) (log xs : List Arrived) (slot : ℕ) (e : Arrived) (wanted : Bool) (d : Request × ℕ) → slot < length log → xs ≡ log
-    → wanted ≡ test (get_or xs slot e).request → passes test (get_or (entries log) slot d) ≡ (is_marked (get_or (eligible_column log) slot 0) && wanted)
-tested test log xs slot e wanted d within same is =
-    here_is test log slot e d within
-    ∙ ap (λ b. is_marked (get_or (eligible_column log) slot 0) && b) (ap (λ ys. test (get_or ys slot e).request) (sym same) ∙ sym is)
+pub tested : (test : Request → Bool) (log xs : List Arrived) (place : ℕ) (e : Arrived) (wanted : Bool) (d : Request × ℕ) → place < length log → xs ≡ log
+    → wanted ≡ test (get_or xs place e).request → passes test (get_or (entries log) place d) ≡ (is_marked (get_or (eligible_column log) place 0) && wanted)
+tested test log xs place e wanted d within same is =
+    here_is test log place e d within
+    ∙ ap (λ b. is_marked (get_or (eligible_column log) place 0) && b) (ap (λ ys. test (get_or ys place e).request) (sym same) ∙ sym is)
 
 -- where no request that waits passes a test, none that may be served does
 pub none_waits : (test : Request → Bool) (log : List Arrived) → All (λ r. test r ≡ false) (waiting_requests log) → None ≡ first_place test log

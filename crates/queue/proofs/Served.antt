@@ -2,7 +2,7 @@
 use Rattle.std.proofs.Common.{◌≡◌, ℕ, zero, suc, ◌+◌, ◌-◌, ◌<◌, Bool, true, false, not, ◌&&◌, ◌||◌, List, [], ◌∷◌, ◌++◌, length, take, drop, get_or, set, refl, sym, ap, subst, ◌∙◌, inl, inr, arith}
 use Rattle.std.proofs.lemmas.Bool.{cases_Bool, and_parts, false≢true}
 use Rattle.std.proofs.lemmas.List.{length-take-le, length-drop, get_or_at, get_or-take, get_or-drop, set_at, set-append_right}
-use Rattle.std.proofs.Math.Bool.{or-false, and-false}
+use Rattle.std.proofs.Math.Bool.{or-false, or_assoc, or_comm, or_self, and-false}
 use Rattle.sim_base.specs.Places.{is_line}
 use Rattle.sim_base.specs.Scheduling.{asks_for_line}
 use Rattle.sim_base.specs.declared.place.Place.{Place}
@@ -15,15 +15,7 @@ use Rattle.queue.proofs.Eligible.{asked_with, marks_after, eligible_is, length-m
 use Rattle.queue.proofs.Places.{around, left_off, served_around}
 
 or_swap : (a b c : Bool) → ((a || b) || c) ≡ ((a || c) || b)
-or_swap true b c = refl
-or_swap false true true = refl
-or_swap false true false = refl
-or_swap false false c = sym (or-false c)
-
-or_twice : (a b : Bool) → ((a || b) || b) ≡ (a || b)
-or_twice true b = refl
-or_twice false true = refl
-or_twice false false = refl
+or_swap a b c = or_assoc a b c ∙ ap (λ t. a || t) (or_comm b c) ∙ sym (or_assoc a c b)
 
 -- the lines asked for with one more
 abbrev with_line : (Place → Bool) → Place → Place → Bool
@@ -40,12 +32,13 @@ unblocked_here : (asked : Place → Bool) (p : Place) (b : Arrived) (log : List 
     → 1 ∷ marks_after (asked_with (with_line asked p) b) log ≡ marks_after asked (b ∷ log)
 unblocked_here asked p b log before here =
     let parts = and_parts b.waits (is_line b.request.place p) here in
-    let place : b.request.place ≡ p = line_same b.request.place p parts.1 in
-    let head : 1 ≡ mark (b.waits && not (asked b.request.place)) = λ i. mark (sym parts.0 i && not ((sym before ∙ ap asked (sym place)) i)) in
+    let place_is : b.request.place ≡ p = line_same b.request.place p parts.1 in
+    let head : 1 ≡ mark (b.waits && not (asked b.request.place)) = λ i. mark (sym parts.0 i && not ((sym before ∙ ap asked (sym place_is)) i)) in
     let rest : (q : Place) → asked_with (with_line asked p) b q ≡ asked_with asked b q =
     λ q.
-    (λ i. (asked q || is_line (sym place i) q) || (parts.0 i && is_line b.request.place q))
-    ∙ or_twice (asked q) (is_line b.request.place q)
+    (λ i. (asked q || is_line (sym place_is i) q) || (parts.0 i && is_line b.request.place q))
+    ∙ or_assoc (asked q) (is_line b.request.place q) (is_line b.request.place q)
+    ∙ ap (λ t. asked q || t) (or_self (is_line b.request.place q))
     ∙ ap (λ w. asked q || (w && is_line b.request.place q)) (sym parts.0) in
     λ i. head i ∷ marks_after (λ q. rest q i) log
 
@@ -80,28 +73,28 @@ served_marks older later a =
     ∙ ap (λ (f : Place → Bool). marks_after (λ p. false) older ++ 0 ∷ marks_after f later) (λ i p. or-false (asks_for_line p (waiting_requests older)) i)
 
 -- the marks of a log without that at a place whose request waits
-cleared_marks : (older later : List Arrived) (a : Arrived) (slot : ℕ) → length older ≡ slot → a.waits ≡ true
-    → set (eligible_column (older ++ a ∷ later)) slot 0
+cleared_marks : (older later : List Arrived) (a : Arrived) (place : ℕ) → length older ≡ place → a.waits ≡ true
+    → set (eligible_column (older ++ a ∷ later)) place 0
     ≡ marks_after (λ p. false) older ++ 0 ∷ marks_after (with_line (λ p. asks_for_line p (waiting_requests older)) a.request.place) later
-cleared_marks older later a slot long waits =
+cleared_marks older later a place long waits =
     let word = mark (a.waits && not (asks_for_line a.request.place (waiting_requests older))) in
     let front = marks_after (λ p. false) older in
     let rest = marks_after (λ p. asks_for_line p (waiting_requests older) || (a.waits && is_line a.request.place p)) later in
-    ap (λ ms. set ms slot 0) (split_marks older later a)
-    ∙ set_at front word rest 0 slot (length-marks (λ p. false) older ∙ long)
+    ap (λ ms. set ms place 0) (split_marks older later a)
+    ∙ set_at front word rest 0 place (length-marks (λ p. false) older ∙ long)
     ∙ (λ i. front ++ 0 ∷ marks_after (λ p. asks_for_line p (waiting_requests older) || (waits i && is_line a.request.place p)) later)
 
 pub marked_mark : (b : Bool) → is_marked (mark b) ≡ b
 marked_mark true = refl
 marked_mark false = refl
 
-marked_there : (older later : List Arrived) (a : Arrived) (slot : ℕ) → length older ≡ slot
-    → is_marked (get_or (eligible_column (older ++ a ∷ later)) slot 0) ≡ (a.waits && not (asks_for_line a.request.place (waiting_requests older)))
-marked_there older later a slot long =
+marked_there : (older later : List Arrived) (a : Arrived) (place : ℕ) → length older ≡ place
+    → is_marked (get_or (eligible_column (older ++ a ∷ later)) place 0) ≡ (a.waits && not (asks_for_line a.request.place (waiting_requests older)))
+marked_there older later a place long =
     let word = mark (a.waits && not (asks_for_line a.request.place (waiting_requests older))) in
     let rest = marks_after (λ p. asks_for_line p (waiting_requests older) || (a.waits && is_line a.request.place p)) later in
-    ap (λ ms. is_marked (get_or ms slot 0)) (split_marks older later a)
-    ∙ ap is_marked (get_or_at (marks_after (λ p. false) older) word rest 0 slot (length-marks (λ p. false) older ∙ long))
+    ap (λ ms. is_marked (get_or ms place 0)) (split_marks older later a)
+    ∙ ap is_marked (get_or_at (marks_after (λ p. false) older) word rest 0 place (length-marks (λ p. false) older ∙ long))
     ∙ marked_mark (a.waits && not (asks_for_line a.request.place (waiting_requests older)))
 
 -- a request is marked where it waits and no older one waits for its line
@@ -116,74 +109,74 @@ turned true c is = ap not is
 turned false c is = ap not is
 
 -- whether the line of a request that waits was asked for before
-asked_before : (log : List Arrived) (slot : ℕ) (marked : Bool) → slot < length log → waits_at log slot ≡ true → is_marked (get_or (eligible_column log) slot 0) ≡ marked
-    → asks_for_line (get_or log slot absent).request.place (waiting_requests (take slot log)) ≡ not marked
-asked_before log slot marked within waits is =
-    let asked = asks_for_line (get_or log slot absent).request.place (waiting_requests (take slot log)) in
-    turned asked marked (ap (λ w. w && not asked) (sym waits) ∙ sym (marked_at log slot within) ∙ is)
+asked_before : (log : List Arrived) (place : ℕ) (marked : Bool) → place < length log → waits_at log place ≡ true → is_marked (get_or (eligible_column log) place 0) ≡ marked
+    → asks_for_line (get_or log place absent).request.place (waiting_requests (take place log)) ≡ not marked
+asked_before log place marked within waits is =
+    let asked = asks_for_line (get_or log place absent).request.place (waiting_requests (take place log)) in
+    turned asked marked (ap (λ w. w && not asked) (sym waits) ∙ sym (marked_at log place within) ∙ is)
 
 -- the marks once a request is served that an older one of its line blocked: none but its own changes
-pub served_blocked : (log : List Arrived) (slot : ℕ) → slot < length log → waits_at log slot ≡ true → is_marked (get_or (eligible_column log) slot 0) ≡ false
-    → eligible_column (served_at log slot) ≡ set (eligible_column log) slot 0
-served_blocked log slot within waits blocked =
-    let older = take slot log in
-    let later = drop (slot + 1) log in
-    let a = get_or log slot absent in
+pub served_blocked : (log : List Arrived) (place : ℕ) → place < length log → waits_at log place ≡ true → is_marked (get_or (eligible_column log) place 0) ≡ false
+    → eligible_column (served_at log place) ≡ set (eligible_column log) place 0
+served_blocked log place within waits blocked =
+    let older = take place log in
+    let later = drop (place + 1) log in
+    let a = get_or log place absent in
     let asks = λ (p : Place). asks_for_line p (waiting_requests older) in
-    let long : length older ≡ slot = length-take-le slot log (omega (arith, within)) in
-    let whole = around log slot absent within in
-    let asked : asks a.request.place ≡ true = asked_before log slot false within waits blocked in
-    ap eligible_column (served_around log slot within)
+    let long : length older ≡ place = length-take-le place log (omega (arith, within)) in
+    let whole = around log place absent within in
+    let asked : asks a.request.place ≡ true = asked_before log place false within waits blocked in
+    ap eligible_column (served_around log place within)
     ∙ served_marks older later a
     ∙ ap (λ (f : Place → Bool). marks_after (λ p. false) older ++ 0 ∷ marks_after f later) (λ i q. sym (kept_asked asks a.request.place q asked) i)
-    ∙ sym (cleared_marks older later a slot long waits)
-    ∙ ap (λ (l : List Arrived). set (eligible_column l) slot 0) (sym whole)
+    ∙ sym (cleared_marks older later a place long waits)
+    ∙ ap (λ (l : List Arrived). set (eligible_column l) place 0) (sym whole)
 
 -- the marks once a request is served that was first of its line: the next one for the line, at place k, is no longer
 -- blocked
-pub served_first : (log : List Arrived) (slot k : ℕ) → slot < length log → waits_at log slot ≡ true → is_marked (get_or (eligible_column log) slot 0) ≡ true → slot < k
-    → ((j : ℕ) → slot < j → j < k → is_for (get_or log slot absent).request.place (get_or log j absent) ≡ false)
-    → (k < length log → is_for (get_or log slot absent).request.place (get_or log k absent) ≡ true)
-    → eligible_column (served_at log slot) ≡ set (set (eligible_column log) slot 0) k 1
-served_first log slot k within waits first behind none here =
-    let older = take slot log in
-    let later = drop (slot + 1) log in
-    let a = get_or log slot absent in
+pub served_first : (log : List Arrived) (place k : ℕ) → place < length log → waits_at log place ≡ true → is_marked (get_or (eligible_column log) place 0) ≡ true → place < k
+    → ((j : ℕ) → place < j → j < k → is_for (get_or log place absent).request.place (get_or log j absent) ≡ false)
+    → (k < length log → is_for (get_or log place absent).request.place (get_or log k absent) ≡ true)
+    → eligible_column (served_at log place) ≡ set (set (eligible_column log) place 0) k 1
+served_first log place k within waits first behind none here =
+    let older = take place log in
+    let later = drop (place + 1) log in
+    let a = get_or log place absent in
     let p = a.request.place in
-    let j = k - (slot + 1) in
+    let j = k - (place + 1) in
     let asks = λ (p : Place). asks_for_line p (waiting_requests older) in
     let front = marks_after (λ p. false) older in
     let rest = marks_after (with_line asks p) later in
-    let long : length older ≡ slot = length-take-le slot log (omega (arith, within)) in
-    let whole = around log slot absent within in
-    let fresh : asks p ≡ false = asked_before log slot true within waits first in
-    let there : (i : ℕ) → get_or later i absent ≡ get_or log (slot + 1 + i) absent = λ i. get_or-drop (slot + 1) log i absent in
-    let spot : slot + 1 + j ≡ k = omega (arith, behind) in
-    let after : k - slot ≡ suc j = omega (arith, behind) in
-    ap eligible_column (served_around log slot within)
+    let long : length older ≡ place = length-take-le place log (omega (arith, within)) in
+    let whole = around log place absent within in
+    let fresh : asks p ≡ false = asked_before log place true within waits first in
+    let there : (i : ℕ) → get_or later i absent ≡ get_or log (place + 1 + i) absent = λ i. get_or-drop (place + 1) log i absent in
+    let spot : place + 1 + j ≡ k = omega (arith, behind) in
+    let after : k - place ≡ suc j = omega (arith, behind) in
+    ap eligible_column (served_around log place within)
     ∙ served_marks older later a
     ∙ ap (λ ms. front ++ 0 ∷ ms)
     (sym
     (unblocked asks p later j fresh
-    (λ i below. ap (is_for p) (there i) ∙ none (slot + 1 + i) (omega arith) (omega (arith, below)))
-    (λ below. ap (is_for p) (there j ∙ ap (λ n. get_or log n absent) spot) ∙ here (omega (arith, below, length-drop (slot + 1) log, spot)))))
+    (λ i below. ap (is_for p) (there i) ∙ none (place + 1 + i) (omega arith) (omega (arith, below)))
+    (λ below. ap (is_for p) (there j ∙ ap (λ n. get_or log n absent) spot) ∙ here (omega (arith, below, length-drop (place + 1) log, spot)))))
     ∙ ap (λ n. front ++ set (0 ∷ rest) n 1) (sym after)
-    ∙ sym (set-append_right front (0 ∷ rest) slot k 1 (length-marks (λ p. false) older ∙ long) (omega (arith, behind)))
-    ∙ ap (λ ms. set ms k 1) (sym (cleared_marks older later a slot long waits) ∙ ap (λ (l : List Arrived). set (eligible_column l) slot 0) (sym whole))
+    ∙ sym (set-append_right front (0 ∷ rest) place k 1 (length-marks (λ p. false) older ∙ long) (omega (arith, behind)))
+    ∙ ap (λ ms. set ms k 1) (sym (cleared_marks older later a place long waits) ∙ ap (λ (l : List Arrived). set (eligible_column l) place 0) (sym whole))
 
 -- a request behind one that waits for its line is not marked
-pub blocked_behind : (log : List Arrived) (slot k : ℕ) → slot < k → k < length log → waits_at log slot ≡ true
-    → is_for (get_or log slot absent).request.place (get_or log k absent) ≡ true → is_marked (get_or (eligible_column log) k 0) ≡ false
-blocked_behind log slot k behind within waits here =
-    let a = get_or log slot absent in
+pub blocked_behind : (log : List Arrived) (place k : ℕ) → place < k → k < length log → waits_at log place ≡ true
+    → is_for (get_or log place absent).request.place (get_or log k absent) ≡ true → is_marked (get_or (eligible_column log) k 0) ≡ false
+blocked_behind log place k behind within waits here =
+    let a = get_or log place absent in
     let b = get_or log k absent in
     let parts = and_parts b.waits (is_line b.request.place a.request.place) here in
-    let before : get_or (take k log) slot absent ≡ a = get_or-take k log slot absent behind in
-    let older : is_for b.request.place (get_or (take k log) slot absent) ≡ true =
+    let before : get_or (take k log) place absent ≡ a = get_or-take k log place absent behind in
+    let older : is_for b.request.place (get_or (take k log) place absent) ≡ true =
     ap (is_for b.request.place) before
     ∙ (λ i. waits i && is_line a.request.place (line_same b.request.place a.request.place parts.1 i))
     ∙ line_itself a.request.place in
-    let asked = asks_some b.request.place (take k log) slot (omega (arith, behind, within, length-take-le k log (omega (arith, within)))) older in
+    let asked = asks_some b.request.place (take k log) place (omega (arith, behind, within, length-take-le k log (omega (arith, within)))) older in
     marked_at log k within ∙ ap (λ t. b.waits && not t) asked ∙ and-false b.waits
 
 -- where none that waits for a line is marked, the line is not asked for

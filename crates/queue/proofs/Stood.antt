@@ -87,13 +87,13 @@ asks_own_access : (r : Request) (bank : ℕ) (access : Access) → (access_numbe
 asks_own_access r bank access apart = false_from_ne_true (asks bank access r) (λ is. apart (sym (eqb-true (access_number_of r) (access_number bank access) (wants_access bank access None r is))))
 
 -- a request more, which may be served
-pub joined_stand : (rows : List (Option ℕ)) (old new : List ℕ) (older : List Arrived) (a : Arrived) (open_rows : ℕ → Option ℕ) (slot : ℕ) (hit : Bool)
-    → slot ≡ length older → bank_number a.request.place < length rows → a.request.place.row < 2 ^ 32 → may_follow older a ≡ true
+pub joined_stand : (rows : List (Option ℕ)) (old new : List ℕ) (older : List Arrived) (a : Arrived) (open_rows : ℕ → Option ℕ) (place : ℕ) (hit : Bool)
+    → place ≡ length older → bank_number a.request.place < length rows → a.request.place.row < 2 ^ 32 → may_follow older a ≡ true
     → hit ≡ is_row a.request.place.row (get_or rows (bank_number a.request.place) None)
-    → candidate_in new (access_number_of a.request) false ≡ or_else (candidate_in old (access_number_of a.request) false) (Some slot)
-    → candidate_in new (access_number_of a.request) true ≡ cond hit (or_else (candidate_in old (access_number_of a.request) true) (Some slot)) (candidate_in old (access_number_of a.request) true)
+    → candidate_in new (access_number_of a.request) false ≡ or_else (candidate_in old (access_number_of a.request) false) (Some place)
+    → candidate_in new (access_number_of a.request) true ≡ cond hit (or_else (candidate_in old (access_number_of a.request) true) (Some place)) (candidate_in old (access_number_of a.request) true)
     → ((number : ℕ) → (number ≡ access_number_of a.request → ⊥) → access_in new number ≡ access_in old number) → AreStanding rows old older open_rows → AreStanding rows new (older ++ a ∷ []) open_rows
-joined_stand rows old new older a open_rows slot hit long exists short follows hit_is oldest_joined hit_joined others stands =
+joined_stand rows old new older a open_rows place hit long exists short follows hit_is oldest_joined hit_joined others stands =
     let r = a.request in
     let own = bank_number r.place in
     record {
@@ -105,7 +105,7 @@ joined_stand rows old new older a open_rows slot hit long exists short follows h
             let bank_is : own ≡ bank = sym (number_bank bank own access r.access same) in
             let access_is : r.access ≡ access = number_access own bank r.access access (sym same) in
             let here : AreFirst (older ++ a ∷ []) own r.access (open_rows own) (access_in new (access_number_of r)) =
-            access_joined older a own slot r.access (open_rows own) hit (access_in old (access_number_of r)) (access_in new (access_number_of r)) long follows (asks_own r own refl)
+            access_joined older a own place r.access (open_rows own) hit (access_in old (access_number_of r)) (access_in new (access_number_of r)) long follows (asks_own r own refl)
             (hit_is ∙ ap (is_row r.place.row) (stands.opened own exists)) oldest_joined hit_joined (stands.first own r.access exists) in
             subst (λ b. AreFirst (older ++ a ∷ []) b access (open_rows b) (access_in new (access_number b access))) bank_is
             (subst (λ w. AreFirst (older ++ a ∷ []) own w (open_rows own) (access_in new (access_number own w))) access_is here)
@@ -132,35 +132,35 @@ unjoined_stand rows words older a open_rows exists short blocked stands = record
 pub waiting_push : (older : List Arrived) (a : Arrived) → a.waits ≡ true → waiting_requests (older ++ a ∷ []) ≡ waiting_requests older ++ a.request ∷ []
 waiting_push older a waits = waiting_append older (a ∷ []) ∙ ap (λ rs. waiting_requests older ++ rs) (waiting_one a ∙ ap (λ b. cond b (a.request ∷ []) []) waits)
 
-pub mark_read : (log : List Arrived) (slot : ℕ) → slot < length log → is_marked (get_or (eligible_column log) slot 0) ≡ may_follow (take slot log) (get_or log slot absent)
-mark_read log slot exists =
-    let older = take slot log in
-    let a = get_or log slot absent in
-    let later = drop (slot + 1) log in
-    let long : length older ≡ slot = length-take-le slot log (omega arith) in
-    ap (λ xs. is_marked (get_or (eligible_column xs) slot 0)) (around log slot absent exists)
-    ∙ ap (λ ms. is_marked (get_or ms slot 0)) (eligible_append older (a ∷ later))
-    ∙ ap is_marked (get_or_at (eligible_column older) (mark (may_follow older a)) (marks_after (asked_with (λ p. asks_for_line p (waiting_requests older)) a) later) 0 slot (length-eligible older ∙ long))
+pub mark_read : (log : List Arrived) (place : ℕ) → place < length log → is_marked (get_or (eligible_column log) place 0) ≡ may_follow (take place log) (get_or log place absent)
+mark_read log place exists =
+    let older = take place log in
+    let a = get_or log place absent in
+    let later = drop (place + 1) log in
+    let long : length older ≡ place = length-take-le place log (omega arith) in
+    ap (λ xs. is_marked (get_or (eligible_column xs) place 0)) (around log place absent exists)
+    ∙ ap (λ ms. is_marked (get_or ms place 0)) (eligible_append older (a ∷ later))
+    ∙ ap is_marked (get_or_at (eligible_column older) (mark (may_follow older a)) (marks_after (asked_with (λ p. asks_for_line p (waiting_requests older)) a) later) 0 place (length-eligible older ∙ long))
     ∙ marked_mark (may_follow older a)
 
 -- where one request was served, and the candidates of its access have left it
-pub left_stand : (candidates : BankCandidates) (old : List ℕ) (was log : List Arrived) (slot : ℕ) (unblocked : Option ℕ) (open_rows : ℕ → Option ℕ) → IsServed was slot unblocked log
-    → (let r = (get_or was slot absent).request in
+pub left_stand : (candidates : BankCandidates) (old : List ℕ) (was log : List Arrived) (place : ℕ) (unblocked : Option ℕ) (open_rows : ℕ → Option ℕ) → IsServed was place unblocked log
+    → (let r = (get_or was place absent).request in
     AreFirstWith log (bank_number r.place) r.access (open_rows (bank_number r.place)) unblocked (access_in candidates.places.words.items (access_number_of r)))
-    → ((number : ℕ) → (number ≡ access_number_of (get_or was slot absent).request → ⊥) → access_in candidates.places.words.items number ≡ access_in old number)
+    → ((number : ℕ) → (number ≡ access_number_of (get_or was place absent).request → ⊥) → access_in candidates.places.words.items number ≡ access_in old number)
     → AreStanding candidates.rows.items old was open_rows → AreCounted candidates.counts.items (waiting_requests log) → StandsUpTo candidates log unblocked open_rows
-left_stand candidates old was log slot unblocked open_rows served own others stands counted =
-    let r = (get_or was slot absent).request in
+left_stand candidates old was log place unblocked open_rows served own others stands counted =
+    let r = (get_or was place absent).request in
     let number = bank_number r.place in
     let words = candidates.places.words.items in
-    let all : all_requests log ≡ all_requests was = ap all_requests served.log_is ∙ all_served was slot in
+    let all : all_requests log ≡ all_requests was = ap all_requests served.log_is ∙ all_served was place in
     let kept : (bank : ℕ) (access : Access) → (access_number bank access ≡ access_number_of r → ⊥) → AreFirst was bank access (open_rows bank) (access_in old (access_number bank access))
     → AreFirstWith log bank access (open_rows bank) unblocked (access_in old (access_number bank access)) =
     λ bank access apart first.
     let fails = asks_own_access r bank access apart in
     record {
-      oldest_is = other_candidate (asks bank access) was log slot unblocked _ served fails first.oldest_is;
-      hit_is = other_candidate (hits bank access (open_rows bank)) was log slot unblocked _ served (ap (λ b. b && is_row r.place.row (open_rows bank)) fails) first.hit_is;
+      oldest_is = other_candidate (asks bank access) was log place unblocked _ served fails first.oldest_is;
+      hit_is = other_candidate (hits bank access (open_rows bank)) was log place unblocked _ served (ap (λ b. b && is_row r.place.row (open_rows bank)) fails) first.hit_is;
     } in
     record {
       within = subst (All (λ (x : Request). bank_number x.place < bank_count candidates)) (sym all) stands.within;
@@ -247,19 +247,19 @@ pub counted_waiting : (counts : List ℕ) (was log : List Arrived) → log ≡ w
 counted_waiting counts was log log_is counted = subst (AreCounted counts) (sym (ap waiting_requests log_is ∙ ap (map (λ (a : Arrived). a.request)) (waiting_twice was))) counted
 
 -- an ACT in the name of a request changes nothing
-pub activated_stand : (candidates : BankCandidates) (log : List Arrived) (slot : ℕ) (open_rows : ℕ → Option ℕ) → StandsFor candidates log open_rows → StandsFor candidates (activated_at log slot) open_rows
-activated_stand candidates log slot open_rows stands =
-    let same : (test : Request → Bool) → first_place test log ≡ first_place test (activated_at log slot) =
-    λ test. sym (λ i. position (passes test) (zip (all_activated log slot i) (eligible_activated log slot i))) in
+pub activated_stand : (candidates : BankCandidates) (log : List Arrived) (place : ℕ) (open_rows : ℕ → Option ℕ) → StandsFor candidates log open_rows → StandsFor candidates (activated_at log place) open_rows
+activated_stand candidates log place open_rows stands =
+    let same : (test : Request → Bool) → first_place test log ≡ first_place test (activated_at log place) =
+    λ test. sym (λ i. position (passes test) (zip (all_activated log place i) (eligible_activated log place i))) in
     let parts = to_parts candidates log open_rows stands in
-    from_parts candidates (activated_at log slot) open_rows (record {
-      within = subst (All (λ (x : Request). bank_number x.place < bank_count candidates)) (sym (all_activated log slot)) parts.within;
-      fit = subst RowsFit (sym (all_activated log slot)) parts.fit;
+    from_parts candidates (activated_at log place) open_rows (record {
+      within = subst (All (λ (x : Request). bank_number x.place < bank_count candidates)) (sym (all_activated log place)) parts.within;
+      fit = subst RowsFit (sym (all_activated log place)) parts.fit;
       opened = parts.opened;
       first = λ bank access exists.
           let first = parts.first bank access exists in
           record { oldest_is = first.oldest_is ∙ same (asks bank access); hit_is = first.hit_is ∙ same (hits bank access (open_rows bank)) };
-    }) (subst (AreCounted candidates.counts.items) (sym (waiting_activated log slot)) stands.counts_are)
+    }) (subst (AreCounted candidates.counts.items) (sym (waiting_activated log place)) stands.counts_are)
 
 -- one bank that is opened or closed
 pub row_stand : (rows : List (Option ℕ)) (old new : List ℕ) (log : List Arrived) (open_rows : ℕ → Option ℕ) (number : ℕ) (row : Option ℕ) → number < length rows

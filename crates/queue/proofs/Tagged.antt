@@ -1,7 +1,7 @@
 -- A search by the tags of requests.
-use Rattle.std.proofs.Common.{◌≡◌, ℕ, ◌+◌, ◌-◌, ◌*◌, ◌%◌, ◌<◌, ◌≤◌, Bool, true, false, cond, ◌&&◌, eqb, eq-eqb, List, length, get_or, take, drop, Option, Some, None, refl, sym, ap, ◌∙◌, inl, inr, arith}
+use Rattle.std.proofs.Common.{◌≡◌, ℕ, ◌+◌, ◌-◌, ◌*◌, ◌%◌, ◌<◌, ◌≤◌, Bool, true, false, cond, ◌&&◌, eqb, eq-eqb, List, length, get_or, drop, Option, Some, None, refl, sym, ap, ◌∙◌, inl, inr, arith}
 use Rattle.std.proofs.lemmas.Bool.{cases_Bool, cases_lt, and_parts, eqb-true, false_from_ne_true}
-use Rattle.std.proofs.lemmas.List.{get_or-drop, length-drop, take_all}
+use Rattle.std.proofs.lemmas.List.{get_or-drop}
 use Rattle.sim_base.specs.Access.{is_access}
 use Rattle.sim_base.specs.declared.message.Access.{Access}
 use Rattle.sim_base.specs.declared.message.Access.TheVariants as access
@@ -15,10 +15,6 @@ use Rattle.queue.specs.Candidates.{asks, wants}
 use Rattle.queue.specs.Moves.{NoneBefore}
 use Rattle.queue.proofs.OneBank.{same_access}
 use Rattle.queue.proofs.Searches.{here_is, and_weaker}
-
--- the tags from a place on are the rest of them
-pub left_is : (tags : List ℕ) (at : ℕ) → take (length tags - at) (drop at tags) ≡ drop at tags
-left_is tags at = take_all (length tags - at) (drop at tags) (omega (arith, length-drop at tags))
 
 pub same_length : (tags : List ℕ) (log : List Arrived) → tags ≡ tag_column log → length tags ≡ length log
 same_length tags log is = ap length is ∙ length-tags log
@@ -92,8 +88,8 @@ told_of e a v b same = elim (cases_Bool a.waits) [
 pub marked_tag : (bank : ℕ) (access : Access) (log : List Arrived) (tags left : List ℕ) (tag at next : ℕ) → tags ≡ tag_column log → left ≡ drop at tags
     → tag ≡ tag_word true access bank → at + next < length log → eqb (get_or left next 0) tag ≡ true → is_marked (get_or (eligible_column log) (at + next) 0) ≡ true
 marked_tag bank access log tags left tag at next is left_is tag_is exists same =
-    let slot = at + next in
-    let a = get_or log slot absent in
-    let read : get_or left next 0 ≡ tag_of (is_marked (get_or (eligible_column log) slot 0)) a =
-    ap (λ xs. get_or xs next 0) left_is ∙ get_or-drop at tags next 0 ∙ ap (λ xs. get_or xs slot 0) is ∙ tag_there log slot absent exists in
-    told_of (is_marked (get_or (eligible_column log) slot 0)) a access bank (sym read ∙ eqb-true (get_or left next 0) tag same ∙ tag_is)
+    let place = at + next in
+    let a = get_or log place absent in
+    let read : get_or left next 0 ≡ tag_of (is_marked (get_or (eligible_column log) place 0)) a =
+    ap (λ xs. get_or xs next 0) left_is ∙ get_or-drop at tags next 0 ∙ ap (λ xs. get_or xs place 0) is ∙ tag_there log place absent exists in
+    told_of (is_marked (get_or (eligible_column log) place 0)) a access bank (sym read ∙ eqb-true (get_or left next 0) tag same ∙ tag_is)

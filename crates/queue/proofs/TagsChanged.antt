@@ -40,19 +40,19 @@ tags_marked : (log : List Arrived) (marks : List ℕ) (n : ℕ) (d : Arrived) �
 tags_marked log marks n d = ap (λ l. tags_of l (set marks n 1)) (sym (set-get_or log n d)) ∙ tags_set log marks n (get_or log n d) 1
 
 -- the tags once a request is served and no other one changes
-pub tag_left : (log : List Arrived) (slot : ℕ) → eligible_column (served_at log slot) ≡ set (eligible_column log) slot 0 → tag_column (served_at log slot) ≡ set (tag_column log) slot left_tag
+pub tag_left : (log : List Arrived) (place : ℕ) → eligible_column (served_at log place) ≡ set (eligible_column log) place 0 → tag_column (served_at log place) ≡ set (tag_column log) place left_tag
 unfolding tag_column
-tag_left log slot marks = ap (tags_of (served_at log slot)) marks ∙ tags_set log (eligible_column log) slot _ 0
+tag_left log place marks = ap (tags_of (served_at log place)) marks ∙ tags_set log (eligible_column log) place _ 0
 
 -- the tags once a request is served and the next one for its line is no longer blocked
-pub tag_unblocked : (log : List Arrived) (slot next : ℕ) → eligible_column (served_at log slot) ≡ set (set (eligible_column log) slot 0) next 1
-    → tag_column (served_at log slot) ≡ set (set (tag_column log) slot left_tag) next (tag_of true (get_or (served_at log slot) next absent))
+pub tag_unblocked : (log : List Arrived) (place next : ℕ) → eligible_column (served_at log place) ≡ set (set (eligible_column log) place 0) next 1
+    → tag_column (served_at log place) ≡ set (set (tag_column log) place left_tag) next (tag_of true (get_or (served_at log place) next absent))
 unfolding tag_column
-tag_unblocked log slot next marks =
-    let left = served_at log slot in
+tag_unblocked log place next marks =
+    let left = served_at log place in
     ap (tags_of left) marks
-    ∙ tags_marked left (set (eligible_column log) slot 0) next absent
-    ∙ ap (λ tags. set tags next (tag_of true (get_or left next absent))) (tags_set log (eligible_column log) slot _ 0)
+    ∙ tags_marked left (set (eligible_column log) place 0) next absent
+    ∙ ap (λ tags. set tags next (tag_of true (get_or left next absent))) (tags_set log (eligible_column log) place _ 0)
 
 zip_push : (log : List Arrived) (marks : List ℕ) (a : Arrived) (m : ℕ) → length log ≡ length marks → zip (log ++ a ∷ []) (marks ++ m ∷ []) ≡ zip log marks ++ (a, m) ∷ []
 zip_push [] [] a m same = refl
@@ -91,33 +91,33 @@ counted_set (b ∷ log) (w ∷ marks) (suc n) a m within same =
     )
 
 -- one that is served and was blocked counts no longer
-pub blocked_left : (log : List Arrived) (slot : ℕ) → slot < length log → waits_at log slot ≡ true → eligible_column (served_at log slot) ≡ set (eligible_column log) slot 0
-    → blocked_count (served_at log slot) + cond (not (is_marked (get_or (eligible_column log) slot 0))) 1 0 ≡ blocked_count log
-blocked_left log slot within waits marks =
-    let counted = counted_set log (eligible_column log) slot (record (get_or log slot absent) { waits = false }) 0 within (sym (length-eligible log)) in
-    let same = ap (λ ms. count_by is_blocked (zip (served_at log slot) ms)) marks in
-    let one = ap (λ w. cond {A = ℕ} (w && not (is_marked (get_or (eligible_column log) slot 0))) 1 0) waits in
+pub blocked_left : (log : List Arrived) (place : ℕ) → place < length log → waits_at log place ≡ true → eligible_column (served_at log place) ≡ set (eligible_column log) place 0
+    → blocked_count (served_at log place) + cond (not (is_marked (get_or (eligible_column log) place 0))) 1 0 ≡ blocked_count log
+blocked_left log place within waits marks =
+    let counted = counted_set log (eligible_column log) place (record (get_or log place absent) { waits = false }) 0 within (sym (length-eligible log)) in
+    let same = ap (λ ms. count_by is_blocked (zip (served_at log place) ms)) marks in
+    let one = ap (λ w. cond {A = ℕ} (w && not (is_marked (get_or (eligible_column log) place 0))) 1 0) waits in
     omega (arith, counted, same, one)
 
 -- one that is served and was first of its line unblocks the next one for it
-pub blocked_next : (log : List Arrived) (slot next : ℕ) → slot < length log → waits_at log slot ≡ true → is_marked (get_or (eligible_column log) slot 0) ≡ true → slot < next → next < length log
+pub blocked_next : (log : List Arrived) (place next : ℕ) → place < length log → waits_at log place ≡ true → is_marked (get_or (eligible_column log) place 0) ≡ true → place < next → next < length log
     → waits_at log next ≡ true → is_marked (get_or (eligible_column log) next 0) ≡ false
-    → eligible_column (served_at log slot) ≡ set (set (eligible_column log) slot 0) next 1 → blocked_count (served_at log slot) + 1 ≡ blocked_count log
-blocked_next log slot next within waits first behind below waits_next blocked marks =
+    → eligible_column (served_at log place) ≡ set (set (eligible_column log) place 0) next 1 → blocked_count (served_at log place) + 1 ≡ blocked_count log
+blocked_next log place next within waits first behind below waits_next blocked marks =
     let column = eligible_column log in
-    let left = served_at log slot in
-    let counted = counted_set log column slot (record (get_or log slot absent) { waits = false }) 0 within (sym (length-eligible log)) in
-    let none : weight (get_or log slot absent, get_or column slot 0) ≡ 0 = λ i. cond (waits i && not (first i)) 1 0 in
-    let long : length (set column slot 0) ≡ length log = length-set column slot 0 ∙ length-eligible log in
-    let turned = counted_set left (set column slot 0) next (get_or left next absent) 1 (omega (arith, below, length-set log slot (record (get_or log slot absent) { waits = false }))) (length-set log slot _ ∙ sym long) in
+    let left = served_at log place in
+    let counted = counted_set log column place (record (get_or log place absent) { waits = false }) 0 within (sym (length-eligible log)) in
+    let none : weight (get_or log place absent, get_or column place 0) ≡ 0 = λ i. cond (waits i && not (first i)) 1 0 in
+    let long : length (set column place 0) ≡ length log = length-set column place 0 ∙ length-eligible log in
+    let turned = counted_set left (set column place 0) next (get_or left next absent) 1 (omega (arith, below, length-set log place (record (get_or log place absent) { waits = false }))) (length-set log place _ ∙ sym long) in
     let whole : set left next (get_or left next absent) ≡ left = set-get_or left next absent in
     let same = ap (λ ms. count_by is_blocked (zip left ms)) marks in
-    let other : next ≢ slot = λ e. omega (arith, e, behind) in
-    let there : get_or left next absent ≡ get_or log next absent = get_or-set_other log slot next (record (get_or log slot absent) { waits = false }) absent other in
-    let one : weight (get_or left next absent, get_or (set column slot 0) next 0) ≡ 1 =
-    (λ i. weight (there i, get_or-set_other column slot next 0 0 other i)) ∙ (λ i. cond (waits_next i && not (blocked i)) 1 0) in
+    let other : next ≢ place = λ e. omega (arith, e, behind) in
+    let there : get_or left next absent ≡ get_or log next absent = get_or-set_other log place next (record (get_or log place absent) { waits = false }) absent other in
+    let one : weight (get_or left next absent, get_or (set column place 0) next 0) ≡ 1 =
+    (λ i. weight (there i, get_or-set_other column place next 0 0 other i)) ∙ (λ i. cond (waits_next i && not (blocked i)) 1 0) in
     let last : weight (get_or left next absent, 1) ≡ 0 = and_none (get_or left next absent).waits in
-    let again = ap (λ l. count_by is_blocked (zip l (set (set column slot 0) next 1))) whole in
+    let again = ap (λ l. count_by is_blocked (zip l (set (set column place 0) next 1))) whole in
     omega (arith, counted, none, turned, same, one, last, again)
 
 -- where some request is blocked, the count says so

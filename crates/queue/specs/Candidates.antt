@@ -6,7 +6,7 @@
 --     RowsFit requests      each asks for a row whose number has 32 bits
 --     first_place test log      the place of the first request that may be served and passes a test
 --     NonePasses test log      no request that waits passes a test
---     bank_asked_at log slot      the bank of the request at a place
+--     bank_asked_at log place      the bank of the request at a place
 --     rows_after history      the rows that a list of commands leaves open, by the number of their bank
 --     access_number bank access, access_number_of r      the number of a bank and an access, and of those that a request asks for
 --     access_count number requests      how many ask for a bank and an access
@@ -71,7 +71,7 @@ NonePasses test log = All (λ r. test r ≡ false) (waiting_requests log)
 
 -- the number of the bank that the request at a place asks for
 abbrev pub bank_asked_at : List Arrived → ℕ → ℕ
-bank_asked_at log slot = bank_number (slice_index_or log slot absent).request.place
+bank_asked_at log place = bank_number (slice_index_or log place absent).request.place
 
 -- the rows that a list of commands leaves open, by the number of their bank
 abbrev pub rows_after : List IssuedCommand → ℕ → Option ℕ

@@ -8,7 +8,7 @@
 --     SameCandidate old new bank access hit      a candidate stays as it was
 --     SameOthers old new bank access      so do those of all other banks and accesses
 --     SameOtherBanks old new bank      so do those of all other banks
---     HasJoined, HasTakenIn old new bank access slot hit      a request is taken in, behind all others or at any place
+--     HasJoined, HasTakenIn old new bank access place hit      a request is taken in, behind all others or at any place
 --     IsClosed old new bank      no request is for the open row of a bank
 use Rattle.std.specs.Prelude.{◌≡◌, ◌≢◌, ℕ, ◌+◌, ◌*◌, ◌<◌, Bool, true, false, length, Option, Some, None, if◌then◌else◌}
 use Rattle.sim_base.specs.Scheduling.{or_else}
@@ -59,15 +59,15 @@ SameOtherBanks old new bank = (other : ℕ) (access : Access) → other ≢ bank
 
 -- A request at a place behind all others has joined the candidates of its bank and access: it is the oldest where
 -- there was none, and if it asks for the open row, it is the first hit where there was none.
-pub record HasJoined (old new : Places) (bank : ℕ) (access : Access) (slot : ℕ) (hit : Bool) : Type 0 where
-  pub oldest_is : candidate_at new bank access false ≡ or_else (candidate_at old bank access false) (Some slot)
-  pub hit_is : candidate_at new bank access true ≡ (if hit then or_else (candidate_at old bank access true) (Some slot) else candidate_at old bank access true)
+pub record HasJoined (old new : Places) (bank : ℕ) (access : Access) (place : ℕ) (hit : Bool) : Type 0 where
+  pub oldest_is : candidate_at new bank access false ≡ or_else (candidate_at old bank access false) (Some place)
+  pub hit_is : candidate_at new bank access true ≡ (if hit then or_else (candidate_at old bank access true) (Some place) else candidate_at old bank access true)
 
 -- A request at any place is taken in: the oldest is the first of it and the one before, and if it asks for the open
 -- row, so is the first hit.
-pub record HasTakenIn (old new : Places) (bank : ℕ) (access : Access) (slot : ℕ) (hit : Bool) : Type 0 where
-  pub oldest_is : candidate_at new bank access false ≡ earlier (candidate_at old bank access false) (Some slot)
-  pub hit_is : candidate_at new bank access true ≡ earlier (candidate_at old bank access true) (if hit then Some slot else None)
+pub record HasTakenIn (old new : Places) (bank : ℕ) (access : Access) (place : ℕ) (hit : Bool) : Type 0 where
+  pub oldest_is : candidate_at new bank access false ≡ earlier (candidate_at old bank access false) (Some place)
+  pub hit_is : candidate_at new bank access true ≡ earlier (candidate_at old bank access true) (if hit then Some place else None)
 
 -- no request of a bank is for its open row, and its oldest ones stay
 abbrev pub IsClosed : Places → Places → ℕ → Type 0

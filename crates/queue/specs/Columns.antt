@@ -6,10 +6,10 @@
 --     tag_column log      the tags of all
 --     is_blocked e      a request with its mark waits and is not marked
 --     blocked_count log      how many wait and are blocked by an older one of their line
---     line_slot mask place      the counter of the requests for the line of a place, and for some other lines
---     row_slot mask bank access row      the counter of the requests for a row of a bank, to write or to read, and for some other rows
---     slot_of_line mask r, slot_of_row mask r      the counters of a request
---     slot_count slot_of requests slot, AreCounted slot_of counts requests      how many requests a counter counts, and that each counter says so
+--     line_counter mask place      the counter of the requests for the line of a place, and for some other lines
+--     row_counter mask bank access row      the counter of the requests for a row of a bank, to write or to read, and for some other rows
+--     counter_of_line mask r, counter_of_row mask r      the counters of a request
+--     counted_by counter_of requests counter, AreCounted counter_of counts requests      how many requests a counter counts, and that each counter says so
 --     asks_for_row bank access row r      a request asks for a row of a bank, to write or to read
 --     NoneAsksForRow bank access row log      none that waits does
 --     marked_items items marks      the items at the places that are marked
@@ -61,28 +61,28 @@ abbrev pub blocked_count : List Arrived → ℕ
 blocked_count log = count_by is_blocked (zip log (eligible_column log))
 
 -- one of the counters up to `mask`, the same for all places of a line
-unfoldable pub line_slot : ℕ → Place → ℕ
-line_slot mask place = bit_and ((((place.row * 128 + bank_number place) * 1024 + place.column) * 11400714819323198485) % 2 ^ 64 / 2 ^ 32) mask
+unfoldable pub line_counter : ℕ → Place → ℕ
+line_counter mask place = bit_and ((((place.row * 128 + bank_number place) * 1024 + place.column) * 11400714819323198485) % 2 ^ 64 / 2 ^ 32) mask
 
 -- one of the counters up to `mask`, the same for all requests for a row of a bank, to write or to read
-unfoldable pub row_slot : ℕ → ℕ → Access → ℕ → ℕ
-row_slot mask bank access row = bit_and (((row * 128 + bank) % 2 ^ 64 * 11400714819323198485) % 2 ^ 64 / 2 ^ 32 + write_bit access) mask
+unfoldable pub row_counter : ℕ → ℕ → Access → ℕ → ℕ
+row_counter mask bank access row = bit_and (((row * 128 + bank) % 2 ^ 64 * 11400714819323198485) % 2 ^ 64 / 2 ^ 32 + write_bit access) mask
 
 -- the counter of a request among those of lines
-abbrev pub slot_of_line : ℕ → Request → ℕ
-slot_of_line mask r = line_slot mask r.place
+abbrev pub counter_of_line : ℕ → Request → ℕ
+counter_of_line mask r = line_counter mask r.place
 
 -- the counter of a request among those of rows
-abbrev pub slot_of_row : ℕ → Request → ℕ
-slot_of_row mask r = row_slot mask (bank_number r.place) r.access r.place.row
+abbrev pub counter_of_row : ℕ → Request → ℕ
+counter_of_row mask r = row_counter mask (bank_number r.place) r.access r.place.row
 
 -- how many requests a counter counts
-abbrev pub slot_count : (Request → ℕ) → List Request → ℕ → ℕ
-slot_count slot_of requests slot = count_by (λ r. slot_of r == slot) requests
+abbrev pub counted_by : (Request → ℕ) → List Request → ℕ → ℕ
+counted_by counter_of requests counter = count_by (λ r. counter_of r == counter) requests
 
 -- each counter says how many requests it counts
 abbrev pub AreCounted : (Request → ℕ) → List ℕ → List Request → Type 0
-AreCounted slot_of counts requests = (slot : ℕ) → slot < length counts → slice_index_or counts slot 0 ≡ slot_count slot_of requests slot
+AreCounted counter_of counts requests = (counter : ℕ) → counter < length counts → slice_index_or counts counter 0 ≡ counted_by counter_of requests counter
 
 -- a request asks for a row of a bank, to write or to read
 abbrev pub asks_for_row : ℕ → Access → ℕ → Request → Bool

@@ -4,13 +4,13 @@
 --     waiting log      those that wait
 --     waiting_requests log, all_requests log      the requests that wait, and all that have arrived
 --     arrived_now r, with_arrival log r      a request that has just arrived, and a log with it
---     served_at log slot, activated_at log slot      the log once the request at a place is served, and once an ACT was issued in its name
---     waits_at log slot      a request stands at a place and waits
+--     served_at log place, activated_at log place      the log once the request at a place is served, and once an ACT was issued in its name
+--     waits_at log place      a request stands at a place and waits
 --     is_for place a      a request waits for the line of a place
 --     eligible_column log      a mark for each that waits with no older one waiting for the same line
---     is_eligible_at log slot      the request at a place has a mark
+--     is_eligible_at log place      the request at a place has a mark
 --     unblocked_by next marks      these marks, and one more at a place that is given
---     marks_once_served log slot next      the marks once the request at a place is served
+--     marks_once_served log place next      the marks once the request at a place is served
 --     LogView      what contracts see of a log
 use Rattle.std.specs.Prelude.{ℕ, Bool, true, false, not, ◌&&◌, List, [], ◌∷◌, ◌++◌, map, filter, take, slice_set, slice_index_or, Option, Some, None}
 use Rattle.std.specs.List.{enumerate_from}
@@ -60,15 +60,15 @@ with_arrival log r = log ++ arrived_now r ∷ []
 
 -- the log once the request at a place has been served
 abbrev pub served_at : List Arrived → ℕ → List Arrived
-served_at log slot = slice_set log slot (record (slice_index_or log slot absent) { waits = false })
+served_at log place = slice_set log place (record (slice_index_or log place absent) { waits = false })
 
 -- the log once an ACT was issued in the name of the request at a place
 abbrev pub activated_at : List Arrived → ℕ → List Arrived
-activated_at log slot = slice_set log slot (record (slice_index_or log slot absent) { activated = true })
+activated_at log place = slice_set log place (record (slice_index_or log place absent) { activated = true })
 
 -- a request stands at a place and waits
 abbrev pub waits_at : List Arrived → ℕ → Bool
-waits_at log slot = (slice_index_or log slot absent).waits
+waits_at log place = (slice_index_or log place absent).waits
 
 -- a request waits for the line of a place
 abbrev pub is_for : Place → Arrived → Bool
@@ -81,7 +81,7 @@ eligible_column log =
 
 -- the request at a place may be served: it waits, and no older one waits for its line
 abbrev pub is_eligible_at : List Arrived → ℕ → Bool
-is_eligible_at log slot = is_marked (slice_index_or (eligible_column log) slot 0)
+is_eligible_at log place = is_marked (slice_index_or (eligible_column log) place 0)
 
 -- these marks, and one more at a place that is given
 abbrev pub unblocked_by : Option ℕ → List ℕ → List ℕ
@@ -91,7 +91,7 @@ unblocked_by (Some next) marks = slice_set marks next 1
 -- the marks of a log once the request at a place is served: its own is gone, and the next one for its line has one,
 -- at a place that is given
 abbrev pub marks_once_served : List Arrived → ℕ → Option ℕ → List ℕ
-marks_once_served log slot next = unblocked_by next (slice_set (eligible_column log) slot 0)
+marks_once_served log place next = unblocked_by next (slice_set (eligible_column log) place 0)
 
 -- how many requests there are places for, and those that have arrived
 pub record LogView : Type 0 where

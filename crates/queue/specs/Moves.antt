@@ -1,7 +1,7 @@
 -- Places in a log, one against another.
---     before slot candidate      a place, if it stands before another
+--     before place candidate      a place, if it stands before another
 --     earlier a b      the first of two places, if there is one
---     NoneBefore test log slot      no request before a place may be served and passes a test
+--     NoneBefore test log place      no request before a place may be served and passes a test
 --     IsFirstFrom test log from found      what a search from a place on finds
 --     IsFirstHit log bank access row oldest hit      the first request for the open row
 use Rattle.std.specs.Prelude.{◌≡◌, ℕ, ◌<◌, nat_lt, min, Bool, false, List, length, slice_index_or, Option, Some, None, if◌then◌else◌}
@@ -12,8 +12,8 @@ use Rattle.queue.specs.Candidates.{asks, hits, passes, entries, first_place}
 
 -- a place, if it stands before another
 abbrev pub before : ℕ → Option ℕ → Option ℕ
-before slot None = None
-before slot (Some k) = if nat_lt k slot then Some k else None
+before place None = None
+before place (Some k) = if nat_lt k place then Some k else None
 
 -- the first of two places, if there is one
 abbrev pub earlier : Option ℕ → Option ℕ → Option ℕ
@@ -23,7 +23,7 @@ earlier (Some a) (Some b) = Some (min a b)
 
 -- no request before a place may be served and passes a test
 abbrev pub NoneBefore : (Request → Bool) → List Arrived → ℕ → Type 0
-NoneBefore test log slot = (k : ℕ) (d : Request × ℕ) → k < slot → k < length log → passes test (slice_index_or (entries log) k d) ≡ false
+NoneBefore test log place = (k : ℕ) (d : Request × ℕ) → k < place → k < length log → passes test (slice_index_or (entries log) k d) ≡ false
 
 -- What a search from a place on finds: the first request that may be served and passes a test, where none before that
 -- place does.

@@ -3,7 +3,7 @@
 use Rattle.std.specs.Prelude.{◌≡◌, ◌-◌, ◌^◌, ◌<◌, ◌≤◌, length, vec_capacity}
 use Rattle.queue.specs.declared.request_log.RequestLog.TheInside.{Inside}
 use Rattle.queue.specs.Log.{waiting_requests}
-use Rattle.queue.specs.Columns.{tag_column, blocked_count, slot_of_line, slot_of_row, AreCounted}
+use Rattle.queue.specs.Columns.{tag_column, blocked_count, counter_of_line, counter_of_row, AreCounted}
 
 -- The tags are those of the log, each counter counts its lines or its rows among the requests that wait, and those that
 -- are blocked are counted. There is room for `places` requests, which are fewer than 2^16 - 1.
@@ -11,9 +11,9 @@ pub record AreKept (l : Inside) : Type 0 where
   pub tags_are : l.tags.items ≡ tag_column l.log.items
   pub blocked_are : l.blocked ≡ blocked_count l.log.items
   pub masked : l.mask < length l.lines.items
-  pub lines_are : AreCounted (slot_of_line l.mask) l.lines.items (waiting_requests l.log.items)
+  pub lines_are : AreCounted (counter_of_line l.mask) l.lines.items (waiting_requests l.log.items)
   pub rows_masked : l.row_mask < length l.rows.items
-  pub rows_are : AreCounted (slot_of_row l.row_mask) l.rows.items (waiting_requests l.log.items)
+  pub rows_are : AreCounted (counter_of_row l.row_mask) l.rows.items (waiting_requests l.log.items)
   pub within : length l.log.items ≤ l.places
   pub log_room : l.places ≤ vec_capacity l.log
   pub tag_room : l.places ≤ vec_capacity l.tags

@@ -1,6 +1,6 @@
 -- A log once a request has been served, since when one more may be served, if there is one.
 --     passing test log candidate      a place, if the request there passes a test
---     IsServed earlier slot unblocked log      a log, once the request at a place has been served, and the place of the one that may be since then
+--     IsServed earlier place unblocked log      a log, once the request at a place has been served, and the place of the one that may be since then
 --     AreFirstWith log bank access row unblocked candidates      the candidates of a bank and an access, once that one is taken in
 --     AreFirstWithout departure log row unblocked candidates      the same of those of the request that was served
 --     candidate_for places departure hit, candidates_for places departure      a candidate of those, and both
@@ -23,11 +23,11 @@ passing test log None = None
 passing test log (Some k) = if test (slice_index_or log k absent).request then Some k else None
 
 -- A log, once the request at a place has been served. If a request may be served since then, this is its place.
-pub record IsServed (earlier : List Arrived) (slot : ℕ) (unblocked : Option ℕ) (log : List Arrived) : Type 0 where
-  pub within : slot < length earlier
-  pub waits : waits_at earlier slot ≡ true
-  pub log_is : log ≡ served_at earlier slot
-  pub marks_are : eligible_column log ≡ marks_once_served earlier slot unblocked
+pub record IsServed (earlier : List Arrived) (place : ℕ) (unblocked : Option ℕ) (log : List Arrived) : Type 0 where
+  pub within : place < length earlier
+  pub waits : waits_at earlier place ≡ true
+  pub log_is : log ≡ served_at earlier place
+  pub marks_are : eligible_column log ≡ marks_once_served earlier place unblocked
   pub next : IfSome unblocked (λ k. k < length log)
 
 -- The candidates of a bank to read or to write, where this row is open, once a request that may be served now is taken

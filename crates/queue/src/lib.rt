@@ -141,16 +141,16 @@ impl Queue {
     /// Serves the request at a place, which no longer waits then. Returns the place of the next one for its line, if
     /// that was blocked by it and may be served now.
     #[inline(always)]
-    pub fn serve(&mut self, slot: usize) -> Option<usize>
-        requires within { slot < length self.old.log }
-        requires waits { waits_at self.old.log slot ≡ true }
-        ensures log { self.new ≡ record self.old { log = served_at self.old.log slot } }
-        ensures marks { eligible_column self.new.log ≡ marks_once_served self.old.log slot result }
-        ensures place { IfSome result (λ next. next < length self.new.log) }
+    pub fn serve(&mut self, place: usize) -> Option<usize>
+        requires within { place < length self.old.log }
+        requires waits { waits_at self.old.log place ≡ true }
+        ensures log { self.new ≡ record self.old { log = served_at self.old.log place } }
+        ensures marks { eligible_column self.new.log ≡ marks_once_served self.old.log place result }
+        ensures next { IfSome result (λ next. next < length self.new.log) }
         ensures newly { IfSome result (λ next. is_eligible_at self.old.log next ≡ false) }
     {
-        let access = self.log.log()[slot].request.access;
-        let unblocked = self.log.serve(slot);
+        let access = self.log.log()[place].request.access;
+        let unblocked = self.log.serve(place);
         self.waiting -= 1;
         if Access::Write.is_access(access) {
             self.writes -= 1;
@@ -161,11 +161,11 @@ impl Queue {
 
     /// Notes that an ACT was issued in the name of the request at a place.
     #[inline(always)]
-    pub fn activate(&mut self, slot: usize)
-        requires { slot < length self.old.log }
-        ensures { self.new ≡ record self.old { log = activated_at self.old.log slot } }
+    pub fn activate(&mut self, place: usize)
+        requires { place < length self.old.log }
+        ensures { self.new ≡ record self.old { log = activated_at self.old.log place } }
     {
-        self.log.activate(slot);
+        self.log.activate(place);
     }
 
     /// The requests that wait, by age.

@@ -5,10 +5,10 @@ mod lines;
 pub mod words;
 
 ghost use Rattle.std.specs.Prelude.{◌≡◌, ◌^◌, ◌+◌, ◌-◌, ◌<◌, ◌≤◌, length, slice_set, vec_capacity};
-ghost use Rattle.queue.specs.Columns.{bank_number, tag_word, slot_of_row, waiting_items};
+ghost use Rattle.queue.specs.Columns.{bank_number, tag_word, counter_of_row, waiting_items};
 
 use crate::request_log::lines::{counters, is_for, next_for_line};
-use crate::request_log::words::{LEFT, bank_number, line_slot, row_slot, tag_word};
+use crate::request_log::words::{LEFT, bank_number, line_counter, row_counter, tag_word};
 use sim_base::message::{Access, Request};
 use sim_base::place::Place;
 use std::alloc::{AllocError, Global};
@@ -32,12 +32,12 @@ const RECENT: usize = 1024;
 
 /// The counter of a request among those of rows, which go up to `mask`.
 #[inline(always)]
-fn row_slot_of(request: Request, mask: usize) -> usize
-    ensures value { result ≡ slot_of_row mask request }
+fn row_counter_of(request: Request, mask: usize) -> usize
+    ensures value { result ≡ counter_of_row mask request }
     ensures within { result ≤ mask }
 {
     let bank = bank_number(request.place);
-    row_slot(bank, request.access, request.place.row, mask)
+    row_counter(bank, request.access, request.place.row, mask)
 }
 
 /// The tag of a request that waits, which may be served or not.
@@ -50,13 +50,13 @@ fn tag_of(eligible: bool, request: Request) -> u8
 
 /// Keeps at a number the place of the request that arrived last.
 #[inline(always)]
-fn set_recent(recent: &mut [u16], number: usize, slot: usize)
-    requires { slot < 2 ^ 16 }
+fn set_recent(recent: &mut [u16], number: usize, place: usize)
+    requires { place < 2 ^ 16 }
     ensures { number < length recent.old
-        → recent.new ≡ slice_set recent.old number slot }
+        → recent.new ≡ slice_set recent.old number place }
 {
     if number < recent.len() {
-        recent[number] = slot as u16;
+        recent[number] = place as u16;
     }
 }
 
@@ -171,11 +171,11 @@ impl RequestLog {
 
     /// Whether the request at a place waits, with no older one waiting for the same line.
     #[inline(always)]
-    pub fn is_eligible(&self, slot: usize) -> bool
-        requires { slot < length self.now.log }
-        ensures { result ≡ is_eligible_at self.now.log slot }
+    pub fn is_eligible(&self, place: usize) -> bool
+        requires { place < length self.now.log }
+        ensures { result ≡ is_eligible_at self.now.log place }
     {
-        128 <= self.tags[slot]
+        128 <= self.tags[place]
     }
 
     /// Whether some request that waits may ask for a row of a bank, to write or to read: false only where none does.
@@ -183,7 +183,7 @@ impl RequestLog {
     pub fn may_ask(&self, bank: usize, access: Access, row: u32) -> bool
         ensures { result ≡ false → NoneAsksForRow bank access row self.now.log }
     {
-        self.rows[row_slot(bank, access, row, self.row_mask)] != 0
+        self.rows[row_counter(bank, access, row, self.row_mask)] != 0
     }
 
     /// Whether some request that waits may ask for the line of a place: false only where none does.
@@ -192,7 +192,7 @@ impl RequestLog {
         ensures { result ≡ false → asks_for_line place (waiting_requests self.now.log) ≡ false }
     {
         let bank = bank_number(place);
-        self.lines[line_slot(place, self.mask)] != 0
+        self.lines[line_counter(place, self.mask)] != 0
             && (self.may_ask(bank, Access::Read, place.row)
                 || self.may_ask(bank, Access::Write, place.row))
     }
@@ -203,27 +203,22 @@ impl RequestLog {
     fn is_recent(&self, place: Place) -> bool
         ensures { result ≡ true → asks_for_line place (waiting_requests self.now.log) ≡ true }
     {
-        let Some(slot) = self.recent.get(line_slot(place, self.mask) % RECENT) else {
+        let Some(last) = self.recent.get(line_counter(place, self.mask) % RECENT) else {
             return false;
         };
-        let slot = usize::from(*slot);
-        slot < self.log.len() && is_for(place, self.log[slot])
+        let last = usize::from(*last);
+        last < self.log.len() && is_for(place, self.log[last])
     }
 
-    /// Whether a request that waits asks for the line of a place, by a search. The oldest that does may be served.
-    #[inline(always)]
-    fn is_line_found(&self, place: Place) -> bool
-        ensures { result ≡ asks_for_line place (waiting_requests self.now.log) }
-    {
-        next_for_line(true, place, 0, &self.log, &self.tags).is_some()
-    }
-
-    /// Whether a request that waits asks for the line of a place.
+    /// Whether a request that waits asks for the line of a place. The oldest that does may be served, so a search for
+    /// those finds it.
     #[inline(always)]
     fn is_line_asked(&self, place: Place) -> bool
         ensures { result ≡ asks_for_line place (waiting_requests self.now.log) }
     {
-        self.may_ask_for_line(place) && (self.is_recent(place) || self.is_line_found(place))
+        self.may_ask_for_line(place)
+            && (self.is_recent(place)
+                || next_for_line(true, place, 0, &self.log, &self.tags).is_some())
     }
 
     /// How many places are left.
@@ -240,9 +235,9 @@ impl RequestLog {
         requires { length self.old.log < self.old.places }
         ensures { self.new ≡ record self.old { log = with_arrival self.old.log request } }
     {
-        let slot = self.log.len();
+        let place = self.log.len();
         let asked = self.is_line_asked(request.place);
-        let line = line_slot(request.place, self.mask);
+        let line = line_counter(request.place, self.mask);
         let alike = self.lines[line];
         self.tags.push_reserved(tag_of(!asked, request));
         self.log.push_reserved(Arrived {
@@ -251,8 +246,8 @@ impl RequestLog {
             activated: false,
         });
         self.lines[line] = alike + 1;
-        set_recent(&mut self.recent, line % RECENT, slot);
-        let row = row_slot_of(request, self.row_mask);
+        set_recent(&mut self.recent, line % RECENT, place);
+        let row = row_counter_of(request, self.row_mask);
         let others = self.rows[row];
         self.rows[row] = others + 1;
         self.blocked += usize::from(asked);
@@ -261,22 +256,22 @@ impl RequestLog {
     /// Serves the request at a place, which no longer waits then. Returns the place of the next one for its line, if
     /// that was blocked by it and may be served now.
     #[inline(always)]
-    pub fn serve(&mut self, slot: usize) -> Option<usize>
-        requires within { slot < length self.old.log }
-        requires waits { waits_at self.old.log slot ≡ true }
-        ensures log { self.new ≡ record self.old { log = served_at self.old.log slot } }
-        ensures marks { eligible_column self.new.log ≡ marks_once_served self.old.log slot result }
-        ensures place { IfSome result (λ next. next < length self.new.log) }
+    pub fn serve(&mut self, place: usize) -> Option<usize>
+        requires within { place < length self.old.log }
+        requires waits { waits_at self.old.log place ≡ true }
+        ensures log { self.new ≡ record self.old { log = served_at self.old.log place } }
+        ensures marks { eligible_column self.new.log ≡ marks_once_served self.old.log place result }
+        ensures next { IfSome result (λ next. next < length self.new.log) }
         ensures newly { IfSome result (λ next. is_eligible_at self.old.log next ≡ false) }
     {
-        let was_first = self.is_eligible(slot);
-        let request = self.log[slot].request;
-        self.log[slot].waits = false;
-        self.tags[slot] = LEFT;
-        let line = line_slot(request.place, self.mask);
+        let was_first = self.is_eligible(place);
+        let request = self.log[place].request;
+        self.log[place].waits = false;
+        self.tags[place] = LEFT;
+        let line = line_counter(request.place, self.mask);
         let alike = self.lines[line] - 1;
         self.lines[line] = alike;
-        let row = row_slot_of(request, self.row_mask);
+        let row = row_counter_of(request, self.row_mask);
         let others = self.rows[row] - 1;
         self.rows[row] = others;
         if !was_first {
@@ -286,7 +281,7 @@ impl RequestLog {
         if self.blocked == 0 || alike == 0 {
             return None;
         }
-        let next = next_for_line(false, request.place, slot + 1, &self.log, &self.tags)?;
+        let next = next_for_line(false, request.place, place + 1, &self.log, &self.tags)?;
         self.tags[next] = tag_of(true, self.log[next].request);
         self.blocked -= 1;
         Some(next)
@@ -294,11 +289,11 @@ impl RequestLog {
 
     /// Notes that an ACT was issued in the name of the request at a place.
     #[inline(always)]
-    pub fn activate(&mut self, slot: usize)
-        requires { slot < length self.old.log }
-        ensures { self.new ≡ record self.old { log = activated_at self.old.log slot } }
+    pub fn activate(&mut self, place: usize)
+        requires { place < length self.old.log }
+        ensures { self.new ≡ record self.old { log = activated_at self.old.log place } }
     {
-        self.log[slot].activated = true;
+        self.log[place].activated = true;
     }
 
     /// Moves those that wait to the front, in their order; those that were served lose their places.

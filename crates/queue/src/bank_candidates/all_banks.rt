@@ -95,21 +95,12 @@ impl BankCandidates {
 
     /// The row that is open in a bank, if one is.
     #[inline(always)]
-    fn row_of(&self, bank: usize) -> Option<u32>
-        requires { bank < bank_count self.now }
-        ensures { result ≡ row_of_bank self.now bank }
-    {
-        self.rows[bank]
-    }
-
-    /// The row that is open in a bank, if one is.
-    #[inline(always)]
     pub fn open_row(&self, bank: BankId) -> Option<u32>
         requires { IsAmong self.now bank }
         ensures { (log : List Arrived) (history : List IssuedCommand)
             → StandsFor self.now log (rows_after history) → result ≡ open_row bank history }
     {
-        self.row_of(number_of(bank))
+        self.rows[number_of(bank)]
     }
 
     /// The banks for which a request to write, or to read, may be served.
@@ -144,12 +135,12 @@ impl BankCandidates {
 
     /// Takes note of a request at a place after all others, which may be served or not.
     #[inline(always)]
-    fn join(&mut self, request: &Request, slot: usize, eligible: bool)
+    fn join(&mut self, request: &Request, place: usize, eligible: bool)
         requires bank { bank_number request.now.place < bank_count self.old }
-        requires short { slot < 2 ^ 16 - 1 }
+        requires short { place < 2 ^ 16 - 1 }
         ensures banks { bank_count self.new ≡ bank_count self.old }
         ensures stands { (older : List Arrived) (a : Arrived) (open_rows : ℕ → Option ℕ)
-            → slot ≡ length older → request.now ≡ a.request → a.waits ≡ true
+            → place ≡ length older → request.now ≡ a.request → a.waits ≡ true
             → eligible ≡ not (asks_for_line a.request.place (waiting_requests older))
             → StandsFor self.old older open_rows → StandsFor self.new (older ++ a ∷ []) open_rows }
     {
@@ -158,7 +149,7 @@ impl BankCandidates {
         self.counts[number] = self.counts[number].saturating_add(1);
         if eligible {
             let hit = is_open(self.rows[bank], request.place.row);
-            self.places.join(bank, request.access, slot, hit);
+            self.places.join(bank, request.access, place, hit);
         }
     }
 
@@ -173,30 +164,30 @@ impl BankCandidates {
             → StandsFor self.new log.now.log open_rows }
     {
         let arrived = log.log();
-        for slot in from..arrived.len() {
-            self.join(&arrived[slot].request, slot, log.is_eligible(slot));
+        for place in from..arrived.len() {
+            self.join(&arrived[place].request, place, log.is_eligible(place));
         }
     }
 
     /// Takes note of a request that has been served.
     #[inline(always)]
-    fn leave(&mut self, slot: usize, log: &RequestLog)
-        requires slot { slot < length log.now.log }
-        requires bank { bank_asked_at log.now.log slot < bank_count self.old }
+    fn leave(&mut self, place: usize, log: &RequestLog)
+        requires place { place < length log.now.log }
+        requires bank { bank_asked_at log.now.log place < bank_count self.old }
         ensures banks { bank_count self.new ≡ bank_count self.old }
         ensures stands { (earlier : List Arrived) (unblocked : Option ℕ) (open_rows : ℕ → Option ℕ)
-            → IsServed earlier slot unblocked log.now.log
+            → IsServed earlier place unblocked log.now.log
             → StandsFor self.old earlier open_rows
             → StandsUpTo self.new log.now.log unblocked open_rows }
     {
-        let request = &log.log()[slot].request;
+        let request = &log.log()[place].request;
         let bank = bank_number(request.place);
         let access = request.access;
         let number = access_number(bank, access);
         let left = self.counts[number].saturating_sub(1);
         self.counts[number] = left;
         let departure = Departure {
-            slot,
+            place,
             bank,
             access,
             empty: left == 0,
@@ -222,16 +213,16 @@ impl BankCandidates {
 
     /// Takes note of a request that was served, and of the one that may be served since then, if there is one.
     #[inline(always)]
-    pub fn on_service(&mut self, slot: usize, unblocked: Option<usize>, log: &RequestLog)
-        requires slot { slot < length log.now.log }
+    pub fn on_service(&mut self, place: usize, unblocked: Option<usize>, log: &RequestLog)
+        requires place { place < length log.now.log }
         requires unblocked { IfSome unblocked (λ next. next < length log.now.log) }
         requires banks { All (λ a. bank_number a.request.place < bank_count self.old) log.now.log }
         ensures banks { bank_count self.new ≡ bank_count self.old }
         ensures stands { (earlier : List Arrived) (open_rows : ℕ → Option ℕ)
-            → IsServed earlier slot unblocked log.now.log
+            → IsServed earlier place unblocked log.now.log
             → StandsFor self.old earlier open_rows → StandsFor self.new log.now.log open_rows }
     {
-        self.leave(slot, log);
+        self.leave(place, log);
         if let Some(next) = unblocked {
             self.unblock(next, log);
         }

@@ -62,25 +62,25 @@ fn word_of(candidate: Option<usize>) -> u16
 
 /// Whether a word tells a place.
 #[inline(always)]
-fn tells(word: u16, slot: usize) -> bool
-    requires { slot < 2 ^ 16 - 1 }
-    ensures there { result ≡ true → candidate_of word ≡ Some slot }
-    ensures elsewhere { result ≡ false → candidate_of word ≢ Some slot }
+fn tells(word: u16, place: usize) -> bool
+    requires { place < 2 ^ 16 - 1 }
+    ensures there { result ≡ true → candidate_of word ≡ Some place }
+    ensures elsewhere { result ≡ false → candidate_of word ≢ Some place }
 {
-    word as usize == slot + 1
+    word as usize == place + 1
 }
 
 /// The first of two places, of which one may not be there.
 #[inline(always)]
-fn earlier_of(candidate: Option<usize>, slot: usize) -> Option<usize>
+fn earlier_of(candidate: Option<usize>, place: usize) -> Option<usize>
     requires candidate { IsShort candidate }
-    requires slot { slot < 2 ^ 16 - 1 }
-    ensures first { result ≡ earlier candidate (Some slot) }
+    requires place { place < 2 ^ 16 - 1 }
+    ensures first { result ≡ earlier candidate (Some place) }
     ensures short { IsShort result }
 {
     match candidate {
-        Some(place) => Some(place.min(slot)),
-        None => Some(slot),
+        Some(other) => Some(other.min(place)),
+        None => Some(place),
     }
 }
 
@@ -102,7 +102,7 @@ const NO_CANDIDATES: AccessCandidates = AccessCandidates {
 /// A request of a bank and an access that has been served.
 #[derive(Clone, Copy)]
 pub(crate) struct Departure {
-    pub(crate) slot: usize,
+    pub(crate) place: usize,
     pub(crate) bank: usize,
     pub(crate) access: Access,
     /// Whether it is known that no other one waits.
@@ -213,18 +213,18 @@ impl Places {
 
     /// Takes note of a request after all others, which may be served and asks for the open row or not.
     #[inline(always)]
-    pub(crate) fn join(&mut self, bank: usize, access: Access, slot: usize, hit: bool)
+    pub(crate) fn join(&mut self, bank: usize, access: Access, place: usize, hit: bool)
         requires bank { HasBank self.old bank }
-        requires short { slot < 2 ^ 16 - 1 }
+        requires short { place < 2 ^ 16 - 1 }
         ensures room { SameRoom self.old self.new }
-        ensures joined { HasJoined self.old self.new bank access slot hit }
+        ensures joined { HasJoined self.old self.new bank access place hit }
         ensures others { SameOthers self.old self.new bank access }
     {
         if self.candidate(bank, access, false).is_none() {
-            self.set(bank, access, false, Some(slot));
+            self.set(bank, access, false, Some(place));
         }
         if hit && self.candidate(bank, access, true).is_none() {
-            self.set(bank, access, true, Some(slot));
+            self.set(bank, access, true, Some(place));
         }
     }
 
@@ -242,13 +242,13 @@ impl Places {
 
     /// Whether a candidate of a bank is the request at a place.
     #[inline(always)]
-    pub(crate) fn is_at(&self, bank: usize, access: Access, hit: bool, slot: usize) -> bool
+    pub(crate) fn is_at(&self, bank: usize, access: Access, hit: bool, place: usize) -> bool
         requires bank { HasBank self.now bank }
-        requires short { slot < 2 ^ 16 - 1 }
-        ensures there { result ≡ true → candidate_at self.now bank access hit ≡ Some slot }
-        ensures elsewhere { result ≡ false → candidate_at self.now bank access hit ≢ Some slot }
+        requires short { place < 2 ^ 16 - 1 }
+        ensures there { result ≡ true → candidate_at self.now bank access hit ≡ Some place }
+        ensures elsewhere { result ≡ false → candidate_at self.now bank access hit ≢ Some place }
     {
-        tells(self.words[4 * bank + column(access, hit)], slot)
+        tells(self.words[4 * bank + column(access, hit)], place)
     }
 
     /// Takes note of a row that is open in a bank, for its requests to write, or to read.
@@ -273,25 +273,25 @@ impl Places {
     #[inline(always)]
     fn replace(&mut self, log: &RequestLog, departure: Departure, hit: bool, row: Option<u32>)
         requires bank { HasBank self.old departure.bank }
-        requires slot { departure.slot < length log.now.log }
+        requires place { departure.place < length log.now.log }
         requires log { length log.now.log < 2 ^ 16 - 1 }
         ensures room { SameRoom self.old self.new }
-        ensures kept { candidate_for self.old departure hit ≢ Some departure.slot
+        ensures kept { candidate_for self.old departure hit ≢ Some departure.place
             → SameCandidate self.old self.new departure.bank departure.access hit }
-        ensures found { candidate_for self.old departure hit ≡ Some departure.slot
-            → IsFirstFrom (wants_like departure row) log.now.log (departure.slot + 1)
+        ensures found { candidate_for self.old departure hit ≡ Some departure.place
+            → IsFirstFrom (wants_like departure row) log.now.log (departure.place + 1)
             (candidate_for self.new departure hit) }
         ensures beside { SameCandidate self.old self.new departure.bank departure.access (not hit) }
         ensures others { SameOthers self.old self.new departure.bank departure.access }
     {
         let Departure {
-            slot,
+            place,
             bank,
             access,
             ..
         } = departure;
-        if self.is_at(bank, access, hit, slot) {
-            let next = first_from(log, slot + 1, bank, access, row);
+        if self.is_at(bank, access, hit, place) {
+            let next = first_from(log, place + 1, bank, access, row);
             self.set(bank, access, hit, next);
         }
     }
@@ -300,11 +300,11 @@ impl Places {
     #[inline(always)]
     pub(crate) fn leave(&mut self, log: &RequestLog, departure: Departure, row: Option<u32>)
         requires bank { HasBank self.old departure.bank }
-        requires slot { departure.slot < length log.now.log }
+        requires place { departure.place < length log.now.log }
         requires log { length log.now.log < 2 ^ 16 - 1 }
         ensures room { SameRoom self.old self.new }
         ensures own { (earlier : List Arrived) (unblocked : Option ℕ)
-            → IsServed earlier departure.slot unblocked log.now.log
+            → IsServed earlier departure.place unblocked log.now.log
             → (departure.empty ≡ true → NoneWaits log.now.log departure.bank departure.access)
             → AreFirst earlier departure.bank departure.access row
             (candidates_for self.old departure)
@@ -313,7 +313,7 @@ impl Places {
         ensures others { SameOthers self.old self.new departure.bank departure.access }
     {
         let Departure {
-            slot,
+            place,
             bank,
             access,
             empty,
@@ -322,8 +322,8 @@ impl Places {
             self.set_both(bank, access, NO_CANDIDATES);
             return;
         }
-        if self.is_at(bank, access, false, slot) && self.is_at(bank, access, true, slot) {
-            let behind = candidates_from(log, slot + 1, bank, access, row);
+        if self.is_at(bank, access, false, place) && self.is_at(bank, access, true, place) {
+            let behind = candidates_from(log, place + 1, bank, access, row);
             self.set_both(bank, access, behind);
             return;
         }
@@ -332,17 +332,17 @@ impl Places {
     }
 
     /// Takes note of a request that may be served now, and asks for the open row or not.
-    pub(crate) fn unblock(&mut self, bank: usize, access: Access, slot: usize, hit: bool)
+    pub(crate) fn unblock(&mut self, bank: usize, access: Access, place: usize, hit: bool)
         requires bank { HasBank self.old bank }
-        requires short { slot < 2 ^ 16 - 1 }
+        requires short { place < 2 ^ 16 - 1 }
         ensures room { SameRoom self.old self.new }
-        ensures taken { HasTakenIn self.old self.new bank access slot hit }
+        ensures taken { HasTakenIn self.old self.new bank access place hit }
         ensures others { SameOthers self.old self.new bank access }
     {
-        let oldest = earlier_of(self.candidate(bank, access, false), slot);
+        let oldest = earlier_of(self.candidate(bank, access, false), place);
         self.set(bank, access, false, oldest);
         if hit {
-            let first = earlier_of(self.candidate(bank, access, true), slot);
+            let first = earlier_of(self.candidate(bank, access, true), place);
             self.set(bank, access, true, first);
         }
     }

@@ -1,6 +1,6 @@
 //! Searches for the first request of a bank and an access.
 
-ghost use Rattle.std.specs.Prelude.{◌≡◌, ◌-◌, ◌<◌, ◌^◌, ◌==◌, false, length, Some, IfSome};
+ghost use Rattle.std.specs.Prelude.{◌≡◌, ◌-◌, ◌<◌, ◌^◌, false, length, Some, IfSome};
 ghost use Rattle.queue.specs.Candidates.{asks, wants, AreFirst, NonePasses};
 ghost use Rattle.queue.specs.Moves.{IsFirstFrom, IsFirstHit, NoneBefore};
 ghost use Rattle.queue.specs.Places.{IsShort};
@@ -21,14 +21,6 @@ fn is_wanted(request: &Request, bank: usize, access: Access, row: Option<u32>) -
         Some(row) => same_bank && request.place.row == row,
         None => same_bank,
     }
-}
-
-/// Whether a request asks for a row.
-#[inline(always)]
-fn asks_for_row(request: &Request, row: u32) -> bool
-    ensures { result ≡ (request.now.place.row == row) }
-{
-    request.place.row == row
 }
 
 /// Whether some request that waits may be of a bank and an access, and ask for a row if one is given: false only where
@@ -88,7 +80,7 @@ pub(crate) fn first_hit(
     ensures within { IfSome result (λ k. k < length log.now.log) }
 {
     let arrived = log.log();
-    if oldest < arrived.len() && asks_for_row(&arrived[oldest].request, row) {
+    if oldest < arrived.len() && arrived[oldest].request.place.row == row {
         return Some(oldest);
     }
     first_from(log, oldest + 1, bank, access, Some(row))

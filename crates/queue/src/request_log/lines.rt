@@ -3,7 +3,7 @@
 ghost use Rattle.std.specs.Prelude.{◌≡◌, ◌<◌, ◌^◌, [], false, IfOk, length};
 ghost use Rattle.sim_base.specs.Scheduling.{asks_for_line};
 ghost use Rattle.queue.specs.Log.{is_for, waiting_requests};
-ghost use Rattle.queue.specs.Columns.{tag_column, slot_of_line, slot_of_row, AreCounted};
+ghost use Rattle.queue.specs.Columns.{tag_column, counter_of_line, counter_of_row, AreCounted};
 ghost use Rattle.queue.specs.Lines.{IsFirstTold};
 
 use crate::request_log::Arrived;
@@ -70,8 +70,8 @@ fn wanted_for(room: usize) -> usize
 /// requests share one.
 pub(crate) fn counters(alloc: Global, room: usize) -> Result<(Vec<u16>, usize), AllocError>
     ensures masked { IfOk result (λ made. made.1 < length made.0.items) }
-    ensures lines { IfOk result (λ made. AreCounted (slot_of_line made.1) made.0.items []) }
-    ensures rows { IfOk result (λ made. AreCounted (slot_of_row made.1) made.0.items []) }
+    ensures lines { IfOk result (λ made. AreCounted (counter_of_line made.1) made.0.items []) }
+    ensures rows { IfOk result (λ made. AreCounted (counter_of_row made.1) made.0.items []) }
 {
     let wanted = wanted_for(room);
     let mut mask = 255;

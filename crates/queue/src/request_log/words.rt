@@ -2,7 +2,7 @@
 
 ghost use Rattle.std.specs.Prelude.{◌≡◌, ◌<◌, ◌≤◌, ◌^◌};
 ghost use Rattle.queue.specs.Marks.{mark, write_bit};
-ghost use Rattle.queue.specs.Columns.{bank_number, tag_word, line_slot, row_slot};
+ghost use Rattle.queue.specs.Columns.{bank_number, tag_word, line_counter, row_counter};
 
 use sim_base::message::Access;
 use sim_base::place::Place;
@@ -51,10 +51,10 @@ pub fn tag_word(eligible: bool, access: Access, bank: u64) -> u8
 }
 
 /// One of the counters up to `mask`, the same for all places of a line.
-#[tactic(auto, unfolding(crate::specs::Columns::line_slot))]
+#[tactic(auto, unfolding(crate::specs::Columns::line_counter))]
 #[inline(always)]
-pub(crate) fn line_slot(place: Place, mask: usize) -> usize
-    ensures value { result ≡ line_slot mask place }
+pub(crate) fn line_counter(place: Place, mask: usize) -> usize
+    ensures value { result ≡ line_counter mask place }
     ensures within { result ≤ mask }
 {
     let bank = bank_number(place) as u64;
@@ -64,13 +64,13 @@ pub(crate) fn line_slot(place: Place, mask: usize) -> usize
 
 /// One of the counters up to `mask`, the same for all requests for a row of a bank, to write or to read: those to write
 /// have the counter behind that of those to read.
-#[tactic(auto, unfolding(crate::specs::Columns::row_slot))]
+#[tactic(auto, unfolding(crate::specs::Columns::row_counter))]
 #[inline(always)]
-pub(crate) fn row_slot(bank: usize, access: Access, row: u32, mask: usize) -> usize
-    ensures value { result ≡ row_slot mask bank access row }
+pub(crate) fn row_counter(bank: usize, access: Access, row: u32, mask: usize) -> usize
+    ensures value { result ≡ row_counter mask bank access row }
     ensures within { result ≤ mask }
 {
     let row = (u64::from(row) * 128).wrapping_add(bank as u64);
-    let slot = (row.wrapping_mul(11_400_714_819_323_198_485) >> 32) + write_bit(access) as u64;
-    slot as usize & mask
+    let counter = (row.wrapping_mul(11_400_714_819_323_198_485) >> 32) + write_bit(access) as u64;
+    counter as usize & mask
 }

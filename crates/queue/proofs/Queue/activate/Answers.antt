@@ -8,7 +8,7 @@ pub invariant_of-self : goal.invariant_of-self
 invariant_of-self c =
     let k = c.self.invariant in
     let same : waiting_requests c.activate.new.self.log ≡ waiting_requests c.self.inside.log.log =
-    ap (λ l. waiting_requests l.log) c.activate.ensures ∙ waiting_activated c.self.inside.log.log c.args.slot in
+    ap (λ l. waiting_requests l.log) c.activate.ensures ∙ waiting_activated c.self.inside.log.log c.args.place in
     record {
       waiting_are = k.waiting_are ∙ ap length (sym same);
       writes_are = k.writes_are ∙ ap write_count (sym same);

@@ -10,29 +10,29 @@ use Rattle.queue.proofs.Counts.{length_served, writes_served}
 use Rattle.queue.proofs.Queue.serve.Goals as goal
 use Rattle.queue.proofs.Queue.serve.Goals.{After-serve-unblocked}
 
-within : (c : After-serve-unblocked) → c.args.slot < length c.self.inside.log.log
+within : (c : After-serve-unblocked) → c.args.place < length c.self.inside.log.log
 within c = omega (arith, c.requires.within, ap (λ v. length v.log) c.self.view_is)
 
-waits : (c : After-serve-unblocked) → waits_at c.self.inside.log.log c.args.slot ≡ true
-waits c = ap (λ v. waits_at v.log c.args.slot) c.self.view_is ∙ c.requires.waits
+waits : (c : After-serve-unblocked) → waits_at c.self.inside.log.log c.args.place ≡ true
+waits c = ap (λ v. waits_at v.log c.args.place) c.self.view_is ∙ c.requires.waits
 
 -- whether the request is a write
-write_is : (c : After-serve-unblocked) (log : List Arrived) (write : Bool) → log ≡ c.self.inside.log.log → is_access access.Write (get_or log c.args.slot absent).request.access ≡ write
-    → cond {A = ℕ} (is_access access.Write (get_or c.self.inside.log.log c.args.slot absent).request.access) 1 0 ≡ cond write 1 0
-write_is c log write same is = ap (λ (l : List Arrived). cond {A = ℕ} (is_access access.Write (get_or l c.args.slot absent).request.access) 1 0) (sym same) ∙ ap (λ b. cond {A = ℕ} b 1 0) is
+write_is : (c : After-serve-unblocked) (log : List Arrived) (write : Bool) → log ≡ c.self.inside.log.log → is_access access.Write (get_or log c.args.place absent).request.access ≡ write
+    → cond {A = ℕ} (is_access access.Write (get_or c.self.inside.log.log c.args.place absent).request.access) 1 0 ≡ cond write 1 0
+write_is c log write same is = ap (λ (l : List Arrived). cond {A = ℕ} (is_access access.Write (get_or l c.args.place absent).request.access) 1 0) (sym same) ∙ ap (λ b. cond {A = ℕ} b 1 0) is
 
 -- the request is served, with these counts of what writes
 served : (c : After-serve-unblocked) (writes : ℕ) (drains : Bool)
-    → writes + cond (is_access access.Write (get_or c.self.inside.log.log c.args.slot absent).request.access) 1 0 ≡ c.self.inside.writes
+    → writes + cond (is_access access.Write (get_or c.self.inside.log.log c.args.place absent).request.access) 1 0 ≡ c.self.inside.writes
     → drains ≡ drains_by c.self.inside.high c.self.inside.low c.self.inside.drain_decided writes
     → AreKept (record c.self.inside { drains = drains; waiting = c.self.inside.waiting - 1; writes = writes; log = c.serve-unblocked.new.self })
 served c writes drains writes_is drains_is =
     let k = c.self.invariant in
     let log = c.self.inside.log.log in
-    let slot = c.args.slot in
-    let fewer = length_served log slot (within c) (waits c) in
+    let place = c.args.place in
+    let fewer = length_served log place (within c) (waits c) in
     let left = ap (λ l. length (waiting_requests l.log)) c.serve-unblocked.ensures.log in
-    let fewer_writes = writes_served log slot (within c) (waits c) in
+    let fewer_writes = writes_served log place (within c) (waits c) in
     let left_writes = ap (λ l. write_count (waiting_requests l.log)) c.serve-unblocked.ensures.log in
     record {
       waiting_are = omega (arith, fewer, left, k.waiting_are);
@@ -46,19 +46,19 @@ served c writes drains writes_is drains_is =
 pub overflow_sub-self : goal.overflow_sub-self
 overflow_sub-self whole =
     let c = (goal.at.overflow_sub-self whole).After-serve-unblocked in
-    omega (arith, c.self.invariant.waiting_are, length_served c.self.inside.log.log c.args.slot (within c) (waits c))
+    omega (arith, c.self.invariant.waiting_are, length_served c.self.inside.log.log c.args.place (within c) (waits c))
 
 pub overflow_sub-self-then-is_access : goal.overflow_sub-self-then-is_access
 overflow_sub-self-then-is_access whole =
     let c = (goal.at.overflow_sub-self-then-is_access whole).After-serve-unblocked in
     let one = write_is c whole.log.result.now true whole.log.ensures.log (sym whole.is_access.ensures ∙ whole.if-is_access.true) in
-    omega (arith, one, c.self.invariant.writes_are, writes_served c.self.inside.log.log c.args.slot (within c) (waits c))
+    omega (arith, one, c.self.invariant.writes_are, writes_served c.self.inside.log.log c.args.place (within c) (waits c))
 
 pub invariant_of-self : goal.invariant_of-self
 invariant_of-self whole =
     let c = (goal.at.invariant_of-self whole).After-serve-unblocked in
     let one = write_is c whole.log.result.now true whole.log.ensures.log (sym whole.is_access.ensures ∙ whole.if-is_access.true) in
-    let some = writes_served c.self.inside.log.log c.args.slot (within c) (waits c) in
+    let some = writes_served c.self.inside.log.log c.args.place (within c) (waits c) in
     served c (c.self.inside.writes - 1) whole.drains-self-inside.result (omega (arith, one, some, c.self.invariant.writes_are)) whole.drains-self-inside.ensures
 
 pub invariant_of-self-else-is_access : goal.invariant_of-self-else-is_access

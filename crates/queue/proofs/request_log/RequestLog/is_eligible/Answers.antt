@@ -8,5 +8,5 @@ index-requires c = omega (arith, c.requires, ap (λ v. length v.log) c.self.view
 
 pub returns : goal.returns
 returns c =
-    ap (leb 128) (c.index.ensures ∙ ap (λ tags. get_or tags c.args.slot c.index.result.now) (c.self.invariant.tags_are ∙ ap (λ v. tag_column v.log) c.self.view_is))
-    ∙ told c.args.self.now.log c.args.slot c.index.result.now c.requires
+    ap (leb 128) (c.index.ensures ∙ ap (λ tags. get_or tags c.args.place c.index.result.now) (c.self.invariant.tags_are ∙ ap (λ v. tag_column v.log) c.self.view_is))
+    ∙ told c.args.self.now.log c.args.place c.index.result.now c.requires

@@ -17,10 +17,10 @@ returns-else-may_ask c no_write =
 pub returns-else-index-ne0 : goal.returns-else-index-ne0
 returns-else-index-ne0 c none =
     let q = c.self.inside in
-    let slot_is = c.line_slot.ensures.value in
-    let below : c.line_slot.result < length q.lines.items = omega (arith, c.line_slot.ensures.within, c.self.invariant.masked) in
-    let count_is : c.index.result.now ≡ get_or q.lines.items c.line_slot.result 0 =
-    c.index.ensures ∙ get_or_default q.lines.items c.line_slot.result c.index.result.now 0 below in
+    let counter_is = c.line_counter.ensures.value in
+    let below : c.line_counter.result < length q.lines.items = omega (arith, c.line_counter.ensures.within, c.self.invariant.masked) in
+    let count_is : c.index.result.now ≡ get_or q.lines.items c.line_counter.result 0 =
+    c.index.ensures ∙ get_or_default q.lines.items c.line_counter.result c.index.result.now 0 below in
     ap (λ v. asks_for_line c.args.place (waiting_requests v.log)) (sym c.self.view_is)
-    ∙ none_asks q.mask q.lines.items (waiting_requests q.log.items) c.args.place c.self.invariant.lines_are (omega (arith, below, slot_is))
-    (ap (λ k. get_or q.lines.items k 0) (sym slot_is) ∙ sym count_is ∙ c.if-index-ne0.false)
+    ∙ none_asks q.mask q.lines.items (waiting_requests q.log.items) c.args.place c.self.invariant.lines_are (omega (arith, below, counter_is))
+    (ap (λ k. get_or q.lines.items k 0) (sym counter_is) ∙ sym count_is ∙ c.if-index-ne0.false)

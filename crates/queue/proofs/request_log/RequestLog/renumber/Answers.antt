@@ -2,7 +2,7 @@ use Rattle.std.proofs.Common.{◌≡◌, length, map, sym, ap, ◌∙◌, arith,
 use Rattle.std.proofs.lemmas.List.Elements.{filter_from_retain}
 use Rattle.queue.specs.declared.request_log.Arrived.{Arrived}
 use Rattle.queue.specs.Log.{waiting, waiting_requests}
-use Rattle.queue.specs.Columns.{slot_of_line, slot_of_row, slot_count, tag_column, blocked_count, waiting_items}
+use Rattle.queue.specs.Columns.{counter_of_line, counter_of_row, counted_by, tag_column, blocked_count, waiting_items}
 use Rattle.queue.proofs.Tags.{length-tags}
 use Rattle.queue.proofs.Renumbered.{waiting_twice, tag_waiting, blocked_waiting}
 use Rattle.queue.proofs.request_log.RequestLog.renumber.Goals as goal
@@ -29,9 +29,9 @@ invariant_of-self c =
           ∙ ap tag_column (sym (kept c));
       blocked_are = k.blocked_are ∙ sym (ap blocked_count (kept c) ∙ blocked_waiting log);
       masked = k.masked;
-      lines_are = λ n below. k.lines_are n below ∙ ap (λ rs. slot_count (slot_of_line q.mask) rs n) (sym same);
+      lines_are = λ n below. k.lines_are n below ∙ ap (λ rs. counted_by (counter_of_line q.mask) rs n) (sym same);
       rows_masked = k.rows_masked;
-      rows_are = λ n below. k.rows_are n below ∙ ap (λ rs. slot_count (slot_of_row q.row_mask) rs n) (sym same);
+      rows_are = λ n below. k.rows_are n below ∙ ap (λ rs. counted_by (counter_of_row q.row_mask) rs n) (sym same);
       within = omega (arith, k.within, c.retain.ensures.bound);
       log_room = omega (arith, k.log_room, c.retain.ensures.capacity);
       tag_room = omega (arith, k.tag_room, c.keep_waiting.ensures.room);

@@ -1,7 +1,7 @@
 -- No request has arrived, so there is nothing to count.
 use Rattle.std.proofs.Common.{length, sym, ap, subst, ◌∙◌, arith}
 use Rattle.queue.specs.Log.{waiting, waiting_requests, eligible_column}
-use Rattle.queue.specs.Columns.{tag_column, blocked_count, slot_of_line, slot_of_row, AreCounted}
+use Rattle.queue.specs.Columns.{tag_column, blocked_count, counter_of_line, counter_of_row, AreCounted}
 use Rattle.queue.proofs.request_log.RequestLog.with_places.Goals as goal
 
 pub invariant_of-result : goal.invariant_of-result
@@ -15,9 +15,9 @@ invariant_of-result c =
       tags_are = tags.items ∙ ap tag_column (sym log.items);
       blocked_are = ap blocked_count (sym log.items);
       masked = lines.masked;
-      lines_are = subst (λ log. AreCounted (slot_of_line c.in_ok-lines.mask) c.in_ok-lines.lines.items (waiting_requests log)) (sym log.items) lines.lines;
+      lines_are = subst (λ log. AreCounted (counter_of_line c.in_ok-lines.mask) c.in_ok-lines.lines.items (waiting_requests log)) (sym log.items) lines.lines;
       rows_masked = rows.masked;
-      rows_are = subst (λ log. AreCounted (slot_of_row c.in_ok-rows.row_mask) c.in_ok-rows.rows.items (waiting_requests log)) (sym log.items) rows.rows;
+      rows_are = subst (λ log. AreCounted (counter_of_row c.in_ok-rows.row_mask) c.in_ok-rows.rows.items (waiting_requests log)) (sym log.items) rows.rows;
       within = omega (arith, ap length log.items);
       log_room = log.capacity;
       tag_room = tags.capacity;

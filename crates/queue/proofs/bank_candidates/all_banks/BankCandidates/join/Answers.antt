@@ -49,9 +49,9 @@ returns-then-eligible-clause-stands c older a open_rows long request waits is st
     let value : c.saturating_add.result ≡ min (get_or old.counts.items c.access_number-number.result 0 + 1) 65535 =
     c.saturating_add.ensures ∙ ap (λ n. min (n + 1) 65535) (c.index.ensures ∙ get_or_default old.counts.items c.access_number-number.result c.index.result.now 0 (omega (arith, counted_access, below))) in
     from_parts _ (older ++ a ∷ []) open_rows
-    (joined_stand rows was now older a open_rows c.args.slot hit long exists short (follows older a c.args.eligible waits is ∙ c.if-eligible.true) hit_is
-    (subst (λ k. candidate_in now k false ≡ or_else (candidate_in was k false) (Some c.args.slot)) number_is c.join.ensures.joined.oldest_is)
-    (subst (λ k. candidate_in now k true ≡ cond hit (or_else (candidate_in was k true) (Some c.args.slot)) (candidate_in was k true)) number_is c.join.ensures.joined.hit_is)
+    (joined_stand rows was now older a open_rows c.args.place hit long exists short (follows older a c.args.eligible waits is ∙ c.if-eligible.true) hit_is
+    (subst (λ k. candidate_in now k false ≡ or_else (candidate_in was k false) (Some c.args.place)) number_is c.join.ensures.joined.oldest_is)
+    (subst (λ k. candidate_in now k true ≡ cond hit (or_else (candidate_in was k true) (Some c.args.place)) (candidate_in was k true)) number_is c.join.ensures.joined.hit_is)
     (λ other apart. c.join.ensures.others other (λ e. apart (e ∙ number_is))) (to_parts old older open_rows stands))
     (counted_more old.counts.items older a c.access_number-number.result c.saturating_add.result waits counted_access below (omega (arith, long, c.requires.short)) value stands.counts_are)
 

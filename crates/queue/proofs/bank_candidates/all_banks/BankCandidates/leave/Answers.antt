@@ -20,10 +20,10 @@ renamed P a b v w o p bank access row holds = subst (λ n. P n w p) bank (subst 
 
 pub returns-clause-stands : goal.returns-clause-stands
 returns-clause-stands c earlier unblocked open_rows served stands =
-    let slot = c.args.slot in
+    let place = c.args.place in
     let log = c.args.log.now.log in
-    let r = (get_or earlier slot absent).request in
-    let read = (get_or c.log.result.now slot absent).request in
+    let r = (get_or earlier place absent).request in
+    let read = (get_or c.log.result.now place absent).request in
     let old = c.args.self.now in
     let rows = old.rows.items in
     let was = old.places.words.items in
@@ -31,9 +31,9 @@ returns-clause-stands c earlier unblocked open_rows served stands =
     let own = bank_number r.place in
     let bank = c.bank_number-bank.result in
     let row = c.index-2.result.now in
-    let log_same : (get_or log slot absent).request ≡ r =
-    ap (λ xs. (get_or xs slot absent).request) served.log_is ∙ ap (λ (x : Arrived). x.request) (get_or-set_same earlier slot (record (get_or earlier slot absent) { waits = false }) absent served.within) in
-    let same : read ≡ r = ap (λ xs. (get_or xs slot absent).request) c.log.ensures.log ∙ log_same in
+    let log_same : (get_or log place absent).request ≡ r =
+    ap (λ xs. (get_or xs place absent).request) served.log_is ∙ ap (λ (x : Arrived). x.request) (get_or-set_same earlier place (record (get_or earlier place absent) { waits = false }) absent served.within) in
+    let same : read ≡ r = ap (λ xs. (get_or xs place absent).request) c.log.ensures.log ∙ log_same in
     let number : bank ≡ own = c.bank_number-bank.ensures.number ∙ ap (λ (x : Request). bank_number x.place) same in
     let access_is : read.access ≡ r.access = ap (λ (x : Request). x.access) same in
     let key_is : access_number bank read.access ≡ access_number_of r = (λ i. access_number (number i) (access_is i)) in
@@ -48,7 +48,7 @@ returns-clause-stands c earlier unblocked open_rows served stands =
     let value : left ≡ get_or counts (access_number_of r) 0 - 1 =
     c.saturating_sub-left.ensures ∙ ap (λ n. n - 1) (c.index.ensures ∙ ap (λ n. get_or counts n c.index.result.now) number_is ∙ get_or_default counts (access_number_of r) c.index.result.now 0 below) in
     let counted_own : AreCounted (set counts (access_number_of r) left) (waiting_requests log) =
-    subst (λ xs. AreCounted (set counts (access_number_of r) left) (waiting_requests xs)) (sym served.log_is) (counted_served counts earlier slot left stands.counts_are served.within served.waits below value) in
+    subst (λ xs. AreCounted (set counts (access_number_of r) left) (waiting_requests xs)) (sym served.log_is) (counted_served counts earlier place left stands.counts_are served.within served.waits below value) in
     let counted : AreCounted (set counts c.access_number-number.result left) (waiting_requests log) =
     subst (λ n. AreCounted (set counts n left) (waiting_requests log)) (sym number_is) counted_own in
     let none : eqb left 0 ≡ true → access_count (access_number bank read.access) (waiting_requests log) ≡ 0 =
@@ -57,7 +57,7 @@ returns-clause-stands c earlier unblocked open_rows served stands =
     ∙ get_or-set_same counts (access_number_of r) left 0 below ∙ eqb-true left 0 on in
     let first : AreFirst earlier bank read.access row (access_in was (access_number bank read.access)) =
     renamed (λ n w o. AreFirst earlier n w o (access_in was (access_number n w))) own bank r.access read.access (open_rows own) row (sym number) (sym access_is) (sym row_is) (parts.first own r.access exists) in
-    left_stand _ was earlier log slot unblocked open_rows served
+    left_stand _ was earlier log place unblocked open_rows served
     (renamed (λ n w o. AreFirstWith log n w o unblocked (access_in now (access_number n w))) bank own read.access r.access row (open_rows own) number access_is row_is
     (c.leave.ensures.own earlier unblocked served none first))
     (λ number apart. c.leave.ensures.others number (λ e. apart (e ∙ key_is))) parts counted

@@ -8,28 +8,28 @@ use Rattle.queue.specs.Stands.{StandsFor}
 use Rattle.queue.proofs.Stood.{mark_read}
 use Rattle.queue.proofs.bank_candidates.all_banks.BankCandidates.on_arrival.Goals as goal
 
-pub loop-slot-preserved : goal.loop-slot-preserved
-loop-slot-preserved c =
+pub loop-place-preserved : goal.loop-place-preserved
+loop-place-preserved c =
     let log = c.args.log.now.log in
-    let slot = c.loop-slot.slot in
-    let a = get_or log slot absent in
-    let older = take slot log in
-    let within : slot < length log = omega (arith, ap length c.log-arrived.ensures.log) in
-    let place : c.args.from + (slot - c.args.from) ≡ slot = omega (arith, c.loop-slot.auto.slot) in
+    let place = c.loop-place.place in
+    let a = get_or log place absent in
+    let older = take place log in
+    let within : place < length log = omega (arith, ap length c.log-arrived.ensures.log) in
+    let place_is : c.args.from + (place - c.args.from) ≡ place = omega (arith, c.loop-place.auto.place) in
     let waits : a.waits ≡ true =
-    ap (λ n. (get_or log n absent).waits) (sym place) ∙ ap (λ (x : Arrived). x.waits) (sym (get_or-drop c.args.from log (slot - c.args.from) absent))
-    ∙ c.requires.waits (slot - c.args.from) absent (omega (arith, length-drop c.args.from log, within, c.loop-slot.auto.slot)) in
+    ap (λ n. (get_or log n absent).waits) (sym place_is) ∙ ap (λ (x : Arrived). x.waits) (sym (get_or-drop c.args.from log (place - c.args.from) absent))
+    ∙ c.requires.waits (place - c.args.from) absent (omega (arith, length-drop c.args.from log, within, c.loop-place.auto.place)) in
     let marked : c.is_eligible.result ≡ not (asks_for_line a.request.place (waiting_requests older)) =
-    c.is_eligible.ensures ∙ mark_read log slot within ∙ ap (λ b. b && not (asks_for_line a.request.place (waiting_requests older))) waits in
+    c.is_eligible.ensures ∙ mark_read log place within ∙ ap (λ b. b && not (asks_for_line a.request.place (waiting_requests older))) waits in
     record {
-      banks = c.join.ensures.banks ∙ c.loop-slot.invariant.banks;
+      banks = c.join.ensures.banks ∙ c.loop-place.invariant.banks;
       stands = λ open_rows stands.
-          subst (λ xs. StandsFor c.join.new.self xs open_rows) (sym (take_more log slot absent within))
-          (c.join.ensures.stands older a open_rows (sym (length-take-le slot log (omega arith))) (ap (λ xs. (get_or xs slot absent).request) c.log-arrived.ensures.log) waits marked
-          (c.loop-slot.invariant.stands open_rows stands));
+          subst (λ xs. StandsFor c.join.new.self xs open_rows) (sym (take_more log place absent within))
+          (c.join.ensures.stands older a open_rows (sym (length-take-le place log (omega arith))) (ap (λ xs. (get_or xs place absent).request) c.log-arrived.ensures.log) waits marked
+          (c.loop-place.invariant.stands open_rows stands));
     }
 
 pub returns-clause-stands : goal.returns-clause-stands
 returns-clause-stands c open_rows stands =
     let log = c.args.log.now.log in
-    subst (λ xs. StandsFor c.loop-slot.self xs open_rows) (take_all c.loop-slot.slot log (omega (arith, ap length c.log-arrived.ensures.log))) (c.loop-slot.invariant.stands open_rows stands)
+    subst (λ xs. StandsFor c.loop-place.self xs open_rows) (take_all c.loop-place.place log (omega (arith, ap length c.log-arrived.ensures.log))) (c.loop-place.invariant.stands open_rows stands)

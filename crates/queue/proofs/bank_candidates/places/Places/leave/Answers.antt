@@ -12,15 +12,15 @@ use Rattle.queue.proofs.BankCandidatesServed.{left_candidate, no_candidate, none
 use Rattle.queue.proofs.bank_candidates.places.Places.leave.Goals as goal
 
 -- the first hit that is left: no request hits where no row is open
-left_hit : (bank : ℕ) (access : Access) (row : Option ℕ) (was log : List Arrived) (slot : ℕ) (unblocked : Option ℕ) (old new : Option ℕ) → IsServed was slot unblocked log
-    → old ≡ first_place (hits bank access row) was → (old ≢ Some slot → new ≡ old)
-    → (old ≡ Some slot → NoneBefore (wants bank access row) log (slot + 1) → new ≡ first_place (wants bank access row) log)
+left_hit : (bank : ℕ) (access : Access) (row : Option ℕ) (was log : List Arrived) (place : ℕ) (unblocked : Option ℕ) (old new : Option ℕ) → IsServed was place unblocked log
+    → old ≡ first_place (hits bank access row) was → (old ≢ Some place → new ≡ old)
+    → (old ≡ Some place → NoneBefore (wants bank access row) log (place + 1) → new ≡ first_place (wants bank access row) log)
     → earlier new (passing (hits bank access row) log unblocked) ≡ first_place (hits bank access row) log
-left_hit bank access None was log slot unblocked old new served is kept found =
+left_hit bank access None was log place unblocked old new served is kept found =
     let never : None ≡ old = none_everywhere (hits bank access None) was (never_hits bank access) ∙ sym is in
-    left_candidate (hits bank access None) was log slot unblocked old new served is kept (λ there. absurd (cc (never ∙ there)))
-left_hit bank access (Some row) was log slot unblocked old new served is kept found =
-    left_candidate (hits bank access (Some row)) was log slot unblocked old new served is kept found
+    left_candidate (hits bank access None) was log place unblocked old new served is kept (λ there. absurd (cc (never ∙ there)))
+left_hit bank access (Some row) was log place unblocked old new served is kept found =
+    left_candidate (hits bank access (Some row)) was log place unblocked old new served is kept found
 
 pub returns-then-empty-clause-own : goal.returns-then-empty-clause-own
 returns-then-empty-clause-own c was unblocked served empty first =
@@ -28,12 +28,12 @@ returns-then-empty-clause-own c was unblocked served empty first =
     let access = c.args.departure.access in
     let row = c.args.row in
     let log = c.args.log.now.log in
-    let slot = c.args.departure.slot in
+    let place = c.args.departure.place in
     let none = no_first log bank access (empty c.if-empty.true) in
     record {
-      oldest_is = no_candidate (asks bank access) was log slot unblocked _ served (ap (λ x. x.oldest) c.set_both.ensures.same) none;
+      oldest_is = no_candidate (asks bank access) was log place unblocked _ served (ap (λ x. x.oldest) c.set_both.ensures.same) none;
       hit_is =
-          no_candidate (hits bank access row) was log slot unblocked _ served (ap (λ x. x.hit) c.set_both.ensures.same)
+          no_candidate (hits bank access row) was log place unblocked _ served (ap (λ x. x.hit) c.set_both.ensures.same)
           (none_narrower_all (hits bank access row) (asks bank access) log (hits_narrower bank access row) none);
     }
 
@@ -44,16 +44,16 @@ returns-then-is_at-2-clause-own c was unblocked served empty first =
     let access = c.args.departure.access in
     let row = c.args.row in
     let log = c.args.log.now.log in
-    let slot = c.args.departure.slot in
+    let place = c.args.departure.place in
     let oldest_there = c.is_at.ensures.there c.if-is_at.true in
     let hit_there = c.is_at-then-is_at.ensures.there c.if-is_at-2.true in
-    let behind = c.candidates_from-behind.ensures.first (none_left (asks bank access) was log slot unblocked served (sym first.oldest_is ∙ oldest_there)) in
+    let behind = c.candidates_from-behind.ensures.first (none_left (asks bank access) was log place unblocked served (sym first.oldest_is ∙ oldest_there)) in
     record {
       oldest_is =
-          left_candidate (asks bank access) was log slot unblocked _ _ served first.oldest_is (λ apart. absurd (apart oldest_there))
+          left_candidate (asks bank access) was log place unblocked _ _ served first.oldest_is (λ apart. absurd (apart oldest_there))
           (λ there none. ap (λ x. x.oldest) c.set_both-then-is_at-2.ensures.same ∙ behind.oldest_is);
       hit_is =
-          left_candidate (hits bank access row) was log slot unblocked _ _ served first.hit_is (λ apart. absurd (apart hit_there))
+          left_candidate (hits bank access row) was log place unblocked _ _ served first.hit_is (λ apart. absurd (apart hit_there))
           (λ there none. ap (λ x. x.hit) c.set_both-then-is_at-2.ensures.same ∙ behind.hit_is);
     }
 
@@ -63,13 +63,13 @@ returns-clause-own c was unblocked served empty first =
     let access = c.args.departure.access in
     let row = c.args.row in
     let log = c.args.log.now.log in
-    let slot = c.args.departure.slot in
+    let place = c.args.departure.place in
     let oldest = c.replace.ensures in
     let hit = c.replace-2.ensures in
     record {
       oldest_is =
-          left_candidate (asks bank access) was log slot unblocked _ _ served first.oldest_is (λ apart. hit.beside ∙ oldest.kept apart)
+          left_candidate (asks bank access) was log place unblocked _ _ served first.oldest_is (λ apart. hit.beside ∙ oldest.kept apart)
           (λ there none. hit.beside ∙ oldest.found there none);
       hit_is =
-          left_hit bank access row was log slot unblocked _ _ served (oldest.beside ∙ first.hit_is) hit.kept hit.found;
+          left_hit bank access row was log place unblocked _ _ served (oldest.beside ∙ first.hit_is) hit.kept hit.found;
     }
