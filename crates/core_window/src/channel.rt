@@ -1,4 +1,4 @@
-//! The place of an entry.
+//! The place of the address of an entry.
 
 ghost use Rattle.sim_base.specs.declared.config.Config.{Config};
 ghost use Rattle.address_map.specs.Shifts.{IsDigits};
@@ -8,8 +8,8 @@ use address_map::digits::Digits;
 use sim_base::place::Place;
 use sim_base::trace::Entry;
 
-/// Where a Read or a Write lies; for a Plain entry, which lies nowhere, the place of address 0.
-pub fn place_of_entry(digits: &Digits, entry: Entry) -> Place
+/// The place of the address of a Read or a Write; for a Plain entry, which has none, that of address 0.
+pub fn address_place(digits: &Digits, entry: Entry) -> Place
     ensures { (s : Config) → IsDigits s digits.now → IsPlaced s entry result }
 {
     let address = match entry {

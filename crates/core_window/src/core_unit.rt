@@ -27,7 +27,7 @@ use crate::flow::{Flow, WindowNumbers, cycles_within, flow_of};
 use crate::issue::{
     EntriesAhead, TracePosition, entry_issued, issue_of, look_ahead, most_issued, next_two,
 };
-use crate::issue_effects::{Sender, request_latencies, send, spend, wait_for};
+use crate::issue_effects::{RequestingCore, request_latencies, send, spend, wait_for};
 use crate::outstanding::OutstandingReads;
 use crate::receive::{add_credit_at, channel_of, count_reply};
 use crate::retire::{cause_where_full, is_next_done, is_stuck, retire_count};
@@ -177,7 +177,7 @@ impl Core {
         count_memory(&mut self.stats, cycle_work.memory);
         wait_for(&mut self.outstanding, cycle_work.memory, self.cycle)?;
         spend(&mut self.credits, &self.found.place, cycle_work.memory);
-        let sender = Sender {
+        let sender = RequestingCore {
             config: &self.config,
             latencies: &self.latencies,
             core: self.id,

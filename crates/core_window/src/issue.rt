@@ -8,7 +8,7 @@ ghost use Rattle.core_window.specs.Causes.{issue_count, cause_at};
 ghost use Rattle.core_window.specs.Foreseen.{HasEntry, IsNextBehind, IsSeenFrom, WasSeen, IsKnownBy, StaysKnown};
 ghost use Rattle.core_window.specs.Foreseen.{issue_limit, issue_count_of, cause_of};
 
-use crate::channel::place_of_entry;
+use crate::channel::address_place;
 use address_map::digits::Digits;
 use cpu_trace::entries::MemoryEntry;
 use cpu_trace::trace::Trace;
@@ -74,7 +74,7 @@ pub fn ahead_of(digits: &Digits, trace: &Trace, first: MemoryEntry, before: u64)
     EntriesAhead {
         first_at: first.number,
         entry: first.entry,
-        place: place_of_entry(digits, first.entry),
+        place: address_place(digits, first.entry),
         second_at: second.number,
         second: second.entry,
     }
@@ -92,7 +92,7 @@ pub fn go_to_second(digits: &Digits, trace: &Trace, ahead: &mut EntriesAhead, be
     let next = entry_behind(trace, ahead.second_at, before);
     ahead.first_at = ahead.second_at;
     ahead.entry = ahead.second;
-    ahead.place = place_of_entry(digits, ahead.entry);
+    ahead.place = address_place(digits, ahead.entry);
     ahead.second_at = next.number;
     ahead.second = next.entry;
 }

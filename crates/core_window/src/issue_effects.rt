@@ -87,9 +87,9 @@ pub fn request_latencies(
         .collect(alloc)
 }
 
-/// A core that sends, in a cycle, with the latencies of its links for requests.
+/// A core that sends a request in a cycle, with the latencies of its links for requests.
 #[derive(Clone, Copy)]
-pub struct Sender<'a> {
+pub struct RequestingCore<'a> {
     pub config: &'a Config,
     pub latencies: &'a [u32],
     pub core: CoreId,
@@ -97,7 +97,7 @@ pub struct Sender<'a> {
 }
 
 /// How many cycles a request travels to a channel.
-fn travel_to(sender: &Sender<'_>, channel: ChannelId) -> u32
+fn travel_to(sender: &RequestingCore<'_>, channel: ChannelId) -> u32
     requires exists { channel < sender.now.config.now.channels }
     requires latencies { KnowsLatencies sender.now }
     ensures { result ≡ latency sender.now.config.now
@@ -108,7 +108,7 @@ fn travel_to(sender: &Sender<'_>, channel: ChannelId) -> u32
 
 #[tactic(auto, unfolding(sim_base::specs::History::request))]
 fn request_of_address(
-    sender: &Sender<'_>,
+    sender: &RequestingCore<'_>,
     entry: u64,
     access: Access,
     address: u64,
@@ -143,7 +143,7 @@ fn request_of_address(
 /// The entry that issues, which lies at this place, sends its request.
 pub fn send(
     sent: &mut Vec<Message>,
-    sender: &Sender<'_>,
+    sender: &RequestingCore<'_>,
     place: &Place,
     memory: Option<MemoryEntry>,
 ) -> Result<(), AllocError>
