@@ -1,6 +1,6 @@
 //! Rows that are handed to `csv` as one text.
 
-ghost use Rattle.std.specs.Prelude.{◌≡◌, ◌≤◌, ◌<◌, ◌+◌, ◌++◌, ◌↔◌, [], length, take, drop, codes, IsTrue};
+ghost use Rattle.std.specs.Prelude.{◌≡◌, ◌≤◌, ◌<◌, ◌+◌, ◌++◌, ◌↔◌, [], length, take, codes, IsTrue};
 ghost use Rattle.std.specs.Simd.Lanes.{chunk};
 ghost use Rattle.reports.specs.Rows.{ended};
 

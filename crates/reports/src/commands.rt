@@ -7,7 +7,7 @@ ghost use Rattle.reports.specs.Tables.{AddsRows};
 ghost use Rattle.reports.specs.Commands.{header, kind_word, request_operands, operand_fields, command_fields, lines_text, commands_text};
 
 use crate::hundreds::Hundred;
-use crate::line::{Line, put, put_byte, put_last_long, put_last_word, put_rank, put_word};
+use crate::line::{Line, ROOM, put, put_byte, put_bytes, put_last_long, put_rank, put_word};
 use crate::pieces::{MANY, MOST, TableLines, TableThreads, write_pieces, write_whole};
 use crate::table::{Loss, RowBuffer};
 use command_table::table::{CommandTable, Rows};
@@ -49,7 +49,7 @@ fn put_whole_rank(line: &mut Line, ranks: u32, rank: u32, word: &[u8]) -> usize
     ensures low { 105 ≤ result }
     ensures high { result ≤ 256 }
 {
-    let start = put_last_word(line, b",,,,,");
+    let start = put_bytes(line, ROOM, b",,,,,");
     let start = put_rank(line, start, ranks, Some(u64::from(rank)));
     put_word(line, start, word)
 }
@@ -121,29 +121,7 @@ fn put_kind(line: &mut Line, ranks: u32, command: &Command) -> usize
     }
 }
 
-fn columns(ranks: u32) -> &'static [u8]
-    ensures names { result.now ≡ fields_text (header ranks) }
-    ensures some { 0 < length result.now }
-    ensures short { length result.now ≤ 64 }
-{
-    if ranks > 1 {
-        b"cycle,channel,command,rank,group,bank,row,column,core,entry"
-    } else {
-        b"cycle,channel,command,group,bank,row,column,core,entry"
-    }
-}
-
-// The fields of a row, from the last to the first.
-#[inline(always)]
-fn put_command(line: &mut Line, hundred: &mut Hundred, ranks: u32, row: &IssuedCommand) -> usize
-    ensures text { drop result line.new ≡ fields_text (command_fields ranks row.now) }
-    ensures some { result < 256 }
-{
-    let start = put_kind(line, ranks, &row.command);
-    let start = put(line, start, Some(u64::from(row.channel)));
-    hundred.put_cycle(line, start, row.cycle)
-}
-
+// A row, whose fields are put together from the last to the first.
 fn write_command<W: Write>(
     table: &mut RowBuffer,
     hundred: &mut Hundred,
@@ -154,7 +132,10 @@ fn write_command<W: Write>(
     ensures { AddsRows W.contents writer.old table.old writer.new table.new
         (row_text (command_fields ranks row.now)) }
 {
-    let start = put_command(&mut table.line, hundred, ranks, row);
+    let line = &mut table.line;
+    let start = put_kind(line, ranks, &row.command);
+    let start = put(line, start, Some(u64::from(row.channel)));
+    let start = hundred.put_cycle(line, start, row.cycle);
     table.write_row(start, writer);
 }
 
@@ -185,7 +166,11 @@ impl<'a> TableLines<Rows<'a>> for CommandLines {
         ensures some { 0 < length result.now }
         ensures short { length result.now ≤ 256 }
     {
-        columns(self.ranks)
+        if self.ranks > 1 {
+            b"cycle,channel,command,rank,group,bank,row,column,core,entry"
+        } else {
+            b"cycle,channel,command,group,bank,row,column,core,entry"
+        }
     }
 
     fn write_lines<W: Write>(

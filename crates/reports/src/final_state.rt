@@ -1,14 +1,14 @@
 //! The table of the state in which a run ends, `final.csv`.
 
-ghost use Rattle.std.specs.Prelude.{◌≡◌, ◌<◌, ◌≤◌, length, drop, map, Some, IfErr};
+ghost use Rattle.std.specs.Prelude.{◌≡◌, ◌<◌, ◌≤◌, length, map, Some, IfErr};
 ghost use Rattle.reports.specs.Rows.{fields_text, row_text, rows_text, numbered, IsReportFault, WritesOnOk};
-ghost use Rattle.reports.specs.Final.{final_header, final_fields, core_numbers, progress_rows, credit_rows, credits_of_core, due_rows, open_numbers, open_fields, queued_item, queued_numbers, queued_fields, channel_rows, flight_item, flight_entry, core_of_link, channel_of_link, flight_numbers, flight_fields, final_text};
+ghost use Rattle.reports.specs.Final.{final_header, final_fields, core_numbers, progress_rows, credit_rows, credits_of_core, due_rows, open_fields, queued_item, queued_fields, channel_rows, flight_item, flight_entry, flight_numbers, flight_fields, final_text};
 ghost use Rattle.reports.specs.Tables.{AddsRows};
 
-use crate::line::{Line, put, put_last, put_rank, put_word};
+use crate::line::{put, put_last, put_rank, put_word};
 use crate::table::RowBuffer;
 use sim_base::fault::Fault;
-use sim_base::message::{Access, LinkId, Load, Message, Request};
+use sim_base::message::{Access, Load, Message, Request};
 use statistics::final_state::{ChannelState, CoreState, Credits, FinalState, OpenRow};
 use std::alloc::Global;
 use std::io::Write;
@@ -49,23 +49,7 @@ fn columns(ranks: u32) -> &'static [u8]
     }
 }
 
-// The fields of a row, from the last to the first.
-fn put_numbers(line: &mut Line, ranks: u32, item: &[u8], numbers: &Numbers) -> usize
-    requires { length item.now ≤ 32 }
-    ensures text { drop result line.new ≡ fields_text (final_fields ranks item.now numbers.now) }
-    ensures some { result < 256 }
-{
-    let start = put_last(line, numbers.value);
-    let start = put(line, start, numbers.cycle);
-    let start = put(line, start, numbers.entry);
-    let start = put(line, start, numbers.bank);
-    let start = put(line, start, numbers.group);
-    let start = put_rank(line, start, ranks, numbers.rank);
-    let start = put(line, start, numbers.channel);
-    let start = put(line, start, numbers.core);
-    put_word(line, start, item)
-}
-
+// A row, whose fields are put together from the last to the first.
 fn write_numbers<W: Write>(
     table: &mut RowBuffer,
     ranks: u32,
@@ -77,7 +61,16 @@ fn write_numbers<W: Write>(
     ensures { AddsRows W.contents writer.old table.old writer.new table.new
         (row_text (final_fields ranks item.now numbers.now)) }
 {
-    let start = put_numbers(&mut table.line, ranks, item, numbers);
+    let line = &mut table.line;
+    let start = put_last(line, numbers.value);
+    let start = put(line, start, numbers.cycle);
+    let start = put(line, start, numbers.entry);
+    let start = put(line, start, numbers.bank);
+    let start = put(line, start, numbers.group);
+    let start = put_rank(line, start, ranks, numbers.rank);
+    let start = put(line, start, numbers.channel);
+    let start = put(line, start, numbers.core);
+    let start = put_word(line, start, item);
     table.write_row(start, writer);
 }
 
@@ -92,57 +85,16 @@ fn numbers_of_core(core: u64, channel: Option<u64>, count: u64) -> Numbers
     }
 }
 
-fn write_progress<W: Write>(
-    table: &mut RowBuffer,
-    ranks: u32,
-    core: u64,
-    state: &CoreState,
-    writer: &mut W,
-)
-    ensures { AddsRows W.contents writer.old table.old writer.new table.new
-        (rows_text (progress_rows ranks core state.now)) }
-{
-    let issued = numbers_of_core(core, None, state.issued);
-    let retired = numbers_of_core(core, None, state.retired);
-    write_numbers(table, ranks, b"issued", &issued, writer);
-    write_numbers(table, ranks, b"retired", &retired, writer);
-}
-
-fn write_progress_of_all<W: Write>(
-    table: &mut RowBuffer,
-    ranks: u32,
-    cores: &[CoreState],
-    writer: &mut W,
-)
+fn write_progress<W: Write>(table: &mut RowBuffer, ranks: u32, cores: &[CoreState], writer: &mut W)
     ensures { AddsRows W.contents writer.old table.old writer.new table.new
         (rows_text (numbered (progress_rows ranks) cores.now)) }
 {
     for (core, state) in cores.iter().enumerate() {
-        write_progress(table, ranks, core as u64, state, writer);
+        let issued = numbers_of_core(core as u64, None, state.issued);
+        let retired = numbers_of_core(core as u64, None, state.retired);
+        write_numbers(table, ranks, b"issued", &issued, writer);
+        write_numbers(table, ranks, b"retired", &retired, writer);
     }
-}
-
-// A core and the channel for which it holds credits.
-#[derive(Clone, Copy)]
-struct Pair {
-    core: u64,
-    channel: u64,
-}
-
-fn write_credits<W: Write>(
-    table: &mut RowBuffer,
-    ranks: u32,
-    pair: Pair,
-    credits: Credits,
-    writer: &mut W,
-)
-    ensures { AddsRows W.contents writer.old table.old writer.new table.new
-        (rows_text (credit_rows ranks pair.core pair.channel credits)) }
-{
-    let of_reads = numbers_of_core(pair.core, Some(pair.channel), credits.read);
-    let of_writes = numbers_of_core(pair.core, Some(pair.channel), credits.write);
-    write_numbers(table, ranks, b"credit_read", &of_reads, writer);
-    write_numbers(table, ranks, b"credit_write", &of_writes, writer);
 }
 
 fn write_credits_of_core<W: Write>(
@@ -156,17 +108,14 @@ fn write_credits_of_core<W: Write>(
         (rows_text (numbered (credit_rows ranks core) credits.now)) }
 {
     for (channel, held) in credits.iter().enumerate() {
-        let channel = channel as u64;
-        write_credits(table, ranks, Pair { core, channel }, *held, writer);
+        let of_reads = numbers_of_core(core, Some(channel as u64), held.read);
+        let of_writes = numbers_of_core(core, Some(channel as u64), held.write);
+        write_numbers(table, ranks, b"credit_read", &of_reads, writer);
+        write_numbers(table, ranks, b"credit_write", &of_writes, writer);
     }
 }
 
-fn write_credits_of_all<W: Write>(
-    table: &mut RowBuffer,
-    ranks: u32,
-    cores: &[CoreState],
-    writer: &mut W,
-)
+fn write_credits<W: Write>(table: &mut RowBuffer, ranks: u32, cores: &[CoreState], writer: &mut W)
     ensures { AddsRows W.contents writer.old table.old writer.new table.new
         (rows_text (numbered (credits_of_core ranks) cores.now)) }
 {
@@ -190,19 +139,6 @@ fn write_due<W: Write>(table: &mut RowBuffer, ranks: u32, channel: u64, due: &[u
     }
 }
 
-fn numbers_of_open(channel: u64, opened: OpenRow) -> Numbers
-    ensures { result ≡ open_numbers channel opened }
-{
-    Numbers {
-        channel: Some(channel),
-        rank: Some(u64::from(opened.bank.rank)),
-        group: Some(u64::from(opened.bank.group)),
-        bank: Some(u64::from(opened.bank.bank)),
-        value: Some(u64::from(opened.row)),
-        ..BLANK
-    }
-}
-
 fn write_open_rows<W: Write>(
     table: &mut RowBuffer,
     ranks: u32,
@@ -214,13 +150,15 @@ fn write_open_rows<W: Write>(
         (rows_text (map (open_fields ranks channel) open_rows.now)) }
 {
     for opened in open_rows {
-        write_numbers(
-            table,
-            ranks,
-            b"open",
-            &numbers_of_open(channel, *opened),
-            writer,
-        );
+        let numbers = Numbers {
+            channel: Some(channel),
+            rank: Some(u64::from(opened.bank.rank)),
+            group: Some(u64::from(opened.bank.group)),
+            bank: Some(u64::from(opened.bank.bank)),
+            value: Some(u64::from(opened.row)),
+            ..BLANK
+        };
+        write_numbers(table, ranks, b"open", &numbers, writer);
     }
 }
 
@@ -231,21 +169,6 @@ fn queued_word(access: Access) -> &'static [u8]
     match access {
         Access::Read => b"queued_read",
         Access::Write => b"queued_write",
-    }
-}
-
-fn numbers_of_queued(channel: u64, request: Request) -> Numbers
-    ensures { result ≡ queued_numbers channel request }
-{
-    Numbers {
-        core: Some(u64::from(request.core)),
-        channel: Some(channel),
-        rank: Some(u64::from(request.place.rank)),
-        group: Some(u64::from(request.place.group)),
-        bank: Some(u64::from(request.place.bank)),
-        entry: Some(request.entry),
-        cycle: Some(request.arrival),
-        value: Some(request.address),
     }
 }
 
@@ -260,30 +183,19 @@ fn write_queue<W: Write>(
         (rows_text (map (queued_fields ranks channel) queue.now)) }
 {
     for request in queue {
+        let numbers = Numbers {
+            core: Some(u64::from(request.core)),
+            channel: Some(channel),
+            rank: Some(u64::from(request.place.rank)),
+            group: Some(u64::from(request.place.group)),
+            bank: Some(u64::from(request.place.bank)),
+            entry: Some(request.entry),
+            cycle: Some(request.arrival),
+            value: Some(request.address),
+        };
         let item = queued_word(request.access);
-        write_numbers(
-            table,
-            ranks,
-            item,
-            &numbers_of_queued(channel, *request),
-            writer,
-        );
+        write_numbers(table, ranks, item, &numbers, writer);
     }
-}
-
-fn write_channel<W: Write>(
-    table: &mut RowBuffer,
-    ranks: u32,
-    channel: u64,
-    state: &ChannelState,
-    writer: &mut W,
-)
-    ensures { AddsRows W.contents writer.old table.old writer.new table.new
-        (rows_text (channel_rows ranks channel state.now)) }
-{
-    write_due(table, ranks, channel, &state.due, writer);
-    write_open_rows(table, ranks, channel, &state.open_rows, writer);
-    write_queue(table, ranks, channel, &state.queue, writer);
 }
 
 fn write_channels<W: Write>(
@@ -296,7 +208,9 @@ fn write_channels<W: Write>(
         (rows_text (numbered (channel_rows ranks) channels.now)) }
 {
     for (channel, state) in channels.iter().enumerate() {
-        write_channel(table, ranks, channel as u64, state, writer);
+        write_due(table, ranks, channel as u64, &state.due, writer);
+        write_open_rows(table, ranks, channel as u64, &state.open_rows, writer);
+        write_queue(table, ranks, channel as u64, &state.queue, writer);
     }
 }
 
@@ -327,32 +241,12 @@ fn entry_of(load: Load) -> u64
     }
 }
 
-fn core_of(channels: u64, link: LinkId) -> Option<u64>
-    ensures { result ≡ core_of_link channels link }
-{
-    if channels == 0 {
-        None
-    } else {
-        Some(link / 3 / channels)
-    }
-}
-
-fn channel_of(channels: u64, link: LinkId) -> Option<u64>
-    ensures { result ≡ channel_of_link channels link }
-{
-    if channels == 0 {
-        None
-    } else {
-        Some(link / 3 % channels)
-    }
-}
-
 fn numbers_of_flight(channels: u64, message: Message) -> Numbers
     ensures { result ≡ flight_numbers channels message }
 {
     Numbers {
-        core: core_of(channels, message.link),
-        channel: channel_of(channels, message.link),
+        core: (message.link / 3).checked_div(channels),
+        channel: (message.link / 3).checked_rem(channels),
         entry: Some(entry_of(message.load)),
         cycle: Some(message.arrival),
         value: Some(message.link),
@@ -388,8 +282,8 @@ fn write_rows<W: Write>(table: &mut RowBuffer, state: &FinalState, ranks: u32, w
         (final_text ranks state.now) }
 {
     table.write_text(columns(ranks), writer);
-    write_progress_of_all(table, ranks, &state.cores, writer);
-    write_credits_of_all(table, ranks, &state.cores, writer);
+    write_progress(table, ranks, &state.cores, writer);
+    write_credits(table, ranks, &state.cores, writer);
     write_channels(table, ranks, &state.channels, writer);
     let channels = state.channels.len() as u64;
     write_in_flight(table, ranks, channels, &state.in_flight, writer);

@@ -63,20 +63,6 @@ fn put_digits(line: &mut Line, end: usize, number: u64) -> usize
     write_digits(number, line, end)
 }
 
-// The digits of a number that often has five or more.
-#[inline(always)]
-fn put_long_digits(line: &mut Line, end: usize, number: u64) -> usize
-    requires { (20 ≤ end) × (end ≤ 256) }
-    ensures text { drop result line.new ≡ decimal number ++ drop end line.old }
-    ensures low { end ≤ result + 20 }
-    ensures high { result ≤ end }
-{
-    if number >= 10_000 {
-        return write_digits(number, line, end);
-    }
-    put_digits(line, end, number)
-}
-
 /// Puts the last field, a number that often has five digits or more.
 #[inline(always)]
 pub(crate) fn put_last_long(line: &mut Line, number: u64) -> usize
@@ -84,7 +70,10 @@ pub(crate) fn put_last_long(line: &mut Line, number: u64) -> usize
     ensures low { 236 ≤ result }
     ensures high { result ≤ 256 }
 {
-    put_long_digits(line, ROOM, number)
+    if number >= 10_000 {
+        return write_digits(number, line, ROOM);
+    }
+    put_digits(line, ROOM, number)
 }
 
 /// Puts the last field.
@@ -114,15 +103,6 @@ pub(crate) fn put_last_wide(line: &mut Line, number: Option<u128>) -> usize
         Ok(number) => put_digits(line, ROOM, number),
         Err(_) => put_bytes(line, ROOM, Buffer::new().format(number).as_bytes()),
     }
-}
-
-/// Puts the last field, or the text of all.
-pub(crate) fn put_last_word(line: &mut Line, word: &[u8]) -> usize
-    requires { length word.now ≤ 256 }
-    ensures text { drop result line.new ≡ word.now }
-    ensures start { result + length word.now ≡ 256 }
-{
-    put_bytes(line, ROOM, word)
 }
 
 /// Puts a field before the others: a number, or nothing where there is none.

@@ -52,22 +52,6 @@ fn write_header<P, T: TableLines<P>, W: Write>(
     table.finish(writer)
 }
 
-// Writes the rows of a piece alone.
-fn write_piece<P, T: TableLines<P>, W: Write>(
-    alloc: Global,
-    of: &T,
-    piece: &P,
-    writer: &mut W,
-) -> Result<(), Fault>
-    ensures written { WritesOnOk result W.contents writer.old writer.new
-        (T.lines of.now piece.now) }
-    ensures refused { IfErr result (λ e. IsReportFault e) }
-{
-    let mut table = RowBuffer::new(alloc);
-    of.write_lines(alloc, piece, &mut table, writer);
-    table.finish(writer)
-}
-
 /// Writes a table whose rows are one piece: the header, and then the rows.
 pub(crate) fn write_whole<P, T: TableLines<P>, W: Write>(
     alloc: Global,
@@ -90,7 +74,9 @@ fn text_of<P, T: TableLines<P>>(alloc: Global, of: &T, piece: &P) -> Result<Vec<
     ensures { IsTextOf (T.lines of.now piece.now) result }
 {
     let mut text = Vec::new(alloc);
-    write_piece(alloc, of, piece, &mut text)?;
+    let mut table = RowBuffer::new(alloc);
+    of.write_lines(alloc, piece, &mut table, &mut text);
+    table.finish(&mut text)?;
     Ok(text)
 }
 

@@ -44,24 +44,17 @@ fn put_times(line: &mut Line, row: &RequestTimes) -> usize
     put(line, start, Some(row.issued))
 }
 
-// The fields of a row, from the last to the first.
-#[inline(always)]
-fn put_request(line: &mut Line, row: &RequestTimes) -> usize
-    ensures text { drop result line.new ≡ fields_text (request_fields row.now) }
-    ensures some { result < 256 }
-{
-    let start = put_times(line, row);
-    let start = put(line, start, Some(u64::from(row.channel)));
-    let start = put_access(line, start, row.access);
-    let start = put(line, start, Some(row.entry));
-    put(line, start, Some(u64::from(row.core)))
-}
-
+// A row, whose fields are put together from the last to the first.
 fn write_request<W: Write>(table: &mut RowBuffer, row: &RequestTimes, writer: &mut W)
     ensures { AddsRows W.contents writer.old table.old writer.new table.new
         (row_text (request_fields row.now)) }
 {
-    let start = put_request(&mut table.line, row);
+    let line = &mut table.line;
+    let start = put_times(line, row);
+    let start = put(line, start, Some(u64::from(row.channel)));
+    let start = put_access(line, start, row.access);
+    let start = put(line, start, Some(row.entry));
+    let start = put(line, start, Some(u64::from(row.core)));
     table.write_row(start, writer);
 }
 

@@ -1,7 +1,7 @@
 //! The table of statistics, `stats.csv`.
 
-ghost use Rattle.std.specs.Prelude.{◌≡◌, ◌<◌, ◌≤◌, length, drop, map, IfErr};
-ghost use Rattle.reports.specs.Rows.{fields_text, row_text, rows_text, numbered, IsReportFault, WritesOnOk};
+ghost use Rattle.std.specs.Prelude.{◌≡◌, length, map, IfErr};
+ghost use Rattle.reports.specs.Rows.{row_text, rows_text, numbered, IsReportFault, WritesOnOk};
 ghost use Rattle.reports.specs.Stats.{value_fields, core_rows, channel_rows, stats_text};
 ghost use Rattle.reports.specs.Tables.{AddsRows};
 ghost use Rattle.statistics.specs.Counters.{counter_of, named};
@@ -9,7 +9,7 @@ ghost use Rattle.statistics.specs.Counters.{counter_of, named};
 mod unit;
 
 use self::unit::Unit;
-use crate::line::{Line, put, put_last_wide, put_word};
+use crate::line::{put, put_last_wide, put_word};
 use crate::table::RowBuffer;
 use sim_base::fault::Fault;
 use statistics::channels::{self, ChannelStats};
@@ -20,18 +20,7 @@ use statistics::stats::Stats;
 use std::alloc::Global;
 use std::io::Write;
 
-// The fields of a row, from the last to the first.
-fn put_number(line: &mut Line, unit: Unit, counter: Counter, number: Option<u128>) -> usize
-    ensures text { drop result line.new
-        ≡ fields_text (value_fields unit.scope.now unit.id (counter.name.now, number)) }
-    ensures some { result < 256 }
-{
-    let start = put_last_wide(line, number);
-    let start = put_word(line, start, counter.name);
-    let start = put(line, start, Some(unit.id));
-    put_word(line, start, unit.scope)
-}
-
+// A row, whose fields are put together from the last to the first.
 fn write_number<W: Write>(
     table: &mut RowBuffer,
     unit: Unit,
@@ -42,7 +31,11 @@ fn write_number<W: Write>(
     ensures { AddsRows W.contents writer.old table.old writer.new table.new
         (row_text (value_fields unit.scope.now unit.id (counter.name.now, number))) }
 {
-    let start = put_number(&mut table.line, unit, counter, number);
+    let line = &mut table.line;
+    let start = put_last_wide(line, number);
+    let start = put_word(line, start, counter.name);
+    let start = put(line, start, Some(unit.id));
+    let start = put_word(line, start, unit.scope);
     table.write_row(start, writer);
 }
 
@@ -64,20 +57,16 @@ fn write_numbers<W: Write>(
     }
 }
 
-fn write_core<W: Write>(table: &mut RowBuffer, id: u64, core: &CoreStats, writer: &mut W)
-    ensures { AddsRows W.contents writer.old table.old writer.new table.new
-        (rows_text (core_rows id core.now)) }
-{
-    let unit = Unit { scope: b"core", id };
-    write_numbers(table, unit, &cores::counters(), &core.numbers(), writer);
-}
-
 fn write_cores<W: Write>(table: &mut RowBuffer, cores: &[CoreStats], writer: &mut W)
     ensures { AddsRows W.contents writer.old table.old writer.new table.new
         (rows_text (numbered core_rows cores.now)) }
 {
     for (id, core) in cores.iter().enumerate() {
-        write_core(table, id as u64, core, writer);
+        let unit = Unit {
+            scope: b"core",
+            id: id as u64,
+        };
+        write_numbers(table, unit, &cores::counters(), &core.numbers(), writer);
     }
 }
 

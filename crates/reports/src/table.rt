@@ -5,7 +5,7 @@ ghost use Rattle.csv.specs.Writing.{writer_setup, fields_written, has_written, w
 ghost use Rattle.reports.specs.Rows.{plain_writer, IsReportFault, WritesOnOk};
 
 use crate::block::Block;
-use crate::line::{Line, ROOM, put_last_word, text_from};
+use crate::line::{Line, ROOM, put_bytes, text_from};
 use csv::{QuoteStyle, Writer, WriterBuilder};
 use sim_base::fault::Fault;
 use std::alloc::{AllocError, Global};
@@ -221,7 +221,7 @@ impl RowBuffer {
         ensures { AddsRows W.contents writer.old self.old writer.new self.new
             (text.now ++ codes "\n") }
     {
-        let start = put_last_word(&mut self.line, text);
+        let start = put_bytes(&mut self.line, ROOM, text);
         self.write_row(start, writer);
     }
 

@@ -10,6 +10,6 @@ loop-id-init g c = nothing_added _ _ (numbered_none core_rows)
 pub loop-id-preserved : goal.loop-id-preserved
 loop-id-preserved g c =
     let here : c.loop-id.id < length c.args.cores.now = omega arith in
-    let written = c.write_core.ensures in
+    let written = rw (c.counters.ensures, c.numbers.ensures) at c.write_numbers.ensures in
     let joined = added-more _ _ _ _ _ c.loop-id.invariant written in
     rw (← numbered_more core_rows c.args.cores.now c.loop-id.id _ here) at joined
