@@ -5,12 +5,11 @@
 //! job that is held is held by one worker, and the others take all other jobs.
 
 use crate::expect::expect_at;
-use crate::outcomes::{Texts, always, assert_tables, auto, outcome_of, plain_tables};
+use crate::outcomes::{Run, Texts, always, assert_tables, auto, outcome_of, plain_tables};
 use shards::job::JobName;
 use sim_base::message::Cycle;
 use simulation::gate::Gate;
 use simulation::options::Hooks;
-use simulation::sharing::Workers;
 use simulation::watch::Unwatched;
 use std::alloc::Global;
 use std::process::Abort;
@@ -36,12 +35,13 @@ static SPANS: [(Cycle, Cycle); 8] = [
     (20, 22),
 ];
 
+/// How many jobs each phase has: one for each of two cores and one for the channel.
+const JOBS: usize = 3;
+
 /// Holds each job that enters until as many of its phase have entered as there are workers, or jobs.
 #[derive(Drop)]
 struct Meeting {
-    /// How many jobs each phase has.
-    jobs: usize,
-    /// How many of them are run at the same time.
+    /// How many jobs of a phase are run at the same time.
     workers: u64,
     /// How many jobs of each phase have entered.
     come: Vec<AtomicU64>,
@@ -70,33 +70,25 @@ fn are_one(counts: &[AtomicU64]) -> bool {
     true
 }
 
+/// Counts a job at its place among the jobs of all phases, if it is one of the expected ones. Gives its phase.
+fn counted(counts: &[AtomicU64], job: JobName) -> Option<usize> {
+    let phase = usize::try_from(job.phase).ok()?;
+    let (from, until) = *SPANS.get(phase)?;
+    if job.from != from || job.until != until || job.shard >= JOBS {
+        return None;
+    }
+    let place = phase.checked_mul(JOBS)?.checked_add(job.shard)?;
+    counts.get(place)?.fetch_add(1, Ordering::SeqCst);
+    Some(phase)
+}
+
 impl Meeting {
-    /// A gate for phases of `jobs` jobs each, which are run by `workers` workers at the same time.
-    fn new(rt: &impl Abort, alloc: Global, workers: u64, jobs: usize) -> Self {
-        let count = jobs.saturating_mul(SPANS.len());
-        Meeting {
-            jobs,
-            workers: workers.min(jobs as u64),
-            come: zeros(rt, alloc, SPANS.len()),
-            entered: zeros(rt, alloc, count),
-            left: zeros(rt, alloc, count),
-            faults: AtomicU64::new(0),
-        }
-    }
-
-    /// The phase of a job and its place among all jobs, if it is one of the expected ones.
-    fn place_of(&self, job: JobName) -> Option<(usize, usize)> {
-        let phase = usize::try_from(job.phase).ok()?;
-        let (from, until) = *SPANS.get(phase)?;
-        if job.from != from || job.until != until || job.shard >= self.jobs {
-            return None;
-        }
-        let place = phase.checked_mul(self.jobs)?.checked_add(job.shard)?;
-        Some((phase, place))
-    }
-
-    /// Whether all jobs of a phase come.
-    fn is_met(&self, come: &AtomicU64) -> bool {
+    /// Whether a job that enters a phase meets as many of that phase as are run at the same time.
+    fn meets(&self, phase: usize) -> bool {
+        let Some(come) = self.come.get(phase) else {
+            return false;
+        };
+        come.fetch_add(1, Ordering::SeqCst);
         for _ in 0..TURNS {
             if come.load(Ordering::SeqCst) >= self.workers {
                 return true;
@@ -105,37 +97,23 @@ impl Meeting {
         }
         false
     }
-
-    /// Whether a job, if it is one of the expected ones, goes on.
-    fn enters(&self, job: JobName) -> Option<bool> {
-        let (phase, place) = self.place_of(job)?;
-        let come = self.come.get(phase)?;
-        self.entered.get(place)?.fetch_add(1, Ordering::SeqCst);
-        come.fetch_add(1, Ordering::SeqCst);
-        Some(self.is_met(come))
-    }
-
-    /// Whether a job is one of those, and has left.
-    fn leaves(&self, job: JobName) -> Option<bool> {
-        let (_, place) = self.place_of(job)?;
-        self.left.get(place)?.fetch_add(1, Ordering::SeqCst);
-        Some(true)
-    }
-
-    fn note(&self, passed: Option<bool>) {
-        if passed != Some(true) {
-            self.faults.fetch_add(1, Ordering::SeqCst);
-        }
-    }
 }
 
 impl Gate for Meeting {
     fn enter(&self, _worker: usize, job: JobName) {
-        self.note(self.enters(job));
+        let met = match counted(&self.entered, job) {
+            Some(phase) => self.meets(phase),
+            None => false,
+        };
+        if !met {
+            self.faults.fetch_add(1, Ordering::SeqCst);
+        }
     }
 
     fn leave(&self, _worker: usize, job: JobName) {
-        self.note(self.leaves(job));
+        if counted(&self.left, job).is_none() {
+            self.faults.fetch_add(1, Ordering::SeqCst);
+        }
     }
 }
 
@@ -147,8 +125,16 @@ fn workers_meet_in_every_phase(rt: HostRuntime) {
     let texts = Texts::of(&rt, alloc, &["cores = 2"], "", &["0 0\n", "0 64\n"]);
     let run = texts.run(32);
     let plain = plain_tables(&rt, alloc, &run);
+    let phases = SPANS.len();
+    let count = JOBS.saturating_mul(phases);
     for workers in [2, 3, 7] {
-        let gate = Meeting::new(&rt, alloc, workers, 3);
+        let gate = Meeting {
+            workers: workers.min(JOBS as u64),
+            come: zeros(&rt, alloc, phases),
+            entered: zeros(&rt, alloc, count),
+            left: zeros(&rt, alloc, count),
+            faults: AtomicU64::new(0),
+        };
         let hooks = Hooks {
             gate: &gate,
             watch: &mut Unwatched,
@@ -160,44 +146,38 @@ fn workers_meet_in_every_phase(rt: HostRuntime) {
     }
 }
 
-/// Holds the first job of phase 0 until `others` other jobs of that phase have left.
+/// Counts the jobs, and holds the first of phase 0 until `others` other jobs of that phase have left.
 #[derive(Drop)]
 struct Holding {
     others: u64,
+    /// How many jobs were entered.
+    jobs: AtomicU64,
+    /// How many of phase 0 were entered, and left, and whether the first was released.
     entered: AtomicU64,
     left: AtomicU64,
     released: AtomicU64,
 }
 
-/// How often the jobs of phase 0 were entered and left, and whether the first was released.
-type Held = (u64, u64, u64);
-
 impl Holding {
     fn new(others: u64) -> Self {
         Holding {
             others,
+            jobs: AtomicU64::new(0),
             entered: AtomicU64::new(0),
             left: AtomicU64::new(0),
             released: AtomicU64::new(0),
         }
     }
-
-    fn seen(&self) -> Held {
-        (
-            self.entered.load(Ordering::SeqCst),
-            self.left.load(Ordering::SeqCst),
-            self.released.load(Ordering::SeqCst),
-        )
-    }
 }
 
 impl Gate for Holding {
     fn enter(&self, _worker: usize, job: JobName) {
+        self.jobs.fetch_add(1, Ordering::SeqCst);
         if job.phase != 0 || self.entered.fetch_add(1, Ordering::SeqCst) != 0 {
             return;
         }
         for _ in 0..TURNS {
-            if self.left.load(Ordering::SeqCst) == self.others {
+            if self.left.load(Ordering::SeqCst) >= self.others {
                 self.released.store(1, Ordering::SeqCst);
                 return;
             }
@@ -228,70 +208,52 @@ fn no_worker_waits_for_another_part(rt: HostRuntime) {
             watch: &mut Unwatched,
         };
         assert_tables(&rt, alloc, hooks, &run.by(always(workers)), &plain);
-        expect_at(&rt, &workers, &gate.seen(), &(jobs, jobs, 1));
+        let found = (
+            gate.entered.load(Ordering::SeqCst),
+            gate.left.load(Ordering::SeqCst),
+            gate.released.load(Ordering::SeqCst),
+        );
+        expect_at(&rt, &workers, &found, &(jobs, jobs, 1));
     }
 }
 
-/// Counts the jobs.
-#[derive(Drop)]
-pub(crate) struct Counting {
-    jobs: AtomicU64,
-}
-
-impl Counting {
-    pub(crate) fn new() -> Self {
-        Counting {
-            jobs: AtomicU64::new(0),
-        }
-    }
-
-    pub(crate) fn jobs(&self) -> u64 {
-        self.jobs.load(Ordering::SeqCst)
-    }
-}
-
-impl Gate for Counting {
-    fn enter(&self, _worker: usize, _job: JobName) {
-        self.jobs.fetch_add(1, Ordering::SeqCst);
-    }
-
-    fn leave(&self, _worker: usize, _job: JobName) {}
+/// How many jobs the phases of a run have; none where the caller runs it alone.
+pub(crate) fn jobs_of<R: Abort + Threads + Wait + Sync>(
+    rt: &R,
+    alloc: Global,
+    run: &Run<'_>,
+) -> u64 {
+    let gate = Holding::new(0);
+    let hooks = Hooks {
+        gate: &gate,
+        watch: &mut Unwatched,
+    };
+    outcome_of(rt, alloc, hooks, run).expect(rt, "a run");
+    gate.jobs.load(Ordering::SeqCst)
 }
 
 /// Four lines, which a core asks for in its first two cycles.
 const FOUR_LINES: &str = "0 0\n0 64\n0 128\n0 192\n";
 
-/// Whether these workers share the units of a machine out. The requests are on their way for 5,000 cycles.
-fn is_shared_out<R: Abort + Threads + Wait + Sync>(
-    rt: &R,
-    alloc: Global,
-    cores: &str,
-    traces: &[&str],
-    workers: Workers,
-) -> bool {
-    let changes = [cores, "channels = 2", "request_latency = 5000"];
-    let texts = Texts::of(rt, alloc, &changes, "", traces);
-    let gate = Counting::new();
-    let hooks = Hooks {
-        gate: &gate,
-        watch: &mut Unwatched,
-    };
-    let outcome = outcome_of(rt, alloc, hooks, &texts.run(6_000).by(workers));
-    outcome.expect(rt, "a run");
-    gate.jobs() > 0
-}
+/// Requests are on their way for 5,000 cycles.
+const FAR: &str = "request_latency = 5000";
 
 /// All requests of 32 cores, 128 in all, are in flight for a long time, so the units are shared out. Where there are
 /// few units, or one worker, the caller runs them, unless several workers always share.
 #[test]
 fn a_large_machine_is_shared_out(rt: HostRuntime) {
+    let alloc = rt.alloc();
+    let changes = ["cores = 32", "channels = 2", FAR];
+    let large = Texts::of(&rt, alloc, &changes, "", &[FOUR_LINES; 32]);
+    let changes = ["cores = 14", "channels = 2", FAR];
+    let small = Texts::of(&rt, alloc, &changes, "", &[FOUR_LINES; 14]);
     for (workers, want) in [
         (auto(2), (true, false)),
         (always(2), (true, true)),
         (always(1), (false, false)),
     ] {
-        let large = is_shared_out(&rt, rt.alloc(), "cores = 32", &[FOUR_LINES; 32], workers);
-        let small = is_shared_out(&rt, rt.alloc(), "cores = 14", &[FOUR_LINES; 14], workers);
-        expect_at(&rt, &workers.count, &(large, small), &want);
+        let of_large = jobs_of(&rt, alloc, &large.run(6_000).by(workers));
+        let of_small = jobs_of(&rt, alloc, &small.run(6_000).by(workers));
+        expect_at(&rt, &workers.count, &(of_large > 0, of_small > 0), &want);
     }
 }

@@ -1,15 +1,11 @@
 //! Machines and traces that are made up by seeds: three workers give what the plain machine gives.
 
 use crate::expect::expect_at;
-use crate::gates::Counting;
-use crate::outcomes::{Run, Texts, always, assert_same, assert_tables, auto, plain_tables};
-use simulation::options::Hooks;
+use crate::gates::jobs_of;
+use crate::outcomes::{Texts, always, assert_same, auto};
 use simulation::sharing::{Sharing, Workers};
-use simulation::watch::Unwatched;
 use std::alloc::Global;
 use std::process::Abort;
-use std::sync::Wait;
-use std::thread::Threads;
 
 #[test]
 fn generated_machines(rt: HostRuntime) {
@@ -37,38 +33,40 @@ pub(crate) fn large_texts(rt: &impl Abort, alloc: Global, request_latency: &str)
     Texts::of(rt, alloc, &changes, "", &TRACES)
 }
 
+/// Many workers have nothing to do on a core and a channel, and some on the large machine.
 #[test]
-fn a_large_machine_does_not_show_its_workers(rt: HostRuntime) {
-    let texts = large_texts(&rt, rt.alloc(), "request_latency = 2");
-    let workers = [auto(1), auto(2), always(2), always(3), always(7)];
-    assert_same(&rt, rt.alloc(), &texts.run(400), &workers);
+fn machines_do_not_show_their_workers(rt: HostRuntime) {
+    let trace = "0 0\n7 4096\n3 64 128\n0 8192\n";
+    let small = Texts::of(&rt, rt.alloc(), &[], "", &[trace]);
+    let large = large_texts(&rt, rt.alloc(), "request_latency = 2");
+    let workers = [
+        auto(1),
+        auto(2),
+        always(2),
+        always(3),
+        always(7),
+        always(64),
+    ];
+    assert_same(&rt, rt.alloc(), &small.run(200), &workers);
+    assert_same(&rt, rt.alloc(), &large.run(400), &workers);
 }
 
-/// A run has the tables of the plain machine where workers share the machine out from the second lap on, in cycle 64,
-/// at whose beginning 32 messages or more are in flight.
-fn assert_shared_later<R: Abort + Threads + Wait + Sync>(rt: &R, alloc: Global, run: &Run<'_>) {
-    let plain = plain_tables(rt, alloc, run);
+/// The requests of the large machine are on their way for 100 cycles: 56 of them at least, from cycle 50 on. Workers
+/// share the machine out from the second lap on, in cycle 64, if 32 messages or more are in flight when it begins. So
+/// the caller, who runs it alone before, shares it out before the requests come.
+#[test]
+fn a_busy_machine_does_not_show_its_workers(rt: HostRuntime) {
+    let texts = large_texts(&rt, rt.alloc(), "request_latency = 100");
+    let run = texts.run(400);
     let sharing = Sharing {
         messages: 32,
         first_lap: 64,
         ..Sharing::default()
     };
     for count in [2, 3] {
-        let gate = Counting::new();
-        let hooks = Hooks {
-            gate: &gate,
-            watch: &mut Unwatched,
-        };
         let workers = Workers { count, sharing };
-        assert_tables(rt, alloc, hooks, &run.by(workers), &plain);
-        expect_at(rt, &count, &(gate.jobs() > 0), &true);
+        assert_same(&rt, rt.alloc(), &run, &[workers]);
+        let jobs = jobs_of(&rt, rt.alloc(), &run.by(workers));
+        expect_at(&rt, &count, &(jobs > 0), &true);
     }
-}
-
-/// The requests of the same machine are on their way for 100 cycles: 56 of them at least, from cycle 50 on. So the
-/// caller, who runs it alone while less is in flight, shares it out before they come.
-#[test]
-fn a_busy_machine_does_not_show_its_workers(rt: HostRuntime) {
-    let texts = large_texts(&rt, rt.alloc(), "request_latency = 100");
-    assert_shared_later(&rt, rt.alloc(), &texts.run(400));
 }

@@ -28,5 +28,3 @@ mod same;
 mod shared_out;
 #[cfg(test)]
 mod watchers;
-#[cfg(test)]
-mod worked_orders;

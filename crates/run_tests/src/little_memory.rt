@@ -1,8 +1,8 @@
-//! A small run that is refused memory: it gives fault 10, or 11 where a worker did not start, or its usual result. To
-//! be run with each allocation failing in turn; what these tests take of memory themselves counts too.
+//! Small runs that are refused memory: each gives fault 10, or 11 where a worker did not start, or its usual result. To
+//! be run with each allocation failing in turn; what the test takes of memory itself counts too.
 
 use crate::expect::expect_at;
-use crate::outcomes::{always, commands_of};
+use crate::outcomes::always;
 use fixtures::one_read::{CHANNELS, CORES};
 use fixtures::small::SMALL;
 use sim_base::command::Kind;
@@ -15,13 +15,14 @@ use simulation::watch::Unwatched;
 use statistics::outcome::Outcome;
 use statistics::tables::Tables;
 use std::alloc::Global;
-use std::sync::Wait;
-use std::thread::Threads;
 
 /// Whether these are the commands of one core that reads one line: an ACT in cycle 2 and an RD in cycle 5. Where the
 /// list of them is refused memory, that is not known.
 fn has_commands(alloc: Global, outcome: &Outcome) -> bool {
-    let Ok(rows) = commands_of(alloc, outcome) else {
+    let Some(commands) = &outcome.commands else {
+        return false;
+    };
+    let Ok(rows) = commands.to_vec(alloc) else {
         return true;
     };
     match rows.as_slice() {
@@ -35,46 +36,37 @@ fn has_commands(alloc: Global, outcome: &Outcome) -> bool {
     }
 }
 
-/// Whether these are its statistics over 16 cycles.
-fn has_stats(outcome: &Outcome) -> bool {
-    outcome.stats.cycles == 16
+/// Whether this is the outcome of that run over 16 cycles.
+fn is_right(alloc: Global, outcome: &Outcome) -> bool {
+    has_commands(alloc, outcome)
+        && outcome.stats.cycles == 16
         && outcome.stats.cores.as_slice() == CORES.as_slice()
         && outcome.stats.channels.as_slice() == CHANNELS.as_slice()
+        && outcome.last.in_flight.is_empty()
 }
 
-/// Whether this is the outcome of that run.
-fn is_right(alloc: Global, outcome: &Outcome) -> bool {
-    has_commands(alloc, outcome) && has_stats(outcome) && outcome.last.in_flight.is_empty()
-}
-
-/// Whether a run by this number of workers gives what it should, or is refused memory, or a worker.
-fn is_right_or_refused<R: Threads + Wait + Sync>(rt: &R, alloc: Global, workers: u64) -> bool {
+/// A run by one worker, and one by two.
+#[test]
+fn workers_with_little_memory(rt: HostRuntime) {
     let texts: [&[u8]; 1] = [b"0 0\n"];
-    let hooks = Hooks {
-        gate: &Open,
-        watch: &mut Unwatched,
-    };
-    let input = InputTexts {
-        config: SMALL.as_bytes(),
-        traces: &texts,
-    };
-    let options = RunOptions {
-        cycles: 16,
-        workers: always(workers),
-        tables: Tables::usual(),
-    };
-    match simulate(rt, alloc, hooks, input, options) {
-        Ok(outcome) => is_right(alloc, &outcome),
-        Err(fault) => fault == Fault::Memory || workers > 1 && fault == Fault::WorkerStart,
+    for workers in [1, 2] {
+        let hooks = Hooks {
+            gate: &Open,
+            watch: &mut Unwatched,
+        };
+        let input = InputTexts {
+            config: SMALL.as_bytes(),
+            traces: &texts,
+        };
+        let options = RunOptions {
+            cycles: 16,
+            workers: always(workers),
+            tables: Tables::usual(),
+        };
+        let right = match simulate(&rt, rt.alloc(), hooks, input, options) {
+            Ok(outcome) => is_right(rt.alloc(), &outcome),
+            Err(fault) => fault == Fault::Memory || workers > 1 && fault == Fault::WorkerStart,
+        };
+        expect_at(&rt, &workers, &right, &true);
     }
-}
-
-#[test]
-fn one_worker_with_little_memory(rt: HostRuntime) {
-    expect_at(&rt, &1, &is_right_or_refused(&rt, rt.alloc(), 1), &true);
-}
-
-#[test]
-fn two_workers_with_little_memory(rt: HostRuntime) {
-    expect_at(&rt, &2, &is_right_or_refused(&rt, rt.alloc(), 2), &true);
 }

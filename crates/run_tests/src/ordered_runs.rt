@@ -3,54 +3,44 @@
 ghost use Rattle.std.specs.Prelude.{◌≡◌, ◌≢◌, ◌<◌, false, All};
 
 use crate::expect::expect_at;
-use crate::outcomes::{EVERY, Run, Texts, commands_of};
+use crate::outcomes::{EVERY, Run, Texts, did};
 use crate::shared_out::{LONGEST, started};
 use fixtures::small::RANK_FIELD;
 use reference::order::Order;
 use reference::ordered::run_in_order;
 use shards::job::Done;
-use sim_base::command::IssuedCommand;
 use sim_base::fault::{Fault, MergeFault};
-use sim_base::message::{Cycle, Message};
+use sim_base::message::Cycle;
 use statistics::outcome::Outcome;
 use std::alloc::Global;
 use std::process::Abort;
 use std::thread::Threads;
 
-/// The results as they come.
+/// The results in turn, beginning so many further on in each phase; for 0, as they come.
 #[derive(Drop)]
-pub(crate) struct AsTheyCome;
+pub(crate) struct Turned(pub(crate) u64);
 
-impl Order for AsTheyCome {
-    ghost use Rattle.std.specs.Prelude.{◌≡◌};
-
-    ghost may_give = { λ _ results arranged. arranged ≡ results };
-
-    fn arrange(&mut self, _phase: u64, results: Vec<Done>) -> Vec<Done> {
-        results
-    }
-}
-
-/// The results from last to first.
-#[derive(Drop)]
-pub(crate) struct Reversed;
-
-impl Order for Reversed {
+impl Order for Turned {
     ghost use Rattle.std.specs.Prelude.{IsPermutation};
 
     ghost may_give = { λ _ results arranged. IsPermutation results arranged };
 
-    fn arrange(&mut self, _phase: u64, mut results: Vec<Done>) -> Vec<Done> {
-        results.reverse();
+    fn arrange(&mut self, phase: u64, mut results: Vec<Done>) -> Vec<Done> {
+        let count = results.len();
+        if count == 0 {
+            return results;
+        }
+        let turn = phase.wrapping_mul(self.0);
+        results.rotate_left((turn % count as u64) as usize);
         results
     }
 }
 
-/// Only the last results, from last to first, as many as the number says.
+/// The last results, from last to first, as many as the number says, or all.
 #[derive(Drop)]
-struct Leaves(usize);
+pub(crate) struct Last(pub(crate) usize);
 
-impl Order for Leaves {
+impl Order for Last {
     ghost use Rattle.std.specs.Prelude.{◌≡◌, All, Any};
 
     ghost may_give = { λ _ results arranged. All (λ d. Any (λ r. r.name ≡ d.name) results → Any (λ r. r ≡ d) results) arranged };
@@ -143,46 +133,18 @@ const SLOW_LINKS: &[&str] = &[
     "credit_latency = 8",
 ];
 
-/// The texts of a run of two cores that read one line each.
-fn two_reads(rt: &impl Abort, alloc: Global, changes: &[&str]) -> Texts {
-    Texts::of(rt, alloc, changes, "", &["0 0\n"; 2])
-}
-
-/// The commands of a run, and its messages in flight.
-type Did = (Vec<IssuedCommand>, Vec<Message>);
-
-/// What the run of an outcome did and left.
-fn did(rt: &impl Abort, alloc: Global, outcome: &Outcome) -> Did {
-    let commands = commands_of(alloc, outcome).expect(rt, "memory");
-    let flight = outcome.last.in_flight.to_vec(alloc).expect(rt, "memory");
-    (commands, flight)
-}
-
-/// What two cores that read one line each did and left before cycle 16.
-fn did_by<R: Abort + Threads + Sync, O: Order>(
+/// A run of two cores that read one line each, up to cycle 16.
+fn two_reads<R: Abort + Threads + Sync, O: Order>(
     rt: &R,
     alloc: Global,
+    changes: &[&str],
     shards: usize,
     order: &mut O,
-) -> Did
+) -> Result<Outcome, Fault>
     requires { 0 < shards }
 {
-    let texts = two_reads(rt, alloc, TWO_CORES);
-    let outcome = run_by(rt, alloc, &texts.run(16), shards, order).expect(rt, "a run");
-    did(rt, alloc, &outcome)
-}
-
-/// The cycles of the first command and of the last, and of the arrivals of the first message and of the last.
-type Ends = [Option<Cycle>; 4];
-
-fn ends_of(did: &Did) -> Ends {
-    let (commands, flight) = did;
-    [
-        commands.first().map(|c| c.cycle),
-        commands.last().map(|c| c.cycle),
-        flight.first().map(|m| m.arrival),
-        flight.last().map(|m| m.arrival),
-    ]
+    let texts = Texts::of(rt, alloc, changes, "", &["0 0\n"; 2]);
+    run_by(rt, alloc, &texts.run(16), shards, order)
 }
 
 /// ACT 2, RD 5, and RD 10, as a burst of the same group comes at the earliest 5 cycles after another. The replies
@@ -190,32 +152,30 @@ fn ends_of(did: &Did) -> Ends {
 /// own.
 #[test]
 fn orders_do_not_matter(rt: HostRuntime) {
-    let whole = did_by(&rt, rt.alloc(), 3, &mut AsTheyCome);
-    let ends = [Some(2), Some(10), Some(20), Some(20)];
-    expect_at(&rt, &whole.0.len(), &ends_of(&whole), &ends);
-    expect_at(&rt, &"commands", &whole.0.len(), &3);
+    let alloc = rt.alloc();
+    let outcome = two_reads(&rt, alloc, TWO_CORES, 3, &mut Turned(0));
+    let whole = did(&rt, alloc, &outcome.expect(&rt, "a run"));
+    let (commands, _, flight) = &whole;
+    let ends = [
+        commands.first().map(|c| c.cycle),
+        commands.last().map(|c| c.cycle),
+        flight.first().map(|m| m.arrival),
+        flight.last().map(|m| m.arrival),
+    ];
+    let want = [Some(2), Some(10), Some(20), Some(20)];
+    expect_at(&rt, &"ends", &(commands.len(), ends), &(3, want));
     for shards in 1..4 {
-        let reversed = did_by(&rt, rt.alloc(), shards, &mut Reversed);
+        let outcome = two_reads(&rt, alloc, TWO_CORES, shards, &mut Last(usize::MAX));
+        let reversed = did(&rt, alloc, &outcome.expect(&rt, "a run"));
         expect_at(&rt, &shards, &reversed, &whole);
     }
-}
-
-/// Why a run of two cores that read one line each stops.
-fn stopped<R: Abort + Threads + Sync, O: Order>(
-    rt: &R,
-    alloc: Global,
-    changes: &[&str],
-    order: &mut O,
-) -> Option<Fault> {
-    let texts = two_reads(rt, alloc, changes);
-    run_by(rt, alloc, &texts.run(16), 3, order).err()
 }
 
 /// Of the three units' results the last two are left, the last, or none: the first that is missing is the first core's.
 #[test]
 fn lost_results_stop_a_run(rt: HostRuntime) {
     for left in [2, 1, 0] {
-        let fault = stopped(&rt, rt.alloc(), TWO_CORES, &mut Leaves(left));
+        let fault = two_reads(&rt, rt.alloc(), TWO_CORES, 3, &mut Last(left)).err();
         let missing = Fault::Merge(MergeFault::Missing(0));
         expect_at(&rt, &left, &fault, &Some(missing));
     }
@@ -230,8 +190,8 @@ fn a_stranger_stops_a_run(rt: HostRuntime) {
         alloc,
         kept: Vec::new(alloc),
     };
-    let lost = stopped(&rt, alloc, SLOW_LINKS, &mut slow);
-    let fault = stopped(&rt, alloc, TWO_CORES, &mut Brings(slow.kept));
+    let lost = two_reads(&rt, alloc, SLOW_LINKS, 3, &mut slow).err();
+    let fault = two_reads(&rt, alloc, TWO_CORES, 3, &mut Brings(slow.kept)).err();
     let want = (
         Some(Fault::Merge(MergeFault::Missing(0))),
         Some(Fault::Merge(MergeFault::Stranger(3))),

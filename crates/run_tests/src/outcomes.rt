@@ -8,7 +8,7 @@ use reference::runs::simulate_plain;
 use reports::{write_commands, write_final, write_requests, write_stats};
 use sim_base::command::IssuedCommand;
 use sim_base::fault::Fault;
-use sim_base::message::Cycle;
+use sim_base::message::{Cycle, Message};
 use simulation::gate::{Gate, Open};
 use simulation::input::InputTexts;
 use simulation::options::{Hooks, RunOptions};
@@ -17,7 +17,7 @@ use simulation::sharing::{Sharing, Workers};
 use simulation::watch::{Unwatched, Watch};
 use statistics::outcome::Outcome;
 use statistics::tables::Tables;
-use std::alloc::{AllocError, Global};
+use std::alloc::Global;
 use std::process::Abort;
 use std::sync::Wait;
 use std::thread::Threads;
@@ -58,16 +58,22 @@ pub(crate) fn tables_of(rt: &impl Abort, alloc: Global, outcome: &Outcome) -> Ve
     tables
 }
 
-/// The commands of an outcome; none where their table was not asked for.
-pub(crate) fn commands_of(
-    alloc: Global,
-    outcome: &Outcome,
-) -> Result<Vec<IssuedCommand>, AllocError> {
-    match &outcome.commands {
-        Some(commands) => commands.to_vec(alloc),
-        None => Ok(Vec::new(alloc)),
-    }
+/// The commands of a run, its cycles, and its messages in flight.
+pub(crate) type Did = (Vec<IssuedCommand>, Cycle, Vec<Message>);
+
+/// What the run of an outcome did and left.
+pub(crate) fn did(rt: &impl Abort, alloc: Global, outcome: &Outcome) -> Did {
+    let commands = outcome.commands.as_ref().expect(rt, "commands");
+    let flight = outcome.last.in_flight.to_vec(alloc).expect(rt, "memory");
+    (
+        commands.to_vec(alloc).expect(rt, "memory"),
+        outcome.stats.cycles,
+        flight,
+    )
 }
+
+/// The line by which a run ends drained.
+pub(crate) const DRAINED: &str = "end = \"drained\"\n";
 
 /// What is run, up to which cycle, and by which workers.
 #[derive(Clone, Copy)]

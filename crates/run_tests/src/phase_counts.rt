@@ -9,9 +9,6 @@ use sim_base::fault::Fault;
 use sim_base::message::Cycle;
 use simulation::gate::Open;
 use simulation::runner::{Runner, Serial};
-use std::alloc::Global;
-use std::process::Abort;
-use std::thread::Threads;
 
 /// The cycles of a phase, from one on and before another.
 type Span = (Cycle, Cycle);
@@ -76,23 +73,23 @@ static COUNTED: [Counted; 3] = [
     },
 ];
 
-/// The phases of a run.
-fn spans_of<R: Abort + Threads + Sync>(rt: &R, alloc: Global, counted: &Counted) -> Vec<Span> {
-    let texts = Texts::of(rt, alloc, counted.changes, "", &[counted.trace]);
-    let sim = started(rt, alloc, &texts.run(counted.cycles));
-    let mut noting = Noting {
-        serial: Serial::new(alloc, &Open),
-        spans: Vec::new(alloc),
-    };
-    let sim = run_up_to(sim, alloc, counted.cycles, 2, &mut noting).expect(rt, "memory");
-    sim.outcome(alloc, EVERY).expect(rt, "memory");
-    noting.spans
-}
-
 #[test]
 fn a_phase_begins_where_something_happens(rt: HostRuntime) {
+    let alloc = rt.alloc();
     for counted in &COUNTED {
-        let spans = spans_of(&rt, rt.alloc(), counted);
-        expect_at(&rt, &counted.trace, &spans.as_slice(), &counted.spans);
+        let texts = Texts::of(&rt, alloc, counted.changes, "", &[counted.trace]);
+        let sim = started(&rt, alloc, &texts.run(counted.cycles));
+        let mut noting = Noting {
+            serial: Serial::new(alloc, &Open),
+            spans: Vec::new(alloc),
+        };
+        let sim = run_up_to(sim, alloc, counted.cycles, 2, &mut noting).expect(&rt, "memory");
+        sim.outcome(alloc, EVERY).expect(&rt, "memory");
+        expect_at(
+            &rt,
+            &counted.trace,
+            &noting.spans.as_slice(),
+            &counted.spans,
+        );
     }
 }

@@ -5,8 +5,8 @@ ghost use Rattle.std.specs.Prelude.{◌≡◌, ◌+◌, ◌<◌, ◌≤◌, [], 
 ghost use Rattle.crew.specs.Rule.{put_view};
 
 use crate::expect::expect_at;
-use crate::gates::Counting;
-use crate::outcomes::{Run, Texts, always, assert_same, commands_of, outcome_of};
+use crate::gates::jobs_of;
+use crate::outcomes::{DRAINED, Texts, always, assert_same, auto, did, plain_outcome};
 use crew::caller::Phases;
 use crew::open::Blank;
 use crew::rule::BoardName;
@@ -15,18 +15,11 @@ use crew::seats::{Board, PutSeat, TakeSeat};
 use crew::signal::WaitLimits;
 use crew::work::{DoneOf, Work};
 use fixtures::small::RANK_FIELD;
-use sim_base::command::IssuedCommand;
-use sim_base::message::Cycle;
-use simulation::gate::{Gate, Open};
-use simulation::options::Hooks;
 use simulation::sharing::{Sharing, Workers};
-use simulation::watch::Unwatched;
-use statistics::outcome::Outcome;
 use std::alloc::{AllocError, Global};
 use std::marker::Brand;
 use std::process::Abort;
 use std::sync::Wait;
-use std::thread::Threads;
 
 /// Four cores and two channels.
 static FOUR_CORES: [&str; 3] = [RANK_FIELD, "cores = 4", "channels = 2"];
@@ -34,30 +27,6 @@ static FOUR_CORES: [&str; 3] = [RANK_FIELD, "cores = 4", "channels = 2"];
 /// The texts of four cores that read one line each, on two channels. The end of the run is a line of its own.
 fn four_reads(rt: &impl Abort, alloc: Global, end: &str) -> Texts {
     Texts::of(rt, alloc, &FOUR_CORES, end, &["0 0\n"; 4])
-}
-
-/// The commands of a run, its cycles, and how many messages it leaves in flight.
-type Did = (Vec<IssuedCommand>, Cycle, usize);
-
-/// What the run of an outcome did.
-fn did(rt: &impl Abort, alloc: Global, outcome: &Outcome) -> Did {
-    let commands = commands_of(alloc, outcome).expect(rt, "memory");
-    (commands, outcome.stats.cycles, outcome.last.in_flight.len())
-}
-
-/// What a run does whose workers pass a gate.
-fn did_by<R: Abort + Threads + Wait + Sync, G: Gate + Sync>(
-    rt: &R,
-    alloc: Global,
-    gate: &G,
-    run: &Run<'_>,
-) -> Did {
-    let hooks = Hooks {
-        gate,
-        watch: &mut Unwatched,
-    };
-    let outcome = outcome_of(rt, alloc, hooks, run).expect(rt, "a run");
-    did(rt, alloc, &outcome)
 }
 
 /// Four cores read one line each, up to a distant cycle. The requests come in cycle 2, where the row is opened. It is
@@ -78,10 +47,8 @@ fn a_machine_works_where_something_happens(rt: HostRuntime) {
         (Sharing::always(), 60_000, 4 * 12),
         (in_laps, 60_000, 4 * 15),
     ] {
-        let counting = Counting::new();
         let run = texts.run(limit).by(Workers { count: 2, sharing });
-        did_by(&rt, rt.alloc(), &counting, &run);
-        expect_at(&rt, &limit, &counting.jobs(), &jobs);
+        expect_at(&rt, &limit, &jobs_of(&rt, rt.alloc(), &run), &jobs);
     }
 }
 
@@ -99,47 +66,30 @@ fn a_lap_run_alone_is_short_behind_one_shared_out(rt: HostRuntime) {
         ..Sharing::always()
     };
     let texts = Texts::of(&rt, rt.alloc(), &["window = 128"], "", &["0 0\n43 64\n"]);
-    let counting = Counting::new();
     let run = texts.run(60).by(Workers { count: 2, sharing });
-    did_by(&rt, rt.alloc(), &counting, &run);
-    expect_at(&rt, &60, &counting.jobs(), &(2 * 5));
+    expect_at(&rt, &60, &jobs_of(&rt, rt.alloc(), &run), &(2 * 5));
 }
 
-/// Four cores read one line each, up to cycle 30: each worker count gives the same ACT and four RDs.
+/// Four cores read one line each, up to cycle 30 or drained, which is long before the limit: an ACT and four RDs. The
+/// last reply comes in cycle 30, so it is in flight before that. Each number of workers gives what the plain machine
+/// gives.
 #[test]
 fn a_machine_does_not_show_its_workers(rt: HostRuntime) {
-    let texts = four_reads(&rt, rt.alloc(), "");
-    let run = texts.run(30);
-    let one = did_by(&rt, rt.alloc(), &Open, &run);
-    expect_at(&rt, &1, &one.0.len(), &5);
-    for workers in [2, 3] {
-        let more = did_by(&rt, rt.alloc(), &Open, &run.by(always(workers)));
-        expect_at(&rt, &workers, &more, &one);
+    let alloc = rt.alloc();
+    for (end, limit, in_flight) in [("", 30, 1), (DRAINED, 1_000, 0)] {
+        let texts = four_reads(&rt, alloc, end);
+        let run = texts.run(limit);
+        assert_same(
+            &rt,
+            alloc,
+            &run,
+            &[auto(1), always(1), always(2), always(3)],
+        );
+        let outcome = plain_outcome(&rt, alloc, &run).expect(&rt, "a run");
+        let (commands, cycles, flight) = did(&rt, alloc, &outcome);
+        let found = (commands.len(), cycles < 100, flight.len());
+        expect_at(&rt, &limit, &found, &(5, true, in_flight));
     }
-}
-
-const DRAINED: &str = "end = \"drained\"\n";
-
-/// Where the machine ends drained, it stops long before its limit, with nothing in flight.
-#[test]
-fn a_machine_ends_drained(rt: HostRuntime) {
-    let texts = four_reads(&rt, rt.alloc(), DRAINED);
-    let run = texts.run(1_000);
-    for workers in [1, 2, 3] {
-        let did = did_by(&rt, rt.alloc(), &Open, &run.by(always(workers)));
-        let (commands, cycles, flight) = &did;
-        let found = (commands.len(), *cycles < 100, *flight);
-        expect_at(&rt, &workers, &found, &(5, true, 0));
-    }
-}
-
-/// A core and a channel, with more workers than units.
-#[test]
-fn most_workers_have_nothing_to_do(rt: HostRuntime) {
-    let trace = "0 0\n7 4096\n3 64 128\n0 8192\n";
-    let texts = Texts::of(&rt, rt.alloc(), &[], "", &[trace]);
-    let workers = [always(2), always(3), always(64)];
-    assert_same(&rt, rt.alloc(), &texts.run(200), &workers);
 }
 
 /// How long threads look for tasks before they sleep.

@@ -7,7 +7,7 @@
 
 use crate::expect::expect_at;
 use crate::outcomes::{Texts, always, outcome_of};
-use request_table::table::RequestTable;
+use request_table::table::{RequestTable, Rows};
 use request_table::times::RequestTimes;
 use sim_base::message::{Access, Cycle};
 use simulation::gate::Open;
@@ -68,6 +68,17 @@ static RUNS: [(Cycle, &[RequestTimes]); 4] = [
     (21, &[FIRST, WRITTEN]),
 ];
 
+/// Appends the rows of a piece of a table.
+fn push_rows(rt: &impl Abort, alloc: Global, piece: &Rows<'_>, rows: &mut Vec<RequestTimes>) {
+    let mut left = piece.copied(alloc).expect(rt, "memory");
+    for _ in 0..u64::MAX {
+        let Some(row) = left.next() else {
+            break;
+        };
+        rows.push(row).expect(rt, "memory");
+    }
+}
+
 /// The rows of a table, read piece by piece.
 fn in_pieces(
     rt: &impl Abort,
@@ -77,30 +88,12 @@ fn in_pieces(
 ) -> Vec<RequestTimes> {
     let mut rows = Vec::new(alloc);
     for piece in &table.pieces(alloc, most).expect(rt, "memory") {
-        let mut left = piece.copied(alloc).expect(rt, "memory");
-        for _ in 0..u64::MAX {
-            let Some(row) = left.next() else {
-                break;
-            };
-            rows.push(row).expect(rt, "memory");
-        }
+        push_rows(rt, alloc, piece, &mut rows);
     }
     rows
 }
 
-/// Whether the requests of a table are these, read at once and in pieces.
-fn has_requests(
-    rt: &impl Abort,
-    alloc: Global,
-    table: &RequestTable,
-    want: &[RequestTimes],
-) -> bool {
-    let whole = table.to_vec(alloc).expect(rt, "memory");
-    let ones = in_pieces(rt, alloc, table, 1);
-    let twos = in_pieces(rt, alloc, table, 2);
-    whole.as_slice() == want && ones.as_slice() == want && twos.as_slice() == want
-}
-
+/// The requests of each run by so many workers, read at once and in pieces.
 fn assert_requests<R: Abort + Threads + Wait + Sync>(rt: &R, alloc: Global, workers: u64) {
     let texts = Texts::of(rt, alloc, &[], "", &["0 0 64\n0 64\n"]);
     for (cycles, want) in &RUNS {
@@ -109,10 +102,14 @@ fn assert_requests<R: Abort + Threads + Wait + Sync>(rt: &R, alloc: Global, work
             watch: &mut Unwatched,
         };
         let run = texts.run(*cycles).by(always(workers));
-        let outcome = outcome_of(rt, alloc, hooks, &run);
-        let outcome = outcome.expect(rt, "a run");
+        let outcome = outcome_of(rt, alloc, hooks, &run).expect(rt, "a run");
         let table = outcome.requests.as_ref().expect(rt, "requests");
-        let same = has_requests(rt, alloc, table, want);
+        let whole = table.to_vec(alloc).expect(rt, "memory");
+        let ones = in_pieces(rt, alloc, table, 1);
+        let twos = in_pieces(rt, alloc, table, 2);
+        let same = whole.as_slice() == *want
+            && ones.as_slice() == *want
+            && twos.as_slice() == *want;
         expect_at(rt, &(*cycles, workers), &same, &true);
     }
 }

@@ -5,7 +5,7 @@ ghost use Rattle.std.specs.Prelude.{◌≡◌, ◌<◌};
 
 use crate::expect::expect_at;
 use crate::generated::large_texts;
-use crate::outcomes::{EVERY, Run, Texts, plain_tables, tables_of};
+use crate::outcomes::{DRAINED, EVERY, Run, Texts, plain_tables, tables_of};
 use config_reader::read_config;
 use fixtures::random::Random;
 use fixtures::texts::traces_of;
@@ -99,19 +99,16 @@ fn assert_shared<R: Abort + Threads + Sync>(rt: &R, alloc: Global, run: &Run<'_>
     }
 }
 
-/// Two cores and a channel, which end at a limit or drained.
+/// The traces of two cores.
+pub(crate) const TWO_TRACES: [&str; 2] = ["0 0\n7 4096\n3 64 128\n", "5 64\n0 8192 64\n2 0\n"];
+
+/// Two cores and a channel, which end at a limit or drained; and twenty-four cores and two channels.
 #[test]
-fn shards_of_three_units_do_not_show(rt: HostRuntime) {
-    let traces = ["0 0\n7 4096\n3 64 128\n", "5 64\n0 8192 64\n2 0\n"];
-    for end in ["", "end = \"drained\"\n"] {
-        let texts = Texts::of(&rt, rt.alloc(), &["cores = 2"], end, &traces);
+fn shards_do_not_show(rt: HostRuntime) {
+    for end in ["", DRAINED] {
+        let texts = Texts::of(&rt, rt.alloc(), &["cores = 2"], end, &TWO_TRACES);
         assert_shared(&rt, rt.alloc(), &texts.run(300), 150);
     }
-}
-
-/// Twenty-four cores and two channels.
-#[test]
-fn shards_of_a_large_machine_do_not_show(rt: HostRuntime) {
     let texts = large_texts(&rt, rt.alloc(), "request_latency = 2");
     assert_shared(&rt, rt.alloc(), &texts.run(400), 200);
 }

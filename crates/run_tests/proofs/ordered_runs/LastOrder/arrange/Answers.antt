@@ -3,7 +3,7 @@ use Rattle.std.specs.Prelude.{Any}
 use Rattle.std.proofs.lemmas.List.Elements.{All-take}
 use Rattle.shards.specs.Jobs.{JobView}
 use Rattle.reference.proofs.Given.{permuted-given}
-use Rattle.run_tests.proofs.ordered_runs.LeavesOrder.arrange.Goals as goal
+use Rattle.run_tests.proofs.ordered_runs.LastOrder.arrange.Goals as goal
 
 -- what has the name of one of some results is one of them
 abbrev IsGiven : List JobView → JobView → Type 0

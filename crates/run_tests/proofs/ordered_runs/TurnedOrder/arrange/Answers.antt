@@ -3,7 +3,7 @@ use Rattle.std.proofs.lemmas.List.{take-append-drop}
 use Rattle.std.proofs.lemmas.List.Sorted.{IsPermutation-append_comm}
 use Rattle.shards.specs.Jobs.{JobView}
 use Rattle.reference.proofs.Given.{permuted-given}
-use Rattle.run_tests.proofs.worked_orders.TurnedOrder.arrange.Goals as goal
+use Rattle.run_tests.proofs.ordered_runs.TurnedOrder.arrange.Goals as goal
 
 -- the first of a list put behind the others
 turned : (n : ℕ) (xs ys : List JobView) → ys ≡ drop n xs ++ take n xs → IsPermutation xs ys
