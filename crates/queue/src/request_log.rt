@@ -210,15 +210,20 @@ impl RequestLog {
         last < self.log.len() && is_for(place, self.log[last])
     }
 
-    /// Whether a request that waits asks for the line of a place. The oldest that does may be served, so a search for
-    /// those finds it.
+    /// Whether a request that waits asks for the line of a place, by a search. The oldest that does may be served.
+    #[inline(always)]
+    fn is_line_found(&self, place: Place) -> bool
+        ensures { result ≡ asks_for_line place (waiting_requests self.now.log) }
+    {
+        next_for_line(true, place, 0, &self.log, &self.tags).is_some()
+    }
+
+    /// Whether a request that waits asks for the line of a place.
     #[inline(always)]
     fn is_line_asked(&self, place: Place) -> bool
         ensures { result ≡ asks_for_line place (waiting_requests self.now.log) }
     {
-        self.may_ask_for_line(place)
-            && (self.is_recent(place)
-                || next_for_line(true, place, 0, &self.log, &self.tags).is_some())
+        self.may_ask_for_line(place) && (self.is_recent(place) || self.is_line_found(place))
     }
 
     /// How many places are left.
