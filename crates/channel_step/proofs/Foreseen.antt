@@ -133,40 +133,40 @@ foreseen-drain_decided s history queue from ahead h =
     foreseen-from s history (drain_decided queue) from ahead (ahead-drain_decided s history queue from ahead (ahead-from s history queue from ahead h))
 
 -- a place among the first requests is one among all
-taken-place : (n slot : ℕ) (log : List Arrived) → slot < length (take n log) → waits_at (take n log) slot ≡ true
-    → (slot < length log) × (waits_at log slot ≡ true) × (slice_get (all_requests (take n log)) slot ≡ slice_get (all_requests log) slot)
-taken-place zero slot log l w = absurd (omega arith)
-taken-place (suc n) slot [] l w = absurd (omega arith)
+taken-place : (n place : ℕ) (log : List Arrived) → place < length (take n log) → waits_at (take n log) place ≡ true
+    → (place < length log) × (waits_at log place ≡ true) × (slice_get (all_requests (take n log)) place ≡ slice_get (all_requests log) place)
+taken-place zero place log l w = absurd (omega arith)
+taken-place (suc n) place [] l w = absurd (omega arith)
 taken-place (suc n) zero (a ∷ log) l w = (omega arith, w, refl)
-taken-place (suc n) (suc slot) (a ∷ log) l w = let rest = taken-place n slot log (omega arith) w in (omega (arith, rest.0), rest.1, rest.2)
+taken-place (suc n) (suc place) (a ∷ log) l w = let rest = taken-place n place log (omega arith) w in (omega (arith, rest.0), rest.1, rest.2)
 
 -- so what was chosen for the first is chosen for all, and needs the same
 pub taken-for : (n ranks : ℕ) (log earlier : List Arrived) (choice : Choice) → earlier ≡ take n log → IsFor ranks earlier choice → IsFor ranks log choice
-taken-for n ranks log earlier (chosen.Request slot) is h =
-    let k = subst (λ x. (slot < length x) × (waits_at x slot ≡ true)) is h in
-    let there = taken-place n slot log k.0 k.1 in
+taken-for n ranks log earlier (chosen.Request place) is h =
+    let k = subst (λ x. (place < length x) × (waits_at x place ≡ true)) is h in
+    let there = taken-place n place log k.0 k.1 in
     (there.0, there.1)
 taken-for n ranks log earlier (chosen.Refresh rank) is h = h
 
 taken-command : (s : Config) (history : List IssuedCommand) (n : ℕ) (log earlier : List Arrived) (choice : Choice) → earlier ≡ take n log → IsFor s.ranks earlier choice
     → command_of s history earlier choice ≡ command_of s history log choice
-taken-command s history n log earlier (chosen.Request slot) is h =
-    let k = subst (λ x. (slot < length x) × (waits_at x slot ≡ true)) is h in
-    ap (λ x. option_map (needed history) (slice_get (all_requests x) slot)) is ∙ ap (option_map (needed history)) (taken-place n slot log k.0 k.1).2
+taken-command s history n log earlier (chosen.Request place) is h =
+    let k = subst (λ x. (place < length x) × (waits_at x place ≡ true)) is h in
+    ap (λ x. option_map (needed history) (slice_get (all_requests x) place)) is ∙ ap (option_map (needed history)) (taken-place n place log k.0 k.1).2
 taken-command s history n log earlier (chosen.Refresh rank) is h = refl
 
-request-some : (slot : ℕ) (log : List Arrived) → slot < length log → slice_get (all_requests log) slot ≡ Some (request_at log slot)
-request-some slot [] l = absurd (omega arith)
+request-some : (place : ℕ) (log : List Arrived) → place < length log → slice_get (all_requests log) place ≡ Some (request_at log place)
+request-some place [] l = absurd (omega arith)
 request-some zero (a ∷ log) l = refl
-request-some (suc slot) (a ∷ log) l = request-some slot log (omega arith)
+request-some (suc place) (a ∷ log) l = request-some place log (omega arith)
 
 -- what a choice needs
 pub needs : (s : Config) (history : List IssuedCommand) (log : List Arrived) (choice : Choice) → IsFor s.ranks log choice → (command : Command) × (command_of s history log choice ≡ Some command)
-needs s history log (chosen.Request slot) h = (needed history (request_at log slot), ap (option_map (needed history)) (request-some slot log h.0))
+needs s history log (chosen.Request place) h = (needed history (request_at log place), ap (option_map (needed history)) (request-some place log h.0))
 needs s history log (chosen.Refresh rank) h = (refresh_command s history rank, refl)
 
-pub request-needs : (s : Config) (history : List IssuedCommand) (log : List Arrived) (slot : ℕ) → slot < length log → command_of s history log (chosen.Request slot) ≡ Some (needed history (request_at log slot))
-request-needs s history log slot l = ap (option_map (needed history)) (request-some slot log l)
+pub request-needs : (s : Config) (history : List IssuedCommand) (log : List Arrived) (place : ℕ) → place < length log → command_of s history log (chosen.Request place) ≡ Some (needed history (request_at log place))
+request-needs s history log place l = ap (option_map (needed history)) (request-some place log l)
 
 -- What was found is so still where what is next stays so with the requests that follow.
 pub ahead-kept : (s : Config) (history : List IssuedCommand) (earlier queue : QueueView) (n from cycle : ℕ) (choice : Choice) → earlier.log ≡ take n queue.log

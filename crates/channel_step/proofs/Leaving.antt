@@ -18,11 +18,11 @@ use Rattle.channel_step.proofs.Requests.{unserved_by, same_source, own_source}
 use Rattle.channel_step.proofs.Marks.{map-agree, served-remove}
 
 -- the request at a place is one of those that wait
-pub request-waits : (log : List Arrived) (slot : ℕ) → slot < length log → waits_at log slot ≡ true
-    → slice_get (waiting_requests log) (length (waiting_requests (take slot log))) ≡ Some (request_at log slot)
-request-waits log slot l w =
-    let i = length (waiting_requests (take slot log)) in
-    slice_get-get_or (waiting_requests log) i (request_at log slot) (waiting_within log slot l w) ∙ ap Some (waiting_at log slot (request_at log slot) l w)
+pub request-waits : (log : List Arrived) (place : ℕ) → place < length log → waits_at log place ≡ true
+    → slice_get (waiting_requests log) (length (waiting_requests (take place log))) ≡ Some (request_at log place)
+request-waits log place l w =
+    let i = length (waiting_requests (take place log)) in
+    slice_get-get_or (waiting_requests log) i (request_at log place) (waiting_within log place l w) ∙ ap Some (waiting_at log place (request_at log place) l w)
 
 Each-get : {X : Type 0} (P : X → Type 0) (xs : List X) (k : ℕ) (x : X) → slice_get xs k ≡ Some x → Each P xs → P x
 Each-get P [] k x e h = absurd (cc)
@@ -30,15 +30,15 @@ Each-get P (y ∷ ys) zero x e h = let same : y ≡ x = cc in subst P same h.0
 Each-get P (y ∷ ys) (suc k) x e h = Each-get P ys k x e h.1
 
 -- so what holds of each that waits holds of it
-pub at-waiting : (P : Request → Type 0) (log : List Arrived) (slot : ℕ) → slot < length log → waits_at log slot ≡ true → Each P (waiting_requests log) → P (request_at log slot)
-at-waiting P log slot l w h = Each-get P (waiting_requests log) (length (waiting_requests (take slot log))) (request_at log slot) (request-waits log slot l w) h
+pub at-waiting : (P : Request → Type 0) (log : List Arrived) (place : ℕ) → place < length log → waits_at log place ≡ true → Each P (waiting_requests log) → P (request_at log place)
+at-waiting P log place l w h = Each-get P (waiting_requests log) (length (waiting_requests (take place log))) (request_at log place) (request-waits log place l w) h
 
 -- the others are left when it is served
-pub served-waits : (log : List Arrived) (slot : ℕ) → slot < length log → waits_at log slot ≡ true → Differ (waiting_requests log)
-    → waiting_requests (served_at log slot) ≡ unserved_by (column_command (request_at log slot)) (waiting_requests log)
-served-waits log slot l w d =
-    waiting_served log slot l w
-    ∙ sym (served-remove (waiting_requests log) (length (waiting_requests (take slot log))) (request_at log slot) d (request-waits log slot l w))
+pub served-waits : (log : List Arrived) (place : ℕ) → place < length log → waits_at log place ≡ true → Differ (waiting_requests log)
+    → waiting_requests (served_at log place) ≡ unserved_by (column_command (request_at log place)) (waiting_requests log)
+served-waits log place l w d =
+    waiting_served log place l w
+    ∙ sym (served-remove (waiting_requests log) (length (waiting_requests (take place log))) (request_at log place) d (request-waits log place l w))
 
 head : (x y : Bool) (xs ys : List Bool) → x ∷ xs ≡ y ∷ ys → x ≡ y
 head x y xs ys e = ap (λ zs. get_or zs 0 x) e
@@ -47,48 +47,48 @@ tail : (x y : Bool) (xs ys : List Bool) → x ∷ xs ≡ y ∷ ys → xs ≡ ys
 tail x y xs ys e = ap (drop 1) e
 
 -- their marks stay
-pub served-marks : (g : Request → Bool) (log : List Arrived) (slot : ℕ) → marks_in log ≡ map g (waiting_requests log) → marks_in (served_at log slot) ≡ map g (waiting_requests (served_at log slot))
+pub served-marks : (g : Request → Bool) (log : List Arrived) (place : ℕ) → marks_in log ≡ map g (waiting_requests log) → marks_in (served_at log place) ≡ map g (waiting_requests (served_at log place))
 unfolding waiting
-served-marks g [] slot h = h
+served-marks g [] place h = h
 served-marks g (a ∷ log) zero h = by a.waits h
   where
     by : (b : Bool) → map (λ (x : Arrived). x.activated) (cond b (a ∷ waiting log) (waiting log)) ≡ map g (map (λ (x : Arrived). x.request) (cond b (a ∷ waiting log) (waiting log)))
         → marks_in log ≡ map g (waiting_requests log)
     by true e = tail _ _ _ _ e
     by false e = e
-served-marks g (a ∷ log) (suc slot) h = by a.waits (served-marks g log slot) h
+served-marks g (a ∷ log) (suc place) h = by a.waits (served-marks g log place) h
   where
-    by : (b : Bool) → (marks_in log ≡ map g (waiting_requests log) → marks_in (served_at log slot) ≡ map g (waiting_requests (served_at log slot)))
+    by : (b : Bool) → (marks_in log ≡ map g (waiting_requests log) → marks_in (served_at log place) ≡ map g (waiting_requests (served_at log place)))
         → map (λ (x : Arrived). x.activated) (cond b (a ∷ waiting log) (waiting log)) ≡ map g (map (λ (x : Arrived). x.request) (cond b (a ∷ waiting log) (waiting log)))
-        → map (λ (x : Arrived). x.activated) (cond b (a ∷ waiting (served_at log slot)) (waiting (served_at log slot)))
-        ≡ map g (map (λ (x : Arrived). x.request) (cond b (a ∷ waiting (served_at log slot)) (waiting (served_at log slot))))
+        → map (λ (x : Arrived). x.activated) (cond b (a ∷ waiting (served_at log place)) (waiting (served_at log place)))
+        ≡ map g (map (λ (x : Arrived). x.request) (cond b (a ∷ waiting (served_at log place)) (waiting (served_at log place))))
     by true later e = ap₂ (λ x xs. x ∷ xs) (head _ _ _ _ e) (later (tail _ _ _ _ e))
     by false later e = later e
 
 -- its mark is there as well
-pub mark-at : (g : Request → Bool) (log : List Arrived) (slot : ℕ) → slot < length log → waits_at log slot ≡ true → marks_in log ≡ map g (waiting_requests log)
-    → (get_or log slot absent).activated ≡ g (request_at log slot)
+pub mark-at : (g : Request → Bool) (log : List Arrived) (place : ℕ) → place < length log → waits_at log place ≡ true → marks_in log ≡ map g (waiting_requests log)
+    → (get_or log place absent).activated ≡ g (request_at log place)
 unfolding waiting
-mark-at g [] slot l w h = absurd (omega arith)
+mark-at g [] place l w h = absurd (omega arith)
 mark-at g (a ∷ log) zero l w h = by a.waits w h
   where
     by : (b : Bool) → b ≡ true → map (λ (x : Arrived). x.activated) (cond b (a ∷ waiting log) (waiting log)) ≡ map g (map (λ (x : Arrived). x.request) (cond b (a ∷ waiting log) (waiting log)))
         → a.activated ≡ g a.request
     by true w e = head _ _ _ _ e
     by false w e = absurd (true≢false (sym w))
-mark-at g (a ∷ log) (suc slot) l w h = by a.waits (mark-at g log slot (omega arith) w) h
+mark-at g (a ∷ log) (suc place) l w h = by a.waits (mark-at g log place (omega arith) w) h
   where
-    by : (b : Bool) → (marks_in log ≡ map g (waiting_requests log) → (get_or log slot absent).activated ≡ g (request_at log slot))
+    by : (b : Bool) → (marks_in log ≡ map g (waiting_requests log) → (get_or log place absent).activated ≡ g (request_at log place))
         → map (λ (x : Arrived). x.activated) (cond b (a ∷ waiting log) (waiting log)) ≡ map g (map (λ (x : Arrived). x.request) (cond b (a ∷ waiting log) (waiting log)))
-        → (get_or log slot absent).activated ≡ g (request_at log slot)
+        → (get_or log place absent).activated ≡ g (request_at log place)
     by true later e = later (tail _ _ _ _ e)
     by false later e = later e
 
 -- an ACT in its name marks it, and no other one
-pub activated-marks : (g : Request → Bool) (log : List Arrived) (slot : ℕ) → slot < length log → waits_at log slot ≡ true → Differ (waiting_requests log) → marks_in log ≡ map g (waiting_requests log)
-    → marks_in (activated_at log slot) ≡ map (λ r. g r || is_source r (source_of (request_at log slot))) (waiting_requests log)
+pub activated-marks : (g : Request → Bool) (log : List Arrived) (place : ℕ) → place < length log → waits_at log place ≡ true → Differ (waiting_requests log) → marks_in log ≡ map g (waiting_requests log)
+    → marks_in (activated_at log place) ≡ map (λ r. g r || is_source r (source_of (request_at log place))) (waiting_requests log)
 unfolding waiting
-activated-marks g [] slot l w d h = absurd (omega arith)
+activated-marks g [] place l w d h = absurd (omega arith)
 activated-marks g (a ∷ log) zero l w d h = by a.waits w d h
   where
     by : (b : Bool) → b ≡ true → Differ (map (λ (x : Arrived). x.request) (cond b (a ∷ waiting log) (waiting log)))
@@ -101,17 +101,17 @@ activated-marks g (a ∷ log) zero l w d h = by a.waits w d h
         ∙ map-agree g (λ r. g r || is_source r (source_of a.request)) (waiting_requests log)
         (Each-weaker (IsOther a.request) _ (λ r o. sym (ap (λ b. g r || b) o ∙ or-false (g r))) (waiting_requests log) d.0))
     by false w d e = absurd (true≢false (sym w))
-activated-marks g (a ∷ log) (suc slot) l w d h = by a.waits (activated-marks g log slot (omega arith) w) d h
+activated-marks g (a ∷ log) (suc place) l w d h = by a.waits (activated-marks g log place (omega arith) w) d h
   where
     by : (b : Bool)
         → (Differ (waiting_requests log) → marks_in log ≡ map g (waiting_requests log)
-        → marks_in (activated_at log slot) ≡ map (λ r. g r || is_source r (source_of (request_at log slot))) (waiting_requests log))
+        → marks_in (activated_at log place) ≡ map (λ r. g r || is_source r (source_of (request_at log place))) (waiting_requests log))
         → Differ (map (λ (x : Arrived). x.request) (cond b (a ∷ waiting log) (waiting log)))
         → map (λ (x : Arrived). x.activated) (cond b (a ∷ waiting log) (waiting log)) ≡ map g (map (λ (x : Arrived). x.request) (cond b (a ∷ waiting log) (waiting log)))
-        → map (λ (x : Arrived). x.activated) (cond b (a ∷ waiting (activated_at log slot)) (waiting (activated_at log slot)))
-        ≡ map (λ r. g r || is_source r (source_of (request_at log slot))) (map (λ (x : Arrived). x.request) (cond b (a ∷ waiting log) (waiting log)))
+        → map (λ (x : Arrived). x.activated) (cond b (a ∷ waiting (activated_at log place)) (waiting (activated_at log place)))
+        ≡ map (λ r. g r || is_source r (source_of (request_at log place))) (map (λ (x : Arrived). x.request) (cond b (a ∷ waiting log) (waiting log)))
     by true later d e =
-        let other = same_source (request_at log slot) a.request (at-waiting (IsOther a.request) log slot (omega arith) w d.0) in
+        let other = same_source (request_at log place) a.request (at-waiting (IsOther a.request) log place (omega arith) w d.0) in
         ap₂ (λ x xs. x ∷ xs) (head _ _ _ _ e ∙ sym (ap (λ b. g a.request || b) other ∙ or-false (g a.request)))
         (later d.1 (tail _ _ _ _ e))
     by false later d e = later d e

@@ -43,10 +43,10 @@ use Rattle.channel_step.proofs.Marks.{column_either, opens_none, marks-act, mark
 use Rattle.channel_step.proofs.Serving.{rows_in, kept-quiet, kept-served}
 
 -- the bank that the request at a place asks for is one that has candidates
-pub placed-among : (c : Channel) (past : Past) (slot : ℕ) → IsInCycle c past → slot < length c.queue.log
-    → IsAmong c.bank_candidates (bank_in (request_at c.queue.log slot).place)
-placed-among c past slot h l =
-    let placed = placed_at (IsInBanks past.config.ranks) c.queue.log slot h.made_for.in_banks l in
+pub placed-among : (c : Channel) (past : Past) (place : ℕ) → IsInCycle c past → place < length c.queue.log
+    → IsAmong c.bank_candidates (bank_in (request_at c.queue.log place).place)
+placed-among c past place h l =
+    let placed = placed_at (IsInBanks past.config.ranks) c.queue.log place h.made_for.in_banks l in
     record { number = omega (arith, placed.rank, placed.group, placed.bank, h.made_for.banks_are); group = placed.group; bank = placed.bank }
 
 -- its candidates know which rows are open
@@ -70,45 +70,45 @@ quiet-readied c past command bank_candidates h chosen opens quiet no_hit count s
     (kept-quiet c.served history row past.mail (late-none past.config past.channel past.steps past.mail command chosen) quiet h.keeps_served)
 
 -- a PRE closes the bank of a request
-pub closed-readied : (c : Channel) (past : Past) (slot : ℕ) (bank_candidates : BankCandidates) → IsInCycle c past
-    → slot < length c.queue.log
-    → let r = request_at c.queue.log slot in
+pub closed-readied : (c : Channel) (past : Past) (place : ℕ) (bank_candidates : BankCandidates) → IsInCycle c past
+    → place < length c.queue.log
+    → let r = request_at c.queue.log place in
     Some (Pre (bank_in r.place) (source_of r)) ≡ choice_after past → bank_count bank_candidates ≡ bank_count c.bank_candidates
     → CandidatesStandFor bank_candidates c.queue.log (with_row (number_of (bank_in r.place)) None (λ bank. open_row (bank_at bank) (commands_after past)))
     → IsReadied (record c { bank_candidates = bank_candidates }) past (Pre (bank_in r.place) (source_of r)) false
-closed-readied c past slot bank_candidates h l chosen count stands =
-    let r = request_at c.queue.log slot in
+closed-readied c past place bank_candidates h l chosen count stands =
+    let r = request_at c.queue.log place in
     let bank = bank_in r.place in
     let rows : ℕ → Option ℕ = λ n. open_row (bank_at n) (commands_after past) in
-    let among = placed-among c past slot h l in
+    let among = placed-among c past place h l in
     quiet-readied c past (Pre bank (source_of r)) bank_candidates h chosen refl refl refl count
     (same_rows bank_candidates c.queue.log (with_row (number_of bank) None rows) (λ n. row_after (bank_at n) (rows n) (Pre bank (source_of r))) stands
     (λ n there. ap (λ t. cond t None (rows n)) (bank_named n bank among.group among.bank)))
 
 -- an ACT opens a row in it, and marks the request
-pub opened-readied : (c : Channel) (past : Past) (slot : ℕ) (bank_candidates : BankCandidates) → IsInCycle c past
-    → slot < length c.queue.log → waits_at c.queue.log slot ≡ true
-    → let r = request_at c.queue.log slot in
+pub opened-readied : (c : Channel) (past : Past) (place : ℕ) (bank_candidates : BankCandidates) → IsInCycle c past
+    → place < length c.queue.log → waits_at c.queue.log place ≡ true
+    → let r = request_at c.queue.log place in
     Some (needed_at None r) ≡ choice_after past → bank_count bank_candidates ≡ bank_count c.bank_candidates
-    → CandidatesStandFor bank_candidates (activated_at c.queue.log slot) (with_row (number_of (bank_in r.place)) (Some r.place.row) (λ bank. open_row (bank_at bank) (commands_after past)))
-    → IsReadied (record c { queue = record c.queue { log = activated_at c.queue.log slot }; bank_candidates = bank_candidates }) past (needed_at None r) false
-opened-readied c past slot bank_candidates h l w chosen count stands =
+    → CandidatesStandFor bank_candidates (activated_at c.queue.log place) (with_row (number_of (bank_in r.place)) (Some r.place.row) (λ bank. open_row (bank_at bank) (commands_after past)))
+    → IsReadied (record c { queue = record c.queue { log = activated_at c.queue.log place }; bank_candidates = bank_candidates }) past (needed_at None r) false
+opened-readied c past place bank_candidates h l w chosen count stands =
     let log = c.queue.log in
-    let r = request_at log slot in
+    let r = request_at log place in
     let bank = bank_in r.place in
     let act = needed_at None r in
     let history = commands_after past in
     let row = row_of past.channel (length past.steps) act in
     let rows : ℕ → Option ℕ = λ n. open_row (bank_at n) history in
-    let among = placed-among c past slot h l in
+    let among = placed-among c past place h l in
     let differ = joined-differ _ _ _ _ past h.joined in
-    readied c past act false (activated_at log slot) bank_candidates c.served h chosen refl (all_activated log slot)
-    (waiting_activated log slot ∙ sym (served-none (waiting_requests log) act refl))
-    (activated-marks (is_named history) log slot l w differ h.joined.marks_are
+    readied c past act false (activated_at log place) bank_candidates c.served h chosen refl (all_activated log place)
+    (waiting_activated log place ∙ sym (served-none (waiting_requests log) act refl))
+    (activated-marks (is_named history) log place l w differ h.joined.marks_are
     ∙ sym (marks-act history row (waiting_requests log) bank r.place.row (source_of r) refl)
-    ∙ ap (marks_of (history ++ row ∷ [])) (sym (waiting_activated log slot)))
+    ∙ ap (marks_of (history ++ row ∷ [])) (sym (waiting_activated log place)))
     count
-    (same_rows bank_candidates (activated_at log slot) (with_row (number_of bank) (Some r.place.row) rows) (λ n. row_after (bank_at n) (rows n) act) stands
+    (same_rows bank_candidates (activated_at log place) (with_row (number_of bank) (Some r.place.row) rows) (λ n. row_after (bank_at n) (rows n) act) stands
     (λ n there. ap (λ t. cond t (Some r.place.row) (rows n)) (bank_named n bank among.group among.bank)))
     (kept-quiet c.served history row past.mail (late-none past.config past.channel past.steps past.mail act chosen) refl h.keeps_served)
 
@@ -116,32 +116,32 @@ column-rows : (bank : BankId) (row : Option ℕ) (r : Request) → row ≡ row_a
 column-rows bank row r = column_either (λ command. row ≡ row_after bank row command) r refl refl
 
 -- a column command serves the request
-pub served-readied : (c : Channel) (past : Past) (slot : ℕ) (bank_candidates : BankCandidates) (served : Option (Vec ServedRequest Global))
-    → IsInCycle c past → slot < length c.queue.log → waits_at c.queue.log slot ≡ true
-    → let r = request_at c.queue.log slot in
-    let hit = not (get_or c.queue.log slot absent).activated in
+pub served-readied : (c : Channel) (past : Past) (place : ℕ) (bank_candidates : BankCandidates) (served : Option (Vec ServedRequest Global))
+    → IsInCycle c past → place < length c.queue.log → waits_at c.queue.log place ≡ true
+    → let r = request_at c.queue.log place in
+    let hit = not (get_or c.queue.log place absent).activated in
     Some (column_command r) ≡ choice_after past → bank_count bank_candidates ≡ bank_count c.bank_candidates
-    → CandidatesStand bank_candidates (served_at c.queue.log slot) (commands_after past)
+    → CandidatesStand bank_candidates (served_at c.queue.log place) (commands_after past)
     → rows_in served ≡ with_more (rows_in c.served) (served_now c.number c.cycle r hit ∷ [])
-    → IsReadied (record c { queue = record c.queue { log = served_at c.queue.log slot }; bank_candidates = bank_candidates; served = served }) past (column_command r) hit
-served-readied c past slot bank_candidates served h l w chosen count stands more =
+    → IsReadied (record c { queue = record c.queue { log = served_at c.queue.log place }; bank_candidates = bank_candidates; served = served }) past (column_command r) hit
+served-readied c past place bank_candidates served h l w chosen count stands more =
     let j = h.joined in
     let log = c.queue.log in
-    let r = request_at log slot in
+    let r = request_at log place in
     let command = column_command r in
-    let hit = not (get_or log slot absent).activated in
+    let hit = not (get_or log place absent).activated in
     let history = commands_after past in
     let row = row_of past.channel (length past.steps) command in
     let rows : ℕ → Option ℕ = λ n. open_row (bank_at n) history in
     let differ = joined-differ _ _ _ _ past j in
     let no_act = column-opens_none r in
-    let is_hit : issues_hit history (Some command) ≡ hit = hit-mark history r ∙ ap not (sym (mark-at (is_named history) log slot l w j.marks_are)) in
-    readied c past command hit (served_at log slot) bank_candidates served h chosen is_hit (all_served log slot) (served-waits log slot l w differ)
-    (served-marks (is_named history) log slot j.marks_are ∙ sym (marks-no_act history row (waiting_requests (served_at log slot)) no_act))
+    let is_hit : issues_hit history (Some command) ≡ hit = hit-mark history r ∙ ap not (sym (mark-at (is_named history) log place l w j.marks_are)) in
+    readied c past command hit (served_at log place) bank_candidates served h chosen is_hit (all_served log place) (served-waits log place l w differ)
+    (served-marks (is_named history) log place j.marks_are ∙ sym (marks-no_act history row (waiting_requests (served_at log place)) no_act))
     count
-    (same_rows bank_candidates (served_at log slot) rows (λ n. row_after (bank_at n) (rows n) command) stands (λ n there. column-rows (bank_at n) (rows n) r))
+    (same_rows bank_candidates (served_at log place) rows (λ n. row_after (bank_at n) (rows n) command) stands (λ n there. column-rows (bank_at n) (rows n) r))
     (kept-served c.served served history row r hit past.mail (length past.steps + 1) refl (late-none past.config past.channel past.steps past.mail command chosen)
-    (λ P each. at-waiting P log slot l w (subst (Each P) (sym j.queue_is) each)) is_hit
+    (λ P each. at-waiting P log place l w (subst (Each P) (sym j.queue_is) each)) is_hit
     (more ∙ ap₂ (λ number t. with_more (rows_in c.served) (served_now number t r hit ∷ [])) h.made_for.number_is h.cycle_is)
     h.keeps_served)
 
@@ -171,14 +171,14 @@ pub needed-moving : (history : List IssuedCommand) (r : Request) (row : ℕ) →
 needed-moving history r row e same = needed-with history r (Some row) e ∙ cond-true (eqb row r.place.row) (column_command r) (Pre (bank_in r.place) (source_of r)) (eq-eqb row r.place.row same)
 
 -- what was chosen is what the request at a place needs
-pub chosen-needs : (c : Channel) (slot : ℕ) (p : IsChosen c (chosen.Request slot)) → Some (needed (issued_commands p.past.channel p.past.steps) (request_at c.queue.log slot)) ≡ choice p.past.config p.past.channel p.past.steps p.past.mail
-chosen-needs c slot p = sym (request-needs p.past.config (issued_commands p.past.channel p.past.steps) c.queue.log slot p.place.0) ∙ p.needed ∙ p.is_chosen
+pub chosen-needs : (c : Channel) (place : ℕ) (p : IsChosen c (chosen.Request place)) → Some (needed (issued_commands p.past.channel p.past.steps) (request_at c.queue.log place)) ≡ choice p.past.config p.past.channel p.past.steps p.past.mail
+chosen-needs c place p = sym (request-needs p.past.config (issued_commands p.past.channel p.past.steps) c.queue.log place p.place.0) ∙ p.needed ∙ p.is_chosen
 
-pub doing : (c : Channel) (slot : ℕ) (command : Command) (p : IsChosen c (chosen.Request slot)) → needed (issued_commands p.past.channel p.past.steps) (request_at c.queue.log slot) ≡ command → IsDoing c slot command
-doing c slot command p e = record {
+pub doing : (c : Channel) (place : ℕ) (command : Command) (p : IsChosen c (chosen.Request place)) → needed (issued_commands p.past.channel p.past.steps) (request_at c.queue.log place) ≡ command → IsDoing c place command
+doing c place command p e = record {
   past = p.past;
   is_in = p.is_in;
   within = p.place.0;
   waits = p.place.1;
-  is_chosen = ap Some (sym e) ∙ chosen-needs c slot p;
+  is_chosen = ap Some (sym e) ∙ chosen-needs c place p;
 }

@@ -1,6 +1,6 @@
 -- The requests that wait at a channel, each with a mark: whether an ACT was issued for it.
 --     marks_in log      the marks of those that wait
---     request_at log slot      the request at a place
+--     request_at log place      the request at a place
 --     joined_with queue new      these requests join
 --     drain_decided queue      it is decided whether the channel drains its writes
 --     with_arrivals queue new      both
@@ -20,7 +20,7 @@ marks_in log = map (λ a. a.activated) (waiting log)
 
 -- the request at a place
 abbrev pub request_at : List Arrived → ℕ → Request
-request_at log slot = (slice_index_or log slot absent).request
+request_at log place = (slice_index_or log place absent).request
 
 -- these requests join, with no mark yet
 abbrev pub joined_with : QueueView → List Request → QueueView

@@ -1,10 +1,10 @@
 -- A channel that issues a command in a cycle.
 --     IsChosen c choice      a channel is in a cycle, and this was chosen for it
---     IsDoing c slot command      it issues a command in it, and at a place a request waits
---     request_of c slot      the request at a place of its log
---     column_command_at c slot      the column command of that request
---     opening_command c slot, closing_command c slot      the ACT that it needs, and the PRE
---     command_needed c history slot      what it needs after these commands
+--     IsDoing c place command      it issues a command in it, and at a place a request waits
+--     request_of c place      the request at a place of its log
+--     column_command_at c place      the column command of that request
+--     opening_command c place, closing_command c place      the ACT that it needs, and the PRE
+--     command_needed c history place      what it needs after these commands
 --     rank_command p rank      what a rank needs that is to be refreshed
 --     row_of channel now command      a command of a cycle, as it was issued
 --     commands_with p command      the commands up to it
@@ -45,32 +45,32 @@ pub record IsChosen (c : Channel) (chosen : Choice) : Type 0 where
   pub is_chosen : Some command ≡ choice_after past
 
 -- a channel is in a cycle, after some past, in which it issues a command, and at a place of its log a request waits
-pub record IsDoing (c : Channel) (slot : ℕ) (command : Command) : Type 0 where
+pub record IsDoing (c : Channel) (place : ℕ) (command : Command) : Type 0 where
   pub past : Past
   pub is_in : IsInCycle c past
-  pub within : slot < length c.queue.log
-  pub waits : waits_at c.queue.log slot ≡ true
+  pub within : place < length c.queue.log
+  pub waits : waits_at c.queue.log place ≡ true
   pub is_chosen : Some command ≡ choice_after past
 
 -- the request at a place of the log of a channel
 abbrev pub request_of : Channel → ℕ → Request
-request_of c slot = request_at c.queue.log slot
+request_of c place = request_at c.queue.log place
 
 -- its column command
 abbrev pub column_command_at : Channel → ℕ → Command
-column_command_at c slot = column_command (request_of c slot)
+column_command_at c place = column_command (request_of c place)
 
 -- the ACT that it needs where no row of its bank is open
 abbrev pub opening_command : Channel → ℕ → Command
-opening_command c slot = needed_at None (request_of c slot)
+opening_command c place = needed_at None (request_of c place)
 
 -- the PRE that it needs where another row is open
 abbrev pub closing_command : Channel → ℕ → Command
-closing_command c slot = Pre (bank_in (request_of c slot).place) (source_of (request_of c slot))
+closing_command c place = Pre (bank_in (request_of c place).place) (source_of (request_of c place))
 
 -- the command that it needs after these commands
 abbrev pub command_needed : Channel → List IssuedCommand → ℕ → Command
-command_needed c history slot = needed history (request_of c slot)
+command_needed c history place = needed history (request_of c place)
 
 -- what a rank needs that is to be refreshed, after a past
 abbrev pub rank_command : Past → ℕ → Command

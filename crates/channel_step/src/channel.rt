@@ -35,7 +35,7 @@ use crate::fr_fcfs::arrivals::stays;
 use crate::fr_fcfs::choice::{ChannelParts, Choice, next};
 use crate::fr_fcfs::needs::refresh_command;
 use crate::noting::{keep_served, note_refresh};
-use crate::sending::{AnswerLatencies, Sender, answer_latencies, keep, send};
+use crate::sending::{AnswerLatencies, AnsweringChannel, answer_latencies, keep, send};
 use bank_ready::banks::Banks;
 use bank_ready::refresh::Refresh;
 use command_table::list::CommandList;
@@ -404,15 +404,15 @@ impl Channel {
 
     /// Readies the channel for the ACT that the request at a place needs, in whose bank no row is open.
     #[inline(always)]
-    fn open_bank(&mut self, slot: usize) -> Command
-        requires { IsDoing self.old slot (opening_command self.old slot) }
-        ensures command { result ≡ opening_command self.old slot }
+    fn open_bank(&mut self, place: usize) -> Command
+        requires { IsDoing self.old place (opening_command self.old place) }
+        ensures command { result ≡ opening_command self.old place }
         ensures readied { HasReadied self.old self.new result false }
     {
-        let request = self.queue.log().log()[slot].request;
+        let request = self.queue.log().log()[place].request;
         let bank = request.place.bank_id();
         let row = request.place.row;
-        self.queue.activate(slot);
+        self.queue.activate(place);
         self.bank_candidates.opened(bank, row, self.queue.log());
         Command::Act {
             bank,
@@ -423,12 +423,12 @@ impl Channel {
 
     /// Readies the channel for the PRE that the request at a place needs, in whose bank another row is open.
     #[inline(always)]
-    fn close_bank(&mut self, slot: usize) -> Command
-        requires { IsDoing self.old slot (closing_command self.old slot) }
-        ensures command { result ≡ closing_command self.old slot }
+    fn close_bank(&mut self, place: usize) -> Command
+        requires { IsDoing self.old place (closing_command self.old place) }
+        ensures command { result ≡ closing_command self.old place }
         ensures readied { HasReadied self.old self.new result false }
     {
-        let request = self.queue.log().log()[slot].request;
+        let request = self.queue.log().log()[place].request;
         let bank = request.place.bank_id();
         self.bank_candidates.closed(bank);
         Command::Pre {
@@ -440,16 +440,16 @@ impl Channel {
     /// Readies the channel for the column command of the request at a place, which then waits no more, and tells
     /// whether it is a row hit. On an error the request is not added to those that are kept.
     #[inline(always)]
-    fn serve(&mut self, slot: usize) -> Result<bool, AllocError>
-        requires { IsDoing self.old slot (column_command_at self.old slot) }
+    fn serve(&mut self, place: usize) -> Result<bool, AllocError>
+        requires { IsDoing self.old place (column_command_at self.old place) }
         ensures { ForCycles self.old (λ past.
-            Some (column_command_at self.old slot) ≡ choice_after past
-            → IfOk result (IsReadied self.new past (column_command_at self.old slot))) }
+            Some (column_command_at self.old place) ≡ choice_after past
+            → IfOk result (IsReadied self.new past (column_command_at self.old place))) }
     {
-        let unblocked = self.queue.serve(slot);
+        let unblocked = self.queue.serve(place);
         self.bank_candidates
-            .on_service(slot, unblocked, self.queue.log());
-        let served = &self.queue.log().log()[slot];
+            .on_service(place, unblocked, self.queue.log());
+        let served = &self.queue.log().log()[place];
         let hit = !served.activated;
         keep_served(
             &mut self.served,
@@ -465,24 +465,24 @@ impl Channel {
     #[inline(always)]
     fn issue_column_command(
         &mut self,
-        slot: usize,
+        place: usize,
         seen: Seen,
         commands: &mut Option<CommandList>,
         messages: &mut Vec<Message>,
     ) -> Result<(), AllocError>
-        requires doing { IsDoing self.old slot (column_command_at self.old slot) }
+        requires doing { IsDoing self.old place (column_command_at self.old place) }
         requires seen { seen ≡ seen_of self.old self.old.cycle }
         requires early { self.old.cycle < 2 ^ 62 }
         ensures { ForCycles self.old (λ past.
-            Some (column_command_at self.old slot) ≡ choice_after past
-            → OnOk result (HasIssued self.new past (column_command_at self.old slot)
+            Some (column_command_at self.old place) ≡ choice_after past
+            → OnOk result (HasIssued self.new past (column_command_at self.old place)
             commands.old commands.new messages.old.items messages.new.items)) }
     {
         let now = self.cycle;
-        let request = self.queue.log().log()[slot].request;
-        let hit = self.serve(slot)?;
+        let request = self.queue.log().log()[place].request;
+        let hit = self.serve(place)?;
         self.issue(request.column_command(), hit, seen, commands)?;
-        let sender = Sender {
+        let sender = AnsweringChannel {
             config: &self.config,
             latencies: &self.latencies,
             channel: self.number,
@@ -496,30 +496,30 @@ impl Channel {
     #[inline(always)]
     fn issue_for(
         &mut self,
-        slot: usize,
+        place: usize,
         commands: &mut Option<CommandList>,
         messages: &mut Vec<Message>,
     ) -> Result<(), AllocError>
-        requires chosen { IsChosen self.old (chosen.Request slot) }
+        requires chosen { IsChosen self.old (chosen.Request place) }
         requires early { self.old.cycle < 2 ^ 62 }
         ensures { ForCycles self.old (λ past.
-            Some (command_needed self.old (commands_after past) slot) ≡ choice_after past
+            Some (command_needed self.old (commands_after past) place) ≡ choice_after past
             → OnOk result (HasIssued self.new past
-            (command_needed self.old (commands_after past) slot)
+            (command_needed self.old (commands_after past) place)
             commands.old commands.new messages.old.items messages.new.items)) }
     {
         let seen = self.seen(self.refreshing());
-        let place = self.queue.log().log()[slot].request.place;
-        match self.bank_candidates.open_row(place.bank_id()) {
+        let asked = self.queue.log().log()[place].request.place;
+        match self.bank_candidates.open_row(asked.bank_id()) {
             None => {
-                let command = self.open_bank(slot);
+                let command = self.open_bank(place);
                 self.issue(command, false, seen, commands)
             }
-            Some(row) if row != place.row => {
-                let command = self.close_bank(slot);
+            Some(row) if row != asked.row => {
+                let command = self.close_bank(place);
                 self.issue(command, false, seen, commands)
             }
-            Some(_) => self.issue_column_command(slot, seen, commands, messages),
+            Some(_) => self.issue_column_command(place, seen, commands, messages),
         }
     }
 
@@ -541,7 +541,7 @@ impl Channel {
     {
         match found {
             Choice::Refresh(rank) => self.refresh_rank(rank, commands),
-            Choice::Request(slot) => self.issue_for(slot as usize, commands, messages),
+            Choice::Request(place) => self.issue_for(place as usize, commands, messages),
         }
     }
 

@@ -19,9 +19,9 @@ pub(crate) struct AnswerLatencies {
     pub credit: u32,
 }
 
-/// A channel that sends, in a cycle, with the latencies of its links to each core, by number.
+/// A channel that answers a request in a cycle, with the latencies of its links to each core, by number.
 #[derive(Clone, Copy)]
-pub(crate) struct Sender<'a> {
+pub(crate) struct AnsweringChannel<'a> {
     pub config: &'a Config,
     pub latencies: &'a [AnswerLatencies],
     pub channel: ChannelId,
@@ -53,7 +53,7 @@ pub(crate) fn answer_latencies(
 
 /// The latencies of the channel's links to a core, also to one that the machine does not have.
 #[inline(always)]
-fn travel_to(sender: &Sender<'_>, core: CoreId) -> AnswerLatencies
+fn travel_to(sender: &AnsweringChannel<'_>, core: CoreId) -> AnswerLatencies
     requires latencies { KnowsLatencies sender.now }
     ensures { result ≡ latencies_to sender.now.config.now sender.now.channel core }
 {
@@ -66,7 +66,7 @@ fn travel_to(sender: &Sender<'_>, core: CoreId) -> AnswerLatencies
 
 #[inline(always)]
 #[tactic(auto, unfolding(sim_base::specs::History::reply))]
-fn reply_to(sender: &Sender<'_>, source: Source, travel: AnswerLatencies) -> Message
+fn reply_to(sender: &AnsweringChannel<'_>, source: Source, travel: AnswerLatencies) -> Message
     requires early { sender.now.cycle < 2 ^ 62 }
     requires travel { travel ≡ latencies_to sender.now.config.now sender.now.channel source.core }
     ensures { result ≡ reply sender.now.config.now sender.now.channel sender.now.cycle source }
@@ -83,7 +83,7 @@ fn reply_to(sender: &Sender<'_>, source: Source, travel: AnswerLatencies) -> Mes
 #[inline(always)]
 #[tactic(auto, unfolding(sim_base::specs::History::credit))]
 fn credit_for(
-    sender: &Sender<'_>,
+    sender: &AnsweringChannel<'_>,
     access: Access,
     source: Source,
     travel: AnswerLatencies,
@@ -108,7 +108,7 @@ fn credit_for(
 #[inline(always)]
 #[tactic(auto, unfolding(sim_base::specs::History::messages_of))]
 pub(crate) fn send(
-    sender: &Sender<'_>,
+    sender: &AnsweringChannel<'_>,
     request: &Request,
     messages: &mut Vec<Message>,
 ) -> Result<(), AllocError>

@@ -91,14 +91,14 @@ hits_of_access s history ranks log access bank h ready places first row_is from 
     ∙ ap (λ o. cond (leb ready cycle) o None) (sym (access_first access log bank h first).hit_is)
 
 -- what a bank offers to those that ask for its open row
-pub access_hit : (s : Config) (history : List IssuedCommand) (ranks : ℕ) (log : List Arrived) (access : Access) (bank : ℕ) (h : CandidatesOfBank) (ready now slot : ℕ) → All (IsInBanks ranks) (all_requests log)
-    → AreCandidates log bank h → h.row ≡ open_row (bank_at bank) history → IsReadyFrom s history (bank_at bank) (column_kind access) ready → (access_candidates access h).hit ≡ Some slot
-    → IsBestOffer now (hits_in s history log (only access) bank) (rows_in s history log (only access) bank) (offer_from now ready true slot)
-access_hit s history ranks log access bank h ready now slot places first row_is from hit =
-    best_same now (λ c. cond (leb ready c) (Some slot) None) (λ c. None) (hits_in s history log (only access) bank) (rows_in s history log (only access) bank)
-    (Some (offer_from now ready true slot))
+pub access_hit : (s : Config) (history : List IssuedCommand) (ranks : ℕ) (log : List Arrived) (access : Access) (bank : ℕ) (h : CandidatesOfBank) (ready now place : ℕ) → All (IsInBanks ranks) (all_requests log)
+    → AreCandidates log bank h → h.row ≡ open_row (bank_at bank) history → IsReadyFrom s history (bank_at bank) (column_kind access) ready → (access_candidates access h).hit ≡ Some place
+    → IsBestOffer now (hits_in s history log (only access) bank) (rows_in s history log (only access) bank) (offer_from now ready true place)
+access_hit s history ranks log access bank h ready now place places first row_is from hit =
+    best_same now (λ c. cond (leb ready c) (Some place) None) (λ c. None) (hits_in s history log (only access) bank) (rows_in s history log (only access) bank)
+    (Some (offer_from now ready true place))
     (λ c late. sym (hits_of_access s history ranks log access bank h ready places first row_is from c ∙ ap (λ o. cond (leb ready c) o None) hit))
-    (λ c late. sym (rows_withheld s history ranks log (only access) bank h places first row_is (ap is_some (hit_only access h ∙ hit)) c)) (hit_offer_is now ready (Some slot))
+    (λ c late. sym (rows_withheld s history ranks log (only access) bank h places first row_is (ap is_some (hit_only access h ∙ hit)) c)) (hit_offer_is now ready (Some place))
 
 either_within : (n : ℕ) (a b : Option ℕ) (ka kb : Bool) → IfSome a (λ k. k < n) → IfSome b (λ k. k < n) → IfSome (earlier (if_allowed a ka) (if_allowed b kb)) (λ k. k < n)
 either_within n a b false false in_a in_b = tt
@@ -115,15 +115,15 @@ within_accesses log accesses bank h first =
     (within _ log h.writes.oldest first.writes_are.oldest_is)
 
 -- what a bank offers where none asks for its open row
-accesses_row : (s : Config) (history : List IssuedCommand) (ranks : ℕ) (log : List Arrived) (accesses : Accesses) (bank : ℕ) (h : CandidatesOfBank) (ready now slot : ℕ) → All (IsInBanks ranks) (all_requests log)
+accesses_row : (s : Config) (history : List IssuedCommand) (ranks : ℕ) (log : List Arrived) (accesses : Accesses) (bank : ℕ) (h : CandidatesOfBank) (ready now place : ℕ) → All (IsInBanks ranks) (all_requests log)
     → AreCandidates log bank h → h.row ≡ open_row (bank_at bank) history → IsReadyFrom s history (bank_at bank) (row_kind h.row) ready → hit_candidate accesses h ≡ None
-    → oldest_candidate accesses h ≡ Some slot
-    → IsBestOffer now (hits_in s history log accesses bank) (rows_in s history log accesses bank) (offer_from now ready false slot)
-accesses_row s history ranks log accesses bank h ready now slot places first row_is from none oldest =
-    best_same now (λ c. None) (λ c. cond (leb ready c) (Some slot) None) (hits_in s history log accesses bank) (rows_in s history log accesses bank)
-    (Some (offer_from now ready false slot)) (λ c late. sym (no_hits s history ranks log accesses bank h places first row_is none c))
+    → oldest_candidate accesses h ≡ Some place
+    → IsBestOffer now (hits_in s history log accesses bank) (rows_in s history log accesses bank) (offer_from now ready false place)
+accesses_row s history ranks log accesses bank h ready now place places first row_is from none oldest =
+    best_same now (λ c. None) (λ c. cond (leb ready c) (Some place) None) (hits_in s history log accesses bank) (rows_in s history log accesses bank)
+    (Some (offer_from now ready false place)) (λ c late. sym (no_hits s history ranks log accesses bank h places first row_is none c))
     (λ c late. sym (rows_are s history ranks log accesses bank h ready places first row_is from (ap is_some none) c ∙ ap (λ o. cond (leb ready c) o None) oldest))
-    (row_offer_is now ready (Some slot))
+    (row_offer_is now ready (Some place))
 
 -- the best offer so far with the candidate of a bank, where none asks for its open row
 pub row_more : (s : Config) (history : List IssuedCommand) (ranks : ℕ) (log : List Arrived) (accesses : Accesses) (bank : ℕ) (h : CandidatesOfBank) (ready now : ℕ) (hits rows : ℕ → Option ℕ)
@@ -135,16 +135,16 @@ row_more s history ranks log accesses bank h ready now hits rows best after read
     so_far_same (length log) now hits rows hits (λ c. earlier (rows c) (rows_in s history log accesses bank c)) after (λ c late. refl)
     (λ c late. sym (ap (earlier (rows c)) (none_offered log accesses bank h _ first oldest) ∙ earlier_none (rows c)))
     (subst (IsBestSoFar (length log) now hits rows) (sym (step.none refl)) so_far)
-row_more s history ranks log accesses bank h ready now hits rows best after ready_fits now_fits places first row_is from no_hit (Some slot) oldest step so_far =
+row_more s history ranks log accesses bank h ready now hits rows best after ready_fits now_fits places first row_is from no_hit (Some place) oldest step so_far =
     let none = none-is (hit_candidate accesses h) no_hit in
-    let inside : slot < length log = subst (λ o. IfSome o (λ k. k < length log)) oldest (within_accesses log accesses bank h first) in
+    let inside : place < length log = subst (λ o. IfSome o (λ k. k < length log)) oldest (within_accesses log accesses bank h first) in
     so_far_same (length log) now (λ c. earlier (hits c) (hits_in s history log accesses bank c)) (λ c. earlier (rows c) (rows_in s history log accesses bank c)) hits
     (λ c. earlier (rows c) (rows_in s history log accesses bank c)) after
     (λ c late. ap (earlier (hits c)) (no_hits s history ranks log accesses bank h places first row_is none c) ∙ earlier_none (hits c)) (λ c late. refl)
     (subst (IsBestSoFar (length log) now (λ c. earlier (hits c) (hits_in s history log accesses bank c)) (λ c. earlier (rows c) (rows_in s history log accesses bank c)))
-    (sym (step.some slot refl))
-    (one_more (length log) now hits rows (hits_in s history log accesses bank) (rows_in s history log accesses bank) best (offer_from now ready false slot) inside (omega arith) so_far
-    (accesses_row s history ranks log accesses bank h ready now slot places first row_is from none oldest)))
+    (sym (step.some place refl))
+    (one_more (length log) now hits rows (hits_in s history log accesses bank) (rows_in s history log accesses bank) best (offer_from now ready false place) inside (omega arith) so_far
+    (accesses_row s history ranks log accesses bank h ready now place places first row_is from none oldest)))
 
 -- the best offer so far with the row hit of a bank for one access
 pub hit_more : (s : Config) (history : List IssuedCommand) (ranks : ℕ) (log : List Arrived) (access : Access) (bank : ℕ) (h : CandidatesOfBank) (ready now : ℕ) (hits rows : ℕ → Option ℕ)
@@ -156,15 +156,15 @@ hit_more s history ranks log access bank h ready now hits rows best after ready_
     so_far_same (length log) now hits rows (λ c. earlier (hits c) (hits_in s history log (only access) bank c)) rows after
     (λ c late. sym (ap (earlier (hits c)) (no_hits s history ranks log (only access) bank h places first row_is (hit_only access h ∙ hit) c) ∙ earlier_none (hits c))) (λ c late. refl)
     (subst (IsBestSoFar (length log) now hits rows) (sym (step.none refl)) so_far)
-hit_more s history ranks log access bank h ready now hits rows best after ready_fits now_fits places first row_is from (Some slot) hit step so_far =
-    let inside : slot < length log = subst (λ o. IfSome o (λ k. k < length log)) hit (within _ log (access_candidates access h).hit (access_first access log bank h first).hit_is) in
+hit_more s history ranks log access bank h ready now hits rows best after ready_fits now_fits places first row_is from (Some place) hit step so_far =
+    let inside : place < length log = subst (λ o. IfSome o (λ k. k < length log)) hit (within _ log (access_candidates access h).hit (access_first access log bank h first).hit_is) in
     so_far_same (length log) now (λ c. earlier (hits c) (hits_in s history log (only access) bank c)) (λ c. earlier (rows c) (rows_in s history log (only access) bank c))
     (λ c. earlier (hits c) (hits_in s history log (only access) bank c)) rows after (λ c late. refl)
     (λ c late. ap (earlier (rows c)) (rows_withheld s history ranks log (only access) bank h places first row_is (ap is_some (hit_only access h ∙ hit)) c) ∙ earlier_none (rows c))
     (subst (IsBestSoFar (length log) now (λ c. earlier (hits c) (hits_in s history log (only access) bank c)) (λ c. earlier (rows c) (rows_in s history log (only access) bank c)))
-    (sym (step.some slot refl))
-    (one_more (length log) now hits rows (hits_in s history log (only access) bank) (rows_in s history log (only access) bank) best (offer_from now ready true slot) inside (omega arith) so_far
-    (access_hit s history ranks log access bank h ready now slot places first row_is from hit)))
+    (sym (step.some place refl))
+    (one_more (length log) now hits rows (hits_in s history log (only access) bank) (rows_in s history log (only access) bank) best (offer_from now ready true place) inside (omega arith) so_far
+    (access_hit s history ranks log access bank h ready now place places first row_is from hit)))
 
 -- a bank that is not asked for, or has a row hit, offers nothing else
 pub row_none : (s : Config) (history : List IssuedCommand) (ranks : ℕ) (log : List Arrived) (accesses : Accesses) (bank : ℕ) (h : CandidatesOfBank) → All (IsInBanks ranks) (all_requests log)

@@ -88,30 +88,30 @@ first_some : {X : Type 0} (a b : Option X) → is_some a ≡ true → or_else a 
 first_some (Some x) b some = refl
 first_some None b some = cc
 
-ready_at : (history : List IssuedCommand) (requests : List Request) (hit : Bool) (a b : Option ℕ) (slot : ℕ) → slot < length requests → IsAt hit a b slot
-    → option_map (needed history) (or_else (option_and_then (slice_get requests) a) (option_and_then (slice_get requests) b)) ≡ option_map (needed history) (slice_get requests slot)
-ready_at history requests true a b slot within is =
+ready_at : (history : List IssuedCommand) (requests : List Request) (hit : Bool) (a b : Option ℕ) (place : ℕ) → place < length requests → IsAt hit a b place
+    → option_map (needed history) (or_else (option_and_then (slice_get requests) a) (option_and_then (slice_get requests) b)) ≡ option_map (needed history) (slice_get requests place)
+ready_at history requests true a b place within is =
     ap (λ o. option_map (needed history) (or_else (option_and_then (slice_get requests) o) (option_and_then (slice_get requests) b))) is
-    ∙ ap (option_map (needed history)) (first_some (slice_get requests slot) (option_and_then (slice_get requests) b) (some_at requests slot within))
-ready_at history requests false a b slot within is = λ i. option_map (needed history) (or_else (option_and_then (slice_get requests) (is.0 i)) (option_and_then (slice_get requests) (is.1 i)))
+    ∙ ap (option_map (needed history)) (first_some (slice_get requests place) (option_and_then (slice_get requests) b) (some_at requests place within))
+ready_at history requests false a b place within is = λ i. option_map (needed history) (or_else (option_and_then (slice_get requests) (is.0 i)) (option_and_then (slice_get requests) (is.1 i)))
 
 -- a request at a place needs some command
-pub command_there : (history : List IssuedCommand) (log : List Arrived) (slot : ℕ) → slot < length log → is_some (option_map (needed history) (slice_get (all_requests log) slot)) ≡ true
-command_there history log slot within =
-    some_mapped (needed history) (slice_get (all_requests log) slot) (some_at (all_requests log) slot (omega (arith, length-map log (λ (a : Arrived). a.request), within)))
+pub command_there : (history : List IssuedCommand) (log : List Arrived) (place : ℕ) → place < length log → is_some (option_map (needed history) (slice_get (all_requests log) place)) ≡ true
+command_there history log place within =
+    some_mapped (needed history) (slice_get (all_requests log) place) (some_at (all_requests log) place (omega (arith, length-map log (λ (a : Arrived). a.request), within)))
   where
     some_mapped : {X Y : Type 0} (f : X → Y) (o : Option X) → is_some o ≡ true → is_some (option_map f o) ≡ true
     some_mapped f None some = some
     some_mapped f (Some x) some = refl
 
 -- an offer is for a request that waits
-offer_waits : (log : List Arrived) (first second : Request → Bool) (hit : Bool) (slot : ℕ) → IsAt hit (first_place first log) (first_place second log) slot → waits_at log slot ≡ true
-offer_waits log first second true slot is = first_waits first log slot is
-offer_waits log first second false slot is = first_waits second log slot is.1
+offer_waits : (log : List Arrived) (first second : Request → Bool) (hit : Bool) (place : ℕ) → IsAt hit (first_place first log) (first_place second log) place → waits_at log place ≡ true
+offer_waits log first second true place is = first_waits first log place is
+offer_waits log first second false place is = first_waits second log place is.1
 
 -- the offer that goes first of all is what the first request needs that is ready
 pub first_ready_is : (s : Config) (history : List IssuedCommand) (queue : QueueView) (accesses : Accesses) (now : ℕ) (o : Option Offer) → candidates_of s queue ≡ going accesses queue.log
-    → IfSome o (λ x. x.slot < length queue.log)
+    → IfSome o (λ x. x.place < length queue.log)
     → IsBest now (λ cycle. first_place (hits_now s history accesses cycle) queue.log) (λ cycle. first_place (rows_now s history queue.log accesses cycle) queue.log) o
     → IsFirstReady s history queue now o
 first_ready_is s history queue accesses now None cands within best = λ cycle late.
@@ -132,7 +132,7 @@ first_ready_is s history queue accesses now (Some o) cands within best =
       then_is =
           ap (first_ready s history o.cycle) cands
           ∙ ready_by_places s history log accesses o.cycle
-          ∙ ready_at history (all_requests log) o.hit (first_place (hits_now s history accesses o.cycle) log) (first_place (rows_now s history log accesses o.cycle) log) o.slot
+          ∙ ready_at history (all_requests log) o.hit (first_place (hits_now s history accesses o.cycle) log) (first_place (rows_now s history log accesses o.cycle) log) o.place
           (omega (arith, length-map log (λ (a : Arrived). a.request), within)) best.then_is;
-      waits = offer_waits log (hits_now s history accesses o.cycle) (rows_now s history log accesses o.cycle) o.hit o.slot best.then_is;
+      waits = offer_waits log (hits_now s history accesses o.cycle) (rows_now s history log accesses o.cycle) o.hit o.place best.then_is;
     }

@@ -11,13 +11,13 @@ none_both : (a b : Option ℕ) → a ≡ None → b ≡ None → earlier a b ≡
 none_both a b none_a none_b = λ i. earlier (none_a i) (none_b i)
 
 -- an offer beside one whose place is not ready yet
-at_alone : (hit : Bool) (h r h2 r2 : Option ℕ) (slot : ℕ) → h2 ≡ None → r2 ≡ None → IsAt hit h r slot → IsAt hit (earlier h h2) (earlier r r2) slot
-at_alone true h r h2 r2 slot none_h none_r is = ap (earlier h) none_h ∙ earlier_none h ∙ is
-at_alone false h r h2 r2 slot none_h none_r is = (ap (earlier h) none_h ∙ earlier_none h ∙ is.0, ap (earlier r) none_r ∙ earlier_none r ∙ is.1)
+at_alone : (hit : Bool) (h r h2 r2 : Option ℕ) (place : ℕ) → h2 ≡ None → r2 ≡ None → IsAt hit h r place → IsAt hit (earlier h h2) (earlier r r2) place
+at_alone true h r h2 r2 place none_h none_r is = ap (earlier h) none_h ∙ earlier_none h ∙ is
+at_alone false h r h2 r2 place none_h none_r is = (ap (earlier h) none_h ∙ earlier_none h ∙ is.0, ap (earlier r) none_r ∙ earlier_none r ∙ is.1)
 
-at_other : (hit : Bool) (h r h2 r2 : Option ℕ) (slot : ℕ) → h ≡ None → r ≡ None → IsAt hit h2 r2 slot → IsAt hit (earlier h h2) (earlier r r2) slot
-at_other true h r h2 r2 slot none_h none_r is = ap (λ o. earlier o h2) none_h ∙ is
-at_other false h r h2 r2 slot none_h none_r is = (ap (λ o. earlier o h2) none_h ∙ is.0, ap (λ o. earlier o r2) none_r ∙ is.1)
+at_other : (hit : Bool) (h r h2 r2 : Option ℕ) (place : ℕ) → h ≡ None → r ≡ None → IsAt hit h2 r2 place → IsAt hit (earlier h h2) (earlier r r2) place
+at_other true h r h2 r2 place none_h none_r is = ap (λ o. earlier o h2) none_h ∙ is
+at_other false h r h2 r2 place none_h none_r is = (ap (λ o. earlier o h2) none_h ∙ is.0, ap (λ o. earlier o r2) none_r ∙ is.1)
 
 -- two offers of one cycle: row hits go first, and then the older request
 pick : (a_hit b_hit flag : Bool) (h r h2 r2 : Option ℕ) (a b : ℕ) → IsAt a_hit h r a → IsAt b_hit h2 r2 b
@@ -51,7 +51,7 @@ first_stays now h r h2 r2 a y best none sooner =
     record {
       from_now = best.from_now;
       none_before = both_before now a.cycle y a.cycle h r h2 r2 (omega arith) (omega arith) best.none_before none;
-      then_is = at_alone a.hit (h a.cycle) (r a.cycle) (h2 a.cycle) (r2 a.cycle) a.slot now_none.0 now_none.1 best.then_is;
+      then_is = at_alone a.hit (h a.cycle) (r a.cycle) (h2 a.cycle) (r2 a.cycle) a.place now_none.0 now_none.1 best.then_is;
     }
 
 second_goes : (now : ℕ) (h r h2 r2 : ℕ → Option ℕ) (b : Offer) (x : ℕ) → IsBestOffer now h2 r2 b → ((c : ℕ) → now ≤ c → c < x → (h c ≡ None) × (r c ≡ None)) → b.cycle < x
@@ -61,30 +61,30 @@ second_goes now h r h2 r2 b x best none sooner =
     record {
       from_now = best.from_now;
       none_before = both_before now x b.cycle b.cycle h r h2 r2 (omega arith) (omega arith) none best.none_before;
-      then_is = at_other b.hit (h b.cycle) (r b.cycle) (h2 b.cycle) (r2 b.cycle) b.slot now_none.0 now_none.1 best.then_is;
+      then_is = at_other b.hit (h b.cycle) (r b.cycle) (h2 b.cycle) (r2 b.cycle) b.place now_none.0 now_none.1 best.then_is;
     }
 
 tie : (now : ℕ) (h r h2 r2 : ℕ → Option ℕ) (a b : Offer) (flag : Bool) → IsBestOffer now h r a → IsBestOffer now h2 r2 b → b.cycle ≡ a.cycle
-    → flag ≡ cond b.hit (cond a.hit (ltb b.slot a.slot) true) (cond a.hit false (ltb b.slot a.slot))
+    → flag ≡ cond b.hit (cond a.hit (ltb b.place a.place) true) (cond a.hit false (ltb b.place a.place))
     → IsBestOffer now (λ c. earlier (h c) (h2 c)) (λ c. earlier (r c) (r2 c)) (cond flag b a)
 tie now h r h2 r2 a b true best_a best_b same flag_is = record {
   from_now = best_b.from_now;
   none_before = both_before now a.cycle b.cycle b.cycle h r h2 r2 (omega arith) (omega arith) best_a.none_before best_b.none_before;
   then_is =
-      pick a.hit b.hit true (h b.cycle) (r b.cycle) (h2 b.cycle) (r2 b.cycle) a.slot b.slot (subst (λ c. IsAt a.hit (h c) (r c) a.slot) (sym same) best_a.then_is) best_b.then_is flag_is;
+      pick a.hit b.hit true (h b.cycle) (r b.cycle) (h2 b.cycle) (r2 b.cycle) a.place b.place (subst (λ c. IsAt a.hit (h c) (r c) a.place) (sym same) best_a.then_is) best_b.then_is flag_is;
 }
 tie now h r h2 r2 a b false best_a best_b same flag_is = record {
   from_now = best_a.from_now;
   none_before = both_before now a.cycle b.cycle a.cycle h r h2 r2 (omega arith) (omega arith) best_a.none_before best_b.none_before;
   then_is =
-      pick a.hit b.hit false (h a.cycle) (r a.cycle) (h2 a.cycle) (r2 a.cycle) a.slot b.slot best_a.then_is (subst (λ c. IsAt b.hit (h2 c) (r2 c) b.slot) same best_b.then_is) flag_is;
+      pick a.hit b.hit false (h a.cycle) (r a.cycle) (h2 a.cycle) (r2 a.cycle) a.place b.place best_a.then_is (subst (λ c. IsAt b.hit (h2 c) (r2 c) b.place) same best_b.then_is) flag_is;
 }
 
 -- the offer that goes first of two is the first of all that both are first of
 pub better_is : (now : ℕ) (h r h2 r2 : ℕ → Option ℕ) (a b : Offer) (flag : Bool) → flag ≡ goes_before b a → IsBestOffer now h r a → IsBestOffer now h2 r2 b
     → IsBestOffer now (λ c. earlier (h c) (h2 c)) (λ c. earlier (r c) (r2 c)) (cond flag b a)
 better_is now h r h2 r2 a b flag is best_a best_b =
-    let tied = cond b.hit (cond a.hit (ltb b.slot a.slot) true) (cond a.hit false (ltb b.slot a.slot)) in
+    let tied = cond b.hit (cond a.hit (ltb b.place a.place) true) (cond a.hit false (ltb b.place a.place)) in
     elim (cases_eq b.cycle a.cycle) [
       | inl same ↦ tie now h r h2 r2 a b flag best_a best_b same (is ∙ cond-true (eqb b.cycle a.cycle) tied (ltb b.cycle a.cycle) (eq-eqb b.cycle a.cycle same))
       | inr apart ↦
@@ -120,22 +120,22 @@ either_none false o none = refl
 
 -- the offer of a row hit that is ready from a cycle on
 pub hit_offer_is : (now ready : ℕ) (candidate : Option ℕ)
-    → IsBest now (λ c. cond (leb ready c) candidate None) (λ c. None) (option_map (λ slot. record { cycle = max now ready; hit = true; slot = slot }) candidate)
+    → IsBest now (λ c. cond (leb ready c) candidate None) (λ c. None) (option_map (λ place. record { cycle = max now ready; hit = true; place = place }) candidate)
 hit_offer_is now ready None = λ c from. (either_none (leb ready c) None refl, refl)
-hit_offer_is now ready (Some slot) = record {
+hit_offer_is now ready (Some place) = record {
   from_now = omega arith;
-  none_before = λ c from sooner. (cond-false (leb ready c) (Some slot) None (lt-leb ready c (omega arith)), refl);
-  then_is = cond-true (leb ready (max now ready)) (Some slot) None (le-leb ready (max now ready) (omega arith));
+  none_before = λ c from sooner. (cond-false (leb ready c) (Some place) None (lt-leb ready c (omega arith)), refl);
+  then_is = cond-true (leb ready (max now ready)) (Some place) None (le-leb ready (max now ready) (omega arith));
 }
 
 -- the offer of another request
 pub row_offer_is : (now ready : ℕ) (candidate : Option ℕ)
-    → IsBest now (λ c. None) (λ c. cond (leb ready c) candidate None) (option_map (λ slot. record { cycle = max now ready; hit = false; slot = slot }) candidate)
+    → IsBest now (λ c. None) (λ c. cond (leb ready c) candidate None) (option_map (λ place. record { cycle = max now ready; hit = false; place = place }) candidate)
 row_offer_is now ready None = λ c from. (refl, either_none (leb ready c) None refl)
-row_offer_is now ready (Some slot) = record {
+row_offer_is now ready (Some place) = record {
   from_now = omega arith;
-  none_before = λ c from sooner. (refl, cond-false (leb ready c) (Some slot) None (lt-leb ready c (omega arith)));
-  then_is = (refl, cond-true (leb ready (max now ready)) (Some slot) None (le-leb ready (max now ready) (omega arith)));
+  none_before = λ c from sooner. (refl, cond-false (leb ready c) (Some place) None (lt-leb ready c (omega arith)));
+  then_is = (refl, cond-true (leb ready (max now ready)) (Some place) None (le-leb ready (max now ready) (omega arith)));
 }
 
 -- the best offer is that of any other functions that give the same places in each cycle from now on
@@ -144,5 +144,5 @@ best_same now h r h2 r2 None same_h same_r best = λ c from. (sym (same_h c from
 best_same now h r h2 r2 (Some o) same_h same_r best = record {
   from_now = best.from_now;
   none_before = λ c from sooner. (sym (same_h c from) ∙ (best.none_before c from sooner).0, sym (same_r c from) ∙ (best.none_before c from sooner).1);
-  then_is = subst (λ x. IsAt o.hit x (r2 o.cycle) o.slot) (same_h o.cycle best.from_now) (subst (λ x. IsAt o.hit (h o.cycle) x o.slot) (same_r o.cycle best.from_now) best.then_is);
+  then_is = subst (λ x. IsAt o.hit x (r2 o.cycle) o.place) (same_h o.cycle best.from_now) (subst (λ x. IsAt o.hit (h o.cycle) x o.place) (same_r o.cycle best.from_now) best.then_is);
 }

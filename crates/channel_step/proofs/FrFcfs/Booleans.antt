@@ -3,9 +3,8 @@ use Rattle.std.proofs.Common.{◌≡◌, ℕ, zero, suc, ◌+◌, ◌<◌, Bool,
 use Rattle.std.proofs.lemmas.List.Folds.{list_any_at}
 use Rattle.std.proofs.lemmas.List.FromFn.{length-range_with_len, get_or-range_with_len}
 use Rattle.std.specs.List.{list_any, range_with_len}
-use Rattle.std.proofs.Math.Bool.{or-false, and-false}
+use Rattle.std.proofs.Math.Bool.{or-false, or_assoc, and-false}
 use Rattle.sim_base.specs.History.{below}
-use Rattle.queue.proofs.Eligible.{or_assoc}
 
 any_range_more : (p : ℕ → Bool) (a n : ℕ) → list_any p (range_with_len a (suc n)) ≡ (list_any p (range_with_len a n) || p (a + n))
 any_range_more p a zero = let here : a ≡ a + 0 = omega arith in or-false (p a) ∙ ap p here

@@ -9,6 +9,8 @@ use Rattle.sim_base.specs.declared.message.Access.TheVariants as access
 use Rattle.sim_base.specs.declared.message.Request.{Request}
 use Rattle.sim_base.specs.Access.{is_access}
 use Rattle.sim_base.specs.Scheduling.{candidates, favour, is_favoured, first_of_lines}
+use Rattle.sim_base.proofs.Each.{Each-all}
+use Rattle.sim_base.proofs.Lists.{filter-agree, filter-each}
 use Rattle.queue.specs.declared.request_log.Arrived.{Arrived}
 use Rattle.queue.specs.Log.{waiting_requests}
 use Rattle.queue.specs.View.{QueueView, is_draining}
@@ -59,13 +61,6 @@ has access r = is_access access r.access
 pub some_of_access : (access : Access) (log : List Arrived) → is_some (first_place (has access) log) ≡ ltb 0 (length (filter (has access) (first_of_lines (waiting_requests log))))
 some_of_access access log = some_filtered (has access) log ∙ any_item (filter (has access) (first_of_lines (waiting_requests log)))
 
-filter_same : {X : Type 0} (p q : X → Bool) (xs : List X) → ((x : X) → p x ≡ q x) → filter p xs ≡ filter q xs
-filter_same p q xs same = λ i. filter (λ x. same x i) xs
-
-filter_all : {X : Type 0} (p : X → Bool) (xs : List X) → ((x : X) → p x ≡ true) → filter p xs ≡ xs
-filter_all p [] all = refl
-filter_all p (x ∷ xs) all = cond-true (p x) (x ∷ filter p xs) (filter p xs) (all x) ∙ ap (λ ys. x ∷ ys) (filter_all p xs all)
-
 -- the favoured requests are those of the favoured access
 pub favoured_are : (draining : Bool) (requests : List Request) → filter (has (favoured_access draining)) requests ≡ filter (is_favoured draining) requests
 favoured_are true requests = refl
@@ -78,7 +73,7 @@ one_access access.Write access.Read = refl
 one_access access.Write access.Write = refl
 
 pub of_one_access : (access : Access) (requests : List Request) → filter (has access) requests ≡ filter (is_of (only access)) requests
-of_one_access access requests = filter_same (has access) (is_of (only access)) requests (λ r. one_access access r.access)
+of_one_access access requests = filter-agree (has access) (is_of (only access)) requests (Each-all _ (λ (r : Request). one_access access r.access) requests)
 
 -- where a test keeps nothing, its opposite keeps all
 kept_next : {X : Type 0} (keep other : Bool) (x : X) (kept rest xs : List X) → other ≡ not keep → length (cond keep (x ∷ kept) kept) ≡ 0 → (length kept ≡ 0 → rest ≡ xs)
@@ -101,7 +96,7 @@ pub of_other_access : (access : Access) (requests : List Request) → length (fi
 of_other_access access requests none = sym (filter_others (has access) (is_of (only (other_access access))) requests (λ r. not_of_one access r.access) none)
 
 pub of_all_accesses : (requests : List Request) → requests ≡ filter (is_of all_accesses) requests
-of_all_accesses requests = sym (filter_all (is_of all_accesses) requests (λ r. any_access r.access))
+of_all_accesses requests = sym (filter-each (is_of all_accesses) requests (Each-all _ (λ (r : Request). any_access r.access) requests))
   where
     any_access : (access : Access) → includes all_accesses access ≡ true
     any_access access.Read = refl

@@ -142,11 +142,11 @@ some_filtered t log =
     same_test = λ i. is_some (position (λ e. is_marked e.1 && with_true (t e.0) i) (zip (all_requests log) (eligible_column log)))
 
 -- what is found waits
-pub first_waits : (test : Request → Bool) (log : List Arrived) (slot : ℕ) → first_place test log ≡ Some slot → waits_at log slot ≡ true
-first_waits test log slot is =
-    let found = position-Some (passes test) (entries log) slot (absent.request, 0) is in
-    let within : slot < length log = omega (arith, found.0, length-entries log) in
+pub first_waits : (test : Request → Bool) (log : List Arrived) (place : ℕ) → first_place test log ≡ Some place → waits_at log place ≡ true
+first_waits test log place is =
+    let found = position-Some (passes test) (entries log) place (absent.request, 0) is in
+    let within : place < length log = omega (arith, found.0, length-entries log) in
     let there =
-    get_or-zip (all_requests log) (eligible_column log) slot (absent.request, 0) (omega (arith, within, length-map log (λ (a : Arrived). a.request))) (omega (arith, within, length-eligible log)) in
+    get_or-zip (all_requests log) (eligible_column log) place (absent.request, 0) (omega (arith, within, length-map log (λ (a : Arrived). a.request))) (omega (arith, within, length-eligible log)) in
     let passed = sym (ap (passes test) there) ∙ found.1 in
-    marked_waits log slot absent within (and_parts (is_marked (get_or (eligible_column log) slot 0)) (test (get_or (all_requests log) slot absent.request)) passed).0
+    marked_waits log place absent within (and_parts (is_marked (get_or (eligible_column log) place 0)) (test (get_or (all_requests log) place absent.request)) passed).0

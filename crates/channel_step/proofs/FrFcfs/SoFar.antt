@@ -12,13 +12,13 @@ hit_or true test is = refl
 hit_or false test is = is
 
 -- all offers go before what stands for none
-before_none : (room : ℕ) (o : Offer) → o.slot < room → o.cycle ≤ 18446744073709551615 → goes_before o (no_offer room) ≡ true
+before_none : (room : ℕ) (o : Offer) → o.place < room → o.cycle ≤ 18446744073709551615 → goes_before o (no_offer room) ≡ true
 before_none room o inside fits = elim (cases_eq o.cycle 18446744073709551615) [
   | inl same ↦
-      cond-true (eqb o.cycle 18446744073709551615) (cond o.hit true (ltb o.slot room)) (ltb o.cycle 18446744073709551615) (eq-eqb o.cycle 18446744073709551615 same)
-      ∙ hit_or o.hit (ltb o.slot room) (lt-ltb o.slot room inside)
+      cond-true (eqb o.cycle 18446744073709551615) (cond o.hit true (ltb o.place room)) (ltb o.cycle 18446744073709551615) (eq-eqb o.cycle 18446744073709551615 same)
+      ∙ hit_or o.hit (ltb o.place room) (lt-ltb o.place room inside)
   | inr apart ↦
-      cond-false (eqb o.cycle 18446744073709551615) (cond o.hit true (ltb o.slot room)) (ltb o.cycle 18446744073709551615) (ne_eqb o.cycle 18446744073709551615 apart)
+      cond-false (eqb o.cycle 18446744073709551615) (cond o.hit true (ltb o.place room)) (ltb o.cycle 18446744073709551615) (ne_eqb o.cycle 18446744073709551615 apart)
       ∙ lt-ltb o.cycle 18446744073709551615 (below o.cycle 18446744073709551615 fits apart)
 ]
   where
@@ -29,20 +29,20 @@ before_none room o inside fits = elim (cases_eq o.cycle 18446744073709551615) [
     ]
 
 -- an offer with a place among so many
-offer_within : (room : ℕ) (o : Offer) → o.slot < room → if_within room o ≡ Some o
-offer_within room o inside = cond-true (ltb o.slot room) (Some o) None (lt-ltb o.slot room inside)
+offer_within : (room : ℕ) (o : Offer) → o.place < room → if_within room o ≡ Some o
+offer_within room o inside = cond-true (ltb o.place room) (Some o) None (lt-ltb o.place room inside)
 
-offer_without : (room : ℕ) (o : Offer) → room ≤ o.slot → if_within room o ≡ None
-offer_without room o outside = cond-false (ltb o.slot room) (Some o) None (le-ltb o.slot room outside)
+offer_without : (room : ℕ) (o : Offer) → room ≤ o.place → if_within room o ≡ None
+offer_without room o outside = cond-false (ltb o.place room) (Some o) None (le-ltb o.place room outside)
 
 -- the offer that is the best, with a place among so many
-told : (room now : ℕ) (h r : ℕ → Option ℕ) (o : Offer) → o.slot < room → IsBestOffer now h r o → IsBestSoFar room now h r o
+told : (room now : ℕ) (h r : ℕ → Option ℕ) (o : Offer) → o.place < room → IsBestOffer now h r o → IsBestSoFar room now h r o
 told room now h r o inside best = record {
   none = λ outside. absurd (omega arith);
   best = subst (IsBest now h r) (sym (offer_within room o inside)) best;
 }
 
-picked : (room : ℕ) (flag : Bool) (a b : Offer) → a.slot < room → b.slot < room → (cond flag a b).slot < room
+picked : (room : ℕ) (flag : Bool) (a b : Offer) → a.place < room → b.place < room → (cond flag a b).place < room
 picked room true a b in_a in_b = in_a
 picked room false a b in_a in_b = in_b
 
@@ -54,9 +54,9 @@ none_so_far room now h r none_h none_r = record {
 }
 
 -- with one offer more
-pub one_more : (room now : ℕ) (h r h2 r2 : ℕ → Option ℕ) (best o : Offer) → o.slot < room → o.cycle ≤ 18446744073709551615 → IsBestSoFar room now h r best → IsBestOffer now h2 r2 o
+pub one_more : (room now : ℕ) (h r h2 r2 : ℕ → Option ℕ) (best o : Offer) → o.place < room → o.cycle ≤ 18446744073709551615 → IsBestSoFar room now h r best → IsBestOffer now h2 r2 o
     → IsBestSoFar room now (λ c. earlier (h c) (h2 c)) (λ c. earlier (r c) (r2 c)) (cond (goes_before o best) o best)
-one_more room now h r h2 r2 best o inside fits so_far offered = elim (cases_lt best.slot room) [
+one_more room now h r h2 r2 best o inside fits so_far offered = elim (cases_lt best.place room) [
   | inl within ↦
       let first = subst (IsBest now h r) (offer_within room best within) so_far.best in
       told room now (λ c. earlier (h c) (h2 c)) (λ c. earlier (r c) (r2 c)) (cond (goes_before o best) o best) (picked room (goes_before o best) o best inside within)
@@ -77,23 +77,23 @@ so_far_same room now h r h2 r2 o same_h same_r so_far = record {
 }
 
 -- what there is when all are looked at
-pub found : (room now : ℕ) (h r : ℕ → Option ℕ) (o : Offer) → o.slot < room → IsBestSoFar room now h r o → IsBest now h r (Some o)
+pub found : (room now : ℕ) (h r : ℕ → Option ℕ) (o : Offer) → o.place < room → IsBestSoFar room now h r o → IsBest now h r (Some o)
 found room now h r o inside so_far = subst (IsBest now h r) (offer_within room o inside) so_far.best
 
-pub none_found : (room now : ℕ) (h r : ℕ → Option ℕ) (o : Offer) → room ≤ o.slot → IsBestSoFar room now h r o → IsBest now h r None
+pub none_found : (room now : ℕ) (h r : ℕ → Option ℕ) (o : Offer) → room ≤ o.place → IsBestSoFar room now h r o → IsBest now h r None
 none_found room now h r o outside so_far = subst (IsBest now h r) (offer_without room o outside) so_far.best
 
 -- hits that are ready only after the best offer change nothing
 pub hits_late : (room now floor : ℕ) (hits rows late_hits : ℕ → Option ℕ) (o : Offer) → o.cycle < floor → floor ≤ 18446744073709551615 → ((c : ℕ) → c < floor → late_hits c ≡ None)
     → IsBestSoFar room now hits rows o → IsBestSoFar room now (λ c. earlier (hits c) (late_hits c)) rows o
-hits_late room now floor hits rows late_hits o late fits none so_far = elim (cases_lt o.slot room) [
+hits_late room now floor hits rows late_hits o late fits none so_far = elim (cases_lt o.place room) [
   | inl within ↦
       let best = subst (IsBest now hits rows) (offer_within room o within) so_far.best in
       told room now (λ c. earlier (hits c) (late_hits c)) rows o within
       (record {
         from_now = best.from_now;
         none_before = λ c from before. let before_it = best.none_before c from before in (ap (earlier (hits c)) (none c (omega arith)) ∙ earlier_none (hits c) ∙ before_it.0, before_it.1);
-        then_is = subst (λ x. IsAt o.hit x (rows o.cycle) o.slot) (sym (ap (earlier (hits o.cycle)) (none o.cycle late) ∙ earlier_none (hits o.cycle))) best.then_is;
+        then_is = subst (λ x. IsAt o.hit x (rows o.cycle) o.place) (sym (ap (earlier (hits o.cycle)) (none o.cycle late) ∙ earlier_none (hits o.cycle))) best.then_is;
       })
   | inr outside ↦
       let last : o.cycle ≡ 18446744073709551615 = ap (λ x. x.cycle) (so_far.none outside) in
@@ -103,14 +103,14 @@ hits_late room now floor hits rows late_hits o late fits none so_far = elim (cas
 -- nor do ACTs and PREs that are
 pub rows_late : (room now floor : ℕ) (hits rows late_rows : ℕ → Option ℕ) (o : Offer) → o.cycle < floor → floor ≤ 18446744073709551615 → ((c : ℕ) → c < floor → late_rows c ≡ None)
     → IsBestSoFar room now hits rows o → IsBestSoFar room now hits (λ c. earlier (rows c) (late_rows c)) o
-rows_late room now floor hits rows late_rows o late fits none so_far = elim (cases_lt o.slot room) [
+rows_late room now floor hits rows late_rows o late fits none so_far = elim (cases_lt o.place room) [
   | inl within ↦
       let best = subst (IsBest now hits rows) (offer_within room o within) so_far.best in
       told room now hits (λ c. earlier (rows c) (late_rows c)) o within
       (record {
         from_now = best.from_now;
         none_before = λ c from before. let before_it = best.none_before c from before in (before_it.0, ap (earlier (rows c)) (none c (omega arith)) ∙ earlier_none (rows c) ∙ before_it.1);
-        then_is = subst (λ x. IsAt o.hit (hits o.cycle) x o.slot) (sym (ap (earlier (rows o.cycle)) (none o.cycle late) ∙ earlier_none (rows o.cycle))) best.then_is;
+        then_is = subst (λ x. IsAt o.hit (hits o.cycle) x o.place) (sym (ap (earlier (rows o.cycle)) (none o.cycle late) ∙ earlier_none (rows o.cycle))) best.then_is;
       })
   | inr outside ↦
       let last : o.cycle ≡ 18446744073709551615 = ap (λ x. x.cycle) (so_far.none outside) in
@@ -125,35 +125,35 @@ earlier_assoc (Some i) (Some j) (Some k) = let same : min (min i j) k ≡ min i 
 
 -- a candidate whose need may be issued from a cycle on is taken where that goes before the best offer so far
 pub record IsTaken (candidate : Option ℕ) (now ready : ℕ) (hit : Bool) (best after : Offer) : Type 0 where
-  pub some : (slot : ℕ) → candidate ≡ Some slot → after ≡ cond (goes_before (offer_from now ready hit slot) best) (offer_from now ready hit slot) best
+  pub some : (place : ℕ) → candidate ≡ Some place → after ≡ cond (goes_before (offer_from now ready hit place) best) (offer_from now ready hit place) best
   pub none : candidate ≡ None → after ≡ best
 
-later_stays : (now ready slot : ℕ) (hit : Bool) (best : Offer) → best.cycle < ready → goes_before (offer_from now ready hit slot) best ≡ false
-later_stays now ready slot hit best late =
-    cond-false (eqb (max now ready) best.cycle) (cond hit (cond best.hit (ltb slot best.slot) true) (cond best.hit false (ltb slot best.slot))) (ltb (max now ready) best.cycle)
+later_stays : (now ready place : ℕ) (hit : Bool) (best : Offer) → best.cycle < ready → goes_before (offer_from now ready hit place) best ≡ false
+later_stays now ready place hit best late =
+    cond-false (eqb (max now ready) best.cycle) (cond hit (cond best.hit (ltb place best.place) true) (cond best.hit false (ltb place best.place))) (ltb (max now ready) best.cycle)
     (ne_eqb (max now ready) best.cycle (λ e. omega arith))
     ∙ le-ltb (max now ready) best.cycle (omega arith)
 
 -- none is where that is later than the best offer
 pub not_taken : (candidate : Option ℕ) (now ready : ℕ) (hit : Bool) (best : Offer) → best.cycle < ready → IsTaken candidate now ready hit best best
 not_taken candidate now ready hit best late = record {
-  some = λ slot is. sym (cond-false (goes_before (offer_from now ready hit slot) best) (offer_from now ready hit slot) best (later_stays now ready slot hit best late));
+  some = λ place is. sym (cond-false (goes_before (offer_from now ready hit place) best) (offer_from now ready hit place) best (later_stays now ready place hit best late));
   none = λ is. refl;
 }
 
 -- one that there is
-pub taken : (candidate : Option ℕ) (now ready slot : ℕ) (hit : Bool) (best after : Offer) → candidate ≡ Some slot
-    → after ≡ cond (goes_before (offer_from now ready hit slot) best) (offer_from now ready hit slot) best → IsTaken candidate now ready hit best after
-taken candidate now ready slot hit best after is after_is = record {
+pub taken : (candidate : Option ℕ) (now ready place : ℕ) (hit : Bool) (best after : Offer) → candidate ≡ Some place
+    → after ≡ cond (goes_before (offer_from now ready hit place) best) (offer_from now ready hit place) best → IsTaken candidate now ready hit best after
+taken candidate now ready place hit best after is after_is = record {
   some = λ other other_is.
-      let same : slot ≡ other = cc in
+      let same : place ≡ other = cc in
       after_is ∙ ap (λ k. cond (goes_before (offer_from now ready hit k) best) (offer_from now ready hit k) best) same;
-  none = λ none. let never : Some slot ≡ None = sym is ∙ none in cc;
+  none = λ none. let never : Some place ≡ None = sym is ∙ none in cc;
 }
 
 -- none, where there is none
 pub none_taken : (candidate : Option ℕ) (now ready : ℕ) (hit : Bool) (best : Offer) → candidate ≡ None → IsTaken candidate now ready hit best best
 none_taken candidate now ready hit best is = record {
-  some = λ slot some. let never : None ≡ Some slot = sym is ∙ some in cc;
+  some = λ place some. let never : None ≡ Some place = sym is ∙ some in cc;
   none = λ none. refl;
 }

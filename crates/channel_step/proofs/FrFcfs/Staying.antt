@@ -274,13 +274,13 @@ all_dropped P rs from all =
     subst P (sym (get_or-drop from rs k d)) (all (from + k) d from_on there)
 
 -- what the request at a place needs
-pub needed_there : (history : List IssuedCommand) (log : List Arrived) (slot : ℕ) (d : Arrived) (command : Command) → slot < length log
-    → option_map (needed history) (slice_get (all_requests log) slot) ≡ Some command → needed history (slice_index_or log slot d).request ≡ command
-needed_there history log slot d command within is =
+pub needed_there : (history : List IssuedCommand) (log : List Arrived) (place : ℕ) (d : Arrived) (command : Command) → place < length log
+    → option_map (needed history) (slice_get (all_requests log) place) ≡ Some command → needed history (slice_index_or log place d).request ≡ command
+needed_there history log place d command within is =
     let request = λ (a : Arrived). a.request in
-    let there : slice_get (all_requests log) slot ≡ Some (slice_index_or log slot d).request =
-    slice_get-get_or (all_requests log) slot d.request (omega (arith, within, length-map log request)) ∙ ap Some (get_or-map request log slot d d.request within) in
-    let same : Some (needed history (slice_index_or log slot d).request) ≡ Some command = sym (ap (option_map (needed history)) there) ∙ is in
+    let there : slice_get (all_requests log) place ≡ Some (slice_index_or log place d).request =
+    slice_get-get_or (all_requests log) place d.request (omega (arith, within, length-map log request)) ∙ ap Some (get_or-map request log place d d.request within) in
+    let same : Some (needed history (slice_index_or log place d).request) ≡ Some command = sym (ap (option_map (needed history)) there) ∙ is in
     cc
 
 -- what a rank needs that is to be refreshed is no column command

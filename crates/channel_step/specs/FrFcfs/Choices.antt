@@ -39,12 +39,12 @@ choice_in s history queue now = choice_between s history now (candidates_of s qu
 -- the command that is needed by what was chosen: by the request at a place of a log, or by a rank that is to be
 -- refreshed
 abbrev pub command_of : Config → List IssuedCommand → List Arrived → Choice → Option Command
-command_of s history log (chosen.Request slot) = option_map (needed history) (slice_get (all_requests log) slot)
+command_of s history log (chosen.Request place) = option_map (needed history) (slice_get (all_requests log) place)
 command_of s history log (chosen.Refresh rank) = Some (refresh_command s history rank)
 
 -- What was chosen is a request that waits at a place of a log, or one of so many ranks.
 abbrev pub IsFor : ℕ → List Arrived → Choice → Type 0
-IsFor ranks log (chosen.Request slot) = (slot < length log) × (waits_at log slot ≡ true)
+IsFor ranks log (chosen.Request place) = (place < length log) × (waits_at log place ≡ true)
 IsFor ranks log (chosen.Refresh rank) = rank < ranks
 
 -- What was chosen for a cycle, if anything was, is a request that waits at a place of a log, or one of so many ranks.

@@ -142,15 +142,15 @@ rows_beside s history log accesses left cycle = first_place (λ r. not (left (ba
 
 -- a row hit is at this place, or there is none and the other is
 abbrev pub IsAt : Bool → Option ℕ → Option ℕ → ℕ → Type 0
-IsAt true hits rows slot = hits ≡ Some slot
-IsAt false hits rows slot = (hits ≡ None) × (rows ≡ Some slot)
+IsAt true hits rows place = hits ≡ Some place
+IsAt false hits rows place = (hits ≡ None) × (rows ≡ Some place)
 
 -- An offer is the first from now on, where in each cycle the first ready row hit and the first other ready request have
 -- these places: nothing is ready before its cycle.
 pub record IsBestOffer (now : ℕ) (hits rows : ℕ → Option ℕ) (o : Offer) : Type 0 where
   pub from_now : now ≤ o.cycle
   pub none_before : (cycle : ℕ) → now ≤ cycle → cycle < o.cycle → (hits cycle ≡ None) × (rows cycle ≡ None)
-  pub then_is : IsAt o.hit (hits o.cycle) (rows o.cycle) o.slot
+  pub then_is : IsAt o.hit (hits o.cycle) (rows o.cycle) o.place
 
 -- An offer is the first from now on, by the places in each cycle, or there is none and nothing is ever ready.
 abbrev pub IsBest : ℕ → (ℕ → Option ℕ) → (ℕ → Option ℕ) → Option Offer → Type 0
@@ -159,7 +159,7 @@ IsBest now hits rows (Some o) = IsBestOffer now hits rows o
 
 -- An offer goes before another for an earlier cycle, or in the same one as a row hit, or else for an older request.
 abbrev pub goes_before : Offer → Offer → Bool
-goes_before a b = if a.cycle == b.cycle then (if a.hit then (if b.hit then nat_lt a.slot b.slot else true) else (if b.hit then false else nat_lt a.slot b.slot)) else nat_lt a.cycle b.cycle
+goes_before a b = if a.cycle == b.cycle then (if a.hit then (if b.hit then nat_lt a.place b.place else true) else (if b.hit then false else nat_lt a.place b.place)) else nat_lt a.cycle b.cycle
 
 -- the one of two offers that goes first
 abbrev pub better_of : Offer → Offer → Offer
@@ -167,15 +167,15 @@ better_of a b = if goes_before a b then a else b
 
 -- what stands for no offer, where there are this many places: all offers go before it
 abbrev pub no_offer : ℕ → Offer
-no_offer room = record { cycle = 18446744073709551615; hit = false; slot = room }
+no_offer room = record { cycle = 18446744073709551615; hit = false; place = room }
 
 -- an offer, if it has one of this many places
 abbrev pub if_within : ℕ → Offer → Option Offer
-if_within room o = if nat_lt o.slot room then Some o else None
+if_within room o = if nat_lt o.place room then Some o else None
 
 -- An offer is the first from now on, or stands for none where there is none.
 pub record IsBestSoFar (room now : ℕ) (hits rows : ℕ → Option ℕ) (o : Offer) : Type 0 where
-  pub none : room ≤ o.slot → o ≡ no_offer room
+  pub none : room ≤ o.place → o ≡ no_offer room
   pub best : IsBest now hits rows (if_within room o)
 
 -- The best offer so far takes in further requests for which an ACT or a PRE may be issued, of which the first of each
@@ -191,7 +191,7 @@ TakesHits log now old new more =
 
 -- the offer of a request whose need may be issued from a cycle on
 abbrev pub offer_from : ℕ → ℕ → Bool → ℕ → Offer
-offer_from now ready hit slot = record { cycle = max now ready; hit = hit; slot = slot }
+offer_from now ready hit place = record { cycle = max now ready; hit = hit; place = place }
 
 -- from which cycle on commands of a kind may be issued to a bank, if they find it as they should
 abbrev pub IsReadyFrom : Config → List IssuedCommand → BankId → Kind → ℕ → Type 0
@@ -230,8 +230,8 @@ TakesRowsOf bank_candidates banks asked commands old new =
 pub record IsReadyAt (s : Config) (history : List IssuedCommand) (queue : QueueView) (now : ℕ) (o : Offer) : Type 0 where
   pub from_now : now ≤ o.cycle
   pub none_before : (cycle : ℕ) → now ≤ cycle → cycle < o.cycle → first_ready s history cycle (candidates_of s queue) ≡ None
-  pub then_is : first_ready s history o.cycle (candidates_of s queue) ≡ option_map (needed history) (slice_get (all_requests queue.log) o.slot)
-  pub waits : waits_at queue.log o.slot ≡ true
+  pub then_is : first_ready s history o.cycle (candidates_of s queue) ≡ option_map (needed history) (slice_get (all_requests queue.log) o.place)
+  pub waits : waits_at queue.log o.place ≡ true
 
 -- An offer is what the first ready request, from now on, needs, or there is none and no request is ever ready.
 abbrev pub IsFirstReady : Config → List IssuedCommand → QueueView → ℕ → Option Offer → Type 0

@@ -92,13 +92,13 @@ fn is_hit(bank_candidates: &BankCandidates, request: &Request) -> bool
 #[inline(always)]
 fn needs_column_command(bank_candidates: &BankCandidates, log: &[Arrived], choice: Choice) -> bool
     requires places { All (IsOfBank bank_candidates.now) (all_requests log.now) }
-    requires within { (slot : ℕ) → choice ≡ chosen.Request slot → slot < length log.now }
+    requires within { (place : ℕ) → choice ≡ chosen.Request place → place < length log.now }
     ensures { (s : Config) (history : List IssuedCommand) (command : Command)
         → KnowsRows bank_candidates.now history
         → command_of s history log.now choice ≡ Some command → result ≡ is_column_command command }
 {
     match choice {
-        Choice::Request(slot) => is_hit(bank_candidates, &log[slot as usize].request),
+        Choice::Request(place) => is_hit(bank_candidates, &log[place as usize].request),
         Choice::Refresh(_) => false,
     }
 }
@@ -131,8 +131,8 @@ pub fn stays(
     let (cycle, choice) = found;
     let log = queue.log().log();
     let hit = needs_column_command(bank_candidates, log, choice);
-    for slot in from..log.len() {
-        if !comes_after(bank_candidates, banks, &log[slot].request, cycle, hit) {
+    for place in from..log.len() {
+        if !comes_after(bank_candidates, banks, &log[place].request, cycle, hit) {
             return false;
         }
     }

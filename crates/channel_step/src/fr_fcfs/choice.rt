@@ -63,7 +63,7 @@ fn next_of_requests(
         → HasPlace (rank_count banks.now) queue.now.log result }
 {
     match first_offer(queue, bank_candidates, banks, now) {
-        Some(offer) => Some((offer.cycle, Choice::Request(offer.slot as u32))),
+        Some(offer) => Some((offer.cycle, Choice::Request(offer.place as u32))),
         None => None,
     }
 }

@@ -83,7 +83,7 @@ fn oldest(bank_candidates: &BankCandidates, bank: usize, accesses: Accesses) -> 
         accesses.writes,
     );
     match earlier(read, write) {
-        Some(slot) => slot,
+        Some(place) => place,
         None => unreachable!(),
     }
 }
@@ -157,8 +157,8 @@ fn with_row(
     if best.cycle < ready {
         return;
     }
-    let slot = oldest(bank_candidates, bank, commands.accesses);
-    improve(best, ready, false, slot, commands.now);
+    let place = oldest(bank_candidates, bank, commands.accesses);
+    improve(best, ready, false, place, commands.now);
 }
 
 /// Takes the row hit of one more bank into the best offer so far. It is looked for only where it may be issued soon
@@ -182,8 +182,8 @@ fn with_hit(
     if best.cycle < ready {
         return;
     }
-    if let Some(slot) = bank_candidates.of_access(bank, commands.access).hit {
-        improve(best, ready, true, slot, commands.now);
+    if let Some(place) = bank_candidates.of_access(bank, commands.access).hit {
+        improve(best, ready, true, place, commands.now);
     }
 }
 
@@ -356,8 +356,8 @@ pub(crate) fn first_of(
 ) -> Option<Offer>
     requires places { AreInBanks (rank_count banks.now) queue.now.log }
     requires banks { OfSameBanks bank_candidates.now banks.now }
-    ensures within { IfSome result (λ o. o.slot < length queue.now.log) }
-    ensures short { IfSome result (λ o. o.slot < 2 ^ 16 - 1) }
+    ensures within { IfSome result (λ o. o.place < length queue.now.log) }
+    ensures short { IfSome result (λ o. o.place < 2 ^ 16 - 1) }
     ensures first { (s : Config) (history : List IssuedCommand)
         → BanksStandFor banks.now s history
         → CandidatesStandFor bank_candidates.now queue.now.log (rows_after history)
@@ -368,8 +368,8 @@ pub(crate) fn first_of(
     let mut best = Offer {
         cycle: Cycle::MAX,
         hit: false,
-        slot: room,
+        place: room,
     };
     with_banks(&mut best, bank_candidates, accesses, banks, now);
-    if best.slot < room { Some(best) } else { None }
+    if best.place < room { Some(best) } else { None }
 }

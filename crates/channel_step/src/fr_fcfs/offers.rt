@@ -26,7 +26,7 @@ pub(crate) struct Offer {
     /// Whether that moves its data.
     pub(crate) hit: bool,
     /// Its place in the log.
-    pub(crate) slot: usize,
+    pub(crate) place: usize,
 }
 
 /// Whether an offer goes before another: it is for an earlier cycle, or in the same one as a row hit, or else for an
@@ -41,23 +41,23 @@ fn goes_before(a: Offer, b: Offer) -> bool
     if a.hit != b.hit {
         return a.hit;
     }
-    a.slot < b.slot
+    a.place < b.place
 }
 
 /// Makes the best offer so far that of a request whose need may be issued from a cycle on, if that goes before. Its
 /// fields are written one by one, and only then, so that nothing is copied for a bank that does not improve it.
 #[inline(always)]
-pub(crate) fn improve(best: &mut Offer, ready: Cycle, hit: bool, slot: usize, now: Cycle)
-    ensures { best.new ≡ better_of (offer_from now ready hit slot) best.old }
+pub(crate) fn improve(best: &mut Offer, ready: Cycle, hit: bool, place: usize, now: Cycle)
+    ensures { best.new ≡ better_of (offer_from now ready hit place) best.old }
 {
     if best.cycle < ready {
         return;
     }
     let cycle = now.max(ready);
-    if goes_before(Offer { cycle, hit, slot }, *best) {
+    if goes_before(Offer { cycle, hit, place }, *best) {
         best.cycle = cycle;
         best.hit = hit;
-        best.slot = slot;
+        best.place = place;
     }
 }
 
@@ -84,8 +84,8 @@ fn first_of_one_access(
     requires places { AreInBanks (rank_count banks.now) queue.now.log }
     requires banks { OfSameBanks bank_candidates.now banks.now }
     requires drains { 0 < queue.now.high }
-    ensures within { IfSome result (λ o. o.slot < length queue.now.log) }
-    ensures short { IfSome result (λ o. o.slot < 2 ^ 16 - 1) }
+    ensures within { IfSome result (λ o. o.place < length queue.now.log) }
+    ensures short { IfSome result (λ o. o.place < 2 ^ 16 - 1) }
     ensures first { (s : Config) (history : List IssuedCommand)
         → BanksStandFor banks.now s history
         → CandidatesStandFor bank_candidates.now queue.now.log (rows_after history)
@@ -109,8 +109,8 @@ pub(crate) fn first_offer(
 ) -> Option<Offer>
     requires places { AreInBanks (rank_count banks.now) queue.now.log }
     requires banks { OfSameBanks bank_candidates.now banks.now }
-    ensures within { IfSome result (λ o. o.slot < length queue.now.log) }
-    ensures short { IfSome result (λ o. o.slot < 2 ^ 16 - 1) }
+    ensures within { IfSome result (λ o. o.place < length queue.now.log) }
+    ensures short { IfSome result (λ o. o.place < 2 ^ 16 - 1) }
     ensures first { (s : Config) (history : List IssuedCommand)
         → BanksStandFor banks.now s history
         → CandidatesStandFor bank_candidates.now queue.now.log (rows_after history)

@@ -19,19 +19,19 @@ pub closed-requires : goal.closed-requires
 closed-requires c =
     let p = c.requires in
     let x = c.args.self.now in
-    let read : get_or c.log-2.result.now c.args.slot absent ≡ get_or x.queue.log c.args.slot absent =
-    ap (λ l. get_or l c.args.slot absent) (c.log-2.ensures.log ∙ ap (λ (v : LogView). v.log) c.log.ensures) in
+    let read : get_or c.log-2.result.now c.args.place absent ≡ get_or x.queue.log c.args.place absent =
+    ap (λ l. get_or l c.args.place absent) (c.log-2.ensures.log ∙ ap (λ (v : LogView). v.log) c.log.ensures) in
     subst (λ (b : BankId). number_of b < bank_count x.bank_candidates) (sym (c.bank_id-bank.ensures ∙ ap (λ (a : Arrived). bank_in a.request.place) read))
-    (placed-among x p.past c.args.slot p.is_in p.within).number
+    (placed-among x p.past c.args.place p.is_in p.within).number
 
 pub returns-clause-readied : goal.returns-clause-readied
 returns-clause-readied c past h chosen =
     let x = c.args.self.now in
-    let slot = c.args.slot in
-    let r = request_at x.queue.log slot in
+    let place = c.args.place in
+    let r = request_at x.queue.log place in
     let rows : ℕ → Option ℕ = λ n. open_row (bank_at n) (commands_after past) in
-    let read : get_or c.log-2.result.now slot absent ≡ get_or x.queue.log slot absent =
-    ap (λ l. get_or l slot absent) (c.log-2.ensures.log ∙ ap (λ (v : LogView). v.log) c.log.ensures) in
+    let read : get_or c.log-2.result.now place absent ≡ get_or x.queue.log place absent =
+    ap (λ l. get_or l place absent) (c.log-2.ensures.log ∙ ap (λ (v : LogView). v.log) c.log.ensures) in
     let bank : c.bank_id-bank.result ≡ bank_in r.place = c.bank_id-bank.ensures ∙ ap (λ (a : Arrived). bank_in a.request.place) read in
     let source : c.source.result ≡ source_of r = c.source.ensures ∙ ap (λ (a : Arrived). source_of a.request) read in
     let command : Pre c.bank_id-bank.result c.source.result ≡ Pre (bank_in r.place) (source_of r) = λ i. Pre (bank i) (source i) in
@@ -39,4 +39,4 @@ returns-clause-readied c past h chosen =
     subst (λ (b : BankId). CandidatesStandFor c.closed.new.self x.queue.log (with_row (number_of b) None rows)) bank
     (c.closed.ensures.stands x.queue.log rows h.candidates_stand) in
     subst (λ (issued : Command). IsReadied (record x { bank_candidates = c.closed.new.self }) past issued false) (sym command)
-    (closed-readied x past slot c.closed.new.self h c.requires.within (ap Some (sym command) ∙ chosen) c.closed.ensures.banks stands)
+    (closed-readied x past place c.closed.new.self h c.requires.within (ap Some (sym command) ∙ chosen) c.closed.ensures.banks stands)

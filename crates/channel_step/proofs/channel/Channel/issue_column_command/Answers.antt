@@ -15,8 +15,8 @@ pub issue-requires-clause-ready : goal.issue-requires-clause-ready
 issue-requires-clause-ready c =
     let x = c.args.self.now in
     let p = c.requires.doing in
-    let read : get_or c.log-2.result.now c.args.slot absent ≡ get_or x.queue.log c.args.slot absent =
-    ap (λ l. get_or l c.args.slot absent) (c.log-2.ensures.log ∙ ap (λ (v : LogView). v.log) c.log.ensures) in
+    let read : get_or c.log-2.result.now c.args.place absent ≡ get_or x.queue.log c.args.place absent =
+    ap (λ l. get_or l c.args.place absent) (c.log-2.ensures.log ∙ ap (λ (v : LogView). v.log) c.log.ensures) in
     record {
       past = p.past;
       is_readied =
@@ -28,9 +28,9 @@ issue-requires-clause-ready c =
 pub returns : goal.returns
 returns c past h chosen =
     let x = c.args.self.now in
-    let r = request_at x.queue.log c.args.slot in
-    let read : get_or c.log-2.result.now c.args.slot absent ≡ get_or x.queue.log c.args.slot absent =
-    ap (λ l. get_or l c.args.slot absent) (c.log-2.ensures.log ∙ ap (λ (v : LogView). v.log) c.log.ensures) in
+    let r = request_at x.queue.log c.args.place in
+    let read : get_or c.log-2.result.now c.args.place absent ≡ get_or x.queue.log c.args.place absent =
+    ap (λ l. get_or l c.args.place absent) (c.log-2.ensures.log ∙ ap (λ (v : LogView). v.log) c.log.ensures) in
     let is = c.column_command.ensures ∙ ap (λ (a : Arrived). column_command a.request) read in
     let ready = subst (λ z. IsReadied c.serve.new.self past z c.in_ok-hit.hit) (sym is) (c.in_ok-hit.ensures {u = tt} past h chosen) in
     let stands = c.issue.ensures.stands past ready (c.requires.seen ∙ seen-is x past h) in
@@ -44,9 +44,9 @@ returns c past h chosen =
     ∙ ap₂ (λ number t. before ++ messages_of past.config number t (column_command r)) stands.made_for.number_is h.cycle_is))
     c.send.ensures
 
-pub bounds-log-slot : goal.bounds-log-slot
-bounds-log-slot c =
-    subst (λ l. c.args.slot < length l) (sym (c.log-2.ensures.log ∙ ap (λ (v : LogView). v.log) c.log.ensures)) c.requires.doing.within
+pub bounds-log-place : goal.bounds-log-place
+bounds-log-place c =
+    subst (λ l. c.args.place < length l) (sym (c.log-2.ensures.log ∙ ap (λ (v : LogView). v.log) c.log.ensures)) c.requires.doing.within
 
 pub serve-requires : goal.serve-requires
 serve-requires c = c.requires.doing
@@ -64,8 +64,8 @@ pub send-requires-clause-latencies : goal.send-requires-clause-latencies
 send-requires-clause-latencies c =
     let x = c.args.self.now in
     let p = c.requires.doing in
-    let read : get_or c.log-2.result.now c.args.slot absent ≡ get_or x.queue.log c.args.slot absent =
-    ap (λ l. get_or l c.args.slot absent) (c.log-2.ensures.log ∙ ap (λ (v : LogView). v.log) c.log.ensures) in
+    let read : get_or c.log-2.result.now c.args.place absent ≡ get_or x.queue.log c.args.place absent =
+    ap (λ l. get_or l c.args.place absent) (c.log-2.ensures.log ∙ ap (λ (v : LogView). v.log) c.log.ensures) in
     let is = c.column_command.ensures ∙ ap (λ (a : Arrived). column_command a.request) read in
     let ready = subst (λ z. IsReadied c.serve.new.self p.past z c.in_ok-hit.hit) (sym is) (c.in_ok-hit.ensures {u = tt} p.past p.is_in p.is_chosen) in
     let stands = c.issue.ensures.stands p.past ready (c.requires.seen ∙ seen-is x p.past p.is_in) in

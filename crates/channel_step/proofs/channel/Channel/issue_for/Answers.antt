@@ -21,113 +21,113 @@ use Rattle.channel_step.proofs.channel.Channel.issue_for.Goals as goal
 pub open_bank-command-requires : goal.open_bank-command-requires
 open_bank-command-requires c =
     let x = c.args.self.now in
-    let slot = c.args.slot in
-    let r = request_at x.queue.log slot in
+    let place = c.args.place in
+    let r = request_at x.queue.log place in
     let p = c.requires.chosen in
     let history = issued_commands p.past.channel p.past.steps in
-    let place : (get_or c.log-2.result.now slot absent).request.place ≡ r.place = ap (λ l. (get_or l slot absent).request.place) (c.log-2.ensures.log ∙ ap (λ (v : LogView). v.log) c.log.ensures) in
+    let place_is : (get_or c.log-2.result.now place absent).request.place ≡ r.place = ap (λ l. (get_or l place absent).request.place) (c.log-2.ensures.log ∙ ap (λ (v : LogView). v.log) c.log.ensures) in
     let opens : c.open_row.result ≡ open_row (bank_in r.place) history =
-    c.open_row.ensures x.queue.log history p.is_in.candidates_stand ∙ ap (λ (b : BankId). open_row b history) (c.bank_id.ensures ∙ ap bank_in place) in
+    c.open_row.ensures x.queue.log history p.is_in.candidates_stand ∙ ap (λ (b : BankId). open_row b history) (c.bank_id.ensures ∙ ap bank_in place_is) in
     let is : needed history r ≡ needed_at None r = needed-with history r None (sym c.in-None.is ∙ opens) in
-    doing x slot (needed_at None r) p is
+    doing x place (needed_at None r) p is
 
 pub issue-requires-clause-ready : goal.issue-requires-clause-ready
 issue-requires-clause-ready c =
     let x = c.args.self.now in
-    let slot = c.args.slot in
-    let r = request_at x.queue.log slot in
+    let place = c.args.place in
+    let r = request_at x.queue.log place in
     let p = c.requires.chosen in
     let history = issued_commands p.past.channel p.past.steps in
-    let place : (get_or c.log-2.result.now slot absent).request.place ≡ r.place = ap (λ l. (get_or l slot absent).request.place) (c.log-2.ensures.log ∙ ap (λ (v : LogView). v.log) c.log.ensures) in
+    let place_is : (get_or c.log-2.result.now place absent).request.place ≡ r.place = ap (λ l. (get_or l place absent).request.place) (c.log-2.ensures.log ∙ ap (λ (v : LogView). v.log) c.log.ensures) in
     let opens : c.open_row.result ≡ open_row (bank_in r.place) history =
-    c.open_row.ensures x.queue.log history p.is_in.candidates_stand ∙ ap (λ (b : BankId). open_row b history) (c.bank_id.ensures ∙ ap bank_in place) in
+    c.open_row.ensures x.queue.log history p.is_in.candidates_stand ∙ ap (λ (b : BankId). open_row b history) (c.bank_id.ensures ∙ ap bank_in place_is) in
     let is : needed history r ≡ needed_at None r = needed-with history r None (sym c.in-None.is ∙ opens) in
     record {
       past = p.past;
-      is_readied = c.open_bank-command.ensures.readied p.past p.is_in (ap Some (c.open_bank-command.ensures.command ∙ sym is) ∙ chosen-needs x slot p);
+      is_readied = c.open_bank-command.ensures.readied p.past p.is_in (ap Some (c.open_bank-command.ensures.command ∙ sym is) ∙ chosen-needs x place p);
       seen_is = seen-told x p.past c.refreshing.result c.seen-seen.result p.is_in c.seen-seen.ensures c.refreshing.ensures;
     }
 
 pub issue-requires-clause-early : goal.issue-requires-clause-early
 issue-requires-clause-early c =
     let x = c.args.self.now in
-    let slot = c.args.slot in
-    let r = request_at x.queue.log slot in
+    let place = c.args.place in
+    let r = request_at x.queue.log place in
     let p = c.requires.chosen in
     let history = issued_commands p.past.channel p.past.steps in
-    let place : (get_or c.log-2.result.now slot absent).request.place ≡ r.place = ap (λ l. (get_or l slot absent).request.place) (c.log-2.ensures.log ∙ ap (λ (v : LogView). v.log) c.log.ensures) in
+    let place_is : (get_or c.log-2.result.now place absent).request.place ≡ r.place = ap (λ l. (get_or l place absent).request.place) (c.log-2.ensures.log ∙ ap (λ (v : LogView). v.log) c.log.ensures) in
     let opens : c.open_row.result ≡ open_row (bank_in r.place) history =
-    c.open_row.ensures x.queue.log history p.is_in.candidates_stand ∙ ap (λ (b : BankId). open_row b history) (c.bank_id.ensures ∙ ap bank_in place) in
+    c.open_row.ensures x.queue.log history p.is_in.candidates_stand ∙ ap (λ (b : BankId). open_row b history) (c.bank_id.ensures ∙ ap bank_in place_is) in
     let is : needed history r ≡ needed_at None r = needed-with history r None (sym c.in-None.is ∙ opens) in
-    let ready = c.open_bank-command.ensures.readied p.past p.is_in (ap Some (c.open_bank-command.ensures.command ∙ sym is) ∙ chosen-needs x slot p) in
+    let ready = c.open_bank-command.ensures.readied p.past p.is_in (ap Some (c.open_bank-command.ensures.command ∙ sym is) ∙ chosen-needs x place p) in
     omega (arith, ready.cycle_is, p.is_in.cycle_is, c.requires.early)
 
 pub close_bank-command-requires : goal.close_bank-command-requires
 close_bank-command-requires c =
     let x = c.args.self.now in
-    let slot = c.args.slot in
-    let r = request_at x.queue.log slot in
+    let place = c.args.place in
+    let r = request_at x.queue.log place in
     let p = c.requires.chosen in
     let history = issued_commands p.past.channel p.past.steps in
-    let place : (get_or c.log-2.result.now slot absent).request.place ≡ r.place = ap (λ l. (get_or l slot absent).request.place) (c.log-2.ensures.log ∙ ap (λ (v : LogView). v.log) c.log.ensures) in
+    let place_is : (get_or c.log-2.result.now place absent).request.place ≡ r.place = ap (λ l. (get_or l place absent).request.place) (c.log-2.ensures.log ∙ ap (λ (v : LogView). v.log) c.log.ensures) in
     let opens : c.open_row.result ≡ open_row (bank_in r.place) history =
-    c.open_row.ensures x.queue.log history p.is_in.candidates_stand ∙ ap (λ (b : BankId). open_row b history) (c.bank_id.ensures ∙ ap bank_in place) in
-    let is : needed history r ≡ Pre (bank_in r.place) (source_of r) = needed-closing history r c.in-Some.row (sym c.in-Some.is ∙ opens) (λ e. c.if-row-place.true (e ∙ sym (ap (λ (q : Place). q.row) place))) in
-    doing x slot (Pre (bank_in r.place) (source_of r)) p is
+    c.open_row.ensures x.queue.log history p.is_in.candidates_stand ∙ ap (λ (b : BankId). open_row b history) (c.bank_id.ensures ∙ ap bank_in place_is) in
+    let is : needed history r ≡ Pre (bank_in r.place) (source_of r) = needed-closing history r c.in-Some.row (sym c.in-Some.is ∙ opens) (λ e. c.if-row-asked.true (e ∙ sym (ap (λ (q : Place). q.row) place_is))) in
+    doing x place (Pre (bank_in r.place) (source_of r)) p is
 
 pub issue-requires-in-Some-clause-ready : goal.issue-requires-in-Some-clause-ready
 issue-requires-in-Some-clause-ready c =
     let x = c.args.self.now in
-    let slot = c.args.slot in
-    let r = request_at x.queue.log slot in
+    let place = c.args.place in
+    let r = request_at x.queue.log place in
     let p = c.requires.chosen in
     let history = issued_commands p.past.channel p.past.steps in
-    let place : (get_or c.log-2.result.now slot absent).request.place ≡ r.place = ap (λ l. (get_or l slot absent).request.place) (c.log-2.ensures.log ∙ ap (λ (v : LogView). v.log) c.log.ensures) in
+    let place_is : (get_or c.log-2.result.now place absent).request.place ≡ r.place = ap (λ l. (get_or l place absent).request.place) (c.log-2.ensures.log ∙ ap (λ (v : LogView). v.log) c.log.ensures) in
     let opens : c.open_row.result ≡ open_row (bank_in r.place) history =
-    c.open_row.ensures x.queue.log history p.is_in.candidates_stand ∙ ap (λ (b : BankId). open_row b history) (c.bank_id.ensures ∙ ap bank_in place) in
-    let is : needed history r ≡ Pre (bank_in r.place) (source_of r) = needed-closing history r c.in-Some.row (sym c.in-Some.is ∙ opens) (λ e. c.if-row-place.true (e ∙ sym (ap (λ (q : Place). q.row) place))) in
+    c.open_row.ensures x.queue.log history p.is_in.candidates_stand ∙ ap (λ (b : BankId). open_row b history) (c.bank_id.ensures ∙ ap bank_in place_is) in
+    let is : needed history r ≡ Pre (bank_in r.place) (source_of r) = needed-closing history r c.in-Some.row (sym c.in-Some.is ∙ opens) (λ e. c.if-row-asked.true (e ∙ sym (ap (λ (q : Place). q.row) place_is))) in
     record {
       past = p.past;
-      is_readied = c.close_bank-command.ensures.readied p.past p.is_in (ap Some (c.close_bank-command.ensures.command ∙ sym is) ∙ chosen-needs x slot p);
+      is_readied = c.close_bank-command.ensures.readied p.past p.is_in (ap Some (c.close_bank-command.ensures.command ∙ sym is) ∙ chosen-needs x place p);
       seen_is = seen-told x p.past c.refreshing.result c.seen-seen.result p.is_in c.seen-seen.ensures c.refreshing.ensures;
     }
 
 pub issue-requires-in-Some-clause-early : goal.issue-requires-in-Some-clause-early
 issue-requires-in-Some-clause-early c =
     let x = c.args.self.now in
-    let slot = c.args.slot in
-    let r = request_at x.queue.log slot in
+    let place = c.args.place in
+    let r = request_at x.queue.log place in
     let p = c.requires.chosen in
     let history = issued_commands p.past.channel p.past.steps in
-    let place : (get_or c.log-2.result.now slot absent).request.place ≡ r.place = ap (λ l. (get_or l slot absent).request.place) (c.log-2.ensures.log ∙ ap (λ (v : LogView). v.log) c.log.ensures) in
+    let place_is : (get_or c.log-2.result.now place absent).request.place ≡ r.place = ap (λ l. (get_or l place absent).request.place) (c.log-2.ensures.log ∙ ap (λ (v : LogView). v.log) c.log.ensures) in
     let opens : c.open_row.result ≡ open_row (bank_in r.place) history =
-    c.open_row.ensures x.queue.log history p.is_in.candidates_stand ∙ ap (λ (b : BankId). open_row b history) (c.bank_id.ensures ∙ ap bank_in place) in
-    let is : needed history r ≡ Pre (bank_in r.place) (source_of r) = needed-closing history r c.in-Some.row (sym c.in-Some.is ∙ opens) (λ e. c.if-row-place.true (e ∙ sym (ap (λ (q : Place). q.row) place))) in
-    let ready = c.close_bank-command.ensures.readied p.past p.is_in (ap Some (c.close_bank-command.ensures.command ∙ sym is) ∙ chosen-needs x slot p) in
+    c.open_row.ensures x.queue.log history p.is_in.candidates_stand ∙ ap (λ (b : BankId). open_row b history) (c.bank_id.ensures ∙ ap bank_in place_is) in
+    let is : needed history r ≡ Pre (bank_in r.place) (source_of r) = needed-closing history r c.in-Some.row (sym c.in-Some.is ∙ opens) (λ e. c.if-row-asked.true (e ∙ sym (ap (λ (q : Place). q.row) place_is))) in
+    let ready = c.close_bank-command.ensures.readied p.past p.is_in (ap Some (c.close_bank-command.ensures.command ∙ sym is) ∙ chosen-needs x place p) in
     omega (arith, ready.cycle_is, p.is_in.cycle_is, c.requires.early)
 
 pub issue_column_command-requires-clause-doing : goal.issue_column_command-requires-clause-doing
 issue_column_command-requires-clause-doing c =
     let x = c.args.self.now in
-    let slot = c.args.slot in
-    let r = request_at x.queue.log slot in
+    let place = c.args.place in
+    let r = request_at x.queue.log place in
     let p = c.requires.chosen in
     let history = issued_commands p.past.channel p.past.steps in
-    let place : (get_or c.log-2.result.now slot absent).request.place ≡ r.place = ap (λ l. (get_or l slot absent).request.place) (c.log-2.ensures.log ∙ ap (λ (v : LogView). v.log) c.log.ensures) in
+    let place_is : (get_or c.log-2.result.now place absent).request.place ≡ r.place = ap (λ l. (get_or l place absent).request.place) (c.log-2.ensures.log ∙ ap (λ (v : LogView). v.log) c.log.ensures) in
     let opens : c.open_row.result ≡ open_row (bank_in r.place) history =
-    c.open_row.ensures x.queue.log history p.is_in.candidates_stand ∙ ap (λ (b : BankId). open_row b history) (c.bank_id.ensures ∙ ap bank_in place) in
-    let is : needed history r ≡ column_command r = needed-moving history r c.in-Some.row (sym c.in-Some.is ∙ opens) (c.if-row-place.false ∙ ap (λ (q : Place). q.row) place) in
-    doing x slot (column_command r) p is
+    c.open_row.ensures x.queue.log history p.is_in.candidates_stand ∙ ap (λ (b : BankId). open_row b history) (c.bank_id.ensures ∙ ap bank_in place_is) in
+    let is : needed history r ≡ column_command r = needed-moving history r c.in-Some.row (sym c.in-Some.is ∙ opens) (c.if-row-asked.false ∙ ap (λ (q : Place). q.row) place_is) in
+    doing x place (column_command r) p is
 
 pub returns-in-None : goal.returns-in-None
 returns-in-None c past h chosen =
     let x = c.args.self.now in
-    let slot = c.args.slot in
-    let r = request_at x.queue.log slot in
+    let place = c.args.place in
+    let r = request_at x.queue.log place in
     let history = commands_after past in
-    let place : (get_or c.log-2.result.now slot absent).request.place ≡ r.place = ap (λ l. (get_or l slot absent).request.place) (c.log-2.ensures.log ∙ ap (λ (v : LogView). v.log) c.log.ensures) in
+    let place_is : (get_or c.log-2.result.now place absent).request.place ≡ r.place = ap (λ l. (get_or l place absent).request.place) (c.log-2.ensures.log ∙ ap (λ (v : LogView). v.log) c.log.ensures) in
     let opens : c.open_row.result ≡ open_row (bank_in r.place) history =
-    c.open_row.ensures x.queue.log history h.candidates_stand ∙ ap (λ (b : BankId). open_row b history) (c.bank_id.ensures ∙ ap bank_in place) in
+    c.open_row.ensures x.queue.log history h.candidates_stand ∙ ap (λ (b : BankId). open_row b history) (c.bank_id.ensures ∙ ap bank_in place_is) in
     let is : needed history r ≡ needed_at None r = needed-with history r None (sym c.in-None.is ∙ opens) in
     let ready = c.open_bank-command.ensures.readied past h (ap Some (c.open_bank-command.ensures.command ∙ sym is) ∙ chosen) in
     let seen = seen-told x past c.refreshing.result c.seen-seen.result h c.seen-seen.ensures c.refreshing.ensures in
@@ -141,13 +141,13 @@ returns-in-None c past h chosen =
 pub returns-in-Some : goal.returns-in-Some
 returns-in-Some c past h chosen =
     let x = c.args.self.now in
-    let slot = c.args.slot in
-    let r = request_at x.queue.log slot in
+    let place = c.args.place in
+    let r = request_at x.queue.log place in
     let history = commands_after past in
-    let place : (get_or c.log-2.result.now slot absent).request.place ≡ r.place = ap (λ l. (get_or l slot absent).request.place) (c.log-2.ensures.log ∙ ap (λ (v : LogView). v.log) c.log.ensures) in
+    let place_is : (get_or c.log-2.result.now place absent).request.place ≡ r.place = ap (λ l. (get_or l place absent).request.place) (c.log-2.ensures.log ∙ ap (λ (v : LogView). v.log) c.log.ensures) in
     let opens : c.open_row.result ≡ open_row (bank_in r.place) history =
-    c.open_row.ensures x.queue.log history h.candidates_stand ∙ ap (λ (b : BankId). open_row b history) (c.bank_id.ensures ∙ ap bank_in place) in
-    let is : needed history r ≡ Pre (bank_in r.place) (source_of r) = needed-closing history r c.in-Some.row (sym c.in-Some.is ∙ opens) (λ e. c.if-row-place.true (e ∙ sym (ap (λ (q : Place). q.row) place))) in
+    c.open_row.ensures x.queue.log history h.candidates_stand ∙ ap (λ (b : BankId). open_row b history) (c.bank_id.ensures ∙ ap bank_in place_is) in
+    let is : needed history r ≡ Pre (bank_in r.place) (source_of r) = needed-closing history r c.in-Some.row (sym c.in-Some.is ∙ opens) (λ e. c.if-row-asked.true (e ∙ sym (ap (λ (q : Place). q.row) place_is))) in
     let ready = c.close_bank-command.ensures.readied past h (ap Some (c.close_bank-command.ensures.command ∙ sym is) ∙ chosen) in
     let seen = seen-told x past c.refreshing.result c.seen-seen.result h c.seen-seen.ensures c.refreshing.ensures in
     let before = c.args.messages.now.items in
@@ -160,19 +160,19 @@ returns-in-Some c past h chosen =
 pub returns-in-Some-2 : goal.returns-in-Some-2
 returns-in-Some-2 c past h chosen =
     let x = c.args.self.now in
-    let slot = c.args.slot in
-    let r = request_at x.queue.log slot in
+    let place = c.args.place in
+    let r = request_at x.queue.log place in
     let history = commands_after past in
-    let place : (get_or c.log-2.result.now slot absent).request.place ≡ r.place = ap (λ l. (get_or l slot absent).request.place) (c.log-2.ensures.log ∙ ap (λ (v : LogView). v.log) c.log.ensures) in
+    let place_is : (get_or c.log-2.result.now place absent).request.place ≡ r.place = ap (λ l. (get_or l place absent).request.place) (c.log-2.ensures.log ∙ ap (λ (v : LogView). v.log) c.log.ensures) in
     let opens : c.open_row.result ≡ open_row (bank_in r.place) history =
-    c.open_row.ensures x.queue.log history h.candidates_stand ∙ ap (λ (b : BankId). open_row b history) (c.bank_id.ensures ∙ ap bank_in place) in
-    let is : needed history r ≡ column_command r = needed-moving history r c.in-Some.row (sym c.in-Some.is ∙ opens) (c.if-row-place.false ∙ ap (λ (q : Place). q.row) place) in
+    c.open_row.ensures x.queue.log history h.candidates_stand ∙ ap (λ (b : BankId). open_row b history) (c.bank_id.ensures ∙ ap bank_in place_is) in
+    let is : needed history r ≡ column_command r = needed-moving history r c.in-Some.row (sym c.in-Some.is ∙ opens) (c.if-row-asked.false ∙ ap (λ (q : Place). q.row) place_is) in
     subst (λ (z : Command). OnOk c.issue_column_command.result (HasIssued c.issue_column_command.new.self past z c.args.commands.now c.issue_column_command.new.commands c.args.messages.now.items c.issue_column_command.new.messages.items)) (sym is)
     (c.issue_column_command.ensures past h (ap Some (sym is) ∙ chosen))
 
-pub bounds-log-slot : goal.bounds-log-slot
-bounds-log-slot c =
-    subst (λ l. c.args.slot < length l) (sym (c.log-2.ensures.log ∙ ap (λ (v : LogView). v.log) c.log.ensures)) c.requires.chosen.place.0
+pub bounds-log-place : goal.bounds-log-place
+bounds-log-place c =
+    subst (λ l. c.args.place < length l) (sym (c.log-2.ensures.log ∙ ap (λ (v : LogView). v.log) c.log.ensures)) c.requires.chosen.place.0
 
 pub issue_column_command-requires-clause-seen : goal.issue_column_command-requires-clause-seen
 issue_column_command-requires-clause-seen c = c.seen-seen.ensures ∙ ap (seen_with c.args.self.now) c.refreshing.ensures

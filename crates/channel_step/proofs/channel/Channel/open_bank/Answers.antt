@@ -21,29 +21,29 @@ pub opened-requires : goal.opened-requires
 opened-requires c =
     let p = c.requires in
     let x = c.args.self.now in
-    let read : get_or c.log-2.result.now c.args.slot absent ≡ get_or x.queue.log c.args.slot absent =
-    ap (λ l. get_or l c.args.slot absent) (c.log-2.ensures.log ∙ ap (λ (v : LogView). v.log) c.log.ensures) in
+    let read : get_or c.log-2.result.now c.args.place absent ≡ get_or x.queue.log c.args.place absent =
+    ap (λ l. get_or l c.args.place absent) (c.log-2.ensures.log ∙ ap (λ (v : LogView). v.log) c.log.ensures) in
     subst (λ (b : BankId). number_of b < bank_count x.bank_candidates) (sym (c.bank_id-bank.ensures ∙ ap (λ (a : Arrived). bank_in a.request.place) read))
-    (placed-among x p.past c.args.slot p.is_in p.within).number
+    (placed-among x p.past c.args.place p.is_in p.within).number
 
 pub returns-clause-readied : goal.returns-clause-readied
 returns-clause-readied c past h chosen =
     let x = c.args.self.now in
-    let slot = c.args.slot in
-    let r = request_at x.queue.log slot in
+    let place = c.args.place in
+    let r = request_at x.queue.log place in
     let rows : ℕ → Option ℕ = λ n. open_row (bank_at n) (commands_after past) in
-    let read : get_or c.log-2.result.now slot absent ≡ get_or x.queue.log slot absent =
-    ap (λ l. get_or l slot absent) (c.log-2.ensures.log ∙ ap (λ (v : LogView). v.log) c.log.ensures) in
+    let read : get_or c.log-2.result.now place absent ≡ get_or x.queue.log place absent =
+    ap (λ l. get_or l place absent) (c.log-2.ensures.log ∙ ap (λ (v : LogView). v.log) c.log.ensures) in
     let bank : c.bank_id-bank.result ≡ bank_in r.place = c.bank_id-bank.ensures ∙ ap (λ (a : Arrived). bank_in a.request.place) read in
-    let log : c.log-3.result.now.log ≡ activated_at x.queue.log slot = ap (λ (v : LogView). v.log) c.log-3.ensures ∙ ap (λ (q : QueueView). q.log) c.activate.ensures in
-    let before = subst (λ l. CandidatesStandFor x.bank_candidates l rows) (sym log) (activated_stand x.bank_candidates x.queue.log slot rows h.candidates_stand) in
-    let row : (get_or c.log-2.result.now slot absent).request.place.row ≡ r.place.row = ap (λ (a : Arrived). a.request.place.row) read in
+    let log : c.log-3.result.now.log ≡ activated_at x.queue.log place = ap (λ (v : LogView). v.log) c.log-3.ensures ∙ ap (λ (q : QueueView). q.log) c.activate.ensures in
+    let before = subst (λ l. CandidatesStandFor x.bank_candidates l rows) (sym log) (activated_stand x.bank_candidates x.queue.log place rows h.candidates_stand) in
+    let row : (get_or c.log-2.result.now place absent).request.place.row ≡ r.place.row = ap (λ (a : Arrived). a.request.place.row) read in
     let source : c.source.result ≡ source_of r = c.source.ensures ∙ ap (λ (a : Arrived). source_of a.request) read in
-    let command : Act c.bank_id-bank.result (get_or c.log-2.result.now slot absent).request.place.row c.source.result ≡ needed_at None r = λ i. Act (bank i) (row i) (source i) in
-    let stands = subst (λ l. CandidatesStandFor c.opened.new.self l (with_row (number_of c.bank_id-bank.result) (Some (get_or c.log-2.result.now slot absent).request.place.row) rows)) log (c.opened.ensures.stands rows before) in
+    let command : Act c.bank_id-bank.result (get_or c.log-2.result.now place absent).request.place.row c.source.result ≡ needed_at None r = λ i. Act (bank i) (row i) (source i) in
+    let stands = subst (λ l. CandidatesStandFor c.opened.new.self l (with_row (number_of c.bank_id-bank.result) (Some (get_or c.log-2.result.now place absent).request.place.row) rows)) log (c.opened.ensures.stands rows before) in
     let placed =
-    subst (λ k. CandidatesStandFor c.opened.new.self (activated_at x.queue.log slot) (with_row (number_of (bank_in r.place)) (Some k) rows)) row
-    (subst (λ (b : BankId). CandidatesStandFor c.opened.new.self (activated_at x.queue.log slot) (with_row (number_of b) (Some (get_or c.log-2.result.now slot absent).request.place.row) rows)) bank stands) in
+    subst (λ k. CandidatesStandFor c.opened.new.self (activated_at x.queue.log place) (with_row (number_of (bank_in r.place)) (Some k) rows)) row
+    (subst (λ (b : BankId). CandidatesStandFor c.opened.new.self (activated_at x.queue.log place) (with_row (number_of b) (Some (get_or c.log-2.result.now place absent).request.place.row) rows)) bank stands) in
     subst (λ (issued : Command). IsReadied (record x { queue = c.activate.new.self; bank_candidates = c.opened.new.self }) past issued false) (sym command)
     (subst (λ (q : QueueView). IsReadied (record x { queue = q; bank_candidates = c.opened.new.self }) past (needed_at None r) false) (sym c.activate.ensures)
-    (opened-readied x past slot c.opened.new.self h c.requires.within c.requires.waits (ap Some (sym command) ∙ chosen) c.opened.ensures.banks placed))
+    (opened-readied x past place c.opened.new.self h c.requires.within c.requires.waits (ap Some (sym command) ∙ chosen) c.opened.ensures.banks placed))

@@ -35,8 +35,8 @@ returns-in-Request c past h command needs chosen =
     let history = commands_after past in
     let log = c.args.self.now.queue.log in
     let place = subst (IsFor c.requires.chosen.past.config.ranks log) c.in-Request.is c.requires.chosen.place in
-    let is : Some (needed history (request_at log c.in-Request.slot)) ≡ Some command =
-    sym (request-needs past.config history log c.in-Request.slot place.0) ∙ subst (λ x. command_of past.config history log x ≡ Some command) c.in-Request.is needs in
-    let same : needed history (request_at log c.in-Request.slot) ≡ command = cc in
+    let is : Some (needed history (request_at log c.in-Request.place)) ≡ Some command =
+    sym (request-needs past.config history log c.in-Request.place place.0) ∙ subst (λ x. command_of past.config history log x ≡ Some command) c.in-Request.is needs in
+    let same : needed history (request_at log c.in-Request.place) ≡ command = cc in
     subst (λ z. OnOk c.issue_for.result (HasIssued c.issue_for.new.self past z c.args.commands.now c.issue_for.new.commands c.args.messages.now.items c.issue_for.new.messages.items)) same
     (c.issue_for.ensures past h (is ∙ chosen))

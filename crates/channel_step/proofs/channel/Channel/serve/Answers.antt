@@ -25,33 +25,33 @@ pub on_service-requires-clause-banks : goal.on_service-requires-clause-banks
 on_service-requires-clause-banks c =
     let p = c.requires in
     let x = c.args.self.now in
-    let log : c.log.result.now.log ≡ served_at x.queue.log c.args.slot = ap (λ (v : LogView). v.log) c.log.ensures ∙ ap (λ (q : QueueView). q.log) c.serve-unblocked.ensures.log in
+    let log : c.log.result.now.log ≡ served_at x.queue.log c.args.place = ap (λ (v : LogView). v.log) c.log.ensures ∙ ap (λ (q : QueueView). q.log) c.serve-unblocked.ensures.log in
     subst (All (λ (a : Arrived). bank_number a.request.place < bank_count x.bank_candidates)) (sym log)
-    (banks-below p.past.config.ranks (bank_count x.bank_candidates) (served_at x.queue.log c.args.slot) p.is_in.made_for.banks_are
-    (subst (All (IsInBanks p.past.config.ranks)) (sym (all_served x.queue.log c.args.slot)) p.is_in.made_for.in_banks))
+    (banks-below p.past.config.ranks (bank_count x.bank_candidates) (served_at x.queue.log c.args.place) p.is_in.made_for.banks_are
+    (subst (All (IsInBanks p.past.config.ranks)) (sym (all_served x.queue.log c.args.place)) p.is_in.made_for.in_banks))
 
 pub returns : goal.returns
 returns c past h chosen =
     let x = c.args.self.now in
-    let slot = c.args.slot in
-    let r = request_at x.queue.log slot in
-    let hit = not (get_or x.queue.log slot absent).activated in
+    let place = c.args.place in
+    let r = request_at x.queue.log place in
+    let hit = not (get_or x.queue.log place absent).activated in
     let rows : ℕ → Option ℕ = λ n. open_row (bank_at n) (commands_after past) in
-    let log : c.log.result.now.log ≡ served_at x.queue.log slot = ap (λ (v : LogView). v.log) c.log.ensures ∙ ap (λ (q : QueueView). q.log) c.serve-unblocked.ensures.log in
+    let log : c.log.result.now.log ≡ served_at x.queue.log place = ap (λ (v : LogView). v.log) c.log.ensures ∙ ap (λ (q : QueueView). q.log) c.serve-unblocked.ensures.log in
     let marks = ap (λ (v : LogView). eligible_column v.log) c.log.ensures ∙ c.serve-unblocked.ensures.marks in
     let next : IfSome c.serve-unblocked.result (λ k. k < length c.log.result.now.log) =
-    subst (λ (v : LogView). IfSome c.serve-unblocked.result (λ k. k < length v.log)) (sym c.log.ensures) c.serve-unblocked.ensures.place in
+    subst (λ (v : LogView). IfSome c.serve-unblocked.result (λ k. k < length v.log)) (sym c.log.ensures) c.serve-unblocked.ensures.next in
     let stands =
     subst (λ l. CandidatesStandFor c.on_service.new.self l rows) log
     (c.on_service.ensures.stands x.queue.log rows (record { within = c.requires.within; waits = c.requires.waits; log_is = log; marks_are = marks; next = next }) h.candidates_stand) in
-    let then : c.log-3.result.now ≡ served_at x.queue.log slot =
+    let then : c.log-3.result.now ≡ served_at x.queue.log place =
     c.log-3.ensures.log ∙ ap (λ (v : LogView). v.log) c.log-2.ensures ∙ ap (λ (q : QueueView). q.log) c.serve-unblocked.ensures.log in
-    let left : get_or c.log-3.result.now slot absent ≡ record (get_or x.queue.log slot absent) { waits = false } =
-    ap (λ l. get_or l slot absent) then ∙ get_or-set_same x.queue.log slot (record (get_or x.queue.log slot absent) { waits = false }) absent c.requires.within in
+    let left : get_or c.log-3.result.now place absent ≡ record (get_or x.queue.log place absent) { waits = false } =
+    ap (λ l. get_or l place absent) then ∙ get_or-set_same x.queue.log place (record (get_or x.queue.log place absent) { waits = false }) absent c.requires.within in
     subst (λ b. IsReadied (record x { queue = c.serve-unblocked.new.self; bank_candidates = c.on_service.new.self; served = c.keep_served.new.kept }) past (column_command r) b)
     (sym (ap (λ (a : Arrived). not a.activated) left))
     (subst (λ (q : QueueView). IsReadied (record x { queue = q; bank_candidates = c.on_service.new.self; served = c.keep_served.new.kept }) past (column_command r) hit) (sym c.serve-unblocked.ensures.log)
-    (served-readied x past slot c.on_service.new.self c.keep_served.new.kept h c.requires.within c.requires.waits chosen c.on_service.ensures.banks stands
+    (served-readied x past place c.on_service.new.self c.keep_served.new.kept h c.requires.within c.requires.waits chosen c.on_service.ensures.banks stands
     (c.in_ok-keep_served.ensures ∙ ap (λ (a : Arrived). with_more (rows_in x.served) (served_now x.number x.cycle a.request (not a.activated) ∷ [])) left)))
 
 pub serve-unblocked-requires-clause-within : goal.serve-unblocked-requires-clause-within

@@ -10,14 +10,14 @@ use Rattle.channel_step.proofs.FrFcfs.Staying.{needed_there, refresh-no_column}
 use Rattle.channel_step.proofs.fr_fcfs.arrivals.needs_column_command.Goals as goal
 
 pub is_hit-requires : goal.is_hit-requires
-is_hit-requires c = request_at (λ r. IsAmong c.args.bank_candidates.now (bank_in r.place)) c.args.log.now c.in-Request.slot c.requires.places (c.requires.within c.in-Request.slot c.in-Request.is)
+is_hit-requires c = request_at (λ r. IsAmong c.args.bank_candidates.now (bank_in r.place)) c.args.log.now c.in-Request.place c.requires.places (c.requires.within c.in-Request.place c.in-Request.is)
 
 pub returns-in-Request : goal.returns-in-Request
 returns-in-Request c s history command knows is =
     let log = c.args.log.now in
-    let slot = c.in-Request.slot in
+    let place = c.in-Request.place in
     c.is_hit.ensures history knows
-    ∙ ap is_column_command (needed_there history log slot absent command (c.requires.within slot c.in-Request.is) (ap (command_of s history log) (sym c.in-Request.is) ∙ is))
+    ∙ ap is_column_command (needed_there history log place absent command (c.requires.within place c.in-Request.is) (ap (command_of s history log) (sym c.in-Request.is) ∙ is))
 
 pub returns-in-Refresh : goal.returns-in-Refresh
 returns-in-Refresh c s history command knows is =

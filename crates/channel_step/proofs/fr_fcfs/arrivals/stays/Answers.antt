@@ -17,17 +17,17 @@ pub comes_after-requires-clause-place : goal.comes_after-requires-clause-place
 comes_after-requires-clause-place c =
     let same = c.log-log.ensures.log ∙ ap (λ v. v.log) c.log.ensures in
     let P = IsInBanks (rank_count c.args.banks.now) in
-    request_at P c.log-log.result.now c.loop-slot.slot (subst (λ (log : List Arrived). All P (all_requests log)) (sym same) c.requires.places) c.loop-slot-test.true
+    request_at P c.log-log.result.now c.loop-place.place (subst (λ (log : List Arrived). All P (all_requests log)) (sym same) c.requires.places) c.loop-place-test.true
 
-pub loop-slot-preserved : goal.loop-slot-preserved
-loop-slot-preserved c s history stands knows =
+pub loop-place-preserved : goal.loop-place-preserved
+loop-place-preserved c s history stands knows =
     let log = c.log-log.result.now in
     let requests = all_requests log in
-    let slot = c.loop-slot.slot in
+    let place = c.loop-place.place in
     let request = λ (a : Arrived). a.request in
     let P = ComesAfter s history c.args.found.0 c.needs_column_command-hit.result in
-    AllWithin-more P requests c.args.from slot (c.loop-slot.invariant s history stands knows)
-    (λ d. subst P (sym (get_or-map request log slot absent d c.loop-slot-test.true)) (c.if-not-comes_after.ensures s history refl stands knows))
+    AllWithin-more P requests c.args.from place (c.loop-place.invariant s history stands knows)
+    (λ d. subst P (sym (get_or-map request log place absent d c.loop-place-test.true)) (c.if-not-comes_after.ensures s history refl stands knows))
 
 pub returns : goal.returns
 returns c s history earlier command always stands bank_candidates high whole needs =
@@ -37,8 +37,8 @@ returns c s history earlier command always stands bank_candidates high whole nee
     let P = ComesAfter s history c.args.found.0 c.needs_column_command-hit.result in
     let same = c.log-log.ensures.log ∙ ap (λ v. v.log) c.log.ensures in
     let within : AllWithin P (all_requests log) from (length (all_requests log)) =
-    AllWithin-upto P (all_requests log) from c.loop-slot.slot (length (all_requests log)) (omega (arith, ap length same, length-map log (λ (a : Arrived). a.request)))
-    (subst (λ (l : List Arrived). AllWithin P (all_requests l) from c.loop-slot.slot) same (c.loop-slot.invariant s history stands knows)) in
+    AllWithin-upto P (all_requests log) from c.loop-place.place (length (all_requests log)) (omega (arith, ap length same, length-map log (λ (a : Arrived). a.request)))
+    (subst (λ (l : List Arrived). AllWithin P (all_requests l) from c.loop-place.place) same (c.loop-place.invariant s history stands knows)) in
     let new = drop from log in
     let parts : log ≡ earlier.log ++ new = sym (take-append-drop from log) ∙ ap (λ xs. xs ++ new) (sym whole) in
     let hit = c.needs_column_command-hit.ensures s history command knows (ap (λ l. command_of s history l c.args.found.1) same ∙ needs) in

@@ -9,6 +9,6 @@ use Rattle.channel_step.specs.FrFcfs.Requests.{KnowsRows}
 use Rattle.channel_step.proofs.fr_fcfs.arrivals.stays.Given as goal
 
 -- the requests so far come after
-abbrev pub invariant-loop-slot : goal.invariant-loop-slot
-invariant-loop-slot l =
-    (s : Config) (history : List IssuedCommand) → BanksStandFor l.banks s history → KnowsRows l.bank_candidates history → AllWithin (ComesAfter s history l.cycle l.hit) (all_requests l.log) l.fn.from l.slot
+abbrev pub invariant-loop-place : goal.invariant-loop-place
+invariant-loop-place l =
+    (s : Config) (history : List IssuedCommand) → BanksStandFor l.banks s history → KnowsRows l.bank_candidates history → AllWithin (ComesAfter s history l.cycle l.hit) (all_requests l.log) l.fn.from l.place

@@ -13,6 +13,6 @@ returns-in-Some-clause-next c s history banks bank_candidates high =
     record {
       from_now = first.from_now;
       then_is = first.then_is;
-      there_is = command_there history c.args.queue.now.log offer.slot c.in-Some.ensures.within;
+      there_is = command_there history c.args.queue.now.log offer.place c.in-Some.ensures.within;
       none_before = first.none_before;
     }

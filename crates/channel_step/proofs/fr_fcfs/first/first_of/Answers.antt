@@ -12,7 +12,7 @@ returns-then-best-room-clause-first c s history banks bank_candidates going_are 
     let long : c.len-room.result ≡ length log = c.len-room.ensures.value ∙ ap (λ v. length v.log) c.log.ensures in
     let accesses = c.args.accesses in
     let best = c.with_banks.new.best in
-    let inside : best.slot < length log = omega (arith, long) in
+    let inside : best.place < length log = omega (arith, long) in
     let start =
     subst (λ room. IsBestSoFar (length log) c.args.now (λ cycle. None) (λ cycle. None) (no_offer room)) (sym long)
     (none_so_far (length log) c.args.now (λ cycle. None) (λ cycle. None) (λ cycle late. refl) (λ cycle late. refl)) in
@@ -26,7 +26,7 @@ returns-else-best-room-clause-first c s history banks bank_candidates going_are 
     let long : c.len-room.result ≡ length log = c.len-room.ensures.value ∙ ap (λ v. length v.log) c.log.ensures in
     let accesses = c.args.accesses in
     let best = c.with_banks.new.best in
-    let outside : length log ≤ best.slot = omega (arith, long) in
+    let outside : length log ≤ best.place = omega (arith, long) in
     let start =
     subst (λ room. IsBestSoFar (length log) c.args.now (λ cycle. None) (λ cycle. None) (no_offer room)) (sym long)
     (none_so_far (length log) c.args.now (λ cycle. None) (λ cycle. None) (λ cycle late. refl) (λ cycle late. refl)) in

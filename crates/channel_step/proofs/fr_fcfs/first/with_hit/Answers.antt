@@ -31,7 +31,7 @@ returns-in-Some c s history log known hits rows so_far =
     let from = subst (λ k. IsReadyFrom s history (bank_at bank) k ready) c.column_kind.ensures.kind (c.ready-ready.ensures s history known.banks_stand) in
     hit_more s history _ log access bank h ready now hits rows best c.improve.new.best (omega arith) (omega arith) known.in_banks (known.candidates_stand.candidates_are bank c.requires.bank_candidates)
     (known.candidates_stand.rows_are bank c.requires.bank_candidates) from (access_candidates access h).hit refl
-    (taken (access_candidates access h).hit now ready c.in-Some.slot true best c.improve.new.best (ap (λ x. x.hit) (candidates_are c.args.bank_candidates.now bank access ∙ sym c.of_access.ensures) ∙ c.in-Some.is) c.improve.ensures) so_far
+    (taken (access_candidates access h).hit now ready c.in-Some.place true best c.improve.new.best (ap (λ x. x.hit) (candidates_are c.args.bank_candidates.now bank access ∙ sym c.of_access.ensures) ∙ c.in-Some.is) c.improve.ensures) so_far
 
 pub returns-in_default : goal.returns-in_default
 returns-in_default c s history log known hits rows so_far =

@@ -31,4 +31,4 @@ returns c s history log known hits rows so_far =
     let from = subst (λ k. IsReadyFrom s history (bank_at bank) k ready) c.requires.needed.kind_is (c.ready-ready.ensures s history known.banks_stand) in
     row_more s history _ log accesses bank h ready now hits rows best c.improve.new.best (omega arith) (omega arith) known.in_banks (known.candidates_stand.candidates_are bank c.requires.bank_candidates)
     (known.candidates_stand.rows_are bank c.requires.bank_candidates) from c.requires.needed.no_hit (oldest_candidate accesses h) refl
-    (taken (oldest_candidate accesses h) now ready c.oldest-slot.result false best c.improve.new.best (sym c.oldest-slot.ensures) c.improve.ensures) so_far
+    (taken (oldest_candidate accesses h) now ready c.oldest-place.result false best c.improve.new.best (sym c.oldest-place.ensures) c.improve.ensures) so_far
