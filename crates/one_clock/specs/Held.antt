@@ -12,13 +12,13 @@ use Rattle.sim_base.specs.Counts.{in_flight}
 use Rattle.statistics.specs.Runs.{stats_of_core, stats_of_channel}
 use Rattle.plain_steps.specs.Plain.{core_view, channel_view}
 use Rattle.one_clock.specs.Cycles.{core_stops_in, channel_steps_in, sent_in}
-use Rattle.one_clock.specs.declared.machine.Machine.{Machine}
+use Rattle.one_clock.specs.declared.machine.PlainMachine.{PlainMachine}
 use Rattle.one_clock.specs.declared.machine.MachineCycle.{MachineCycle}
 use Rattle.one_clock.specs.declared.run_cycle.RunCycle.{RunCycle}
 
 -- the machine keeps what each core and each channel did in the first n cycles, their statistics, their commands, and
 -- the messages in flight
-pub record HoldsRun (s : Config) (traces : List (List Entry)) (n : ℕ) (m : Machine) : Type 0 where
+pub record HoldsRun (s : Config) (traces : List (List Entry)) (n : ℕ) (m : PlainMachine) : Type 0 where
   pub cores : m.cores.items ≡ map (core_view s traces (run s traces n)) (below s.cores)
   pub channels : m.channels.items ≡ map (channel_view s traces (run s traces n)) (below s.channels)
   pub core_counts : m.core_counts.items ≡ map (stats_of_core s traces (run s traces n)) (below s.cores)
@@ -27,15 +27,15 @@ pub record HoldsRun (s : Config) (traces : List (List Entry)) (n : ℕ) (m : Mac
   pub flight : m.flight.items ≡ in_flight s traces (run s traces n)
 
 -- the machine keeps the first n cycles of the run of this one
-abbrev pub HoldsUpTo : RunCycle → ℕ → Machine → Type 0
+abbrev pub HoldsUpTo : RunCycle → ℕ → PlainMachine → Type 0
 HoldsUpTo c n m = HoldsRun c.config.now c.traces.now n m
 
 -- the machine keeps the cycles before this one
-abbrev pub HoldsBefore : RunCycle → Machine → Type 0
+abbrev pub HoldsBefore : RunCycle → PlainMachine → Type 0
 HoldsBefore c m = HoldsUpTo c c.number m
 
 -- the machine keeps this cycle too
-abbrev pub HoldsAfter : RunCycle → Machine → Type 0
+abbrev pub HoldsAfter : RunCycle → PlainMachine → Type 0
 HoldsAfter c m = HoldsUpTo c (c.number + 1) m
 
 -- this is what each core and each channel do in the cycle, and what they send in it

@@ -41,7 +41,7 @@ use timing::gap_table::GapTable;
 
 /// What is kept of the machine's past.
 #[derive(Drop)]
-pub struct Machine {
+pub struct PlainMachine {
     pub cores: Vec<CorePast>,
     pub channels: Vec<ChannelPast>,
     pub core_counts: Vec<CoreStats>,
@@ -295,7 +295,7 @@ fn is_all_delivered(cycle: &RunCycle<'_>, flight: &[Message]) -> bool
 
 /// Whether each trace is retired, each message has arrived, and each request is served.
 #[tactic(auto, unfolding(sim_base::specs::Machine::is_over))]
-fn is_run_over(cycle: &RunCycle<'_>, machine: &Machine) -> Result<bool, AllocError>
+fn is_run_over(cycle: &RunCycle<'_>, machine: &PlainMachine) -> Result<bool, AllocError>
     requires machine { HoldsBefore cycle.now machine.now }
     ensures { IfOk result (λ over. over ≡ is_over_before cycle.now) }
 {
@@ -306,7 +306,7 @@ fn is_run_over(cycle: &RunCycle<'_>, machine: &Machine) -> Result<bool, AllocErr
 }
 
 /// Whether the run ends before this cycle.
-fn ends_here(cycle: &RunCycle<'_>, machine: &Machine) -> Result<bool, AllocError>
+fn ends_here(cycle: &RunCycle<'_>, machine: &PlainMachine) -> Result<bool, AllocError>
     requires machine { HoldsBefore cycle.now machine.now }
     ensures { IfOk result (λ ends. ends ≡ ends_before cycle.now) }
 {
@@ -342,7 +342,7 @@ fn start_channels(cycle: &RunCycle<'_>) -> Result<Vec<ChannelPast>, AllocError>
 /// What is left of each core and of each channel, if the run ends before this cycle.
 fn units_left(
     cycle: &RunCycle<'_>,
-    machine: &Machine,
+    machine: &PlainMachine,
 ) -> Result<(Vec<CoreState>, Vec<ChannelState>), AllocError>
     requires machine { HoldsBefore cycle.now machine.now }
     ensures cores { IfOk result (λ left. left.0.items ≡ cores_left_before cycle.now) }
@@ -353,14 +353,14 @@ fn units_left(
     Ok((cores, channels))
 }
 
-impl Machine {
+impl PlainMachine {
     /// The machine before its first cycle.
     #[tactic(auto, using(crate::proofs::Next::commands_none, crate::proofs::Next::flight_none))]
-    fn start(cycle: &RunCycle<'_>) -> Result<Machine, AllocError>
+    fn start(cycle: &RunCycle<'_>) -> Result<PlainMachine, AllocError>
         requires { cycle.now.number ≡ 0 }
         ensures { IfOk result (HoldsBefore cycle.now) }
     {
-        Ok(Machine {
+        Ok(PlainMachine {
             cores: start_cores(cycle)?,
             channels: start_channels(cycle)?,
             core_counts: tally::no_core_counts(cycle)?,
@@ -459,7 +459,7 @@ fn table_if_asked(
 /// The tables that are asked for, of the commands and of the requests, if the run ends before this cycle.
 fn tables_asked(
     cycle: &RunCycle<'_>,
-    machine: &Machine,
+    machine: &PlainMachine,
     tables: Tables,
 ) -> Result<(Option<CommandTable>, Option<RequestTable>), AllocError>
     requires machine { HoldsBefore cycle.now machine.now }
@@ -472,7 +472,11 @@ fn tables_asked(
 }
 
 /// Runs the machine up to the cycle before which the run ends, the limit at the latest, and gives its number.
-fn run_cycles(first: &RunCycle<'_>, cycles: u64, machine: &mut Machine) -> Result<u64, AllocError>
+fn run_cycles(
+    first: &RunCycle<'_>,
+    cycles: u64,
+    machine: &mut PlainMachine,
+) -> Result<u64, AllocError>
     requires first { first.now.number ≡ 0 }
     requires limit { cycles ≤ 10 ^ 12 }
     requires machine { HoldsBefore first.now machine.old }
@@ -518,7 +522,7 @@ pub fn run_plain(
         traces,
         number: 0,
     };
-    let mut machine = Machine::start(&first)?;
+    let mut machine = PlainMachine::start(&first)?;
     let number = run_cycles(&first, cycles, &mut machine)?;
     let end = RunCycle {
         alloc,

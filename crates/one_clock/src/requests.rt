@@ -8,7 +8,7 @@ ghost use Rattle.one_clock.specs.Cycles.{arrival_in, is_hit_in, request_for, req
 ghost use Rattle.one_clock.specs.Held.{HoldsBefore};
 
 use crate::counting::cycle_of_issue;
-use crate::machine::Machine;
+use crate::machine::PlainMachine;
 use crate::run_cycle::RunCycle;
 use crate::state::{ChannelPast, CorePast};
 use plain_steps::hits::is_command_hit;
@@ -51,7 +51,7 @@ fn hits(cycle: &RunCycle<'_>, channels: &[ChannelPast], row: &IssuedCommand) -> 
     Some(is_command_hit(past.commands(), row.command))
 }
 
-impl Machine {
+impl PlainMachine {
     /// The request of an entry that a command serves; None where there is no such core or channel.
     fn request(
         &self,

@@ -1,7 +1,7 @@
 -- Each part is taken one cycle further.
 use Rattle.std.proofs.Common.{◌∙◌}
 use Rattle.std.proofs.lemmas.Result.{on_ok_weaker}
-use Rattle.one_clock.proofs.machine.Machine.note.Goals as goal
+use Rattle.one_clock.proofs.machine.PlainMachine.note.Goals as goal
 
 pub returns : goal.returns
 returns c = on_ok_weaker c.note_flight.result (λ flight. record {

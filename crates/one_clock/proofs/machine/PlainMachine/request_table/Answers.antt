@@ -9,7 +9,7 @@ use Rattle.request_table.specs.Tables.{AreServed, times_of, times_by_cycle}
 use Rattle.request_table.proofs.Reading.{own-table}
 use Rattle.laws.specs.Timed.{served_in_run}
 use Rattle.laws.proofs.Serving.{are_timed, are_by_cycle}
-use Rattle.one_clock.proofs.machine.Machine.request_table.Goals as goal
+use Rattle.one_clock.proofs.machine.PlainMachine.request_table.Goals as goal
 
 pub of-requires : goal.of-requires
 of-requires c =

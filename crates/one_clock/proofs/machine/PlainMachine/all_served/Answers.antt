@@ -8,7 +8,7 @@ use Rattle.sim_base.specs.declared.command.IssuedCommand.{IssuedCommand}
 use Rattle.sim_base.proofs.Lists.{cons_option-none}
 use Rattle.request_table.specs.declared.served_requests.ServedRequest.{ServedRequest}
 use Rattle.laws.specs.Timed.{served_in_run}
-use Rattle.one_clock.proofs.machine.Machine.all_served.Goals as goal
+use Rattle.one_clock.proofs.machine.PlainMachine.all_served.Goals as goal
 
 -- what one command more serves
 served-more : (f : IssuedCommand → Option ServedRequest) (xs : List IssuedCommand) (i : ℕ) (d : IssuedCommand) (rows : List ServedRequest) → i < length xs
