@@ -8,7 +8,7 @@ ghost use Rattle.core_window.specs.Causes.{issue_count, cause_at};
 ghost use Rattle.core_window.specs.Foreseen.{HasEntry, IsNextBehind, IsSeenFrom, WasSeen, IsKnownBy, StaysKnown};
 ghost use Rattle.core_window.specs.Foreseen.{issue_limit, issue_count_of, cause_of};
 
-use crate::channel::address_place;
+use crate::address::address_place;
 use address_map::digits::Digits;
 use cpu_trace::entries::MemoryEntry;
 use cpu_trace::trace::Trace;

@@ -1,7 +1,7 @@
 //! A core alone, over a span of cycles.
 #![tactic(auto)]
 
-mod channel;
+mod address;
 pub mod core_unit;
 mod counts;
 mod flow;
