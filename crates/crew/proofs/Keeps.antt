@@ -99,8 +99,8 @@ module _ {X : Type 0} where
         (refl, (items, (views, pass, at, k))),
       )
 
-  pub deals : (pass : ℕ) (v : View X) → Forks Kept pass v v spent
-  deals pass v items views k at =
+  pub adds_empty : (pass : ℕ) (v : View X) → Forks Kept pass v v spent
+  adds_empty pass v items views k at =
       let same : set views pass v ≡ views = set_again views pass v at in
       subst (λ (l : List (View X)). Kept items (l ++ spent ∷ [])) (sym same) (
         (let p = k.0 in omega (arith, weigh_snoc (λ (u : View X). u.parts) views spent)),
@@ -108,8 +108,8 @@ module _ {X : Type 0} where
         each_snoc Quiet views spent (λ none. refl) k.2,
       )
 
-  pub cuts : (pass : ℕ) (v : View X) → Forks Kept pass v (view_of v.parts v.put []) (view_of 0 [] v.taken)
-  cuts pass v items views k at =
+  pub splits_taken : (pass : ℕ) (v : View X) → Forks Kept pass v (view_of v.parts v.put []) (view_of 0 [] v.taken)
+  splits_taken pass v items views k at =
       let w : View X = view_of v.parts v.put [] in
       let r : View X = view_of 0 [] v.taken in (
         (let s = weigh_set (λ (u : View X). u.parts) views pass v w at in let p = k.0 in omega (arith, weigh_snoc (λ (u : View X). u.parts) (set views pass w) r)),

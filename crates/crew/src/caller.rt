@@ -47,7 +47,7 @@ impl<'a, T: Drop, D: DoneOf<T> + Drop, W: Work<T, D>, B: BoardName, R: Wait> Cre
         requires { seat ≡ put_view [] [] }
     {
         let mut put = seat;
-        let take = shared.board.deal(&mut put);
+        let take = shared.board.new_take_seat(&mut put);
         Crew {
             shared,
             put,

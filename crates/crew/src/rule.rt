@@ -64,18 +64,18 @@ impl<T> Lesson<T, View<T>> for Settles {
 }
 
 /// A pass that has nothing is made.
-pub struct Deal;
+pub struct EmptyPass;
 
-impl<T> Split<View<T>> for Deal {
+impl<T> Split<View<T>> for EmptyPass {
     ghost left = { λ v. v };
 
     ghost right = { λ v. spent };
 }
 
-/// What a pass took is cut off it, to be returned.
-pub struct Cut;
+/// What a pass took goes to a pass of its own, to be returned.
+pub struct SplitTaken;
 
-impl<T> Split<View<T>> for Cut {
+impl<T> Split<View<T>> for SplitTaken {
     ghost left = { λ v. view_of v.parts v.put [] };
 
     ghost right = { λ v. view_of 0 [] v.taken };

@@ -66,7 +66,7 @@ fn start<
     ensures refused { IfErr result (λ e. e ≡ Refused.Start → 2 ≤ workers) }
 {
     for worker in 1..workers {
-        let theirs = shared.board.deal(seat);
+        let theirs = shared.board.new_take_seat(seat);
         let serve = move ||
             requires { theirs ≡ [] }
         { shared.serve(worker, theirs) };

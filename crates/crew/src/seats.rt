@@ -3,7 +3,9 @@
 ghost use Rattle.std.specs.Prelude.{◌≡◌, ◌+◌, ◌≤◌, [], ◌∷◌, ◌++◌, length, IfSome, IfNone, OnOk, OnErr, IfErr, IsPermutation};
 ghost use Rattle.crew.specs.Rule.{put_view, with_put};
 
-use crate::rule::{Absorb, BoardName, Clear, Cut, Deal, Puts, Queue, Seat, Settles, Takes};
+use crate::rule::{
+    Absorb, BoardName, Clear, EmptyPass, Puts, Queue, Seat, Settles, SplitTaken, Takes,
+};
 use std::marker::{Model, PhantomData};
 use std::sync::Wait;
 
@@ -88,21 +90,21 @@ impl<T: Drop, B: BoardName> Board<T, B> {
     }
 
     /// A seat that takes, and has taken nothing.
-    pub fn deal(&self, seat: &mut PutSeat<T, B>) -> TakeSeat<T, B>
+    pub fn new_take_seat(&self, seat: &mut PutSeat<T, B>) -> TakeSeat<T, B>
         ensures { (result ≡ []) × (seat.new ≡ seat.old) }
     {
-        let pass = self.queue.another::<Deal>(&mut seat.pass);
+        let pass = self.queue.another::<EmptyPass>(&mut seat.pass);
         TakeSeat {
             pass,
             name: PhantomData,
         }
     }
 
-    /// A seat of its own of what a seat took, to be returned.
-    pub fn cut(&self, seat: &mut TakeSeat<T, B>) -> TakeSeat<T, B>
+    /// Moves what a seat took to a seat of its own, to be returned.
+    pub fn split_taken(&self, seat: &mut TakeSeat<T, B>) -> TakeSeat<T, B>
         ensures { (result ≡ seat.old) × (seat.new ≡ []) }
     {
-        let pass = self.queue.another::<Cut>(&mut seat.pass);
+        let pass = self.queue.another::<SplitTaken>(&mut seat.pass);
         TakeSeat {
             pass,
             name: PhantomData,

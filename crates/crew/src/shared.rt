@@ -141,7 +141,7 @@ impl<'a, T: Drop, D: DoneOf<T> + Drop, W: Work<T, D>, B: BoardName, R: Wait> Sha
     {
         let mut results = Vec::new(self.context.alloc);
         self.run_tasks(worker, seat, &mut results)?;
-        let theirs = self.board.cut(seat);
+        let theirs = self.board.split_taken(seat);
         Ok(Returned {
             seat: theirs,
             results,

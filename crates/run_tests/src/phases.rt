@@ -274,8 +274,8 @@ fn take_in_turn<R: Wait, B: BoardName>(
     let put = tasks.len();
     put_all(rt, &board, &mut seat, tasks);
     let before = board.missing(&mut seat, put, 0);
-    let mut one = board.deal(&mut seat);
-    let mut two = board.deal(&mut seat);
+    let mut one = board.new_take_seat(&mut seat);
+    let mut two = board.new_take_seat(&mut seat);
     let (ones, first) = take_number(rt, &board, &mut one, 0);
     let (twos, second) = take_number(rt, &board, &mut two, 0);
     let (ones, third) = take_number(rt, &board, &mut one, ones);
