@@ -3,7 +3,7 @@
 use crate::expect::expect_at;
 use progress::figures::Figures;
 use progress::line::line_of;
-use progress::pace::next_stretch;
+use progress::pace::next_interval;
 use progress::watcher::ProgressLine;
 use sim_base::message::Cycle;
 use simulation::watch::{Stage, Watch};
@@ -114,7 +114,7 @@ const THIRD: Figures = Figures {
 };
 
 /// How many cycles, in how many milliseconds, and how many come next.
-static STRETCHES: [(Cycle, u64, Cycle); 7] = [
+static INTERVALS: [(Cycle, u64, Cycle); 7] = [
     (2_000, 49, 4_000),
     (2_000, 50, 2_000),
     (2_000, 200, 2_000),
@@ -125,14 +125,14 @@ static STRETCHES: [(Cycle, u64, Cycle); 7] = [
 ];
 
 #[test]
-fn figures_and_stretches(rt: HostRuntime) {
+fn figures_and_intervals(rt: HostRuntime) {
     for (stage, millis, want) in &STAGES {
         let found = Figures::of(*stage, Duration::from_millis(*millis));
         expect_at(&rt, stage, &found, want);
     }
-    for (stretch, millis, next) in &STRETCHES {
-        let found = next_stretch(*stretch, Duration::from_millis(*millis));
-        expect_at(&rt, &(stretch, millis), &found, next);
+    for (interval, millis, next) in &INTERVALS {
+        let found = next_interval(*interval, Duration::from_millis(*millis));
+        expect_at(&rt, &(interval, millis), &found, next);
     }
 }
 
@@ -178,16 +178,16 @@ fn drawn(rt: &impl Abort, alloc: Global, times: &[u64], cycles: &[Cycle]) -> (Ve
         times,
         next: Cell::new(0),
     };
-    let mut stretches = Vec::new(alloc);
+    let mut intervals = Vec::new(alloc);
     let mut lines = Vec::new(alloc);
     let mut watch = ProgressLine::new(alloc, &clock, &mut lines, true);
     for now in cycles {
-        let stretch = watch.next_stretch(&stage_at(*now));
-        stretches.push(stretch).expect(rt, "memory");
+        let interval = watch.next_interval(&stage_at(*now));
+        intervals.push(interval).expect(rt, "memory");
     }
     watch.end();
     drop(watch);
-    (lines, stretches)
+    (lines, intervals)
 }
 
 /// The lines of these texts, and a carriage return; nothing where there are none.
@@ -206,10 +206,10 @@ fn lines_of(rt: &impl Abort, alloc: Global, texts: &[&str]) -> Vec<u8> {
 }
 
 /// The times that a clock shows, the cycles in which a run is looked at, the texts that are drawn of it, if any is, and
-/// the stretches.
+/// the intervals.
 ///
 /// The first run is looked at when it begins, and after 900, 1,000, 1,499 and 1,500 ms. It is drawn the third and the
-/// fifth time, and then cleared. The stretch of 900 ms is cut in half; those of 100 and 499 ms are kept and cut, and
+/// fifth time, and then cleared. The interval of 900 ms is cut in half; those of 100 and 499 ms are kept and cut, and
 /// that of 1 ms is doubled. A run that ends before a second is over leaves nothing, and neither does one whose clock
 /// fails.
 static DRAWN: [(&[u64], &[Cycle], &[&str], &[Cycle]); 3] = [
@@ -229,11 +229,11 @@ static DRAWN: [(&[u64], &[Cycle], &[&str], &[Cycle]); 3] = [
 
 #[test]
 fn the_line_is_drawn_twice_a_second(rt: HostRuntime) {
-    for (times, cycles, texts, stretches) in &DRAWN {
+    for (times, cycles, texts, intervals) in &DRAWN {
         let found = drawn(&rt, rt.alloc(), times, cycles);
         let lines = lines_of(&rt, rt.alloc(), texts);
         expect_at(&rt, times, &found.0, &lines);
-        expect_at(&rt, times, &found.1.as_slice(), stretches);
+        expect_at(&rt, times, &found.1.as_slice(), intervals);
     }
 }
 

@@ -4,7 +4,7 @@ ghost use Rattle.std.specs.Prelude.{◌≡◌, None};
 
 use crate::figures::Figures;
 use crate::line::line_of;
-use crate::pace::{FIRST_STRETCH, next_stretch};
+use crate::pace::{FIRST_INTERVAL, next_interval};
 use sim_base::message::Cycle;
 use simulation::watch::{Stage, Watch};
 use std::alloc::{AllocError, Global};
@@ -23,7 +23,7 @@ const STANDS: u128 = 500;
 struct Progress {
     begun: Instant,
     looked: Instant,
-    stretch: Cycle,
+    interval: Cycle,
     drawn: Option<Instant>,
 }
 
@@ -33,17 +33,17 @@ impl Progress {
         Progress {
             begun: now,
             looked: now,
-            stretch: FIRST_STRETCH,
+            interval: FIRST_INTERVAL,
             drawn: None,
         }
     }
 
     // The same run, looked at again.
     fn looked_at(self, now: Instant) -> Progress {
-        let stretch = next_stretch(self.stretch, now.duration_since(self.looked));
+        let interval = next_interval(self.interval, now.duration_since(self.looked));
         Progress {
             looked: now,
-            stretch,
+            interval,
             ..self
         }
     }
@@ -102,7 +102,7 @@ impl<'a, C: Clock, E: Write> Watch for ProgressLine<'a, C, E> {
         self.watches
     }
 
-    fn next_stretch(&mut self, stage: &Stage) -> Cycle {
+    fn next_interval(&mut self, stage: &Stage) -> Cycle {
         let Ok(now) = Instant::now(self.clock) else {
             return Cycle::MAX;
         };
@@ -116,7 +116,7 @@ impl<'a, C: Clock, E: Write> Watch for ProgressLine<'a, C, E> {
             let _ = self.draw_figures(figures);
         }
         self.progress = Some(progress);
-        progress.stretch
+        progress.interval
     }
 
     fn end(&mut self) {

@@ -15,18 +15,18 @@ use std::thread::Threads;
 /// A cycle, and how many entries have retired before it, of how many.
 type Told = (Cycle, Option<u128>, u128);
 
-/// Wants to be asked again after `stretch` cycles, and notes what it is told.
+/// Wants to be asked again after `interval` cycles, and notes what it is told.
 #[derive(Drop)]
 struct Noting {
-    stretch: Cycle,
+    interval: Cycle,
     told: Vec<Told>,
     ends: u64,
 }
 
 impl Noting {
-    fn new(alloc: Global, stretch: Cycle) -> Noting {
+    fn new(alloc: Global, interval: Cycle) -> Noting {
         Noting {
-            stretch,
+            interval,
             told: Vec::new(alloc),
             ends: 0,
         }
@@ -38,9 +38,9 @@ impl Watch for Noting {
         true
     }
 
-    fn next_stretch(&mut self, stage: &Stage) -> Cycle {
+    fn next_interval(&mut self, stage: &Stage) -> Cycle {
         let _ = self.told.push((stage.now, stage.retired, stage.entries));
-        self.stretch
+        self.interval
     }
 
     fn end(&mut self) {
@@ -54,28 +54,28 @@ fn assert_watched<R: Abort + Threads + Wait + Sync>(
     rt: &R,
     alloc: Global,
     end: &str,
-    stretch: Cycle,
+    interval: Cycle,
 ) {
     let texts = Texts::of(rt, alloc, &["cores = 2"], end, &TWO_TRACES);
     let run = texts.run(300);
     let plain = plain_tables(rt, alloc, &run);
     for workers in [auto(1), always(3)] {
-        let mut watch = Noting::new(alloc, stretch);
+        let mut watch = Noting::new(alloc, interval);
         let hooks = Hooks {
             gate: &Open,
             watch: &mut watch,
         };
         assert_tables(rt, alloc, hooks, &run.by(workers), &plain);
-        expect_at(rt, &(stretch, end), &watch.ends, &1);
+        expect_at(rt, &(interval, end), &watch.ends, &1);
     }
 }
 
 /// The run ends at a limit or drained.
 #[test]
 fn answers_do_not_show(rt: HostRuntime) {
-    for stretch in [0, 1, 2, 7, Cycle::MAX] {
-        assert_watched(&rt, rt.alloc(), "", stretch);
-        assert_watched(&rt, rt.alloc(), DRAINED, stretch);
+    for interval in [0, 1, 2, 7, Cycle::MAX] {
+        assert_watched(&rt, rt.alloc(), "", interval);
+        assert_watched(&rt, rt.alloc(), DRAINED, interval);
     }
 }
 

@@ -12,7 +12,7 @@ use crate::gate::{AtGate, Gate};
 use crate::options::{Hooks, MachineInput, RunOptions};
 use crate::runner::{Claims, Runner};
 use crate::sharing::{Sharing, Workers};
-use crate::watch::{RunExtent, Watch, WatchState, entries_of, stretch_end};
+use crate::watch::{RunExtent, Watch, WatchState, entries_of, interval_end};
 use crew::caller::Phases;
 use crew::run::{CrewOptions, PhasedRun, Refused, with_crew};
 use crew::signal::WaitLimits;
@@ -223,7 +223,7 @@ fn run_laps<N: Runner + Drop>(
     Ok(sim)
 }
 
-/// How the stretches of a run are run.
+/// How the intervals of a run are run.
 trait Mode {
     ghost use Rattle.std.specs.Prelude.{◌≡◌, ◌≤◌, ◌^◌, IfOk, IfErr};
     ghost use Rattle.units.specs.Drained.{NotEnded};
@@ -290,7 +290,7 @@ fn begin(alloc: Global, machine: MachineInput<'_>, options: RunOptions) -> Resul
     Ok(RunState { sim, state })
 }
 
-/// A run from where it stands to its end, in the stretches that the watcher wants. Only memory can be refused.
+/// A run from where it stands to its end, in the intervals that the watcher wants. Only memory can be refused.
 fn finish<W: Watch, M: Mode>(
     alloc: Global,
     watch: &mut W,
@@ -307,7 +307,7 @@ fn finish<W: Watch, M: Mode>(
     let mut sim = sim;
     let mut state = state;
     while let Some(stop) = sim.next_stop(options.cycles) {
-        let until = stretch_end(&sim, alloc, stop, watch, &mut state);
+        let until = interval_end(&sim, alloc, stop, watch, &mut state);
         sim = mode.run_to(sim, alloc, until)?;
     }
     let outcome = sim.outcome(alloc, options.tables)?;
@@ -347,7 +347,7 @@ fn run_unshared<W: Watch>(
     let mut lap = options.workers.sharing.first_lap.max(1);
     while let Some(stop) = unshared_stop(&sim, alloc, options)? {
         let end = stop.min(sim.now().saturating_add(lap.max(1)));
-        let until = stretch_end(&sim, alloc, end, watch, &mut state);
+        let until = interval_end(&sim, alloc, end, watch, &mut state);
         sim = run_alone(sim, alloc, until)?;
         lap = lap.saturating_mul(2);
     }

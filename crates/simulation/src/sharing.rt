@@ -17,7 +17,7 @@ pub struct Sharing {
     pub messages: usize,
     /// How many cycles the first lap has; 0 is taken as 1. Each lap that is shared out has twice as many as the last
     /// such lap. One that is not has as many as the first, and twice as many as the one before where that was not
-    /// shared out either: so the workers soon go on where, in a refresh, little was in flight for a while. Each stretch
+    /// shared out either: so the workers soon go on where, in a refresh, little was in flight for a while. Each interval
     /// that a watcher asks for begins with a first lap.
     pub first_lap: Cycle,
     /// How many shards there are for each worker; 0 is taken as 1. There are never more than 64 in all, nor more than

@@ -31,7 +31,7 @@ pub trait Watch {
     fn watches(&self) -> bool;
 
     /// How many cycles the run may go on before the watcher is asked again; 0 is taken as 1.
-    fn next_stretch(&mut self, stage: &Stage) -> Cycle;
+    fn next_interval(&mut self, stage: &Stage) -> Cycle;
 
     /// The run has ended, even if it was refused.
     fn end(&mut self);
@@ -46,7 +46,7 @@ impl Watch for Unwatched {
         false
     }
 
-    fn next_stretch(&mut self, _stage: &Stage) -> Cycle {
+    fn next_interval(&mut self, _stage: &Stage) -> Cycle {
         Cycle::MAX
     }
 
@@ -125,7 +125,7 @@ fn stage_of(sim: &Sim, alloc: Global, extent: RunExtent) -> Stage
 
 /// A later cycle up to which a run goes, and no later than a stop. Where the watcher is to be asked, from the cycle
 /// `state.look` on, it is asked first, and `state.look` is the cycle where it is to be asked next.
-pub(crate) fn stretch_end<W: Watch>(
+pub(crate) fn interval_end<W: Watch>(
     sim: &Sim,
     alloc: Global,
     stop: Cycle,
@@ -144,8 +144,8 @@ pub(crate) fn stretch_end<W: Watch>(
     }
     let now = sim.now();
     if state.look <= now {
-        let stretch = watch.next_stretch(&stage_of(sim, alloc, state.extent));
-        state.look = now.saturating_add(stretch.max(1));
+        let interval = watch.next_interval(&stage_of(sim, alloc, state.extent));
+        state.look = now.saturating_add(interval.max(1));
     }
     stop.min(state.look)
 }
