@@ -16,14 +16,13 @@ use Rattle.sim_base.proofs.Arrived.{Each-by_age}
 use Rattle.sim_base.proofs.Each.{Each-both, Each-all, Each-filter}
 use Rattle.sim_base.proofs.Ordered.{Each-weaker}
 use Rattle.sim_base.proofs.Spans.{length-run}
-use Rattle.sim_base.proofs.Lists.{filter-each, filter-agree}
+use Rattle.sim_base.proofs.Lists.{filter-both, filter-each, filter-agree}
 use Rattle.sim_base.proofs.Grows.{is_unit-own}
 use Rattle.links.specs.InFlight.{is_due}
 use Rattle.units.specs.SpanLaws.Units.{Exists}
 use Rattle.units.specs.Units.{unit_count, unit_at}
 use Rattle.units.specs.Parts.{late}
 use Rattle.units.specs.Flight.{left}
-use Rattle.units.proofs.Filters.{filter-filter}
 use Rattle.units.proofs.Standing.{core-at_place, channel-at_place}
 use Rattle.units.proofs.Travelling.{Goes, all-go}
 use Rattle.statistics.proofs.ChannelChoices.{passes}
@@ -37,7 +36,7 @@ left-spared : (s : Config) (from until k : ℕ) (ms : List Message) → left s f
 unfolding left spared
 left-spared s from until zero ms = sym (filter-each _ ms (Each-all _ (λ m. refl) ms))
 left-spared s from until (suc k) ms =
-    ap (filter _) (left-spared s from until k ms) ∙ filter-filter _ (spared s from until k) ms
+    ap (filter _) (left-spared s from until k ms) ∙ sym (filter-both _ (spared s from until k) (spared s from until (suc k)) (λ m. refl) ms)
 
 pub same_unit : (a b : MachineUnit) → is_unit a b ≡ true → a ≡ b
 same_unit (Core a) (Core b) e = let f : a ≡ b = grind (arith, nat_tests) in ap Core f

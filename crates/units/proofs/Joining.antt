@@ -1,8 +1,9 @@
 -- The messages in flight at the end of a phase: those that were left at its beginning, and what all units sent in it.
-use Rattle.std.proofs.Common.{◌≡◌, ℕ, zero, suc, ◌+◌, ◌-◌, ◌<◌, ◌≤◌, true, ltb, not, List, [], ◌∷◌, ◌++◌, length, drop, refl, sym, ap, ap₂, subst, ◌∙◌, append_assoc, append-nil, add-suc, add-zero, arith}
+use Rattle.std.proofs.Common.{◌≡◌, ℕ, zero, suc, ◌+◌, ◌-◌, ◌<◌, ◌≤◌, true, ltb, not, List, [], ◌++◌, refl, sym, ap, ap₂, subst, ◌∙◌, append_assoc, append-nil, add-suc, add-zero, arith}
 use Rattle.std.specs.Prelude.{filter, flat_map, fold}
 use Rattle.std.specs.List.{AllByRecursion as Each}
 use Rattle.std.proofs.lemmas.Bool.Decides.{nat_tests}
+use Rattle.std.proofs.lemmas.List.Prefix.{front_rest}
 use Rattle.sim_base.specs.declared.config.Config.{Config}
 use Rattle.sim_base.specs.Counts.{in_flight}
 use Rattle.sim_base.specs.History.{below, insert_by_age, by_age, messages, messages_of_core, messages_of_channel}
@@ -18,35 +19,45 @@ use Rattle.sim_base.proofs.Each.{Each-all, Each-flat_map_below, Each-last}
 use Rattle.sim_base.proofs.Grows.{SentBy, of_core-by, of_channel-by, apart}
 use Rattle.sim_base.proofs.Ordered.{Apart, Sorted, Each-weaker, puts-swap, puts-append, Sorted-puts, filter-puts, filter-by_age}
 use Rattle.sim_base.proofs.Spans.{length-run}
-use Rattle.sim_base.proofs.Lists.{filter-each, filter-agree}
+use Rattle.sim_base.proofs.Lists.{filter-each}
 use Rattle.units.specs.SpanLaws.Units.{Exists, sent_of}
 use Rattle.units.specs.Flight.{fresh}
 use Rattle.units.specs.Parts.{late}
 use Rattle.units.specs.Units.{unit_at, unit_count}
 use Rattle.units.proofs.Due.{place-at, place_of_unit, exists-at}
-use Rattle.units.proofs.Filters.{filter-filter, implied}
+use Rattle.units.proofs.Filters.{filter-within}
 use Rattle.units.proofs.Standing.{core-at_place, channel-at_place}
 use Rattle.units.specs.declared.machine.Machine.{Machine}
 use Rattle.units.specs.Runs.{run_of, flight_at, sent_at}
-use Rattle.units.proofs.Travelling.{late-added}
-
-drop-append : {X : Type 0} (xs ys : List X) → drop (length xs) (xs ++ ys) ≡ ys
-drop-append [] ys = refl
-drop-append (x ∷ xs) ys = drop-append xs ys
+use Rattle.units.proofs.Travelling.{Added, core-added, channel-added, late-added}
 
 -- what a unit sent in a span is what is fresh of it
 pub fresh-is : (machine : Machine) (from until place : ℕ) (ms : List Message)
     → sent_at machine until (unit_at machine.config place) ≡ sent_at machine from (unit_at machine.config place) ++ ms → fresh machine from until place ≡ ms
 unfolding fresh
 fresh-is machine from until place ms e =
-    let old = sent_at machine from (unit_at machine.config place) in
-    ap (drop (length old)) e ∙ drop-append old ms
+    front_rest (sent_at machine until (unit_at machine.config place)) (sent_at machine from (unit_at machine.config place)) ms e
 
-fresh-grows : (machine : Machine) (from until place : ℕ) → place < unit_count machine.config → from ≤ until → TravelsFor machine.config (until - from)
+-- what a unit sent in more cycles begins with what it sent in fewer
+pub fresh-grows : (machine : Machine) (from until place : ℕ) → place < unit_count machine.config → from ≤ until
     → sent_at machine until (unit_at machine.config place) ≡ sent_at machine from (unit_at machine.config place) ++ fresh machine from until place
-fresh-grows machine from until place l k t =
-    let a = late-added machine.config machine.traces.items from until (unit_at machine.config place) (exists-at machine.config place l) k t in
+fresh-grows machine from until place l k =
+    let a = added (unit_at machine.config place) (exists-at machine.config place l) in
     a.are ∙ ap (λ z. sent_at machine from (unit_at machine.config place) ++ z) (sym (fresh-is machine from until place a.more a.are))
+  where
+    e : from + (until - from) ≡ until
+    e = omega (arith, k)
+
+    Any : Message → Type 0
+    Any m = m ≡ m
+
+    added : (u : MachineUnit) → Exists machine.config u → Added Any (sent_at machine from u) (sent_at machine until u)
+    added (Core core) m =
+        subst (λ i. Added Any (messages_of_core machine.config machine.traces.items (run_of machine from) core) (messages_of_core machine.config machine.traces.items (run_of machine i) core)) e
+        (core-added machine.config machine.traces.items Any from core (λ rows cycle h. Each-all Any (λ x. refl) _) (until - from))
+    added (Channel channel) m =
+        subst (λ i. Added Any (messages_of_channel machine.config (run_of machine from) channel) (messages_of_channel machine.config (run_of machine i) channel)) e
+        (channel-added machine.config machine.traces.items Any from channel m (λ cycle o h c. Each-all Any (λ x. refl) _) (until - from))
 
 pub fresh-late : (machine : Machine) (from until place : ℕ) → place < unit_count machine.config → from ≤ until → TravelsFor machine.config (until - from)
     → Each (λ m. until ≤ m.arrival) (fresh machine from until place)
@@ -76,12 +87,12 @@ sent-by : (s : Config) (traces : List (List Entry)) (n : ℕ) (u : MachineUnit) 
 sent-by s traces n (Core core) l = of_core-by s traces (run s traces n) core
 sent-by s traces n (Channel channel) l = of_channel-by s (run s traces n) channel l
 
-fresh-by : (machine : Machine) (from until place : ℕ) → place < unit_count machine.config → from ≤ until → TravelsFor machine.config (until - from)
+fresh-by : (machine : Machine) (from until place : ℕ) → place < unit_count machine.config → from ≤ until
     → SentBy machine.config (unit_at machine.config place) (fresh machine from until place)
-fresh-by machine from until place l k t =
+fresh-by machine from until place l k =
     let u = unit_at machine.config place in
     Each-last _ (sent_at machine from u) (fresh machine from until place)
-    (subst (SentBy machine.config u) (fresh-grows machine from until place l k t) (sent-by machine.config machine.traces.items until u (exists-at machine.config place l)))
+    (subst (SentBy machine.config u) (fresh-grows machine from until place l k) (sent-by machine.config machine.traces.items until u (exists-at machine.config place l)))
 
 places-differ : (s : Config) (i j : ℕ) → i < j → unit_at s i ≡ unit_at s j → ⊥
 places-differ s i j l e =
@@ -107,14 +118,14 @@ grow s f g acc (suc n) hf hg =
     ∙ ap₂ (λ y z. puts y z) (sym (puts-append acc old (f n)) ∙ ap (puts acc) (sym (flat_map_below_more f n))) (sym (flat_map_below_more g n))
 
 -- all messages of a run, with those that are sent in a span put in last
-all-grow : (machine : Machine) (from until : ℕ) → from ≤ until → TravelsFor machine.config (until - from)
+all-grow : (machine : Machine) (from until : ℕ) → from ≤ until
     → by_age (messages machine.config machine.traces.items (run_of machine until)) ≡ puts (by_age (messages machine.config machine.traces.items (run_of machine from))) (flat_map (fresh machine from until) (below (unit_count machine.config)))
-all-grow machine from until k t =
+all-grow machine from until k =
     let n = unit_count machine.config in
     by_age-puts (messages machine.config machine.traces.items (run_of machine until))
-    ∙ ap (puts []) (sym (all-sent machine.config machine.traces.items until) ∙ flat_map_below_same _ (λ i. sent_at machine from (unit_at machine.config i) ++ fresh machine from until i) n (λ i l. fresh-grows machine from until i l k t))
+    ∙ ap (puts []) (sym (all-sent machine.config machine.traces.items until) ∙ flat_map_below_same _ (λ i. sent_at machine from (unit_at machine.config i) ++ fresh machine from until i) n (λ i l. fresh-grows machine from until i l k))
     ∙ grow machine.config (λ i. sent_at machine from (unit_at machine.config i)) (fresh machine from until) [] n
-    (λ i l. sent-by machine.config machine.traces.items from (unit_at machine.config i) (exists-at machine.config i l)) (λ i l. fresh-by machine from until i l k t)
+    (λ i l. sent-by machine.config machine.traces.items from (unit_at machine.config i) (exists-at machine.config i l)) (λ i l. fresh-by machine from until i l k)
     ∙ ap (λ z. puts z (flat_map (fresh machine from until) (below n))) (ap (puts []) (all-sent machine.config machine.traces.items from) ∙ sym (by_age-puts (messages machine.config machine.traces.items (run_of machine from))))
 
 flight-late : (s : Config) (traces : List (List Entry)) (n : ℕ) → in_flight s traces (run s traces n) ≡ late n (by_age (messages s traces (run s traces n)))
@@ -131,8 +142,7 @@ since a until l = grind (arith, nat_tests)
 
 late-late : (from until : ℕ) → from ≤ until → (ms : List Message) → late until (late from ms) ≡ late until ms
 late-late from until l ms =
-    filter-filter (λ m. not (ltb m.arrival until)) (λ m. not (ltb m.arrival from)) ms
-    ∙ filter-agree _ _ ms (Each-all _ (λ m. implied (not (ltb m.arrival from)) (not (ltb m.arrival until)) (later m.arrival from until l)) ms)
+    filter-within (λ m. not (ltb m.arrival until)) (λ m. not (ltb m.arrival from)) (λ m. later m.arrival from until l) ms
 
 pub join-flight : (machine : Machine) (from until : ℕ) → from ≤ until → TravelsFor machine.config (until - from)
     → fold insert_by_age (late until (flight_at machine from)) (flat_map (fresh machine from until) (below (unit_count machine.config))) ≡ flight_at machine until
@@ -149,5 +159,5 @@ join-flight machine from until k t =
     ∙ ap (λ z. puts z new) (late-late from until k old)
     ∙ ap (puts (late until old)) (sym (filter-each p new all))
     ∙ sym (filter-puts p old new (subst Sorted (sym (by_age-puts (messages machine.config machine.traces.items (run_of machine from)))) (Sorted-puts [] (messages machine.config machine.traces.items (run_of machine from)) tt)))
-    ∙ ap (late until) (sym (all-grow machine from until k t))
+    ∙ ap (late until) (sym (all-grow machine from until k))
     ∙ sym (flight-late machine.config machine.traces.items until)

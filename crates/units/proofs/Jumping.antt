@@ -1,28 +1,29 @@
 -- A machine goes on to a cycle that is not past any of its wake words: no unit is touched, and the links stay as they
 -- are.
-use Rattle.std.proofs.Common.{◌≡◌, ℕ, zero, suc, ◌+◌, ◌-◌, ◌<◌, ◌≤◌, List, [], ◌∷◌, ◌++◌, length, replicate, get_or, ◌⊎◌, inl, inr, refl, sym, ap, ap₂, subst, ◌∙◌, add-zero, append-nil, arith}
-use Rattle.std.specs.Prelude.{filter, flat_map, fold, All}
+use Rattle.std.proofs.Common.{◌≡◌, ℕ, zero, suc, ◌+◌, ◌-◌, ◌<◌, ◌≤◌, List, [], ◌∷◌, ◌++◌, length, replicate, get_or, ◌⊎◌, inl, inr, refl, sym, ap, subst, ◌∙◌, add-zero, append-nil, arith}
+use Rattle.std.specs.Prelude.{filter, fold, All}
 use Rattle.std.proofs.lemmas.Bool.{cases_lt}
 use Rattle.std.proofs.lemmas.List.{length-replicate, get_or-replicate, get_or_append_left, get_or_default}
 use Rattle.std.proofs.lemmas.Option.{slice_get-get_or}
 use Rattle.std.proofs.Math.Seq.{get_or-append_seam}
-use Rattle.sim_base.specs.History.{below, by_age, insert_by_age, is_to, messages}
+use Rattle.sim_base.specs.History.{by_age, insert_by_age, is_to, messages}
 use Rattle.sim_base.specs.declared.message.Unit.{Unit as MachineUnit}
 use Rattle.units.proofs.SpanLaws.Arrivals.{mail-sent}
 use Rattle.units.specs.SpanLaws.Mail.{arriving}
 use Rattle.sim_base.specs.Locality.{TravelsFor}
 use Rattle.sim_base.specs.declared.message.Message.{Message}
-use Rattle.sim_base.proofs.Below.{flat_map_below_more, flat_map_below_same}
+use Rattle.sim_base.proofs.Below.{flat_map_below_same}
 use Rattle.sim_base.proofs.Added.{length-push_suc}
 use Rattle.statistics.proofs.RunSteps.{travels}
+use Rattle.laws.proofs.Sent.{flat_map-none}
 use Rattle.links.specs.InFlight.{InFlight, is_due}
-use Rattle.units.specs.Flight.{fresh, left, among}
+use Rattle.units.specs.Flight.{fresh, left, among, sent_by}
 use Rattle.units.specs.Parts.{late, IsPart, IsSim}
 use Rattle.units.specs.declared.part.UnitState.{UnitState}
 use Rattle.units.specs.Units.{unit_at, unit_count}
 use Rattle.units.proofs.Due.{left-all, left-none, left-more, exists-at}
 use Rattle.units.proofs.Joining.{all-sent, fresh-is, join-flight}
-use Rattle.units.specs.Wakes.{IsAsleep, IsStill, HasGoneOn, AreTimedUnits, Sleeper, Waits, sleeper, sleeper_at}
+use Rattle.units.specs.Wakes.{IsAsleep, IsStill, sent_in, HasGoneOn, AreTimedUnits, Sleeper, Waits, sleeper, sleeper_at}
 use Rattle.units.specs.declared.timed_unit.TimedUnit.{TimedUnit}
 use Rattle.units.proofs.Sharing.{among-all}
 use Rattle.units.specs.declared.machine.Machine.{Machine}
@@ -34,9 +35,15 @@ pub some-unit : (units : List TimedUnit) → 0 < length units → TimedUnit
 some-unit [] l = absurd (omega (arith, l))
 some-unit (x ∷ xs) l = x
 
-pub all-none : (f : ℕ → List Message) (n : ℕ) → ((i : ℕ) → i < n → f i ≡ []) → flat_map f (below n) ≡ []
-all-none f zero h = refl
-all-none f (suc n) h = flat_map_below_more f n ∙ ap₂ (λ x y. x ++ y) (all-none f n (λ i l. h i (omega (arith, l)))) (h n (omega arith))
+-- in no cycles nothing is sent
+fresh-none : (machine : Machine) (now place : ℕ) → fresh machine now now place ≡ []
+fresh-none machine now place = fresh-is machine now now place [] (sym (append-nil (sent_at machine now (unit_at machine.config place))))
+
+pub sent_by-none : (machine : Machine) (now first count : ℕ) → sent_by machine now now first count ≡ []
+sent_by-none machine now first count = flat_map-none (λ i. fresh machine now now (first + i)) count (λ i l. fresh-none machine now (first + i))
+
+pub sent_in-none : (machine : Machine) (now : ℕ) → sent_in machine now now ≡ []
+sent_in-none machine now = flat_map-none (fresh machine now now) (unit_count machine.config) (λ i l. fresh-none machine now i)
 
 -- A unit waits, and may be left alone up to a cycle.
 pub record RestsTo (machine : Machine) (now until : ℕ) (u : MachineUnit) : Type 0 where
@@ -99,7 +106,7 @@ sleep-span machine now then until h l m t =
     same : flight_at machine then ≡ flying
     same =
         sym (join-flight machine now then l t)
-        ∙ ap (fold insert_by_age (late then flying)) (all-none (fresh machine now then) (unit_count machine.config) sends-none)
+        ∙ ap (fold insert_by_age (late then flying)) (flat_map-none (fresh machine now then) (unit_count machine.config) sends-none)
         ∙ sym (left-all machine.config machine.traces.items now then)
         ∙ none-left (unit_count machine.config) (omega arith)
 

@@ -9,9 +9,10 @@ use Rattle.sim_base.specs.Locality.{TravelsFor}
 use Rattle.sim_base.specs.declared.message.Message.{Message}
 use Rattle.sim_base.specs.declared.message.Unit.{Unit as MachineUnit}
 use Rattle.sim_base.proofs.Arrived.{puts, fold-puts}
-use Rattle.sim_base.proofs.Each.{Each-all, Each-filter, Each-flat_map_below}
+use Rattle.sim_base.proofs.Each.{Each-filter, Each-flat_map_below}
 use Rattle.sim_base.proofs.Ordered.{filter-puts}
-use Rattle.sim_base.proofs.Lists.{filter-agree}
+use Rattle.sim_base.proofs.Kept.{filter-filter}
+use Rattle.sim_base.proofs.Lists.{filter-both}
 use Rattle.links.specs.InFlight.{is_due, receiver_of, arrives_within}
 use Rattle.units.specs.SpanLaws.Mail.{mail_in}
 use Rattle.units.specs.SpanLaws.Quiet.{IsSilent}
@@ -21,9 +22,9 @@ use Rattle.units.specs.Parts.{late, IsPart}
 use Rattle.units.specs.Units.{unit_at, unit_count}
 use Rattle.units.specs.Wakes.{Sleeper, Waits, WaitAll, AreLowered, sleeper_at, sent_in}
 use Rattle.units.specs.declared.timed_unit.TimedUnit.{TimedUnit}
-use Rattle.units.proofs.Filters.{filter-filter, implied}
+use Rattle.units.proofs.Filters.{filter-within}
 use Rattle.units.proofs.Joining.{join-flight, fresh-late}
-use Rattle.units.proofs.Sharing.{due-among, filters-commute, flight-sorted}
+use Rattle.units.proofs.Sharing.{due-among, flight-sorted}
 use Rattle.units.proofs.SpanLaws.Silent.{silent-sooner, none-part, none-first}
 use Rattle.units.specs.declared.machine.Machine.{Machine}
 use Rattle.units.specs.Runs.{flight_at}
@@ -47,7 +48,7 @@ lowered-waits machine u now until sleeper after l t h part at since within none-
     let none-old : filter p old ≡ [] = due-flight machine.config machine.traces.items now until w u l ∙ none-part machine.config machine.traces.items now sleeper.at sleeper.wake until w u h.behind within h.may.none in
     let none-before : mail_in machine.config machine.traces.items until u sleeper.at until ≡ [] =
     known-mail machine now sleeper.at until u (known-phase machine now until u l t) ∙ none-part machine.config machine.traces.items now sleeper.at sleeper.wake sleeper.at until u (omega arith) h.ahead h.may.none in
-    let none-late : filter p (late until old) ≡ [] = filters-commute p (λ m. not (ltb m.arrival until)) old ∙ ap (late until) none-old in
+    let none-late : filter p (late until old) ≡ [] = filter-filter p (λ m. not (ltb m.arrival until)) old ∙ ap (late until) none-old in
     let none : filter p (flight_at machine until) ≡ [] =
     ap (filter p) (sym (join-flight machine now until l t) ∙ fold-puts (late until old) new)
     ∙ filter-puts p (late until old) new (Sorted-filter (λ m. not (ltb m.arrival until)) old (flight-sorted machine.config machine.traces.items now))
@@ -100,9 +101,7 @@ pub taken-later : (channels from until word : ℕ) (u : MachineUnit) (ms : List 
 taken-later channels from until word u ms =
     let p = is_due channels u until word in
     let q = λ (m : Message). not (is_due channels u from until m) in
-    filter-filter p q ms
-    ∙ filter-agree (λ m. q m && p m) p ms
-    (Each-all _ (λ m. implied (q m) (p m) (λ e. late-kept from until word m.arrival (is_unit (receiver_of channels m.link) u) (is_unit (receiver_of channels m.link) u) e)) ms)
+    filter-within p q (λ m e. late-kept from until word m.arrival (is_unit (receiver_of channels m.link) u) (is_unit (receiver_of channels m.link) u) e) ms
 
 none-after : (from word least a : ℕ) → least ≤ a → word ≤ max least from → (leb from a && ltb a word) ≡ false
 none-after from word least a h l = grind (arith, nat_tests)
@@ -118,7 +117,7 @@ pub none-due_after : (channels from word least : ℕ) (u : MachineUnit) (ms : Li
     → All (λ m. least ≤ m.arrival) (filter (λ m. is_unit (receiver_of channels m.link) u) ms) → word ≤ max least from → filter (is_due channels u from word) ms ≡ []
 none-due_after channels from word least u ms h l =
     let to = λ (m : Message). is_unit (receiver_of channels m.link) u in
-    sym (filter-filter (arrives_within from word) to ms)
+    filter-both (arrives_within from word) to (is_due channels u from word) (λ m. refl) ms
     ∙ none-within from word least (filter to ms) (recursion_from_All (λ (m : Message). least ≤ m.arrival) (filter to ms) h) l
 
 -- where there is no first message there is none

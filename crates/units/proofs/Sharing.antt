@@ -3,7 +3,6 @@ use Rattle.std.proofs.Common.{◌≡◌, ℕ, ◌+◌, ◌-◌, ◌<◌, ◌≤�
 use Rattle.std.specs.Prelude.{filter, fold}
 use Rattle.std.proofs.lemmas.Bool.{cond-true, cond-false, and_parts}
 use Rattle.std.proofs.lemmas.Bool.Decides.{nat_tests}
-use Rattle.std.proofs.Math.Bool.{and_comm}
 use Rattle.sim_base.specs.declared.config.Config.{Config}
 use Rattle.sim_base.specs.Counts.{in_flight}
 use Rattle.sim_base.specs.History.{is_unit, insert_by_age, messages}
@@ -14,9 +13,8 @@ use Rattle.sim_base.specs.declared.message.Unit.{Unit as MachineUnit}
 use Rattle.sim_base.specs.declared.message.Unit.TheVariants.{Core, Channel}
 use Rattle.sim_base.specs.declared.trace.Entry.{Entry}
 use Rattle.sim_base.proofs.Arrived.{by_age-puts, fold-puts}
-use Rattle.sim_base.proofs.Each.{Each-all}
 use Rattle.sim_base.proofs.Ordered.{Sorted, Sorted-puts, Each-weaker, filter-puts}
-use Rattle.sim_base.proofs.Lists.{filter-each, filter-agree}
+use Rattle.sim_base.proofs.Lists.{filter-each}
 use Rattle.units.proofs.SpanLaws.Flights.{not_before, in_flight-late}
 use Rattle.units.proofs.SpanLaws.Lists.{Sorted-filter}
 use Rattle.units.specs.SpanLaws.Units.{Exists}
@@ -26,7 +24,7 @@ use Rattle.units.specs.Parts.{late}
 use Rattle.units.specs.Units.{unit_at, unit_count}
 use Rattle.units.proofs.Due.{same_unit, flight-each}
 use Rattle.units.specs.Wakes.{sent_in}
-use Rattle.units.proofs.Filters.{filter-filter, implied}
+use Rattle.units.proofs.Filters.{filter-within}
 use Rattle.units.proofs.Joining.{join-flight}
 use Rattle.units.specs.declared.machine.Machine.{Machine}
 use Rattle.units.specs.Runs.{flight_at}
@@ -61,13 +59,7 @@ due-goes s first past a b k m e = ap (is_at_places s first past) (due-unit s a b
 pub due-among : (s : Config) (first past a b k : ℕ) (ms : List Message) → first ≤ k → k < past
     → filter (is_due s.channels (unit_at s k) a b) (among s first past ms) ≡ filter (is_due s.channels (unit_at s k) a b) ms
 due-among s first past a b k ms l m =
-    filter-filter (is_due s.channels (unit_at s k) a b) (goes_among s first past) ms
-    ∙ filter-agree _ _ ms (Each-all _ (λ x. implied (goes_among s first past x) _ (λ e. due-goes s first past a b k x e ∙ there first past k l m)) ms)
-
--- two tests can be made in any order
-pub filters-commute : (p q : Message → Bool) (ms : List Message) → filter p (filter q ms) ≡ filter q (filter p ms)
-filters-commute p q ms =
-    filter-filter p q ms ∙ filter-agree _ _ ms (Each-all _ (λ m. and_comm (q m) (p m)) ms) ∙ sym (filter-filter q p ms)
+    filter-within (is_due s.channels (unit_at s k) a b) (goes_among s first past) (λ x e. due-goes s first past a b k x e ∙ there first past k l m) ms
 
 goes-all : (s : Config) (u : MachineUnit) → Exists s u → is_at_places s 0 (unit_count s) u ≡ true
 goes-all s (Core core) l = grind (arith, nat_tests)

@@ -1,17 +1,16 @@
 -- Units in their order, each of which stands for its part of a run.
-use Rattle.std.proofs.Common.{◌≡◌, ℕ, suc, ◌+◌, ◌-◌, ◌<◌, ltb, true, false, List, [], ◌∷◌, ◌++◌, length, Option, Some, None, IfSome, ◌⊎◌, inl, inr, refl, sym, ap, subst, ◌∙◌, zero-add, add-one, arith}
+use Rattle.std.proofs.Common.{◌≡◌, ℕ, ◌+◌, ◌-◌, ◌<◌, ltb, true, false, List, [], ◌∷◌, ◌++◌, length, Option, Some, None, IfSome, ◌⊎◌, inl, inr, refl, sym, ap, subst, ◌∙◌, arith}
 use Rattle.std.specs.declared.boxed.Box.{Box}
 use Rattle.std.specs.declared.alloc.Global.{Global}
-use Rattle.std.specs.Prelude.{slice_get, map}
-use Rattle.std.proofs.lemmas.List.{length-append, append-nil}
-use Rattle.std.proofs.lemmas.List.FromFn.{map-range_with_len_more}
+use Rattle.std.specs.Prelude.{slice_get}
+use Rattle.std.proofs.lemmas.List.{length-append, append-nil, nil_from_length}
 use Rattle.std.proofs.lemmas.Bool.{cond-true, cond-false}
 use Rattle.std.proofs.lemmas.Bool.Decides.{nat_tests}
 use Rattle.sim_base.specs.declared.config.Config.{Config}
 use Rattle.sim_base.specs.declared.command.IssuedCommand.{IssuedCommand}
 use Rattle.sim_base.specs.declared.message.Unit.TheVariants as unit
 use Rattle.sim_base.specs.declared.trace.Entry.{Entry}
-use Rattle.sim_base.specs.History.{below, trace_of, issued_commands, steps_of_channel}
+use Rattle.sim_base.specs.History.{trace_of, issued_commands, steps_of_channel}
 use Rattle.sim_base.specs.Machine.{run}
 use Rattle.sim_base.proofs.Lists.{get-push}
 use Rattle.laws.specs.Commands.{history_of}
@@ -85,13 +84,6 @@ pub stand-seam : (machine : Machine) (now : ℕ) (parts ys rest : List UnitState
     → ys ++ p ∷ rest ≡ parts → IsPart machine (unit_at machine.config (length ys)) now p
 stand-seam machine now parts ys rest p h e = h (length ys) p (ap (λ z. slice_get z (length ys)) (sym e) ∙ get-seam ys rest p)
 
-pub places-more : {X : Type 0} (f : ℕ → X) (n : ℕ) → map f (below n) ++ f n ∷ [] ≡ map f (below (suc n))
-places-more f n = sym (map-range_with_len_more f 0 n n (zero-add n)) ∙ ap (λ i. map f (below i)) (add-one n)
-
-pub nothing_left : {X : Type 0} (xs : List X) → length xs ≡ 0 → xs ≡ []
-nothing_left [] h = refl
-nothing_left (x ∷ xs) h = absurd (omega arith)
-
 -- a list that is gone through is what was gone through
 pub all-yielded : {X : Type 0} (ys rest xs : List X) → ys ++ rest ≡ xs → length rest ≡ 0 → ys ≡ xs
-all-yielded ys rest xs e h = sym (append-nil ys) ∙ ap (λ z. ys ++ z) (sym (nothing_left rest h)) ∙ e
+all-yielded ys rest xs e h = sym (append-nil ys) ∙ ap (λ z. ys ++ z) (sym (nil_from_length rest h)) ∙ e

@@ -13,7 +13,8 @@ use Rattle.sim_base.specs.declared.trace.Entry.{Entry}
 use Rattle.sim_base.specs.History.{below, commands}
 use Rattle.sim_base.specs.Machine.{run}
 use Rattle.sim_base.proofs.Ordered.{Each-weaker}
-use Rattle.sim_base.proofs.Lists.{filter-each}
+use Rattle.sim_base.proofs.Lists.{filter-both, filter-each}
+use Rattle.statistics.proofs.Lists.{map_below_more}
 use Rattle.command_table.specs.Tables.{IsRising, rows_in, HaveSameCycles, table_of}
 use Rattle.command_table.proofs.Rising.{rising-pairs, by_cycle-is}
 use Rattle.laws.specs.Commands.{history_of}
@@ -21,8 +22,6 @@ use Rattle.laws.specs.Tables.{rows_on, stands_before}
 use Rattle.laws.proofs.Legal.{cycles_ascend}
 use Rattle.laws.proofs.Tabled.{rows_on-commands, tables_are_ordered}
 use Rattle.units.proofs.SpanLaws.Merged.{commands-within, Ordered, ordered-pairs}
-use Rattle.units.proofs.Filters.{filter-filter}
-use Rattle.units.proofs.Standing.{places-more}
 
 -- no row of the table of a run is of an earlier cycle than one before it
 table-rises : (s : Config) (traces : List (List Entry)) (now : ℕ) → IsRising (commands (run s traces now))
@@ -97,9 +96,9 @@ falls k n =
 more-channels : (k n : ℕ) (xs : List IssuedCommand) → Ordered xs → rows_in k (lower n xs) ++ rows_in k (rows_on n xs) ≡ rows_in k (lower (n + 1) xs)
 more-channels k n xs o =
     let in_cycle = λ (x : IssuedCommand). eqb x.cycle k in
-    ap₂ (λ u v. u ++ v) (filter-filter in_cycle (λ (x : IssuedCommand). ltb x.channel n) xs) (filter-filter in_cycle (λ (x : IssuedCommand). eqb x.channel n) xs)
+    ap₂ (λ u v. u ++ v) (sym (filter-both in_cycle (λ (x : IssuedCommand). ltb x.channel n) _ (λ x. refl) xs)) (sym (filter-both in_cycle (λ (x : IssuedCommand). eqb x.channel n) _ (λ x. refl) xs))
     ∙ both-kinds _ _ _ (falls k n) xs o
-    ∙ sym (filter-filter in_cycle (λ (x : IssuedCommand). ltb x.channel (n + 1)) xs)
+    ∙ filter-both in_cycle (λ (x : IssuedCommand). ltb x.channel (n + 1)) _ (λ x. refl) xs
 
 -- the lists of the channels below a number
 abbrev pub lists_below : Config → List (List Entry) → ℕ → ℕ → List (List IssuedCommand)
@@ -120,7 +119,7 @@ lower-rows s traces now (suc n) l k =
     let own = history_of s traces now n in
     let lists = lists_below s traces now n in
     let more : flat_map (λ rows. rows) (lists_below s traces now (suc n)) ≡ flat_map (λ rows. rows) lists ++ own =
-    ap (flat_map (λ rows. rows)) (sym (places-more (history_of s traces now) n)) ∙ flat_map-append (λ rows. rows) lists (own ∷ []) ∙ ap (λ z. flat_map (λ rows. rows) lists ++ z) (append-nil own) in
+    ap (flat_map (λ rows. rows)) (map_below_more (history_of s traces now) n) ∙ flat_map-append (λ rows. rows) lists (own ∷ []) ∙ ap (λ z. flat_map (λ rows. rows) lists ++ z) (append-nil own) in
     ap (rows_in k) more
     ∙ filter-append (λ (x : IssuedCommand). eqb x.cycle k) (flat_map (λ rows. rows) lists) own
     ∙ ap₂ (λ u v. u ++ v) (lower-rows s traces now n (omega arith) k) (ap (rows_in k) (sym (rows_on-commands s traces n (omega arith) now)))

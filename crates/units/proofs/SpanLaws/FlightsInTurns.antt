@@ -15,7 +15,7 @@ use Rattle.sim_base.specs.declared.message.Unit.TheVariants.{Core, Channel}
 use Rattle.sim_base.specs.declared.trace.Entry.{Entry}
 use Rattle.sim_base.proofs.Arrived.{puts, by_age-puts, fold-puts}
 use Rattle.sim_base.proofs.Below.{flat_map_below_same}
-use Rattle.sim_base.proofs.Each.{Each-all, Each-filter, Each-flat_map_below}
+use Rattle.sim_base.proofs.Each.{Each-all, Each-filter, Each-flat_map_below, Each-last}
 use Rattle.sim_base.proofs.Grows.{SentBy, of_core-by, of_channel-by, grow, cores_differ, channels_differ}
 use Rattle.sim_base.proofs.Ordered.{Apart, Each-weaker, puts-swap, puts-append, Sorted-puts, filter-by_age, filter-puts}
 use Rattle.sim_base.proofs.Spans.{length-run}
@@ -26,7 +26,6 @@ use Rattle.units.specs.SpanLaws.Mail.{arriving}
 use Rattle.units.specs.SpanLaws.FlightInTurns.{is_request, flight_of, left_by_channels, left_by_cores, FlightsMeet, ChannelsAreBrought, CoresAreBrought, ChannelsGoFurther, CoresGoFurther, ChannelsGoFurtherFor, CoresGoFurtherFor}
 use Rattle.units.specs.SpanLaws.Sent.{requests_sent, answers_sent}
 use Rattle.units.proofs.SpanLaws.Flights.{due-left, not_before, in_span, not-lt, and-swap, later-both}
-use Rattle.units.proofs.SpanLaws.Later.{each-right}
 use Rattle.units.proofs.SpanLaws.Late.{core-sent_late, channel-sent_late}
 use Rattle.units.proofs.SpanLaws.Requesting.{core-requests, channel-answers, requests-each, answers-each, request-to, answer-to}
 use Rattle.units.proofs.SpanLaws.Knowing.{requests-known, answers-known}
@@ -92,7 +91,7 @@ pub requests-more : (s : Config) (traces : List (List Entry)) (from until : ℕ)
 requests-more s traces from until sent h =
     let f = messages_of_core s traces (run s traces from) in
     let of_core : (i : ℕ) → i < s.cores → SentBy s (Core i) (sent i) =
-    λ i l. each-right (λ (m : Message). sender s m.link ≡ Core i) (f i) (sent i) (subst (SentBy s (Core i)) (h i l) (of_core-by s traces (run s traces until) i)) in
+    λ i l. Each-last (λ (m : Message). sender s m.link ≡ Core i) (f i) (sent i) (subst (SentBy s (Core i)) (h i l) (of_core-by s traces (run s traces until) i)) in
     ap (puts []) (flat_map_below_same (messages_of_core s traces (run s traces until)) (λ i. f i ++ sent i) s.cores h)
     ∙ grow s Core cores_differ f sent [] s.cores (λ i l. of_core-by s traces (run s traces from) i) of_core
 
@@ -101,7 +100,7 @@ pub answers-more : (s : Config) (traces : List (List Entry)) (from until : ℕ) 
 answers-more s traces from until sent h =
     let f = messages_of_channel s (run s traces from) in
     let of_channel : (i : ℕ) → i < s.channels → SentBy s (Channel i) (sent i) =
-    λ i l. each-right (λ (m : Message). sender s m.link ≡ Channel i) (f i) (sent i) (subst (SentBy s (Channel i)) (h i l) (of_channel-by s (run s traces until) i l)) in
+    λ i l. Each-last (λ (m : Message). sender s m.link ≡ Channel i) (f i) (sent i) (subst (SentBy s (Channel i)) (h i l) (of_channel-by s (run s traces until) i l)) in
     ap (puts []) (flat_map_below_same (messages_of_channel s (run s traces until)) (λ i. f i ++ sent i) s.channels h)
     ∙ grow s Channel channels_differ f sent [] s.channels (λ i l. of_channel-by s (run s traces from) i l) of_channel
 
@@ -109,13 +108,13 @@ new-requests : (s : Config) (traces : List (List Entry)) (from until : ℕ) (sen
     → Each (λ (m : Message). is_request m ≡ true) (flat_map sent (below s.cores))
 new-requests s traces from until sent h =
     let P = λ (m : Message). is_request m ≡ true in
-    Each-flat_map_below P sent s.cores (λ i l. each-right P (messages_of_core s traces (run s traces from) i) (sent i) (subst (Each P) (h i l) (core-requests s traces until i)))
+    Each-flat_map_below P sent s.cores (λ i l. Each-last P (messages_of_core s traces (run s traces from) i) (sent i) (subst (Each P) (h i l) (core-requests s traces until i)))
 
 new-answers : (s : Config) (traces : List (List Entry)) (from until : ℕ) (sent : ℕ → List Message) → ChannelsSent s traces from until sent
     → Each (λ (m : Message). is_request m ≡ false) (flat_map sent (below s.channels))
 new-answers s traces from until sent h =
     let P = λ (m : Message). is_request m ≡ false in
-    Each-flat_map_below P sent s.channels (λ i l. each-right P (messages_of_channel s (run s traces from) i) (sent i) (subst (Each P) (h i l) (channel-answers s traces until i l)))
+    Each-flat_map_below P sent s.channels (λ i l. Each-last P (messages_of_channel s (run s traces from) i) (sent i) (subst (Each P) (h i l) (channel-answers s traces until i l)))
 
 -- a request and another message stand on different links
 link-differs : (x y : ℕ) → eqb (x % 3) 0 ≡ true → eqb (y % 3) 0 ≡ false → eqb x y ≡ false

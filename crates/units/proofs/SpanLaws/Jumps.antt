@@ -14,7 +14,7 @@ use Rattle.sim_base.specs.declared.message.Unit.TheVariants.{Core, Channel}
 use Rattle.sim_base.specs.declared.trace.Entry.{Entry}
 use Rattle.sim_base.proofs.Below.{flat_map_below_more}
 use Rattle.sim_base.proofs.Arrived.{Each-by_age}
-use Rattle.sim_base.proofs.Each.{Each-all, Each-append}
+use Rattle.sim_base.proofs.Each.{Each-all, Each-append, Each-first, Each-last}
 use Rattle.sim_base.proofs.Ordered.{Each-weaker}
 use Rattle.sim_base.proofs.Lists.{filter-both, filter-agree, filter-none}
 use Rattle.sim_base.proofs.Grows.{is_unit-own}
@@ -110,17 +110,13 @@ later-same from until l ms h = filter-agree (λ (m : Message). leb until m.arriv
     agree [] k = tt
     agree (m ∷ xs) k = (same-later from until m.arrival l k.0, agree xs k.1)
 
-each-left : (P : Message → Type 0) (xs ys : List Message) → Each P (xs ++ ys) → Each P xs × Each P ys
-each-left P [] ys h = (tt, h)
-each-left P (x ∷ xs) ys h = let rest = each-left P xs ys h.1 in ((h.0, rest.0), rest.1)
-
 requests-received : (s : Config) (traces : List (List Entry)) (n : ℕ) → Each (IsReceived s) (requests_sent s traces n)
 unfolding messages
-requests-received s traces n = (each-left (IsReceived s) (requests_sent s traces n) (answers_sent s traces n) (messages-received s traces n)).0
+requests-received s traces n = Each-first (IsReceived s) (requests_sent s traces n) (answers_sent s traces n) (messages-received s traces n)
 
 answers-received : (s : Config) (traces : List (List Entry)) (n : ℕ) → Each (IsReceived s) (answers_sent s traces n)
 unfolding messages
-answers-received s traces n = (each-left (IsReceived s) (requests_sent s traces n) (answers_sent s traces n) (messages-received s traces n)).1
+answers-received s traces n = Each-last (IsReceived s) (requests_sent s traces n) (answers_sent s traces n) (messages-received s traces n)
 
 -- where nothing arrives at any channel up to a cycle, the channels leave what is in flight as it is
 channels-leave : (s : Config) (traces : List (List Entry)) (a b until : ℕ) → b ≤ until → ((channel : ℕ) → channel < s.channels → mail_in s traces a (Channel channel) b until ≡ [])

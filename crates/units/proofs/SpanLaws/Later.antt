@@ -23,7 +23,7 @@ use Rattle.sim_base.specs.declared.trace.Entry.TheVariants.{Plain, Read, Write}
 use Rattle.sim_base.proofs.Added.{ServesCoreBelow, core_messages-push, channel_messages-push, requests_late, channel_late}
 use Rattle.sim_base.proofs.Arrived.{puts, NotBefore}
 use Rattle.sim_base.proofs.Below.{flat_map_below_same}
-use Rattle.sim_base.proofs.Each.{Each-append, Each-flat_map_below}
+use Rattle.sim_base.proofs.Each.{Each-append, Each-flat_map_below, Each-last}
 use Rattle.sim_base.proofs.Grows.{SentBy, links_differ, core_channel_differ, of_core-by, of_channel-by, grow, cores_differ, channels_differ, has_channels}
 use Rattle.sim_base.proofs.Ordered.{Apart, Each-weaker, puts-swap, puts-append}
 use Rattle.sim_base.proofs.Served.{choice-below, inbox-below}
@@ -154,10 +154,6 @@ messages-received s traces (suc n) =
     (λ c l. issues-each (IsReceived s) s traces history c l (λ j e b f g. request-received s c (length history) _ e))
     (λ k l. command-received s k (length history) l (step_of_channel k machine_step) (subst (λ o. IfSome o (ServesCoreBelow s.cores)) (sym (step_of_channel-next s traces history k l)) (chosen-below s traces n k))))
 
-pub each-right : (P : Message → Type 0) (xs ys : List Message) → Each P (xs ++ ys) → Each P ys
-each-right P [] ys h = h
-each-right P (x ∷ xs) ys h = each-right P xs ys h.1
-
 -- what was sent by the end of a span is, by age, what was sent before it with what is sent in it
 pub messages-more : (s : Config) (traces : List (List Entry)) (from until : ℕ) (core_sent channel_sent : ℕ → List Message)
     → ((core : ℕ) → core < s.cores → messages_of_core s traces (run s traces until) core ≡ messages_of_core s traces (run s traces from) core ++ core_sent core)
@@ -173,9 +169,9 @@ messages-more s traces from until g g' h h' =
     let old' = flat_map f' (below s.channels) in
     let new' = flat_map g' (below s.channels) in
     let of_core : (i : ℕ) → i < s.cores → SentBy s (Core i) (g i) =
-    λ i l. each-right (λ m. sent_by (Core i) m) (f i) (g i) (subst (SentBy s (Core i)) (h i l) (of_core-by s traces (run s traces until) i)) in
+    λ i l. Each-last (λ m. sent_by (Core i) m) (f i) (g i) (subst (SentBy s (Core i)) (h i l) (of_core-by s traces (run s traces until) i)) in
     let of_channel : (i : ℕ) → i < s.channels → SentBy s (Channel i) (g' i) =
-    λ i l. each-right (λ m. sent_by (Channel i) m) (f' i) (g' i) (subst (SentBy s (Channel i)) (h' i l) (of_channel-by s (run s traces until) i l)) in
+    λ i l. Each-last (λ m. sent_by (Channel i) m) (f' i) (g' i) (subst (SentBy s (Channel i)) (h' i l) (of_channel-by s (run s traces until) i l)) in
     let far : Apart new old' =
     Each-flat_map_below _ g s.cores (λ i l. apart-all i (g i) (of_core i l)) in
     ap₂ (λ a b. puts [] (a ++ b))

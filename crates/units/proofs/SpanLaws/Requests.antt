@@ -21,7 +21,7 @@ use Rattle.sim_base.specs.declared.message.Request.{Request}
 use Rattle.sim_base.specs.declared.message.Unit.TheVariants.{Channel}
 use Rattle.sim_base.specs.declared.trace.Entry.{Entry}
 use Rattle.sim_base.proofs.Arrived.{arrived}
-use Rattle.sim_base.proofs.Each.{Each-filter, Each-filter_map}
+use Rattle.sim_base.proofs.Each.{Each-filter, Each-filter_map, Each-last}
 use Rattle.sim_base.proofs.Ordered.{Each-weaker}
 use Rattle.sim_base.proofs.Same.{Stamped, AgreeUpTo, queue-same}
 use Rattle.sim_base.proofs.Spans.{inbox-stamped}
@@ -96,17 +96,13 @@ pub span-differ : (s : Config) (traces : List (List Entry)) (from until channel 
 span-differ s traces from until channel l =
     subst (λ ms. Differ (requests_of ms)) (sym (spans-join s traces from until (Channel channel) l)) (mail-differ s traces until channel until)
 
-split-each : (P : Request → Type 0) (xs ys : List Request) → Each P (xs ++ ys) → Each P ys
-split-each P [] ys h = h
-split-each P (x ∷ xs) ys h = split-each P xs ys h.1
-
 -- each of these requests is of another entry than each of those
 abbrev AreOther : List Request → Request → Type 0
 AreOther new r = Each (IsOther r) new
 
 differ-across : (xs ys : List Request) → Differ (xs ++ ys) → Each (AreOther ys) xs
 differ-across [] ys d = tt
-differ-across (x ∷ xs) ys d = (split-each (IsOther x) xs ys d.0, differ-across xs ys d.1)
+differ-across (x ∷ xs) ys d = (Each-last (IsOther x) xs ys d.0, differ-across xs ys d.1)
 
 each-swap : (P : IssuedCommand → Request → Type 0) (xs : List IssuedCommand) (ys : List Request) → Each (λ i. Each (P i) ys) xs → Each (λ r. Each (λ i. P i r) xs) ys
 each-swap P xs [] h = tt

@@ -1,5 +1,6 @@
 use Rattle.std.proofs.Common.{◌≡◌, length, sym, ap, subst, ◌∙◌}
 use Rattle.std.proofs.lemmas.Bool.{eqb-true, eq-eqb}
+use Rattle.std.proofs.lemmas.List.{nil_from_length}
 use Rattle.sim_base.specs.Final.{queue_left}
 use Rattle.sim_base.specs.Scheduling.{queued_requests}
 use Rattle.sim_base.specs.History.{trace_of, retired_before, issued_commands}
@@ -10,7 +11,7 @@ use Rattle.sim_base.specs.declared.message.Unit.TheVariants as unit
 use Rattle.units.specs.Units.{unit_at}
 use Rattle.units.specs.Parts.{IsPart}
 use Rattle.units.specs.Drained.{HasFinished}
-use Rattle.units.proofs.Standing.{core-at_place, channel-at_place, nothing_left}
+use Rattle.units.proofs.Standing.{core-at_place, channel-at_place}
 use Rattle.units.proofs.Lasting.{core-place, channel-place, core-retired}
 use Rattle.core_window.specs.CoreViews.{view_of}
 use Rattle.core_window.specs.declared.core_unit.Core.{Core}
@@ -41,6 +42,6 @@ returns-in-Channel c now h =
     let at = channel-place machine now place c.in-Channel.channel c.in-Channel.field-1 (subst (IsPart machine (unit_at s place) now) c.in-Channel.is h) in
     let is = channel-at_place s place at.channel at.is in
     let queue = c.waiting.ensures s at.channel (channel_steps_of s traces now at.channel) (mail_before s traces now (unit.Channel at.channel) now) (subst (IsChannelAt s traces at.channel now) (sym c.deref-in-Channel.ensures) at.stands) in (
-      λ e. subst (HasFinished machine now) (sym is) (nothing_left (queued_requests (issued_commands at.channel (channel_steps_of s traces now at.channel)) (mail_before s traces now (unit.Channel at.channel) now) (length (channel_steps_of s traces now at.channel))) (sym queue ∙ eqb-true _ _ e)),
+      λ e. subst (HasFinished machine now) (sym is) (nil_from_length (queued_requests (issued_commands at.channel (channel_steps_of s traces now at.channel)) (mail_before s traces now (unit.Channel at.channel) now) (length (channel_steps_of s traces now at.channel))) (sym queue ∙ eqb-true _ _ e)),
       λ f. eq-eqb _ _ (queue ∙ ap length (subst (HasFinished machine now) is f)),
     )
