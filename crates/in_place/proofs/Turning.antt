@@ -13,7 +13,6 @@ use Rattle.sim_base.specs.declared.message.Message.{Message}
 use Rattle.sim_base.specs.declared.message.Unit.{Unit as MachineUnit}
 use Rattle.sim_base.specs.declared.message.Unit.TheVariants.{Core, Channel}
 use Rattle.sim_base.specs.declared.trace.Entry.{Entry}
-use Rattle.sim_base.proofs.Each.{Each-all}
 use Rattle.sim_base.proofs.Grows.{has_channels}
 use Rattle.links.specs.InFlight.{InFlight, receiver_of}
 use Rattle.units.specs.SpanLaws.Mail.{mail_in}
@@ -29,10 +28,8 @@ use Rattle.units.proofs.SpanLaws.Taking.{channel-keeps, core-keeps, requests-sho
 use Rattle.units.specs.Flight.{fresh, among, sent_by, is_at_places}
 use Rattle.units.specs.Parts.{IsPart}
 use Rattle.units.specs.Units.{unit_at, unit_count}
-use Rattle.units.proofs.Due.{exists-at}
-use Rattle.units.proofs.Joining.{fresh-is}
+use Rattle.units.proofs.Joining.{fresh-grows}
 use Rattle.units.proofs.Standing.{core-at_place, channel-at_place}
-use Rattle.units.proofs.Travelling.{Added, core-added, channel-added}
 use Rattle.in_place.specs.Turns.{AreByKind, AreInTurns, all_units, all_words}
 use Rattle.in_place.specs.declared.taking_turns.UnitsByKind.{UnitsByKind}
 use Rattle.units.specs.Wakes.{Sleeper, Waits, WaitAll, IsBrought, AllBrought, AreLowered, IsAsleep, units_from, links_after, sleeper, sleeper_at}
@@ -48,27 +45,6 @@ core-at s core l = let e : 0 + core ≡ core = omega arith in ap (unit_at s) e �
 
 channel-at : (s : Config) (channel : ℕ) → unit_at s (s.cores + channel) ≡ Channel channel
 channel-at s channel = channel-at_place s (s.cores + channel) channel refl
-
--- what a unit sent in more cycles begins with what it sent in fewer
-fresh-grows : (machine : Machine) (from until place : ℕ) → place < unit_count machine.config → from ≤ until
-    → sent_at machine until (unit_at machine.config place) ≡ sent_at machine from (unit_at machine.config place) ++ fresh machine from until place
-fresh-grows machine from until place l k =
-    let a = added (unit_at machine.config place) (exists-at machine.config place l) in
-    a.are ∙ ap (λ z. sent_at machine from (unit_at machine.config place) ++ z) (sym (fresh-is machine from until place a.more a.are))
-  where
-    e : from + (until - from) ≡ until
-    e = omega (arith, k)
-
-    Any : Message → Type 0
-    Any m = m ≡ m
-
-    added : (u : MachineUnit) → Exists machine.config u → Added Any (sent_at machine from u) (sent_at machine until u)
-    added (Core core) m =
-        subst (λ i. Added Any (messages_of_core machine.config machine.traces.items (run_of machine from) core) (messages_of_core machine.config machine.traces.items (run_of machine i) core)) e
-        (core-added machine.config machine.traces.items Any from core (λ rows cycle h. Each-all Any (λ x. refl) _) (until - from))
-    added (Channel channel) m =
-        subst (λ i. Added Any (messages_of_channel machine.config (run_of machine from) channel) (messages_of_channel machine.config (run_of machine i) channel)) e
-        (channel-added machine.config machine.traces.items Any from channel m (λ cycle o h c. Each-all Any (λ x. refl) _) (until - from))
 
 -- what each channel sends in a span, and what each core does
 abbrev sent_by_channel : Machine → ℕ → ℕ → ℕ → List Message
