@@ -19,18 +19,6 @@ pub(crate) enum CellForm {
     Hundredths,
 }
 
-impl CellForm {
-    /// A number of this form, or a dash where there is none.
-    fn piece_of(self, number: Option<u64>) -> Piece {
-        match (self, number) {
-            (_, None) => Piece::Text("–"),
-            (CellForm::Count, Some(number)) => Piece::Grouped(number),
-            (CellForm::Tenths, Some(number)) => Piece::Tenths(number),
-            (CellForm::Hundredths, Some(number)) => Piece::Hundredths(number),
-        }
-    }
-}
-
 /// What the numbers of a run are divided by: its cycles, the cycles that a REF takes, if that is known, and the clock
 /// in kHz, if it is given.
 #[derive(Clone, Copy)]
@@ -50,7 +38,12 @@ pub(crate) struct Cell {
 impl Cell {
     /// The number, or a dash where there is none.
     pub(crate) fn piece(self) -> Piece {
-        self.form.piece_of(self.number)
+        match (self.form, self.number) {
+            (_, None) => Piece::Text("–"),
+            (CellForm::Count, Some(number)) => Piece::Grouped(number),
+            (CellForm::Tenths, Some(number)) => Piece::Tenths(number),
+            (CellForm::Hundredths, Some(number)) => Piece::Hundredths(number),
+        }
     }
 }
 

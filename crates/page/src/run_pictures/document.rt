@@ -40,19 +40,10 @@ pub struct Run<'a> {
     pub end: u64,
 }
 
-fn plural_of(count: u64) -> &'static str {
-    match count {
-        1 => "",
-        _ => "s",
-    }
-}
-
-// A count, and what it counts.
+// A count, and what it counts, in the plural unless the count is 1.
 fn put_count(form: &'static str, count: u64, out: &mut Markup) {
-    out.fill(
-        form,
-        &[Piece::Grouped(count), Piece::Text(plural_of(count))],
-    );
+    let ending = if count == 1 { "" } else { "s" };
+    out.fill(form, &[Piece::Grouped(count), Piece::Text(ending)]);
 }
 
 // The style sheet, and what was run: how many cycles, cores, channels and commands.
@@ -212,31 +203,21 @@ fn put_run(alloc: Global, run: &Run<'_>, out: &mut Markup) {
     }
 }
 
-// The configuration, if it is given.
-fn put_config(config: Option<&Config>, out: &mut Markup) {
-    match config {
-        Some(config) => put_settings(config, out),
-        None => {}
-    }
-}
-
 // All that stands in the document.
-fn put_contents(alloc: Global, run: &Run<'_>, out: &mut Markup) {
-    let stats = run.stats;
-    put_head(run, out);
-    put_time(stats.cycles, run.khz, out);
-    out.push_str("</p>\n");
-    put_config(run.config, out);
-    if stats.cycles == 0 {
-        out.push_str("<p>The run has no cycles.</p>\n");
-    } else {
-        put_run(alloc, run, out);
-    }
-}
-
 fn contents_of(alloc: Global, run: &Run<'_>) -> Result<String, AllocError> {
+    let stats = run.stats;
     let mut page = Markup::new(alloc);
-    put_contents(alloc, run, &mut page);
+    put_head(run, &mut page);
+    put_time(stats.cycles, run.khz, &mut page);
+    page.push_str("</p>\n");
+    if let Some(config) = run.config {
+        put_settings(config, &mut page);
+    }
+    if stats.cycles == 0 {
+        page.push_str("<p>The run has no cycles.</p>\n");
+    } else {
+        put_run(alloc, run, &mut page);
+    }
     page.finish()
 }
 

@@ -1,7 +1,7 @@
 //! The whole run in steps: plots of what each channel did. A picture's units are the run's cycles and the
 //! values of its axis.
 
-use crate::run_pictures::activity::{Activity, Channel, Step, Value};
+use crate::run_pictures::activity::{Activity, Step, Value};
 use request_pictures::drawing::axes::Quantity;
 use request_pictures::drawing::markup::{LegendEntry, Piece};
 use request_pictures::drawing::page_text::Markup;
@@ -211,13 +211,6 @@ fn top_of(plot: &Plot, activity: &Activity) -> u64 {
     axis_end(greatest.min(most), 5)
 }
 
-// A plot, once for each channel.
-fn put_for_each(plot: &Plot, axes: StepAxes, channels: &[Channel], out: &mut Markup) {
-    for (id, channel) in channels.iter().enumerate() {
-        put_plot(plot, axes, id as u64, &channel.steps, out);
-    }
-}
-
 // A plot for each channel, below its heading and its legend.
 fn put_section(plot: &Plot, activity: &Activity, out: &mut Markup) {
     let axes = StepAxes {
@@ -230,7 +223,9 @@ fn put_section(plot: &Plot, activity: &Activity, out: &mut Markup) {
         out.put_legend(plot.legend);
     }
     out.push_str("<div class=\"grid\">\n");
-    put_for_each(plot, axes, &activity.channels, out);
+    for (id, channel) in activity.channels.iter().enumerate() {
+        put_plot(plot, axes, id as u64, &channel.steps, out);
+    }
     out.push_str("</div>\n");
 }
 

@@ -51,12 +51,6 @@ fn put_bar(id: u64, run: u64, core: &CoreStats, out: &mut Markup) {
         "<div class=\"bar\"><b>core {}</b><svg preserveAspectRatio=\"none\" role=\"img\" aria-label=\"why core {} stopped issuing\" viewBox=\"0 0 {} 1\">",
         &[Piece::Number(id), Piece::Number(id), Piece::Number(run)],
     );
-    put_parts(run, core, out);
-    out.push_str("</svg></div>\n");
-}
-
-// The parts of a core's bar.
-fn put_parts(run: u64, core: &CoreStats, out: &mut Markup) {
     let window = core.stop_credit;
     let memory = window.saturating_add(core.stop_window);
     let width = memory.saturating_add(core.stop_memory);
@@ -66,6 +60,7 @@ fn put_parts(run: u64, core: &CoreStats, out: &mut Markup) {
     put_part("memory", memory, core.stop_memory, run, out);
     put_part("width", width, core.stop_width, run, out);
     put_part("end", end, core.stop_end, run, out);
+    out.push_str("</svg></div>\n");
 }
 
 /// Appends a bar for each core, with a legend.
