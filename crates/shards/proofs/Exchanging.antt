@@ -1,5 +1,5 @@
 -- Messages that are sorted by shard, and taken up list by list.
-use Rattle.std.proofs.Common.{◌≡◌, ◌≢◌, ℕ, zero, suc, ◌+◌, ◌-◌, ◌<◌, ◌≤◌, Bool, true, false, cond, eqb, ltb, leb, ◌&&◌, List, [], ◌∷◌, ◌++◌, ◌⊎◌, inl, inr, length, get_or, set, take, refl, sym, ap, subst, ◌∙◌, append-nil, get_or-set_other, get_or-set_same, length-append, arith}
+use Rattle.std.proofs.Common.{◌≡◌, ◌≢◌, ℕ, zero, suc, ◌+◌, ◌-◌, ◌<◌, ◌≤◌, Bool, true, false, cond, eqb, List, [], ◌∷◌, ◌++◌, ◌⊎◌, inl, inr, length, get_or, set, take, refl, sym, ap, subst, ◌∙◌, append-nil, get_or-set_other, get_or-set_same, length-append, arith}
 use Rattle.std.specs.Prelude.{All, fold}
 use Rattle.std.specs.declared.vec.Vec.{Vec}
 use Rattle.std.specs.declared.alloc.Global.{Global}
@@ -21,7 +21,7 @@ use Rattle.shards.specs.Lists.{bound, lists_of}
 use Rattle.shards.specs.Shards.{IsSplit}
 use Rattle.units.specs.Units.{unit_at, unit_count}
 use Rattle.units.specs.Wakes.{AreLowered}
-use Rattle.units.proofs.Sharing.{at-places, there}
+use Rattle.units.proofs.Sharing.{at-places, there, not_there}
 use Rattle.units.proofs.Standing.{core-at_place, channel-at_place}
 
 -- a later shard begins no sooner
@@ -42,10 +42,6 @@ bounds-within s bounds split i l =
     let last = split.ends (i + n) e in
     omega (arith, rise, last)
 
-elsewhere : (first past k : ℕ) → (past ≤ k) ⊎ (k < first) → (leb first k && ltb k past) ≡ false
-elsewhere first past k (inl l) = grind (arith, nat_tests)
-elsewhere first past k (inr l) = grind (arith, nat_tests)
-
 -- a message goes to the shard that has the place of its receiver
 pub goes-here : (s : Config) (bounds : List ℕ) (i place : ℕ) (m : Message) → unit_at s place ≡ receiver_of s.channels m.link
     → bound bounds i ≤ place → place < bound bounds (suc i) → goes_among s (bound bounds i) (bound bounds (suc i)) m ≡ true
@@ -61,21 +57,21 @@ pub goes-elsewhere : (s : Config) (bounds : List ℕ) → IsSplit s bounds → (
 goes-elsewhere s bounds split i k place m is l j since before other =
     ap (is_at_places s (bound bounds k) (bound bounds (suc k))) (sym is)
     ∙ at-places s (bound bounds k) (bound bounds (suc k)) place
-    ∙ elsewhere (bound bounds k) (bound bounds (suc k)) place (by (cases_lt k i))
+    ∙ not_there (bound bounds k) (bound bounds (suc k)) place (by (cases_lt k i))
   where
-    by : (k < i) ⊎ (i ≤ k) → (bound bounds (suc k) ≤ place) ⊎ (place < bound bounds k)
+    by : (k < i) ⊎ (i ≤ k) → (place < bound bounds k) ⊎ (bound bounds (suc k) ≤ place)
     by (inl a) =
         let n = i - suc k in
         let e : suc k + n ≡ i = omega (arith, a) in
         let rise = bounds-rise s bounds split (suc k) n (omega (arith, e, l)) in
         let rises : bound bounds (suc k) ≤ bound bounds i = subst (λ x. bound bounds (suc k) ≤ bound bounds x) e rise in
-        inl (omega (arith, rises, since))
+        inr (omega (arith, rises, since))
     by (inr a) =
         let n = k - suc i in
         let e : suc i + n ≡ k = omega (arith, a, other) in
         let rise = bounds-rise s bounds split (suc i) n (omega (arith, e, j)) in
         let rises : bound bounds (suc i) ≤ bound bounds k = subst (λ x. bound bounds (suc i) ≤ bound bounds x) e rise in
-        inr (omega (arith, rises, before))
+        inl (omega (arith, rises, before))
 
 no-unit : (s : Config) (first past : ℕ) (u : MachineUnit) → ((place : ℕ) → place < unit_count s → is_unit u (unit_at s place) ≡ false) → past ≤ unit_count s
     → (b : Bool) → is_at_places s first past u ≡ b → is_at_places s first past u ≡ false

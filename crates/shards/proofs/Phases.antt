@@ -1,5 +1,5 @@
 -- All shards of a machine, from one phase to the next.
-use Rattle.std.proofs.Common.{◌≡◌, ℕ, zero, suc, ◌+◌, ◌-◌, ◌^◌, ◌<◌, ◌≤◌, Bool, true, not, ltb, List, [], ◌∷◌, ◌++◌, length, get_or, ◌⊎◌, inl, inr, refl, sym, ap, ap₂, subst, ◌∙◌, append-nil, arith}
+use Rattle.std.proofs.Common.{◌≡◌, ℕ, zero, suc, ◌+◌, ◌-◌, ◌^◌, ◌<◌, ◌≤◌, Bool, true, not, ltb, List, [], ◌∷◌, ◌++◌, length, get_or, ◌⊎◌, inl, inr, refl, sym, ap, ap₂, subst, ◌∙◌, arith}
 use Rattle.std.specs.Prelude.{filter, flat_map, All}
 use Rattle.std.specs.List.{AllByRecursion as Each, range_with_len}
 use Rattle.std.specs.declared.alloc.Global.{Global}
@@ -19,7 +19,7 @@ use Rattle.sim_base.proofs.Ordered.{Each-weaker}
 use Rattle.sim_base.proofs.Lists.{filter-each}
 use Rattle.links.specs.InFlight.{InFlight}
 use Rattle.units.specs.declared.machine.Machine.{Machine}
-use Rattle.units.specs.Runs.{flight_at, sent_at}
+use Rattle.units.specs.Runs.{flight_at}
 use Rattle.units.specs.Flight.{fresh, among, goes_among, sent_by}
 use Rattle.shards.specs.Lists.{lists_of, bound, IsSquare, AreTurned}
 use Rattle.shards.specs.Shards.{IsSplit, IsShard, IsAtRest, IsUpTo, IsSharded, AreFor, AreShards, sent_of_shard}
@@ -30,9 +30,9 @@ use Rattle.units.specs.Units.{unit_at, unit_count}
 use Rattle.units.specs.Wakes.{Sleeper, HaveGone, IsAsleep, IsStill, Waits, sent_in, sleeper_at}
 use Rattle.shards.specs.declared.shard.Shard.{Shard}
 use Rattle.units.specs.declared.timed_unit.TimedUnit.{TimedUnit}
-use Rattle.units.proofs.Joining.{flat-split, fresh-is}
+use Rattle.units.proofs.Joining.{flat-split}
 use Rattle.units.proofs.Due.{flight-each}
-use Rattle.units.proofs.Jumping.{AllRest, all-none, asleep-until, sleep-on, some-unit}
+use Rattle.units.proofs.Jumping.{AllRest, sent_by-none, sent_in-none, asleep-until, sleep-on, some-unit}
 use Rattle.units.proofs.Travelling.{Goes}
 use Rattle.units.proofs.Lowering.{lowered-waits}
 use Rattle.units.proofs.Waiting.{none-due}
@@ -244,16 +244,6 @@ sharded-ends p wake shards outbound inbound h un same square each =
     count : suc (length shards) ≡ length p.bounds
     count = let n = jobs-count p.machine p.bounds p.number p.from p.until in omega (arith, un.count, n, h.split.some)
 
-fresh-none : (machine : Machine) (now place : ℕ) → fresh machine now now place ≡ []
-fresh-none machine now place = fresh-is machine now now place [] (sym (append-nil (sent_at machine now (unit_at machine.config place))))
-
--- in no cycles nothing is sent
-none-by : (machine : Machine) (now first count : ℕ) → sent_by machine now now first count ≡ []
-none-by machine now first count = all-none (λ i. fresh machine now now (first + i)) count (λ i l. fresh-none machine now (first + i))
-
-none-in : (machine : Machine) (now : ℕ) → sent_in machine now now ≡ []
-none-in machine now = all-none (fresh machine now now) (unit_count machine.config) (λ i l. fresh-none machine now i)
-
 -- what is in flight is still to arrive
 late-now : (machine : Machine) (now : ℕ) → late now (flight_at machine now) ≡ flight_at machine now
 late-now machine now =
@@ -298,12 +288,12 @@ sharded-begins machine bounds now phase shards inbound counted early h many squa
             gone = asleep-gone machine shard.range.first now shard.range.units.items shard.range.words.items shard.traffic.links a;
             since = omega arith;
             sleep = asleep-until machine shard.range.first now shard.range.units.items shard.range.words.items shard.traffic.links a;
-            arrivals = subst (All (λ (m : Message). now ≤ m.arrival)) (sym (none-by machine now shard.range.first (length shard.range.units.items))) (λ k e l. absurd (omega (arith, l)));
+            arrivals = subst (All (λ (m : Message). now ≤ m.arrival)) (sym (sent_by-none machine now shard.range.first (length shard.range.units.items))) (λ k e l. absurd (omega (arith, l)));
           };
       lists = λ index d less. ap suc (square index d less) ∙ h.count;
       inbound_are = λ index d e less.
           let shard = (get_or shards index d).value in
-          empty index e less ∙ ap (among machine.config shard.range.first (shard.range.first + length shard.range.units.items)) (sym (none-in machine now));
+          empty index e less ∙ ap (among machine.config shard.range.first (shard.range.first + length shard.range.units.items)) (sym (sent_in-none machine now));
     }
   where
     none : 0 ≡ now - now

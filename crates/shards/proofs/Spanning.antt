@@ -9,7 +9,7 @@ use Rattle.sim_base.specs.declared.message.Message.{Message}
 use Rattle.sim_base.specs.declared.message.Unit.{Unit as MachineUnit}
 use Rattle.sim_base.specs.declared.message.Unit.TheVariants.{Core, Channel}
 use Rattle.sim_base.proofs.Ordered.{Each-weaker}
-use Rattle.sim_base.proofs.Lists.{filter-agree}
+use Rattle.sim_base.proofs.Lists.{filter-agree, filter-both}
 use Rattle.links.specs.InFlight.{InFlight, is_due, receiver_of}
 use Rattle.units.specs.SpanLaws.Flight.{left_after}
 use Rattle.units.proofs.SpanLaws.Flights.{any-and}
@@ -22,7 +22,6 @@ use Rattle.units.specs.Flight.{goes_among, among}
 use Rattle.units.specs.Parts.{late}
 use Rattle.units.specs.Units.{unit_at}
 use Rattle.units.proofs.Due.{flight-each}
-use Rattle.units.proofs.Filters.{filter-filter}
 use Rattle.units.specs.Wakes.{AllBrought, HaveGone, IsAsleep, IsBrought, WaitAll, units_from, links_after}
 use Rattle.units.specs.declared.timed_unit.TimedUnit.{TimedUnit}
 use Rattle.units.proofs.Going.{units-places}
@@ -61,9 +60,9 @@ phase-left : (machine : Machine) (first count now until : ℕ) → left_after ma
     ≡ among machine.config first (first + count) (late until (flight_at machine now))
 phase-left machine first count now until =
     flights.left-all machine.config.channels now until units (filter goes flying)
-    ∙ filter-filter stays goes flying
+    ∙ sym (filter-both stays goes _ (λ m. refl) flying)
     ∙ filter-agree (λ m. goes m && stays m) (λ m. not (ltb m.arrival until) && goes m) flying (Each-weaker _ _ (λ m h. same m h.1) flying (flight-each machine.config machine.traces.items now))
-    ∙ sym (filter-filter goes (λ m. not (ltb m.arrival until)) flying)
+    ∙ filter-both goes (λ m. not (ltb m.arrival until)) _ (λ m. refl) flying
   where
     units : List MachineUnit
     units = units_from machine.config first count

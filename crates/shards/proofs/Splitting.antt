@@ -15,10 +15,9 @@ use Rattle.sim_base.specs.declared.message.Message.{Message}
 use Rattle.sim_base.specs.declared.message.Unit.{Unit as MachineUnit}
 use Rattle.sim_base.specs.declared.message.Unit.TheVariants.{Core, Channel}
 use Rattle.sim_base.proofs.Arrived.{puts, put, by_age-puts, fold-puts}
-use Rattle.sim_base.proofs.Each.{Each-all}
 use Rattle.sim_base.proofs.Ordered.{Sorted, Each-weaker, puts-swap}
 use Rattle.sim_base.proofs.Added.{length-push_suc}
-use Rattle.sim_base.proofs.Lists.{filter-agree}
+use Rattle.sim_base.proofs.Lists.{filter-both}
 use Rattle.sim_base.proofs.Grows.{is_unit-own}
 use Rattle.units.proofs.SpanLaws.Lists.{Sorted-filter}
 use Rattle.units.specs.SpanLaws.Units.{Exists}
@@ -35,7 +34,6 @@ use Rattle.units.specs.declared.part.UnitState.{UnitState}
 use Rattle.shards.specs.declared.shard.Shard.{Shard}
 use Rattle.units.specs.declared.timed_unit.TimedUnit.{TimedUnit}
 use Rattle.units.proofs.Due.{place_of_unit, at-place, place-within}
-use Rattle.units.proofs.Filters.{filter-filter}
 use Rattle.units.proofs.Sharing.{flight-sorted}
 use Rattle.units.proofs.Standing.{seam-within}
 use Rattle.units.proofs.Waiting.{awake-waits}
@@ -106,11 +104,11 @@ goes-link s a m n e f = by (eqb n.link m.link) refl
         let bad : false ≡ true = sym f ∙ ap (λ l. is_at_places s 0 a (receiver_of s.channels l)) same ∙ e in
         cc
 
-both-first : (s : Config) (a b : ℕ) → a ≤ b → (u : MachineUnit) → (is_at_places s 0 b u && is_at_places s 0 a u) ≡ is_at_places s 0 a u
+both-first : (s : Config) (a b : ℕ) → a ≤ b → (u : MachineUnit) → is_at_places s 0 a u ≡ (is_at_places s 0 b u && is_at_places s 0 a u)
 both-first s a b l (Core core) = grind (arith, nat_tests)
 both-first s a b l (Channel channel) = grind (arith, nat_tests)
 
-both-second : (s : Config) (a b : ℕ) → a ≤ b → (u : MachineUnit) → (is_at_places s 0 b u && not (is_at_places s 0 a u)) ≡ is_at_places s a b u
+both-second : (s : Config) (a b : ℕ) → a ≤ b → (u : MachineUnit) → is_at_places s a b u ≡ (is_at_places s 0 b u && not (is_at_places s 0 a u))
 both-second s a b l (Core core) = grind (arith, nat_tests)
 both-second s a b l (Channel channel) = grind (arith, nat_tests)
 
@@ -123,9 +121,9 @@ among-next s a b ms l h =
     let p = goes_among s 0 a in
     let all = among s 0 b ms in
     let before : filter p all ≡ among s 0 a ms =
-    filter-filter p (goes_among s 0 b) ms ∙ filter-agree _ _ ms (Each-all _ (λ (m : Message). both-first s a b l (receiver_of s.channels m.link)) ms) in
+    sym (filter-both p (goes_among s 0 b) p (λ m. both-first s a b l (receiver_of s.channels m.link)) ms) in
     let behind : filter (λ m. not (p m)) all ≡ among s a b ms =
-    filter-filter (λ m. not (p m)) (goes_among s 0 b) ms ∙ filter-agree _ _ ms (Each-all _ (λ (m : Message). both-second s a b l (receiver_of s.channels m.link)) ms) in
+    sym (filter-both (λ m. not (p m)) (goes_among s 0 b) (goes_among s a b) (λ m. both-second s a b l (receiver_of s.channels m.link)) ms) in
     fold-puts (among s 0 a ms) (among s a b ms)
     ∙ ap (λ z. puts z (among s a b ms)) (sym (puts-sorted (among s 0 a ms) (Sorted-filter p ms h)))
     ∙ ap₂ (λ y z. puts (puts [] y) z) (sym before) (sym behind)

@@ -1,6 +1,6 @@
-use Rattle.std.proofs.Common.{rules, ◌≡◌, [], ◌∷◌, ◌++◌, length, map, ap, sym, ◌∙◌, add-one, arith}
+use Rattle.std.proofs.Common.{rules, ◌≡◌, [], ◌∷◌, ◌++◌, length, map, ap, sym, ◌∙◌, arith}
 use Rattle.sim_base.specs.History.{below}
-use Rattle.units.proofs.Standing.{places-more}
+use Rattle.sim_base.proofs.Lists.{map_below-more}
 use Rattle.shards.specs.Merging.{result_at}
 use Rattle.shards.specs.Phases.{PhaseView, shard_count}
 use Rattle.shards.proofs.Placing.{results-none}
@@ -12,8 +12,7 @@ loop-preserved c =
     let k = c.loop.counter in
     c.in_ok-push.ensures.items
     ∙ ap (λ z. z ++ result_at p [] k ∷ []) c.loop.invariant
-    ∙ places-more (result_at p []) k
-    ∙ ap (λ n. map (result_at p []) (below n)) (sym (add-one k))
+    ∙ sym (map_below-more (result_at p []) k)
 
 pub returns : goal.returns
 returns c =

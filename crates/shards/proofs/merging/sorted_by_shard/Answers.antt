@@ -1,13 +1,13 @@
 use Rattle.std.proofs.Common.{◌≡◌, List, [], ◌∷◌, ◌++◌, length, length-append, get_or, map, refl, rules, ap, sym, subst, ◌∙◌, append_assoc, arith}
 use Rattle.std.specs.Prelude.{All}
 use Rattle.std.specs.Vec.Iter.{into_iter_items}
-use Rattle.std.proofs.lemmas.List.{map-append, length-map, length_push}
+use Rattle.std.proofs.lemmas.List.{map-append, length-map, length_push, nil_from_length}
 use Rattle.std.proofs.Math.Seq.{get_or-append_seam}
 use Rattle.std.proofs.lemmas.Result.{err_from_is_err_and}
 use Rattle.shards.specs.Merging.{IsOf, first_fault, results_at}
 use Rattle.shards.specs.Jobs.{JobView}
 use Rattle.shards.proofs.Placing.{results-count, first-none_yet, first-found, first-end}
-use Rattle.units.proofs.Standing.{all-yielded, nothing_left}
+use Rattle.units.proofs.Standing.{all-yielded}
 use Rattle.shards.proofs.merging.sorted_by_shard.Goals as goal
 
 -- what holds of all items holds of the next
@@ -68,7 +68,7 @@ returns-clause-ok c =
     let p = c.args.phase.now in
     let at = c.loop-done in
     let gives = c.into_iter-done-iterator.ensures.into_iter_gives.0 in
-    let none = nothing_left (into_iter_items at.done-iterator) (sym at.invariant.1 ∙ c.in-None.ensures.steps.0) in
+    let none = nil_from_length (into_iter_items at.done-iterator) (sym at.invariant.1 ∙ c.in-None.ensures.steps.0) in
     let all = all-yielded at.yielded (into_iter_items at.done-iterator) c.args.results.items (at.invariant.0 ∙ gives) (sym at.invariant.1 ∙ c.in-None.ensures.steps.0) in (
       ap (λ ds. first_fault p [] (map (λ (d : JobView). d.name) ds)) (sym gives)
           ∙ at.invariant.5

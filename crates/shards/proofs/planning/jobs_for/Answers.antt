@@ -8,10 +8,11 @@ use Rattle.std.specs.declared.alloc.Global.{Global}
 use Rattle.sim_base.specs.History.{below}
 use Rattle.sim_base.specs.declared.message.Message.{Message}
 use Rattle.sim_base.proofs.Added.{length-push_suc}
+use Rattle.statistics.proofs.Lists.{map_below_more}
 use Rattle.shards.specs.Jobs.{JobView, IsJob, IsOwnJob, job_view}
 use Rattle.shards.specs.Phases.{PhaseView, job_of, name_of}
 use Rattle.shards.specs.declared.job.JobName.{JobName}
-use Rattle.units.proofs.Standing.{all-yielded, places-more}
+use Rattle.units.proofs.Standing.{all-yielded}
 use Rattle.shards.proofs.Setting.{left-next, seam-left, seam-job, job-own, job-seen}
 use Rattle.shards.proofs.planning.jobs_for.Goals as goal
 
@@ -66,7 +67,7 @@ loop-shard-preserved c =
           omega arith);
       left = left-next at.yielded x c.len-index.result c.args.inbound.items at.inbound.items c.replace.new.dest (sym index) at.invariant.left;
       count = ap length items ∙ length-push_suc at.jobs.items _ ∙ ap suc at.invariant.count ∙ sym grown;
-      jobs = items ∙ ap₂ (λ ts t. ts ++ t ∷ []) at.invariant.jobs seen ∙ places-more f (length at.yielded) ∙ ap (λ n. map f (below n)) (sym grown);
+      jobs = items ∙ ap₂ (λ ts t. ts ++ t ∷ []) at.invariant.jobs seen ∙ sym (map_below_more f (length at.yielded)) ∙ ap (λ n. map f (below n)) (sym grown);
     }
 
 pub returns : goal.returns
