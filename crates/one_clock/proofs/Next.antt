@@ -1,13 +1,12 @@
 -- What the machine keeps, one cycle more.
-use Rattle.std.proofs.Common.{◌≡◌, ℕ, zero, suc, ◌+◌, ◌<◌, ◌≤◌, Bool, true, false, cond, ltb, eqb, ◌&&◌, ◌||◌, List, [], ◌∷◌, ◌++◌, length, map, Option, Some, None, refl, sym, ap, ap₂, subst, ◌∙◌, add-one, add-zero, zero-add, append_assoc, arith}
+use Rattle.std.proofs.Common.{◌≡◌, ℕ, zero, suc, ◌+◌, ◌<◌, Bool, true, false, cond, ltb, eqb, ◌&&◌, ◌||◌, List, [], ◌∷◌, ◌++◌, length, map, Option, Some, None, refl, sym, ap, ap₂, subst, ◌∙◌, add-one, add-zero, zero-add, append_assoc, arith}
 use Rattle.std.specs.Prelude.{filter, filter_map, flat_map, fold, not, count_by}
 use Rattle.std.specs.Option.{option_to_list}
 use Rattle.std.specs.List.{list_all, list_any, enumerate_from, cons_option, range_with_len}
 use Rattle.std.proofs.Math.Seq.{take-length}
 use Rattle.std.proofs.lemmas.Bool.{cond_both}
 use Rattle.std.proofs.lemmas.Bool.Decides.{nat_tests}
-use Rattle.std.proofs.lemmas.List.{map-append, append-nil, take-append-le}
-use Rattle.std.proofs.lemmas.List.Elements.{filter_agree, filter_map-append}
+use Rattle.std.proofs.lemmas.List.{map-append, append-nil}
 use Rattle.std.proofs.lemmas.List.Folds.{list_any-append}
 use Rattle.std.proofs.lemmas.List.Concat.{flat_map-append}
 use Rattle.std.proofs.Math.Bool.{or-false, and-true, and-false}
@@ -30,37 +29,19 @@ use Rattle.sim_base.specs.declared.message.Unit.TheVariants.{Core, Channel}
 use Rattle.sim_base.specs.declared.trace.Entry.{Entry}
 use Rattle.one_clock.specs.Pasts.{no_core_past, no_channel_past}
 use Rattle.one_clock.specs.Steps.{core_step_of}
-use Rattle.sim_base.proofs.Below.{flat_map_below_more as flat_map_below_suc}
 use Rattle.sim_base.proofs.Arrived.{put, puts, by_age-puts, fold-puts}
 use Rattle.sim_base.proofs.Ordered.{filter-puts, filter-by_age}
 use Rattle.sim_base.proofs.Grows.{core-grows, inbox-grows, by_age-filter-grows, has_channels}
 use Rattle.sim_base.proofs.Same.{drains-same}
 use Rattle.sim_base.proofs.Spans.{length-run, inbox-sorted, step_of_core-next, step_of_channel-next, inbox-run, inbox-stamped}
-use Rattle.sim_base.proofs.Lists.{enumerate-append, not-or, cons_option-none}
+use Rattle.sim_base.proofs.Lists.{enumerate-append, filter-both, not-or, cons_option-none}
 use Rattle.plain_steps.specs.declared.scheduling.ChannelStep.{ChannelStep}
 use Rattle.one_clock.proofs.Units.{filter_map_below_more}
 use Rattle.plain_steps.specs.Plain.{CoreView, core_view, ChannelView, channel_view, channel_step_of, queue_of, is_request_left, is_left, is_passed_over, is_left_by, is_late}
 use Rattle.laws.proofs.Sent.{messages-none}
+use Rattle.statistics.proofs.ChannelCounts.{issued_commands-push, drains_before-push}
 use Rattle.statistics.proofs.Replies.{length-steps_of_channel, length-steps_of_core, steps_of_core-push}
 use Rattle.statistics.proofs.RunSteps.{travels}
-
-filter-both : {X : Type 0} (p q : X → Bool) (xs : List X) → filter (λ x. p x && q x) xs ≡ filter q (filter p xs)
-filter-both p q [] = refl
-filter-both p q (x ∷ xs) =
-    let both = filter (λ x. p x && q x) xs in
-    cond_both (p x) (x ∷ filter p xs) (filter p xs) (λ y. cond (p x && q x) (x ∷ both) both ≡ filter q y)
-    (λ e. ap (λ a. cond (a && q x) (x ∷ both) both) e ∙ ap (λ l. cond (q x) (x ∷ l) l) (filter-both p q xs))
-    (λ e. ap (λ a. cond (a && q x) (x ∷ both) both) e ∙ filter-both p q xs)
-
-pub issued-push : (k : ℕ) (past_steps : List (Option Command)) (o : Option Command)
-    → issued_commands k (past_steps ++ o ∷ []) ≡ issued_commands k past_steps ++ option_to_list (issued_at k (length past_steps) o)
-unfolding issued_commands
-issued-push k past_steps o =
-    let f = λ (e : ℕ × Option Command). issued_at k e.0 e.1 in
-    ap (filter_map f) (enumerate-append 0 past_steps (o ∷ []))
-    ∙ filter_map-append f (enumerate_from 0 past_steps) (enumerate_from (0 + length past_steps) (o ∷ []))
-    ∙ ap (λ n. filter_map f (enumerate_from 0 past_steps) ++ cons_option (issued_at k n o) []) (zero-add (length past_steps))
-    ∙ ap (λ l. filter_map f (enumerate_from 0 past_steps) ++ l) (cons_option-none (issued_at k (length past_steps) o))
 
 pub commands-push : (history : List MachineStep) (row : MachineStep) → commands (history ++ row ∷ []) ≡ commands history ++ commands_in (length history) row
 unfolding commands
@@ -90,7 +71,7 @@ left-push h k n (Some c) m = request_left-push h k n c (request_in m.load)
 
 pub left_after : (h : List IssuedCommand) (k n : ℕ) (o : Option Command) (mail : List Message)
     → filter (is_left (h ++ option_to_list (issued_at k n o))) mail ≡ filter (is_left_by o) (filter (is_left h) mail)
-left_after h k n o mail = filter_agree _ (λ m. is_left h m && is_left_by o m) (left-push h k n o) mail ∙ filter-both (is_left h) (is_left_by o) mail
+left_after h k n o mail = filter-both (is_left_by o) (is_left h) (is_left (h ++ option_to_list (issued_at k n o))) (left-push h k n o) mail
 
 one_waiting : (h : List IssuedCommand) (until : ℕ) (rs ts : List Request) → filter (is_queued h until) rs ≡ filter (λ r. ltb r.arrival until) ts → (o : Option Request)
     → filter (is_queued h until) (cons_option o rs) ≡ filter (λ r. ltb r.arrival until) (cond (is_request_left h o) (cons_option o ts) ts)
@@ -166,16 +147,6 @@ step_command s traces history k =
     ≡ choice_between s (issued_commands k past_steps) n (candidates s (drains s k past_steps mail n) (queue_of (filter (is_left (issued_commands k past_steps)) mail) (n + 1))) (lowest_due s (issued_commands k past_steps) n))
     (length-steps_of_channel k history) (choice_next s k past_steps mail)
 
--- what a channel did and was sent later does not change whether it drained its writes
-drains-push : (s : Config) (k : ℕ) (past_steps : List (Option Command)) (o : Option Command) (mail : List Message) (m : ℕ) → m ≤ length past_steps + 1
-    → drains_before s k (past_steps ++ o ∷ []) mail m ≡ drains_before s k past_steps mail m
-unfolding drains_before writes_in queue_in
-drains-push s k past_steps o mail zero h = refl
-drains-push s k past_steps o mail (suc m) h =
-    ap₂ (λ d x. drains_with s d (count_by (λ r. is_access access.Write r.access) (queued_requests (issued_commands k x) mail (m + 1))))
-    (drains-push s k past_steps o mail m (omega arith))
-    (take-append-le m past_steps (o ∷ []) (omega arith))
-
 steps_of_channel-next : (s : Config) (traces : List (List Entry)) (n k : ℕ) → k < s.channels
     → steps_of_channel k (run s traces (n + 1)) ≡ steps_of_channel k (run s traces n) ++ next_command s traces (run s traces n) k ∷ []
 unfolding run steps_of_channel next_command
@@ -198,7 +169,7 @@ draining_next s traces n k l =
     let now = inbox s traces (run s traces n) (Channel k) in
     let then = inbox s traces (run s traces (n + 1)) (Channel k) in
     ap (λ x. drains_before s k x then (n + 1)) (steps_of_channel-next s traces n k l)
-    ∙ drains-push s k past_steps (next_command s traces (run s traces n) k) then (n + 1) (omega arith)
+    ∙ drains_before-push s k past_steps (next_command s traces (run s traces n) k) then (n + 1) (omega arith)
     ∙ drains-same s k past_steps then now (n + 1)
     (record {
       one = inbox-stamped s traces (run s traces (n + 1)) (Channel k);
@@ -248,7 +219,7 @@ channel_view_next s traces n k l =
     let h = issued_commands k past_steps in
     let issued = h ++ option_to_list (issued_at k n o) in
     let commands_are : issued_commands k (steps_of_channel k (run s traces (n + 1))) ≡ issued =
-    ap (issued_commands k) (steps_of_channel-next s traces n k l) ∙ issued-push k past_steps o ∙ ap (λ i. h ++ option_to_list (issued_at k i o)) e in
+    ap (issued_commands k) (steps_of_channel-next s traces n k l) ∙ issued_commands-push k past_steps o ∙ ap (λ l. h ++ l) (cons_option-none (issued_at k (length past_steps) o)) ∙ ap (λ i. h ++ option_to_list (issued_at k i o)) e in
     let mail_is : inbox s traces (run s traces (n + 1)) (Channel k) ≡ fold insert_by_age mail fresh =
     ap (λ x. inbox s traces x (Channel k)) (run_next s traces n) ∙ inbox-grows s traces history (next_step s traces history) (Channel k) in
     let pending_is : filter (is_left (issued_commands k (steps_of_channel k (run s traces (n + 1))))) (inbox s traces (run s traces (n + 1)) (Channel k))
@@ -298,7 +269,7 @@ flight_next s traces n =
     ∙ ap (λ x. by_age (filter (is_late (n + 1)) (messages s traces x))) (run_next s traces n)
     ∙ by_age-filter-grows s traces history row (is_late (n + 1))
     ∙ ap (λ x. fold insert_by_age (by_age x) fresh)
-    (filter_agree _ _ (late_twice n) (messages s traces history) ∙ filter-both (is_late n) (is_late (n + 1)) (messages s traces history))
+    (filter-both (is_late (n + 1)) (is_late n) (is_late (n + 1)) (late_twice n) (messages s traces history))
     ∙ ap (λ x. fold insert_by_age x fresh)
     (sym (filter-by_age (is_late (n + 1)) (filter (is_late n) (messages s traces history)))
     ∙ ap (λ i. filter (is_late (n + 1)) (by_age (filter (is_late i) (messages s traces history)))) (sym (length-run s traces n)))

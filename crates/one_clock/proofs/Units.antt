@@ -1,10 +1,11 @@
 -- A list with one element for each unit, in which the units below i have what they get next, and the others what they
 -- had.
-use Rattle.std.proofs.Common.{◌≡◌, ℕ, suc, Bool, true, false, ◌&&◌, Option, ◌+◌, ◌<◌, List, [], ◌∷◌, ◌++◌, length, map, get_or, drop, refl, sym, ap, ap₂, subst, ◌∙◌, ◌-◌, append_assoc, length-append, length-drop, zero-add, add-one, drop-cons, arith}
+use Rattle.std.proofs.Common.{◌≡◌, ℕ, suc, Bool, ◌&&◌, Option, ◌+◌, ◌<◌, List, [], ◌∷◌, ◌++◌, length, map, get_or, drop, refl, sym, ap, ap₂, subst, ◌∙◌, ◌-◌, append_assoc, length-append, length-drop, zero-add, add-one, drop-cons, arith}
 use Rattle.std.proofs.Math.ListN.{set, drop_of_length-le}
 use Rattle.std.proofs.Math.Seq.{set-append_seam, get_or-append_seam}
 use Rattle.std.proofs.lemmas.List.{append-nil}
 use Rattle.std.proofs.lemmas.List.FromFn.{get_or-map-range_with_len}
+use Rattle.std.proofs.Math.Bool.{and-true}
 use Rattle.std.specs.Prelude.{filter_map}
 use Rattle.std.specs.Option.{option_to_list}
 use Rattle.std.specs.List.{list_all}
@@ -72,11 +73,7 @@ halfway_all new old n =
     ap (λ x. map new (below n) ++ x) (drop_of_length-le (map old (below n)) (omega arith)) ∙ append-nil (map new (below n))
 
 pub list_all_below_more : (p : ℕ → Bool) (n : ℕ) → list_all p (below (n + 1)) ≡ (list_all p (below n) && p n)
-list_all_below_more p n = ap (λ k. list_all p (below k)) (add-one n) ∙ ap (list_all p) (below_suc n) ∙ list_all-append p (below n) (n ∷ []) ∙ ap (λ b. list_all p (below n) && b) (and_true (p n))
-  where
-    and_true : (b : Bool) → (b && true) ≡ b
-    and_true true = refl
-    and_true false = refl
+list_all_below_more p n = ap (λ k. list_all p (below k)) (add-one n) ∙ ap (list_all p) (below_suc n) ∙ list_all-append p (below n) (n ∷ []) ∙ ap (λ b. list_all p (below n) && b) (and-true (p n))
 
 filter_map_below_suc : {X : Type 0} (f : ℕ → Option X) (n : ℕ) → filter_map f (below (suc n)) ≡ filter_map f (below n) ++ option_to_list (f n)
 filter_map_below_suc f n = ap (filter_map f) (below_suc n) ∙ filter_map-append f (below n) (n ∷ []) ∙ ap (λ l. filter_map f (below n) ++ l) (cons_option-none (f n))
