@@ -13,7 +13,7 @@ use Rattle.sim_base.specs.declared.trace.Entry.{Entry}
 use Rattle.sim_base.specs.Config.{refresh_slack, credit_link}
 use Rattle.sim_base.specs.Counts.{queue_length, queue_lengths, queued_max}
 use Rattle.sim_base.specs.Final.{credits_left, queue_left}
-use Rattle.sim_base.specs.History.{below, issued_at, issued_commands, commands, inbox, trace_of, steps_of_core}
+use Rattle.sim_base.specs.History.{below, issued_at, issued_commands, inbox, trace_of, steps_of_core}
 use Rattle.sim_base.specs.Machine.{run}
 use Rattle.sim_base.specs.Scheduling.{refreshes}
 use Rattle.sim_base.specs.Windows.{held, credit_cap, is_credit_on}
@@ -31,7 +31,6 @@ use Rattle.statistics.specs.declared.final_state.Credits.{Credits}
 use Rattle.laws.specs.Commands.{channel_steps_of}
 use Rattle.laws.specs.Credits.{requests_sent}
 use Rattle.laws.specs.DataBus.{has_data_in}
-use Rattle.laws.specs.Tables.{rows_on}
 use Rattle.laws.proofs.Bounded.{queued_requests-bound, queues_are_bounded}
 use Rattle.laws.proofs.Burst.{data_bus_is_shared}
 use Rattle.laws.proofs.Conserved.{credits_come_back_once}
@@ -42,14 +41,9 @@ use Rattle.laws.proofs.Tabled.{rows_on-commands}
 use Rattle.laws.proofs.Timely.{refreshes_are_in_time}
 use Rattle.run_tables.specs.TableLaws.Outcomes.{OwnsDataBus, refreshes_until, IsRefreshed, most_queued, HasBoundedQueues, HoldsFewCredits, KeepsCreditsUntil}
 
--- the rows of a channel are its history
-rows_are : (s : Config) (traces : List (List Entry)) (n channel : ℕ) → channel < s.channels
-    → rows_on channel (commands (run s traces n)) ≡ issued_commands channel (channel_steps_of s traces n channel)
-rows_are s traces n channel l = rows_on-commands s traces channel l n
-
 pub owns_data_bus : (s : Config) (traces : List (List Entry)) (n : ℕ) → OwnsDataBus s traces n
 owns_data_bus s traces n channel cycle l =
-    subst (λ t. count_by (has_data_in s.timing cycle) t ≤ 1) (sym (rows_are s traces n channel l)) (data_bus_is_shared s traces n channel cycle l)
+    subst (λ t. count_by (has_data_in s.timing cycle) t ≤ 1) (sym (rows_on-commands s traces channel l n)) (data_bus_is_shared s traces n channel cycle l)
 
 -- each REF of the first cycles stands in one of them
 refreshed-early : (k rank cycle i n : ℕ) (past_steps : List (Option Command)) → i + n ≤ cycle + 1
@@ -83,7 +77,7 @@ is_refreshed s traces n channel rank m l b some soon =
     let last = m * s.timing.n_refi + refresh_slack s in
     let enough = refreshes_are_in_time s traces n channel rank m l b some (omega arith) in
     let early = history-early channel rank last (channel_steps_of s traces n channel) in
-    subst (λ t. m ≤ refreshes_until rank last t) (sym (rows_are s traces n channel l)) (omega arith)
+    subst (λ t. m ≤ refreshes_until rank last t) (sym (rows_on-commands s traces channel l n)) (omega arith)
 
 -- what holds for each number holds of each element that is made of one
 pub mapped-each : {X : Type 0} (P : X → Type 0) (f : ℕ → X) (a n : ℕ) → ((k : ℕ) → k < a + n → P (f k)) → Each P (map f (range_with_len a n))
