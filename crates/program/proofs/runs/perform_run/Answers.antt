@@ -2,13 +2,14 @@ use Rattle.std.proofs.Common.{◌++◌, inl, inr, ap, ◌∙◌}
 use Rattle.whole_files.specs.Tables.{parts}
 use Rattle.std.proofs.lemmas.Result.{on_ok_weaker, IfErr-weaker, IfOk-from_err}
 use Rattle.whole_files.proofs.Places.{written_from, left_from}
-use Rattle.answers.proofs.NamedFacts.{both_ok, when_ok}
+use Rattle.answers.proofs.NamedFacts.{when_ok}
+use Rattle.program.proofs.RefusedFacts.{both_on_ok}
 use Rattle.program.proofs.runs.perform_run.Goals as goal
 
 pub returns-clause-done : goal.returns-clause-done
 returns-clause-done g c =
-    both_ok c.write_tables.result _ _ _
-    (λ made h opened tells. record {
+    both_on_ok c.write_tables.result
+    (λ h opened tells. record {
       run = c.in_ok-run.run';
       outcome = c.in_ok-run.ensures.outcome tells;
       written = written_from _ _ _ _ _ (c.run_files.ensures.same tells) (h tells);
