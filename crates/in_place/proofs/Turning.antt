@@ -20,7 +20,7 @@ use Rattle.units.specs.SpanLaws.Units.{Exists}
 use Rattle.units.specs.SpanLaws.FlightInTurns.{flight_of}
 use Rattle.units.specs.SpanLaws.Sent.{RequestsTravelFor, AnswersTakeFor}
 use Rattle.units.specs.SpanLaws.Turns.{IsInTurns, IsLowered}
-use Rattle.units.specs.SpanLaws.Turns.{Waits as Left}
+use Rattle.units.specs.SpanLaws.Turns.{MayBeLeft}
 use Rattle.units.proofs.SpanLaws.Bringing.{unit-due, unit-overdue, channel-known, core-known}
 use Rattle.units.proofs.SpanLaws.FlightsInTurns.{flights-meet, channels-further, cores-further}
 use Rattle.units.proofs.SpanLaws.Jumps.{channels-taken, cores-taken, turns-jump, requests-none, answers-none}
@@ -158,7 +158,7 @@ core-lowered : (machine : Machine) (a b until core : ℕ) (before after : Sleepe
     → sent ≡ flat_map (sent_by_channel machine b until) (below machine.config.channels) → after.part ≡ before.part → IsLowered machine.config (Core core) before.at before.wake after.at after.wake sent
     → Waits machine (Core core) a b before → Waits machine (Core core) a until after
 core-lowered machine a b until core before after sent k l near e same low h =
-    let left : Left machine.config machine.traces.items a until (Core core) after.at after.wake =
+    let left : MayBeLeft machine.config machine.traces.items a until (Core core) after.at after.wake =
     core-keeps machine.config machine.traces.items a b until core before.at before.wake after.at after.wake (sent_by_channel machine b until) l near (channels-grow machine b until l)
     (record { behind = h.behind; ahead = h.ahead; silent = h.may.silent; none = h.may.none })
     (subst (IsLowered machine.config (Core core) before.at before.wake after.at after.wake) e low) in
@@ -173,7 +173,7 @@ channel-lowered : (machine : Machine) (a b until channel : ℕ) (before after : 
     → sent ≡ flat_map (sent_by_core machine a until) (below machine.config.cores) → after.part ≡ before.part → IsLowered machine.config (Channel channel) before.at before.wake after.at after.wake sent
     → Waits machine (Channel channel) b a before → Waits machine (Channel channel) b until after
 channel-lowered machine a b until channel before after sent k l near e same low h =
-    let left : Left machine.config machine.traces.items until b (Channel channel) after.at after.wake =
+    let left : MayBeLeft machine.config machine.traces.items until b (Channel channel) after.at after.wake =
     channel-keeps machine.config machine.traces.items a b until channel before.at before.wake after.at after.wake (sent_by_core machine a until) l near (cores-grow machine a until l)
     (record { behind = h.behind; ahead = h.ahead; silent = h.may.silent; none = h.may.none })
     (subst (IsLowered machine.config (Channel channel) before.at before.wake after.at after.wake) e low) in
@@ -337,7 +337,7 @@ turns-later machine a b until units words links h l m sleep =
     sleeps (Core core) k = sleep core 0 (omega (arith, k, h.words_count, h.count))
     sleeps (Channel channel) k = sleep (machine.config.cores + channel) 0 (omega (arith, k, h.words_count, h.count))
 
-    waits : (u : MachineUnit) → Exists machine.config u → Left machine.config machine.traces.items a b u (cycle_of machine.config units some u) (word_of machine.config words u)
+    waits : (u : MachineUnit) → Exists machine.config u → MayBeLeft machine.config machine.traces.items a b u (cycle_of machine.config units some u) (word_of machine.config words u)
     waits (Core core) k = let w = h.cores_wait core some k in record { behind = w.behind; ahead = w.ahead; silent = w.may.silent; none = w.may.none }
     waits (Channel channel) k = let w = h.channels_wait channel some k in record { behind = w.behind; ahead = w.ahead; silent = w.may.silent; none = w.may.none }
 

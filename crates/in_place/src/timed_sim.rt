@@ -93,7 +93,7 @@ fn brought_up(
 }
 
 impl TimedSim {
-    /// The same simulator, whose units may stand at cycles of their own. The only error is out of memory; the
+    /// A simulator as a timed one: its units may stand at cycles of their own. The only error is out of memory; the
     /// simulator is then gone.
     fn of(sim: Sim, alloc: Global) -> Result<TimedSim, AllocError>
         ensures { IfOk result (λ timed. timed ≡ sim) }
@@ -116,8 +116,8 @@ impl TimedSim {
         })
     }
 
-    /// The same simulator, with all units where the machine stands. The only error is out of memory; the simulator is
-    /// then gone.
+    /// The simulator again, once all its units stand where the machine does. The only error is out of memory; the
+    /// simulator is then gone.
     fn brought_up(self, alloc: Global) -> Result<Sim, AllocError>
         ensures { IfOk result (λ sim. sim ≡ self) }
     {

@@ -27,7 +27,8 @@ fn core_stats_of(part: &UnitState) -> CoreStats
 /// The statistics of a unit that is a channel.
 fn channel_stats_of(part: &UnitState) -> ChannelStats
     ensures { (machine : Machine) (channel now : ℕ)
-        → IsPart machine (unit.Channel channel) now part.now → result ≡ channel_stats_at machine now channel }
+        → IsPart machine (unit.Channel channel) now part.now
+        → result ≡ channel_stats_at machine now channel }
 {
     match part {
         UnitState::Core(..) => ChannelStats::new(),

@@ -70,7 +70,8 @@ fn add_row_of_bank(
 ) -> Result<(), AllocError>
     requires { HasBank channel.now bank }
     ensures { (machine : Machine) (number now : ℕ) → HasChannelAt machine number now channel.now
-        → OnOk result (rows.new.items ≡ rows.old.items ++ option_to_list (row_at machine now number bank)) }
+        → OnOk result (rows.new.items
+        ≡ rows.old.items ++ option_to_list (row_at machine now number bank)) }
 {
     if let Some(row) = channel.open_row(bank) {
         rows.push(OpenRow { bank, row })?;
@@ -87,7 +88,8 @@ fn add_rows_of_group(
 ) -> Result<(), AllocError>
     requires { HasGroup channel.now rank group }
     ensures { (machine : Machine) (number now : ℕ) → HasChannelAt machine number now channel.now
-        → OnOk result (AddsRows machine now number (banks_of_group rank group) rows.old.items rows.new.items) }
+        → OnOk result (AddsRows machine now number (banks_of_group rank group)
+        rows.old.items rows.new.items) }
 {
     for bank in 0..4 {
         add_row_of_bank(channel, BankId { rank, group, bank }, rows)?;
@@ -104,7 +106,8 @@ fn add_rows_of_rank(
 ) -> Result<(), AllocError>
     requires { (group : ℕ) → group < config.now.groups → HasGroup channel.now rank group }
     ensures { (machine : Machine) (number now : ℕ) → HasChannelAt machine number now channel.now
-        → OnOk result (AddsRows machine now number (banks_of_rank config.now rank) rows.old.items rows.new.items) }
+        → OnOk result (AddsRows machine now number (banks_of_rank config.now rank)
+        rows.old.items rows.new.items) }
 {
     for group in 0..config.groups {
         add_rows_of_group(channel, rank, group, rows)?;

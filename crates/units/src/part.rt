@@ -33,7 +33,8 @@ impl UnitState {
         requires ready { IsReady self.old inbox.now from until }
         ensures { (machine : Machine) (unit : MachineUnit)
             → IsReadyFor machine unit self.old inbox.now from until
-            → OnOk result (HasRunOnto machine unit from until self.new sent.old.items sent.new.items) }
+            → OnOk result (HasRunOnto machine unit from until self.new
+            sent.old.items sent.new.items) }
     {
         match self {
             UnitState::Core(core) => core.run(inbox, from, until, sent),

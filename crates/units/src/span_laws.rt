@@ -6,11 +6,9 @@
 pub mod channels;
 pub mod cores;
 pub mod ends;
-pub mod flight;
 pub mod flight_in_turns;
 pub mod known;
 pub mod latencies;
 pub mod mail;
 pub mod sent;
-pub mod tables;
 pub mod turns;

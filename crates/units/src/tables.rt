@@ -56,7 +56,8 @@ fn add<T: Drop>(lists: &mut Option<Vec<T>>, list: Option<T>) -> Result<(), Alloc
 /// The requests that a channel served, as a list, if they were kept.
 fn list_of(channel: Channel) -> Option<ServedList>
     ensures { (machine : Machine) (number now : ℕ) → number < machine.config.channels
-        → HasChannelAt machine number now channel → IfSome result (λ list. list ≡ served_of machine now number) }
+        → HasChannelAt machine number now channel
+        → IfSome result (λ list. list ≡ served_of machine now number) }
 {
     Some(ServedList::of(channel.into_served()?))
 }

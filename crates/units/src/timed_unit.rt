@@ -66,7 +66,8 @@ fn run_and_tell(
     requires ready { IsReady part.old inbox.now from until }
     ensures { (machine : Machine) (unit : MachineUnit)
         → IsReadyFor machine unit part.old inbox.now from until
-        → IfOk result (HasRunAndTells machine unit from until part.new sent.old.items sent.new.items) }
+        → IfOk result (HasRunAndTells machine unit from until part.new
+        sent.old.items sent.new.items) }
 {
     part.run(inbox, from, until, sent)?;
     Ok(send_word(part, until))

@@ -31,7 +31,7 @@ use Rattle.units.proofs.SpanLaws.Silent.{none-part}
 use Rattle.units.proofs.SpanLaws.Later.{IsOfMachine, IsReceived, messages-received}
 use Rattle.units.specs.SpanLaws.FlightInTurns.{is_request, flight_of, left_by_channels, left_by_cores, ChannelsTakeTheirs, CoresTakeTheirs, LaterStays}
 use Rattle.units.specs.SpanLaws.Sent.{requests_sent, answers_sent, RequestsTravelFor, AnswersTakeFor}
-use Rattle.units.specs.SpanLaws.Turns.{Waits, IsInTurns, IsLowered, TurnsBegin, TurnsJump, ChannelsIdle, CoresIdle}
+use Rattle.units.specs.SpanLaws.Turns.{MayBeLeft, IsInTurns, IsLowered, TurnsBegin, TurnsJump, ChannelsIdle, CoresIdle}
 use Rattle.units.proofs.SpanLaws.Requesting.{requests-each, answers-each, request-to, answer-to}
 use Rattle.units.proofs.SpanLaws.FlightsInTurns.{flights-meet, channels-left, cores-left}
 use Rattle.units.proofs.SpanLaws.Leasts.{request-meets, request-positive}
@@ -63,7 +63,7 @@ requests-none s n e core channel c k = omega arith
 pub answers-none : (s : Config) (n : ℕ) → n ≡ 0 → AnswersTakeFor s n
 answers-none s n e core channel c k = (omega arith, omega arith)
 
-waits-now : (s : Config) (traces : List (List Entry)) (now : ℕ) (u : MachineUnit) → Waits s traces now now u now now
+waits-now : (s : Config) (traces : List (List Entry)) (now : ℕ) (u : MachineUnit) → MayBeLeft s traces now now u now now
 waits-now s traces now (Core core) = record { behind = omega arith; ahead = omega arith; silent = silent-now s traces now (Core core); none = none-now s traces now now (Core core) }
 waits-now s traces now (Channel channel) = record { behind = omega arith; ahead = omega arith; silent = silent-now s traces now (Channel channel); none = none-now s traces now now (Channel channel) }
 

@@ -2,7 +2,7 @@
 --     RequestsFitSpans s traces from until      the requests that come to a channel in a span are fit for it
 --     ChannelsRunAlone s traces from until      from them the channel alone does what it does in the run
 --     IsChannelAt s traces channel now c      a channel stands for what it did in the first cycles of a run
---     HasGone s traces channel from until c commands commands_then messages messages_then      what it leaves is its part of the run
+--     DoesAsInRun s traces channel from until c commands commands_then messages messages_then      what it leaves is its part of the run
 --     ChannelsStart, ChannelsMayRun, ChannelsGoOn      a channel stands for that before the first cycle, and from span to span
 --     ChannelsEndAlike s traces now      its statistics and its state are those of the run
 use Rattle.std.specs.Prelude.{◌≡◌, ℕ, ◌-◌, ◌<◌, ◌≤◌, List, [], ◌++◌, length, Option}
@@ -50,7 +50,7 @@ Gives c inbox from until d commands commands_then messages messages_then =
 -- A channel did what the one with this number did in a span of a run: it stands at the end of the span, and the
 -- commands, where they are kept, and the messages of the run beyond those before the span were put behind what two
 -- lists held.
-pub record HasGone (s : Config) (traces : List (List Entry)) (channel from until : ℕ) (c : Channel) (commands commands_then : Option (List IssuedCommand)) (messages messages_then : List Message) : Type 0 where
+pub record DoesAsInRun (s : Config) (traces : List (List Entry)) (channel from until : ℕ) (c : Channel) (commands commands_then : Option (List IssuedCommand)) (messages messages_then : List Message) : Type 0 where
   pub issued : List IssuedCommand
   pub sent : List Message
   pub stands : IsChannelAt s traces channel until c
@@ -75,7 +75,7 @@ ChannelsGoOn s traces from until =
     (channel : ℕ) (c d : Channel) (commands commands_then : Option (List IssuedCommand)) (messages messages_then : List Message)
     → channel < s.channels → from ≤ until → IsChannelAt s traces channel from c
     → Gives c (mail_in s traces until (unit.Channel channel) from until) from until d commands commands_then messages messages_then
-    → HasGone s traces channel from until d commands commands_then messages messages_then
+    → DoesAsInRun s traces channel from until d commands commands_then messages messages_then
 
 -- the statistics and the state of what it stands for are those of the run
 abbrev pub ChannelsEndAlike : Config → List (List Entry) → ℕ → Type 0

@@ -1,7 +1,7 @@
 -- A machine whose cores and channels go on in turns, each unit with a wake word: only those that wake before the end
 -- of a turn are run.
 --     own_cycle a b unit, other_cycle a b unit      where the units of its kind stand, and those of the other kind
---     Waits s traces a b unit at wake      a unit stands at a cycle, and may be left alone up to its word
+--     MayBeLeft s traces a b unit at wake      a unit stands at a cycle, and may be left alone up to its word
 --     IsInTurns s traces a b at wake flight      the cores stand at cycle a, the channels at cycle b, and this is in flight
 --     IsLeft, IsRun      what becomes of a unit in a turn of its kind
 --     IsLowered      what becomes of a unit in a turn of the other kind
@@ -41,7 +41,7 @@ other_cycle a b (Channel channel) = a
 
 -- A unit stands at a cycle that is not past its kind's, and may be left alone up to its word: it would send nothing,
 -- and of what the other kind has sent so far nothing arrives at it.
-pub record Waits (s : Config) (traces : List (List Entry)) (a b : ℕ) (unit : MachineUnit) (at wake : ℕ) : Type 0 where
+pub record MayBeLeft (s : Config) (traces : List (List Entry)) (a b : ℕ) (unit : MachineUnit) (at wake : ℕ) : Type 0 where
   pub behind : at ≤ own_cycle a b unit
   pub ahead : own_cycle a b unit ≤ wake
   pub silent : IsSilent s traces at wake unit
@@ -52,7 +52,7 @@ pub record Waits (s : Config) (traces : List (List Entry)) (a b : ℕ) (unit : M
 pub record IsInTurns (s : Config) (traces : List (List Entry)) (a b : ℕ) (at wake : MachineUnit → ℕ) (flight : List Message) : Type 0 where
   pub channels_near : RequestsTravelFor s (b - a)
   pub cores_near : AnswersTakeFor s (a - b)
-  pub wait : (unit : MachineUnit) → Exists s unit → Waits s traces a b unit (at unit) (wake unit)
+  pub wait : (unit : MachineUnit) → Exists s unit → MayBeLeft s traces a b unit (at unit) (wake unit)
   pub holds : flight ≡ flight_of s traces a b
 
 -- In a turn of its kind, a unit whose word is not before the end of the turn is left as it is.
@@ -161,28 +161,28 @@ TurnsJump s traces a b until =
 abbrev pub ChannelGoes : Config → List (List Entry) → ℕ → ℕ → ℕ → Type 0
 ChannelGoes s traces a b until =
     (channel at wake at_then wake_then : ℕ) (sent : List Message) → channel < s.channels → b ≤ until → RequestsTravelFor s (b - a) → RequestsTravelFor s (until - a)
-    → Waits s traces a b (Channel channel) at wake
+    → MayBeLeft s traces a b (Channel channel) at wake
     → IsLeft until at wake at_then wake_then sent ⊎ IsRun s traces (Channel channel) until at at_then wake_then (flight_of s traces a b) sent
-    → Waits s traces a until (Channel channel) at_then wake_then × (messages_of_channel s (run s traces until) channel ≡ messages_of_channel s (run s traces b) channel ++ sent)
+    → MayBeLeft s traces a until (Channel channel) at_then wake_then × (messages_of_channel s (run s traces until) channel ≡ messages_of_channel s (run s traces b) channel ++ sent)
 
 -- so does a core
 abbrev pub CoreGoes : Config → List (List Entry) → ℕ → ℕ → ℕ → Type 0
 CoreGoes s traces a b until =
     (core at wake at_then wake_then : ℕ) (sent : List Message) → core < s.cores → a ≤ until → AnswersTakeFor s (a - b) → AnswersTakeFor s (until - b)
-    → Waits s traces a b (Core core) at wake
+    → MayBeLeft s traces a b (Core core) at wake
     → IsLeft until at wake at_then wake_then sent ⊎ IsRun s traces (Core core) until at at_then wake_then (flight_of s traces a b) sent
-    → Waits s traces until b (Core core) at_then wake_then × (messages_of_core s traces (run s traces until) core ≡ messages_of_core s traces (run s traces a) core ++ sent)
+    → MayBeLeft s traces until b (Core core) at_then wake_then × (messages_of_core s traces (run s traces until) core ≡ messages_of_core s traces (run s traces a) core ++ sent)
 
 -- A core in a turn of the channels waits still, with its word lowered to what they send.
 abbrev pub CoreStays : Config → List (List Entry) → ℕ → ℕ → ℕ → Type 0
 CoreStays s traces a b until =
     (core at wake at_then wake_then : ℕ) (sent : ℕ → List Message) → b ≤ until → AnswersTakeFor s (a - b)
     → ((channel : ℕ) → channel < s.channels → messages_of_channel s (run s traces until) channel ≡ messages_of_channel s (run s traces b) channel ++ sent channel)
-    → Waits s traces a b (Core core) at wake → IsLowered s (Core core) at wake at_then wake_then (flat_map sent (below s.channels)) → Waits s traces a until (Core core) at_then wake_then
+    → MayBeLeft s traces a b (Core core) at wake → IsLowered s (Core core) at wake at_then wake_then (flat_map sent (below s.channels)) → MayBeLeft s traces a until (Core core) at_then wake_then
 
 -- so does a channel in a turn of the cores
 abbrev pub ChannelStays : Config → List (List Entry) → ℕ → ℕ → ℕ → Type 0
 ChannelStays s traces a b until =
     (channel at wake at_then wake_then : ℕ) (sent : ℕ → List Message) → a ≤ until → RequestsTravelFor s (b - a)
     → ((core : ℕ) → core < s.cores → messages_of_core s traces (run s traces until) core ≡ messages_of_core s traces (run s traces a) core ++ sent core)
-    → Waits s traces a b (Channel channel) at wake → IsLowered s (Channel channel) at wake at_then wake_then (flat_map sent (below s.cores)) → Waits s traces until b (Channel channel) at_then wake_then
+    → MayBeLeft s traces a b (Channel channel) at wake → IsLowered s (Channel channel) at wake at_then wake_then (flat_map sent (below s.cores)) → MayBeLeft s traces until b (Channel channel) at_then wake_then
