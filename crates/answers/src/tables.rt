@@ -28,7 +28,7 @@ fn row_of(commands: &CommandList, place: usize) -> u64
     requires there { place < length commands.now }
     ensures { result ≡ place + 1 }
 {
-    let _count = commands.len();
+    prove!(place < commands.len());
     place as u64 + 1
 }
 

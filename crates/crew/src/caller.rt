@@ -13,7 +13,7 @@ use std::sync::Wait;
 use std::sync::atomic::Ordering;
 
 /// Who runs the tasks of a phase.
-pub trait Phases<T, D: DoneOf<T>> {
+pub trait TaskRunner<T, D: DoneOf<T>> {
     ghost use Rattle.std.specs.Prelude.{map, IfOk, IsPermutation};
 
     /// Runs the tasks of a phase: exactly one result comes of each, in any order. The only error is out of memory.
@@ -57,7 +57,7 @@ impl<'a, T: Drop, D: DoneOf<T> + Drop, W: Work<T, D>, B: BoardName, R: Wait> Cre
     }
 }
 
-impl<'a, T: Drop, D: DoneOf<T> + Drop, W: Work<T, D>, B: BoardName, R: Wait> Phases<T, D>
+impl<'a, T: Drop, D: DoneOf<T> + Drop, W: Work<T, D>, B: BoardName, R: Wait> TaskRunner<T, D>
     for Crew<'a, T, D, W, B, R> {
     fn run_tasks(&mut self, tasks: Vec<T>) -> Result<Vec<D>, AllocError>
         ensures { IfOk result (λ results. IsPermutation tasks.items (map D.task results.items)) }

@@ -3,7 +3,7 @@
 ghost use Rattle.std.specs.Prelude.{◌≡◌, ◌<◌, [], IfOk};
 ghost use Rattle.crew.specs.Rule.{put_view};
 
-use crate::rule::{BoardName, Queue, Seat};
+use crate::rule::{BoardName, Seat, TaskQueue};
 use crate::seats::{Board, PutSeat};
 use std::alloc::{AllocError, Global};
 use std::marker::{Model, PhantomData};
@@ -11,7 +11,7 @@ use std::marker::{Model, PhantomData};
 /// A board that has no name yet. To a contract it is its future name, and how many tasks it has room for.
 #[derive(Drop)]
 pub struct Blank<T: Drop> {
-    queue: Queue<T>,
+    queue: TaskQueue<T>,
     pass: Seat<T>,
 }
 
@@ -33,7 +33,7 @@ impl<T: Drop> Blank<T> {
         requires { 0 < room }
         ensures { IfOk result (λ b. b.room ≡ room) }
     {
-        let (queue, pass) = Queue::ruled(alloc, room)?;
+        let (queue, pass) = TaskQueue::ruled(alloc, room)?;
         Ok(Blank { queue, pass })
     }
 

@@ -18,15 +18,15 @@ pub struct View<T> {
 }
 
 /// The rule of a board.
-pub struct Claimed;
+pub struct BoardRule;
 
 /// The queue of a board.
-pub type Queue<T> = RuledArrayQueue<T, View<T>, Claimed>;
+pub type TaskQueue<T> = RuledArrayQueue<T, View<T>, BoardRule>;
 
 /// What a seat has of the queue.
 pub type Seat<T> = Pass<T, View<T>>;
 
-impl<T> Protocol<T, View<T>> for Claimed {
+impl<T> Protocol<T, View<T>> for BoardRule {
     ghost use Rattle.crew.specs.Rule.{Kept, view_of};
 
     ghost holds = { Kept };

@@ -3,7 +3,7 @@
 ghost use Rattle.std.specs.Prelude.{◌≡◌, ◌<◌, ◌≤◌, [], IfOk, IfErr};
 ghost use Rattle.crew.specs.Rule.{put_view};
 
-use crate::caller::{Crew, Phases};
+use crate::caller::{Crew, TaskRunner};
 use crate::open::Blank;
 use crate::rule::BoardName;
 use crate::seats::PutSeat;
@@ -43,7 +43,7 @@ pub trait PhasedRun<T, D: DoneOf<T>, E> {
     ghost gives: { Self → E → Type 0 };
 
     /// Runs the phases. The only error is out of memory.
-    fn run<P: Phases<T, D>>(self, alloc: Global, crew: &mut P) -> Result<E, AllocError>
+    fn run<P: TaskRunner<T, D>>(self, alloc: Global, crew: &mut P) -> Result<E, AllocError>
         ensures { IfOk result (gives self) };
 }
 

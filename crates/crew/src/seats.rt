@@ -4,7 +4,7 @@ ghost use Rattle.std.specs.Prelude.{◌≡◌, ◌+◌, ◌≤◌, [], ◌∷◌
 ghost use Rattle.crew.specs.Rule.{put_view, with_put};
 
 use crate::rule::{
-    Absorb, BoardName, Clear, EmptyPass, Puts, Queue, Seat, Settles, SplitTaken, Takes,
+    Absorb, BoardName, Clear, EmptyPass, Puts, Seat, Settles, SplitTaken, Takes, TaskQueue,
 };
 use std::marker::{Model, PhantomData};
 use std::sync::Wait;
@@ -48,7 +48,7 @@ impl<T, B: BoardName> Model for TakeSeat<T, B> {
 /// The tasks that were put and that no seat has taken yet. To a contract it is how many it has room for.
 #[derive(Drop)]
 pub struct Board<T: Drop, B: BoardName> {
-    pub(crate) queue: Queue<T>,
+    pub(crate) queue: TaskQueue<T>,
     pub(crate) name: PhantomData<B>,
 }
 

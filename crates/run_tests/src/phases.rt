@@ -7,7 +7,7 @@ ghost use Rattle.crew.specs.Rule.{put_view};
 use crate::expect::expect_at;
 use crate::gates::jobs_of;
 use crate::outcomes::{DRAINED, Texts, always, assert_same, auto, did, plain_outcome};
-use crew::caller::Phases;
+use crew::caller::TaskRunner;
 use crew::open::Blank;
 use crew::rule::BoardName;
 use crew::run::{CrewOptions, PhasedRun, Refused, with_crew};
@@ -169,7 +169,7 @@ fn are_whole(squares: &[Square]) -> bool {
 impl PhasedRun<Number, Square, u64> for ManyPhases {
     ghost gives = { λ c n. Unit {0} };
 
-    fn run<P: Phases<Number, Square>>(
+    fn run<P: TaskRunner<Number, Square>>(
         self,
         alloc: Global,
         crew: &mut P,

@@ -74,12 +74,12 @@ pub(crate) fn bounds_for(
 }
 
 /// Whether a message goes to one of the units at places from one on and before another.
-fn goes_to(config: &Config, first: usize, past: usize, message: &Message) -> bool
-    requires { past ≤ unit_count config.now }
-    ensures { result ≡ goes_among config.now first past message.now }
+fn goes_to(config: &Config, first: usize, end: usize, message: &Message) -> bool
+    requires { end ≤ unit_count config.now }
+    ensures { result ≡ goes_among config.now first end message.now }
 {
     match receiver_place(config, message.link) {
-        Some(place) => first <= place && place < past,
+        Some(place) => first <= place && place < end,
         None => false,
     }
 }
@@ -89,16 +89,16 @@ fn messages_to(
     alloc: Global,
     config: &Config,
     first: usize,
-    past: usize,
+    end: usize,
     messages: &[Message],
 ) -> Result<Vec<Message>, AllocError>
-    requires { past ≤ unit_count config.now }
-    ensures { IfOk result (λ own. own.items ≡ among config.now first past messages.now) }
+    requires { end ≤ unit_count config.now }
+    ensures { IfOk result (λ own. own.items ≡ among config.now first end messages.now) }
 {
     messages
         .iter()
         .copied()
-        .filter(|message| goes_to(config, first, past, message))
+        .filter(|message| goes_to(config, first, end, message))
         .collect(alloc)
 }
 
@@ -107,14 +107,14 @@ fn links_to(
     alloc: Global,
     config: &Config,
     first: usize,
-    past: usize,
+    end: usize,
     messages: &[Message],
 ) -> Result<Links, AllocError>
-    requires { past ≤ unit_count config.now }
-    ensures { IfOk result (λ links. links ≡ links_among config.now first past messages.now) }
+    requires { end ≤ unit_count config.now }
+    ensures { IfOk result (λ links. links ≡ links_among config.now first end messages.now) }
 {
     let mut links = Links::start(alloc, config)?;
-    links.accept(&mut messages_to(alloc, config, first, past, messages)?)?;
+    links.accept(&mut messages_to(alloc, config, first, end, messages)?)?;
     Ok(links)
 }
 
@@ -146,13 +146,13 @@ fn shard_of(
         Sleeps (arc_value snapshot.now.machine) snapshot.now.at b.value) }
 {
     let first = bounds[index];
-    let past = bounds[index + 1];
+    let end = bounds[index + 1];
     let range = UnitRange::awake(alloc, first, units, snapshot.at)?;
     let links = links_to(
         alloc,
         &snapshot.machine.config,
         first,
-        past,
+        end,
         &snapshot.messages,
     )?;
     let mail = Mail::new(alloc);

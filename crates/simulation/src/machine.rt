@@ -10,10 +10,10 @@ ghost use Rattle.simulation.specs.Stages.{IsExtentOf};
 
 use crate::gate::{AtGate, Gate};
 use crate::options::{Hooks, MachineInput, RunOptions};
-use crate::runner::{Claims, Runner};
+use crate::runner::{ByCrew, Runner};
 use crate::sharing::{Sharing, Workers};
 use crate::watch::{RunExtent, Watch, WatchState, entries_of, interval_end};
-use crew::caller::Phases;
+use crew::caller::TaskRunner;
 use crew::run::{CrewOptions, PhasedRun, Refused, with_crew};
 use crew::signal::WaitLimits;
 use in_place::timed_sim::run_alone;
@@ -371,7 +371,11 @@ impl<'a, W: Watch> PhasedRun<Job, Done, Outcome> for CrewRun<'a, W> {
 
     ghost gives = { λ r o. o ≡ outcome_of_machine r.options r.run.sim.machine };
 
-    fn run<P: Phases<Job, Done>>(self, alloc: Global, crew: &mut P) -> Result<Outcome, AllocError> {
+    fn run<P: TaskRunner<Job, Done>>(
+        self,
+        alloc: Global,
+        crew: &mut P,
+    ) -> Result<Outcome, AllocError> {
         let CrewRun {
             watch,
             options,
@@ -380,7 +384,7 @@ impl<'a, W: Watch> PhasedRun<Job, Done, Outcome> for CrewRun<'a, W> {
         } = self;
         let mut mode = InShards {
             split,
-            runner: Claims { crew },
+            runner: ByCrew { crew },
         };
         match finish(alloc, watch, options, run, &mut mode) {
             Ok(outcome) => Ok(outcome),

@@ -3,7 +3,7 @@
 ghost use Rattle.std.specs.Prelude.{◌≡◌, IsPermutation, IfOk, IfErr};
 
 use crate::gate::{Gate, run_all};
-use crew::caller::Phases;
+use crew::caller::TaskRunner;
 use shards::job::{Done, Job};
 use sim_base::fault::Fault;
 use std::alloc::Global;
@@ -42,14 +42,14 @@ impl<'a, G: Gate> Runner for Serial<'a, G> {
     }
 }
 
-/// Has a crew run the jobs, which its threads claim starting from the last: those of channels, which have most to do,
+/// Has a crew run the jobs, which its threads take starting from the last: those of channels, which have most to do,
 /// come last in a machine.
 #[derive(Drop)]
-pub struct Claims<'a, P: Phases<Job, Done>> {
+pub struct ByCrew<'a, P: TaskRunner<Job, Done>> {
     pub crew: &'a mut P,
 }
 
-impl<'a, P: Phases<Job, Done>> Runner for Claims<'a, P> {
+impl<'a, P: TaskRunner<Job, Done>> Runner for ByCrew<'a, P> {
     fn run_phase(&mut self, jobs: Vec<Job>) -> Result<Vec<Done>, Fault> {
         let mut jobs = jobs;
         jobs.reverse();

@@ -1,7 +1,7 @@
 -- The jobs are claimed in another order.
 use Rattle.std.proofs.Common.{IsPermutation, subst, map-id}
 use Rattle.std.proofs.lemmas.List.Sorted.{IsPermutation-trans}
-use Rattle.simulation.proofs.runner.ClaimsRunner.run_phase.Goals as goal
+use Rattle.simulation.proofs.runner.ByCrewRunner.run_phase.Goals as goal
 
 pub returns-clause-each : goal.returns-clause-each
 returns-clause-each g c =
