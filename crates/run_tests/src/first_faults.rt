@@ -9,6 +9,10 @@ use sim_base::message::Cycle;
 use simulation::gate::Open;
 use simulation::options::Hooks;
 use simulation::watch::Unwatched;
+use std::alloc::Global;
+use std::process::Abort;
+use std::sync::Wait;
+use std::thread::Threads;
 
 /// One cycle more than a run may have.
 const TOO_LONG: Cycle = 1_000_000_000_001;
@@ -22,6 +26,24 @@ struct Case<'x> {
     cycles: Cycle,
     workers: u64,
     want: Fault,
+}
+
+/// The faults of a run by workers and by the plain machine.
+fn refused<R: Abort + Threads + Wait + Sync>(
+    rt: &R,
+    alloc: Global,
+    case: &Case<'_>,
+) -> [Option<Fault>; 2] {
+    let traces = case.traces.get(..case.count).unwrap_or(&[]);
+    let texts = Texts::of(rt, alloc, &[case.change], "", traces);
+    let run = texts.run(case.cycles).by(always(case.workers));
+    let hooks = Hooks {
+        gate: &Open,
+        watch: &mut Unwatched,
+    };
+    let by_workers = outcome_of(rt, alloc, hooks, &run).err();
+    let plain = plain_outcome(rt, alloc, &run).err();
+    [by_workers, plain]
 }
 
 static CASES: [Case<'static>; 13] = [
@@ -147,21 +169,8 @@ static CASES: [Case<'static>; 13] = [
 #[test]
 fn the_first_fault_is_told(rt: HostRuntime) {
     for case in &CASES {
-        let traces = case.traces.get(..case.count).unwrap_or(&[]);
-        let texts = Texts::of(&rt, rt.alloc(), &[case.change], "", traces);
-        let run = texts.run(case.cycles).by(always(case.workers));
-        let hooks = Hooks {
-            gate: &Open,
-            watch: &mut Unwatched,
-        };
-        let by_workers = outcome_of(&rt, rt.alloc(), hooks, &run).err();
-        let plain = plain_outcome(&rt, rt.alloc(), &run).err();
+        let found = refused(&rt, rt.alloc(), case);
         let want = [Some(case.want), Some(case.want)];
-        expect_at(
-            &rt,
-            &(case.change, case.traces),
-            &[by_workers, plain],
-            &want,
-        );
+        expect_at(&rt, &(case.change, case.traces), &found, &want);
     }
 }
