@@ -32,7 +32,7 @@ impl SharedText {
         }
     }
 
-    /// The same text, whose bytes are shared. The only error is out of memory.
+    /// Another holder of this text, whose bytes are shared. The only error is out of memory.
     pub(crate) fn copy(&self) -> Result<SharedText, AllocError>
         ensures { IfOk result (λ text. text ≡ self.now) }
     {

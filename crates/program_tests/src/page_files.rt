@@ -18,7 +18,7 @@ const COMMANDS: &str = "cycle,channel,command,group,bank,row,column,core,entry
 
 const NO_HEADER: &str = "2,0,ACT,0,0,0,,0,0\n5,0,RD,0,0,0,0,0,0\n";
 
-// The same commands, and one behind the end of the run.
+// The commands of the run, and one behind its end.
 const LATE: &str = "cycle,channel,command,group,bank,row,column,core,entry
 2,0,ACT,0,0,0,,0,0
 5,0,RD,0,0,0,0,0,0

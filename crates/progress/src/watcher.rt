@@ -38,7 +38,7 @@ impl Progress {
         }
     }
 
-    // The same run, looked at again.
+    // The progress once the run is looked at again.
     fn looked_at(self, now: Instant) -> Progress {
         let interval = next_interval(self.interval, now.duration_since(self.looked));
         Progress {
