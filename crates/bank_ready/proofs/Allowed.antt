@@ -15,7 +15,7 @@ use Rattle.bank_ready.specs.Ready.{ready_from, window_ends}
 use Rattle.bank_ready.specs.Words.{names_rank, window_from}
 use Rattle.bank_ready.specs.Stands.{IsAllowedFrom, Ascends}
 use Rattle.bank_ready.proofs.Readiness.{ready_from-keeps}
-use Rattle.bank_ready.proofs.Window.{three-ahead, recent_acts-ahead, window_ends-ascending}
+use Rattle.bank_ready.proofs.ActWindow.{three-ahead, recent_acts-ahead, window_ends-ascending}
 
 -- the rank of a command is that of the bank that it names
 pub rank_of-bank : (command : Command) (bank : BankId) → bank_of command ≡ Some bank → rank_of command ≡ bank.rank

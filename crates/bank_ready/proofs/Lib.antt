@@ -3,7 +3,7 @@ pub mod Raising
 pub mod Bounds
 pub mod Noting
 pub mod Readiness
-pub mod Window
+pub mod ActWindow
 pub mod Allowed
 pub mod Stood
 pub mod Due

@@ -2,7 +2,7 @@
 use Rattle.std.proofs.Common.{◌≡◌, ℕ, ◌*◌, ◌/◌, ◌<◌, ◌≤◌, ◌∙◌, Bool, true, false, cond, eqb, max, List, length, get_or, Option, Some, refl, sym, ap, subst, arith, inl, inr}
 use Rattle.std.specs.Prelude.{IfSome}
 use Rattle.std.proofs.lemmas.Bool.{cases_Bool, eqb-true, cond-true, cond-false}
-use Rattle.std.proofs.lemmas.List.{with_items_is, get_or_read}
+use Rattle.std.proofs.lemmas.List.{get_or_read}
 use Rattle.std.proofs.lemmas.Option.{IfSome_then}
 use Rattle.std.specs.declared.vec.Vec.{Vec}
 use Rattle.std.specs.Vec.{with_items}
@@ -17,6 +17,7 @@ use Rattle.sim_base.specs.declared.command.Command.{Command}
 use Rattle.sim_base.specs.declared.command.Command.TheVariants.{Act, Rd, Wr, Pre, Prea, Ref}
 use Rattle.sim_base.specs.declared.command.Source.{Source}
 use Rattle.sim_base.specs.Rules.{is_kind, kind_of, rank_of, bank_of}
+use Rattle.sim_base.proofs.Lists.{with_items_lent, length-lent}
 use Rattle.bank_ready.specs.Ready.{held_until}
 use Rattle.bank_ready.specs.Words.{bank_at, is_own, relation_from, group_relation_from, is_column_kind, no_acts, pushed, word_until, rank_raised, rank_state_after, act_pushed}
 use Rattle.bank_ready.specs.Noted.{IsRaised, window_word, IsNoted}
@@ -41,21 +42,16 @@ pub record IsPut {X : Type 0} (before after : List X) (change : ℕ → X → X)
 pub put : {X Z : Type 0} (v : Vec X Z) (lent ys : List X) (change : ℕ → X → X) → lent ≡ v.items → length ys ≡ length lent
     → ((k : ℕ) (d : X) → k < length lent → get_or ys k d ≡ change k (get_or lent k d)) → IsPut v.items (with_items v ys).items change
 put v lent ys change is long each =
-    let whole : length ys ≡ v.len = long ∙ ap length is ∙ sym v.ok.0 in
-    let items = with_items_is v ys whole in
+    let items = with_items_lent v lent ys is long in
     record {
       count = ap length items ∙ long ∙ ap length is;
       each = λ k d l. ap (λ xs. get_or xs k d) items ∙ each k d (rw is l) ∙ ap (λ xs. change k (get_or xs k d)) is;
     }
 
--- such a list keeps its length, and so its part of the lengths of all
-pub put-count : {X Z : Type 0} (v : Vec X Z) (lent ys : List X) → lent ≡ v.items → length ys ≡ length lent → length (with_items v ys).items ≡ length v.items
-put-count v lent ys is long = ap length (with_items_is v ys (long ∙ ap length is ∙ sym v.ok.0)) ∙ long ∙ ap length is
-
--- so do the words of each rank, where the list of ranks keeps its own
+-- the words of all ranks keep their length, where the list of ranks keeps its own
 pub all-words : {Z Y : Type 0} (m : ℕ) (v : Vec ℕ Z) (lent ys : List ℕ) (ranks : Vec RankState Y) (states : List RankState) → lent ≡ v.items → length ys ≡ length lent
     → length states ≡ length ranks.items → length v.items ≡ m * length ranks.items → length (with_items v ys).items ≡ m * length states
-all-words m v lent ys ranks states is long same all = put-count v lent ys is long ∙ all ∙ sym (ap (λ n. m * n) same)
+all-words m v lent ys ranks states is long same all = length-lent v lent ys is long ∙ all ∙ sym (ap (λ n. m * n) same)
 
 pub left-words : {Y : Type 0} (m : ℕ) (words : List ℕ) (ranks : Vec RankState Y) (states : List RankState)
     → length states ≡ length ranks.items → length words ≡ m * length ranks.items → length words ≡ m * length states

@@ -19,7 +19,7 @@ use Rattle.bank_ready.specs.Stands.{StandsFor, Ascends, IsFloor}
 use Rattle.bank_ready.specs.declared.words.RankState.{RankState}
 use Rattle.bank_ready.specs.declared.banks.Banks.{Banks}
 use Rattle.bank_ready.proofs.Readiness.{ready_from-more}
-use Rattle.bank_ready.proofs.Window.{window_from-more, oldest-first}
+use Rattle.bank_ready.proofs.ActWindow.{window_from-more, oldest-first}
 
 -- what is read in a list that was made by number
 pub made-read : {X : Type 0} (f : ℕ → X) (n k : ℕ) (xs : List X) (x : X) → xs ≡ map f (below n) → k < n → x ≡ get_or xs k x → x ≡ f k

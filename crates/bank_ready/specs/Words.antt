@@ -27,7 +27,7 @@ use Rattle.sim_base.specs.declared.command.IssuedCommand.{IssuedCommand}
 use Rattle.sim_base.specs.Rules.{is_kind, kind_of, rank_of, relation_in_rank}
 use Rattle.timing.specs.Relation.{relation_to}
 use Rattle.bank_ready.specs.Ready.{held_until, ready_from, window_ends}
-use Rattle.bank_ready.specs.declared.words.Window.{Window}
+use Rattle.bank_ready.specs.declared.words.ActWindow.{ActWindow}
 use Rattle.bank_ready.specs.declared.words.RankState.{RankState}
 use Rattle.bank_ready.specs.declared.banks.Banks.{Banks}
 
@@ -124,18 +124,18 @@ is_column_kind Ref = false
 
 -- the last four ACTs of a rank that had none, and after one more, which no longer counts for the four-activate window
 -- from `end` on
-abbrev pub no_acts : Window
+abbrev pub no_acts : ActWindow
 no_acts = record { oldest = 0; second = 0; third = 0; last = 0 }
 
 -- a rank that has had no command
 abbrev pub unused_rank : RankState
 unused_rank = record { prea = 0; refresh = 0; window = no_acts }
 
-abbrev pub pushed : Window → ℕ → Window
+abbrev pub pushed : ActWindow → ℕ → ActWindow
 pushed window end = record { oldest = window.second; second = window.third; third = window.last; last = end }
 
 -- the last four ACTs of a rank
-unfoldable pub window_from : Timing → ℕ → List IssuedCommand → Window
+unfoldable pub window_from : Timing → ℕ → List IssuedCommand → ActWindow
 window_from t rank history = fold pushed no_acts (window_ends t rank history)
 
 -- from which cycle on no command of a history holds back one of the bank with this number

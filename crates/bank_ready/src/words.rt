@@ -20,7 +20,7 @@ use timing::gap_table::GapTable;
 /// The last four ACTs of a rank, by the cycle from which on each no longer counts for the four-activate window; 0 for
 /// each that there has not been.
 #[derive(Clone, Copy)]
-pub(crate) struct Window {
+pub(crate) struct ActWindow {
     pub(crate) oldest: Cycle,
     pub(crate) second: Cycle,
     pub(crate) third: Cycle,
@@ -32,7 +32,7 @@ pub(crate) struct Window {
 pub(crate) struct RankState {
     pub(crate) prea: Cycle,
     pub(crate) refresh: Cycle,
-    pub(crate) window: Window,
+    pub(crate) window: ActWindow,
 }
 
 /// A rank that has had no command.
@@ -42,7 +42,7 @@ fn unused_rank() -> RankState
     RankState {
         prea: 0,
         refresh: 0,
-        window: Window {
+        window: ActWindow {
             oldest: 0,
             second: 0,
             third: 0,

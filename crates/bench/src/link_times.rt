@@ -7,7 +7,7 @@ use crate::figures::{Effort, now, show_count};
 use fixtures::small::small;
 use links::flight::Links;
 use sim_base::fault::Fault;
-use sim_base::message::{Cycle, LinkId, Load, Message, Unit};
+use sim_base::message::{Cycle, LinkId, Payload, Message, Unit};
 use std::alloc::{AllocError, Global};
 use std::rt::Clock;
 
@@ -41,7 +41,7 @@ fn message(link: LinkId, arrival: Cycle) -> Message {
     Message {
         link,
         arrival,
-        load: Load::Reply(0),
+        payload: Payload::Reply(0),
     }
 }
 

@@ -6,7 +6,7 @@ use Rattle.std.proofs.lemmas.Bool.{cond-false}
 use Rattle.std.proofs.lemmas.Bool.Decides.{nat_tests}
 use Rattle.std.proofs.lemmas.List.{append-nil, append_assoc, take-append-drop}
 use Rattle.sim_base.proofs.Arrived.{NotBefore, before_le}
-use Rattle.sim_base.proofs.Each.{Each-all, Each-append, Each-filter}
+use Rattle.sim_base.proofs.Each.{Each-all, Each-first, Each-last, Each-append, Each-filter}
 use Rattle.sim_base.proofs.Ordered.{Each-weaker}
 use Rattle.sim_base.proofs.Same.{choice-same}
 use Rattle.sim_base.specs.Counts.{source_in, queue_length}
@@ -69,16 +69,13 @@ split-age zero inbox h = h
 split-age (suc n) [] h = tt
 split-age (suc n) (m ∷ ms) h = split-age n ms h.1
 
-split-append : (P : Request → Type 0) (xs ys : List Request) → Each P (xs ++ ys) → Each P xs × Each P ys
-split-append P [] ys h = (tt, h)
-split-append P (x ∷ xs) ys h = let more = split-append P xs ys h.1 in ((h.0, more.0), more.1)
-
-split-differ : (xs ys : List Request) → Differ (xs ++ ys) → Differ xs × Each (λ (r : Request). Each (IsOther r) ys) xs
+-- requests that are of different entries, cut in two: those of each part are, and each of the first differs from each
+-- of the second
+pub split-differ : (xs ys : List Request) → Differ (xs ++ ys) → Differ xs × Each (λ (r : Request). Each (IsOther r) ys) xs
 split-differ [] ys d = (tt, tt)
 split-differ (x ∷ xs) ys d =
     let rest = split-differ xs ys d.1 in
-    let here = split-append (IsOther x) xs ys d.0 in
-    ((here.0, rest.0), (here.1, rest.1))
+    ((Each-first (IsOther x) xs ys d.0, rest.0), (Each-last (IsOther x) xs ys d.0, rest.1))
 
 -- the messages of a fit inbox that arrive in the first cycle of the span, and those that arrive later
 pub fit-arrives : (past : Past) (inbox : List Message) (now until : ℕ) → length past.steps ≡ now
@@ -93,7 +90,7 @@ fit-arrives past inbox now until at h =
       requests = (split-each (CarriesRequest past.config past.channel) n inbox h.requests).0;
       now = Each-weaker (λ (m : Message). m.arrival ≡ now) (λ (m : Message). m.arrival ≡ length past.steps) (λ m e. omega arith) (take n inbox) (arrived-first now inbox);
       differ = (split-differ (requests_of (past.mail ++ take n inbox)) (requests_of (drop n inbox)) (subst Differ whole h.differ)).0;
-      unnamed = (split-append (IsUnnamed (commands_after past)) (requests_of (take n inbox)) (requests_of (drop n inbox)) (subst (Each (IsUnnamed (commands_after past))) named h.unnamed)).0;
+      unnamed = Each-first (IsUnnamed (commands_after past)) (requests_of (take n inbox)) (requests_of (drop n inbox)) (subst (Each (IsUnnamed (commands_after past))) named h.unnamed);
     }
 
 -- the others arrive later
@@ -119,7 +116,7 @@ fit-taken past inbox now until n h =
       by_age = split-age n inbox h.by_age;
       in_span = (split-each (λ (m : Message). (now ≤ m.arrival) × (m.arrival < until)) n inbox h.in_span).1;
       differ = subst Differ (ap requests_of whole) h.differ;
-      unnamed = (split-append (IsUnnamed history) (requests_of (take n inbox)) (requests_of (drop n inbox)) (subst (Each (IsUnnamed history)) named h.unnamed)).1;
+      unnamed = Each-last (IsUnnamed history) (requests_of (take n inbox)) (requests_of (drop n inbox)) (subst (Each (IsUnnamed history)) named h.unnamed);
       room = λ k l. subst (λ m. queue_length past.channel (channel_run past.config past.channel past.steps m k) m (now + k) ≤ queue_room past.config) whole (h.room k l);
     }
 
@@ -186,8 +183,8 @@ fit-rest queue drained marks stats past inbox now until at h j =
     (Each-weaker (λ (m : Message). now + 1 ≤ m.arrival) (λ (m : Message). length past.steps + 1 ≤ m.arrival) (λ m l. omega arith) rest late)) in
     let apart = split-differ (requests_of (past.mail ++ new)) (requests_of rest) (subst Differ (ap requests_of whole ∙ requests-append (past.mail ++ new) rest) h.differ) in
     let before : Each (IsUnnamed (commands_after past)) (requests_of rest) =
-    (split-append (IsUnnamed (commands_after past)) (requests_of new) (requests_of rest)
-    (subst (Each (IsUnnamed (commands_after past))) (ap requests_of (sym (take-append-drop n inbox)) ∙ requests-append new rest) h.unnamed)).1 in (
+    Each-last (IsUnnamed (commands_after past)) (requests_of new) (requests_of rest)
+    (subst (Each (IsUnnamed (commands_after past))) (ap requests_of (sym (take-append-drop n inbox)) ∙ requests-append new rest) h.unnamed) in (
       record {
         requests = carries;
         by_age = split-age n inbox h.by_age;

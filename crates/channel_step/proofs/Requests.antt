@@ -25,7 +25,7 @@ use Rattle.channel_step.specs.Fit.{is_named_by, IsUnnamed}
 pub carried : (s : Config) (channel : ℕ) (P : Request → Type 0) (mail : List Message) → Each (CarriesRequest s channel) mail
     → Each (λ (m : Message). (r : Request) → IsRequestOf s channel m r → P r) mail → Each P (requests_of mail)
 carried s channel P [] h k = tt
-carried s channel P (m ∷ ms) h k = by (request_in m.load) h.0 (carried s channel P ms h.1 k.1)
+carried s channel P (m ∷ ms) h k = by (request_in m.payload) h.0 (carried s channel P ms h.1 k.1)
   where
     by : (o : Option Request) → IsRequestIn s channel m o → Each P (requests_of ms) → Each P (cons_option o (requests_of ms))
     by None i rest = absurd i
@@ -42,7 +42,7 @@ requests-arrived s channel until mail h k =
 
 -- what carries a request says when it arrives
 pub carries-stamped : (s : Config) (channel : ℕ) (mail : List Message) → Each (CarriesRequest s channel) mail → Each Stamped mail
-carries-stamped s channel mail h = Each-weaker (CarriesRequest s channel) Stamped (λ m k. by m (request_in m.load) k) mail h
+carries-stamped s channel mail h = Each-weaker (CarriesRequest s channel) Stamped (λ m k. by m (request_in m.payload) k) mail h
   where
     by : (m : Message) (o : Option Request) → IsRequestIn s channel m o → IfSome o (λ r. r.arrival ≡ m.arrival)
     by m None i = absurd i
@@ -68,7 +68,7 @@ queued_requests-until history mail until later l h =
     ∙ sym (queued_requests-unserved history mail until h)
 
 pub requests-append : (mail more : List Message) → requests_of (mail ++ more) ≡ requests_of mail ++ requests_of more
-requests-append mail more = filter_map-append (λ (m : Message). request_in m.load) mail more
+requests-append mail more = filter_map-append (λ (m : Message). request_in m.payload) mail more
 
 serves-named : (r : Request) (command : Command) → is_named_by command r ≡ false → serves r command ≡ false
 serves-named r (Rd bank row column source) h = h

@@ -82,7 +82,7 @@ kept-none (Some rows) mail h = λ arrivals each. h rows refl
 pub kept-later : (kept : Option (Vec ServedRequest Global)) (history : List IssuedCommand) (mail new : List Message) → KeepsServed kept history mail → KeepsServed kept history (mail ++ new)
 kept-later None history mail new h = tt
 kept-later (Some rows) history mail new h = λ arrivals each.
-    h arrivals (Each-first (TellsOf arrivals) (requests_of mail) (requests_of new) (subst (Each (TellsOf arrivals)) (filter_map-append (λ (m : Message). request_in m.load) mail new) each))
+    h arrivals (Each-first (TellsOf arrivals) (requests_of mail) (requests_of new) (subst (Each (TellsOf arrivals)) (filter_map-append (λ (m : Message). request_in m.payload) mail new) each))
 
 -- the rows of a list, if there is one
 abbrev pub rows_in : Option (Vec ServedRequest Global) → Option (List ServedRequest)

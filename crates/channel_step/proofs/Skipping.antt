@@ -25,7 +25,7 @@ use Rattle.channel_step.specs.Counted.{cycle_with_hit}
 use Rattle.channel_step.specs.Fit.{queue_room}
 use Rattle.channel_step.specs.Queued.{drain_decided}
 use Rattle.queue.specs.Log.{waiting_requests}
-use Rattle.channel_step.specs.Channels.{CandidatesStand, IsForeseen, KeepsServed, StandsFor, IsInCycle, passed, HasPast, idle_after}
+use Rattle.channel_step.specs.Channels.{CandidatesStand, IsForeseen, KeepsServed, StandsFor, IsInCycle, skipped, HasPast, idle_after}
 use Rattle.channel_step.specs.declared.channel.Channel.{Channel}
 use Rattle.channel_step.proofs.Requests.{ArrivedBefore, requests-arrived, queued_requests-until}
 use Rattle.channel_step.proofs.Spans.{drains_before-row}
@@ -117,12 +117,12 @@ idle-stats s channel steps mail n due h alike =
     ∙ ap (channel_joined (channel_stats s channel steps mail)) (channel_stretch-replicate s channel mail None _ n steps (idle-counts s channel steps mail n due h alike))
 
 -- what a channel counts in them
-abbrev pub passed_by : Channel → Config → ℕ → Bool → ChannelStats
-passed_by c s n due = channel_joined c.stats (channel_times n (cycle_with_hit s (length (waiting_requests c.queue.log)) due c.queue.drain_decided None false))
+abbrev pub skipped_by : Channel → Config → ℕ → Bool → ChannelStats
+skipped_by c s n due = channel_joined c.stats (channel_times n (cycle_with_hit s (length (waiting_requests c.queue.log)) due c.queue.drain_decided None false))
 
-passed-stats : (c : Channel) (past : Past) (n : ℕ) (due : Bool) → IsInCycle c past
-    → Each (ArrivedBefore (length past.steps + 1)) (requests_of past.mail) → IsDueThroughout past.config past.channel past.steps n due → passed_by c past.config n due ≡ channel_stats past.config past.channel (past.steps ++ replicate n None) past.mail
-passed-stats c past n due h before alike =
+skipped-stats : (c : Channel) (past : Past) (n : ℕ) (due : Bool) → IsInCycle c past
+    → Each (ArrivedBefore (length past.steps + 1)) (requests_of past.mail) → IsDueThroughout past.config past.channel past.steps n due → skipped_by c past.config n due ≡ channel_stats past.config past.channel (past.steps ++ replicate n None) past.mail
+skipped-stats c past n due h before alike =
     let j = h.joined in
     ap₂ (λ q d. channel_joined c.stats (channel_times n (cycle_with_hit past.config (length q) due d None false))) j.queue_is j.drained_is
     ∙ ap (λ x. channel_joined x (channel_times n (cycle_with_hit past.config (length (queued_requests (commands_after past) past.mail (length past.steps + 1))) due (drains past.config past.channel past.steps past.mail (length past.steps)) None false))) j.stats_are
@@ -132,27 +132,27 @@ times-longest : (a b m n : ℕ) (none : Bool) → a ≤ m → b ≤ m → max a 
 times-longest a b m n true h k = omega arith
 times-longest a b m n false h k = omega arith
 
-passed-longest : (c : Channel) (past : Past) (n : ℕ) (due : Bool) → IsInCycle c past
-    → (passed_by c past.config n due).queued_max ≤ queue_room past.config
-passed-longest c past n due h = times-longest c.stats.queued_max (length (waiting_requests c.queue.log)) (queue_room past.config) n (eqb n 0) h.made_for.longest h.made_for.within
+skipped-longest : (c : Channel) (past : Past) (n : ℕ) (due : Bool) → IsInCycle c past
+    → (skipped_by c past.config n due).queued_max ≤ queue_room past.config
+skipped-longest c past n due h = times-longest c.stats.queued_max (length (waiting_requests c.queue.log)) (queue_room past.config) n (eqb n 0) h.made_for.longest h.made_for.within
 
 -- the statistics after them fit
-pub passed-fits : (c : Channel) (past : Past) (n : ℕ) (due : Bool) → IsInCycle c past
-    → Each (ArrivedBefore (length past.steps + 1)) (requests_of past.mail) → IsDueThroughout past.config past.channel past.steps n due → length past.steps + n ≤ 2 ^ 62 → ChannelFits (passed_by c past.config n due)
+pub skipped-fits : (c : Channel) (past : Past) (n : ℕ) (due : Bool) → IsInCycle c past
+    → Each (ArrivedBefore (length past.steps + 1)) (requests_of past.mail) → IsDueThroughout past.config past.channel past.steps n due → length past.steps + n ≤ 2 ^ 62 → ChannelFits (skipped_by c past.config n due)
 unfolding channel_stats
-passed-fits c past n due h before alike early =
+skipped-fits c past n due h before alike early =
     let more = past.steps ++ replicate n None in
-    let is : passed_by c past.config n due ≡ channel_stats past.config past.channel more past.mail = passed-stats c past n due h before alike in
-    let longest : queued_max past.channel more past.mail ≡ (passed_by c past.config n due).queued_max = ap (λ (x : ChannelStats). x.queued_max) (sym is) in
-    let most = passed-longest c past n due h in
+    let is : skipped_by c past.config n due ≡ channel_stats past.config past.channel more past.mail = skipped-stats c past n due h before alike in
+    let longest : queued_max past.channel more past.mail ≡ (skipped_by c past.config n due).queued_max = ap (λ (x : ChannelStats). x.queued_max) (sym is) in
+    let most = skipped-longest c past n due h in
     let room : queue_room past.config ≤ 8192 = past.config.credits_fit in
     subst ChannelFits (sym is) (channel_stats-fit past.config past.channel more past.mail (omega (arith, length-idle past.steps n)) (omega arith))
 
 -- after them the channel is in a cycle that is as the first
-pub passed-in_cycle : (c : Channel) (past : Past) (n : ℕ) (due : Bool) (until : ℕ) → IsInCycle c past
+pub skipped-in_cycle : (c : Channel) (past : Past) (n : ℕ) (due : Bool) (until : ℕ) → IsInCycle c past
     → Each (ArrivedBefore (length past.steps + 1)) (requests_of past.mail) → IsDueThroughout past.config past.channel past.steps n due → until ≡ length past.steps + n
-    → IsInCycle (record c { cycle = until; stats = passed_by c past.config n due }) (past_of past.config past.channel (past.steps ++ replicate n None) past.mail)
-passed-in_cycle c past n due until h before alike e =
+    → IsInCycle (record c { cycle = until; stats = skipped_by c past.config n due }) (past_of past.config past.channel (past.steps ++ replicate n None) past.mail)
+skipped-in_cycle c past n due until h before alike e =
     let more = past.steps ++ replicate n None in
     let j = h.joined in
     let len = length-idle past.steps n in
@@ -168,7 +168,7 @@ passed-in_cycle c past n due until h before alike e =
         banks_are = h.made_for.banks_are;
         in_banks = h.made_for.in_banks;
         within = h.made_for.within;
-        longest = passed-longest c past n due h;
+        longest = skipped-longest c past n due h;
       };
       cycle_is = e ∙ sym len;
       joined = record {
@@ -180,7 +180,7 @@ passed-in_cycle c past n due until h before alike e =
             ∙ sym (idle-queued_requests past.channel past.steps past.mail before n (length more + 1) (omega arith));
         drained_is = j.drained_is ∙ sym (idle-drains past.config past.channel past.steps past.mail before n);
         marks_are = j.marks_are ∙ ap (λ x. marks_of x (waiting_requests c.queue.log)) (sym history);
-        stats_are = passed-stats c past n due h before alike;
+        stats_are = skipped-stats c past n due h before alike;
       };
       candidates_stand = subst (CandidatesStand c.bank_candidates c.queue.log) (sym history) h.candidates_stand;
       banks_stand = subst (BanksStandFor c.banks past.config) (sym history) h.banks_stand;
@@ -191,7 +191,7 @@ passed-in_cycle c past n due until h before alike e =
       keeps_served = subst (λ x. KeepsServed c.served x past.mail) (sym history) h.keeps_served;
     }
 
--- when at least one cycle was passed it stands after them
+-- where at least one cycle was skipped, it stands after them
 skipped-stands : (c : Channel) (s : Config) (channel : ℕ) (steps : List (Option Command)) (mail : List Message) (n : ℕ) → IsInCycle c (past_of s channel (steps ++ replicate n None) mail)
     → Each (λ (m : Message). m.arrival < length steps + 1) mail → Each (ArrivedBefore (length steps + 1)) (requests_of mail) → 0 < n → StandsFor c s channel (steps ++ replicate n None) mail
 skipped-stands c s channel steps mail zero h arrived before some = absurd (omega arith)
@@ -243,29 +243,29 @@ alike c past until due n h dues l same k m =
     ∙ sym (dues c.cycle (omega arith) (omega arith))
 
 -- what is counted, by what is seen
-passed-is : (c : Channel) (past : Past) (until : ℕ) → IsInCycle c past
-    → passed c until ≡ passed_by c past.config (until - c.cycle) (is_some (lowest_owed c.refresh c.cycle))
-passed-is c past until h =
+skipped-is : (c : Channel) (past : Past) (until : ℕ) → IsInCycle c past
+    → skipped c until ≡ skipped_by c past.config (until - c.cycle) (is_some (lowest_owed c.refresh c.cycle))
+skipped-is c past until h =
     ap₂ (λ x d. channel_joined c.stats (channel_times (until - c.cycle) (cycle_with_hit x (length (waiting_requests c.queue.log)) (is_some (lowest_owed c.refresh c.cycle)) d None false)))
     h.made_for.config_is (drain_decided-drains c past h)
 
-pass-fits : (c : Channel) (past : Past) (until : ℕ) → IsInCycle c past
+skip-fits : (c : Channel) (past : Past) (until : ℕ) → IsInCycle c past
     → Each (ArrivedBefore (length past.steps + 1)) (requests_of past.mail) → IsDueThroughout past.config past.channel past.steps (until - c.cycle) (is_some (lowest_owed c.refresh c.cycle)) → c.cycle ≤ until → until ≤ 2 ^ 62
-    → ChannelFits (passed c until)
-pass-fits c past until h before due l early =
-    subst ChannelFits (sym (passed-is c past until h))
-    (passed-fits c past (until - c.cycle) _ h before due (omega (arith, h.cycle_is)))
+    → ChannelFits (skipped c until)
+skip-fits c past until h before due l early =
+    subst ChannelFits (sym (skipped-is c past until h))
+    (skipped-fits c past (until - c.cycle) _ h before due (omega (arith, h.cycle_is)))
 
-pass-in_cycle : (c : Channel) (past : Past) (until : ℕ) → IsInCycle c past
+skip-in_cycle : (c : Channel) (past : Past) (until : ℕ) → IsInCycle c past
     → Each (ArrivedBefore (length past.steps + 1)) (requests_of past.mail) → IsDueThroughout past.config past.channel past.steps (until - c.cycle) (is_some (lowest_owed c.refresh c.cycle)) → c.cycle ≤ until
-    → IsInCycle (record c { cycle = until; stats = passed c until }) (idle_after past c.cycle until)
-pass-in_cycle c past until h before due l =
-    subst (λ x. IsInCycle (record c { cycle = until; stats = x }) (idle_after past c.cycle until)) (sym (passed-is c past until h))
-    (passed-in_cycle c past (until - c.cycle) _ until h before due (omega (arith, h.cycle_is)))
+    → IsInCycle (record c { cycle = until; stats = skipped c until }) (idle_after past c.cycle until)
+skip-in_cycle c past until h before due l =
+    subst (λ x. IsInCycle (record c { cycle = until; stats = x }) (idle_after past c.cycle until)) (sym (skipped-is c past until h))
+    (skipped-in_cycle c past (until - c.cycle) _ until h before due (omega (arith, h.cycle_is)))
 
 -- the channel in the first of the cycles that it skips with a refresh that is due, and at the end of them
-abbrev pub passed_to : Channel → ℕ → Channel
-passed_to c until = record c { cycle = until; stats = passed c until }
+abbrev pub skipped_to : Channel → ℕ → Channel
+skipped_to c until = record c { cycle = until; stats = skipped c until }
 
 -- what is known where a channel passes over cycles
 pub record Skips (c : Channel) (past : Past) (until due : ℕ) : Type 0 where
@@ -288,39 +288,39 @@ skips-alike c past until due h =
     (λ k l. lt-leb due (c.cycle + k) (omega arith) ∙ sym (lt-leb due c.cycle (omega arith)))
 
 pub skips-first_fits : (c : Channel) (past : Past) (until due : ℕ) → Skips c past until due
-    → ChannelFits (passed c due)
+    → ChannelFits (skipped c due)
 skips-first_fits c past until due h =
     let within = h.within in
     let early = h.early in
-    pass-fits c past due h.in_cycle (there-before c past h.in_cycle) (skips-alike c past until due h) h.from_now (omega arith)
+    skip-fits c past due h.in_cycle (there-before c past h.in_cycle) (skips-alike c past until due h) h.from_now (omega arith)
 
 pub skips-second : (c : Channel) (past : Past) (until due : ℕ) → Skips c past until due
-    → IsInCycle (passed_to c due) (idle_after past c.cycle due)
+    → IsInCycle (skipped_to c due) (idle_after past c.cycle due)
 skips-second c past until due h =
-    pass-in_cycle c past due h.in_cycle (there-before c past h.in_cycle) (skips-alike c past until due h) h.from_now
+    skip-in_cycle c past due h.in_cycle (there-before c past h.in_cycle) (skips-alike c past until due h) h.from_now
 
 skips-alike_second : (c : Channel) (past : Past) (until due : ℕ) → Skips c past until due
     → IsDueThroughout past.config past.channel (past.steps ++ replicate (due - c.cycle) None) (until - due) (is_some (lowest_owed c.refresh due))
 skips-alike_second c past until due h =
     let from_now = h.from_now in
     let within = h.within in
-    alike (passed_to c due) (idle_after past c.cycle due) until due (until - due) (skips-second c past until due h)
+    alike (skipped_to c due) (idle_after past c.cycle due) until due (until - due) (skips-second c past until due h)
     (λ cycle l m. h.dues cycle (omega arith) m) (omega arith)
     (λ k l. le-leb due (due + k) (omega arith) ∙ sym (le-leb due due (omega arith)))
 
 pub skips-second_fits : (c : Channel) (past : Past) (until due : ℕ) → Skips c past until due
-    → ChannelFits (passed (passed_to c due) until)
+    → ChannelFits (skipped (skipped_to c due) until)
 skips-second_fits c past until due h =
-    let d = passed_to c due in
+    let d = skipped_to c due in
     let second = skips-second c past until due h in
-    pass-fits d (idle_after past c.cycle due) until second (there-before d (idle_after past c.cycle due) second)
+    skip-fits d (idle_after past c.cycle due) until second (there-before d (idle_after past c.cycle due) second)
     (skips-alike_second c past until due h) h.within h.early
 
 -- the channel after the cycles that it passes over
 pub skips-in_cycle : (c : Channel) (past : Past) (until due : ℕ) → Skips c past until due
-    → IsInCycle (passed_to (passed_to c due) until) (idle_after past (length past.steps) until)
+    → IsInCycle (skipped_to (skipped_to c due) until) (idle_after past (length past.steps) until)
 skips-in_cycle c past until due h =
-    let d = passed_to (passed_to c due) until in
+    let d = skipped_to (skipped_to c due) until in
     let n = due - c.cycle in
     let m = until - due in
     let from_now = h.from_now in
@@ -332,16 +332,16 @@ skips-in_cycle c past until due h =
     ∙ ap (λ x. past.steps ++ x) (replicate-append-replicate {A = Option Command} n m None)
     ∙ ap (λ k. past.steps ++ replicate k None) (let e : n + m ≡ until - length past.steps = omega arith in e) in
     subst (λ r. IsInCycle d (past_of past.config past.channel r past.mail)) whole
-    (pass-in_cycle (passed_to c due) (past_of past.config past.channel (past.steps ++ replicate n None) past.mail) until second
-    (there-before (passed_to c due) (past_of past.config past.channel (past.steps ++ replicate n None) past.mail) second) (skips-alike_second c past until due h) within)
+    (skip-in_cycle (skipped_to c due) (past_of past.config past.channel (past.steps ++ replicate n None) past.mail) until second
+    (there-before (skipped_to c due) (past_of past.config past.channel (past.steps ++ replicate n None) past.mail) second) (skips-alike_second c past until due h) within)
 
 -- the channel after the cycles that it passes over, where a refresh is due in none of them
 pub skips-not_due : (c : Channel) (past : Past) (until due : ℕ) → Skips c past until due → until ≤ due
-    → IsInCycle (passed_to c due) (idle_after past (length past.steps) until)
+    → IsInCycle (skipped_to c due) (idle_after past (length past.steps) until)
 skips-not_due c past until due h l =
     let within = h.within in
     let is = h.in_cycle.cycle_is in
-    subst (λ n. IsInCycle (passed_to c due) (past_of past.config past.channel (past.steps ++ replicate n None) past.mail)) (let e : due - c.cycle ≡ until - length past.steps = omega arith in e) (skips-second c past until due h)
+    subst (λ n. IsInCycle (skipped_to c due) (past_of past.config past.channel (past.steps ++ replicate n None) past.mail)) (let e : due - c.cycle ≡ until - length past.steps = omega arith in e) (skips-second c past until due h)
 
 -- and where one is due in each
 skips-alike_due : (c : Channel) (past : Past) (until due : ℕ) → Skips c past until due → due ≤ c.cycle
@@ -353,20 +353,20 @@ skips-alike_due c past until due h l =
     (λ k m. le-leb due (c.cycle + k) (omega arith) ∙ sym (le-leb due c.cycle (omega arith)))
 
 pub skips-due : (c : Channel) (past : Past) (until due : ℕ) → Skips c past until due → due ≤ c.cycle
-    → IsInCycle (passed_to c until) (idle_after past (length past.steps) until)
+    → IsInCycle (skipped_to c until) (idle_after past (length past.steps) until)
 skips-due c past until due h l =
     let within = h.within in
     let from_now = h.from_now in
     let is = h.in_cycle.cycle_is in
-    subst (λ n. IsInCycle (passed_to c until) (past_of past.config past.channel (past.steps ++ replicate n None) past.mail)) (let e : until - c.cycle ≡ until - length past.steps = omega arith in e)
-    (pass-in_cycle c past until h.in_cycle (there-before c past h.in_cycle) (skips-alike_due c past until due h l) (omega arith))
+    subst (λ n. IsInCycle (skipped_to c until) (past_of past.config past.channel (past.steps ++ replicate n None) past.mail)) (let e : until - c.cycle ≡ until - length past.steps = omega arith in e)
+    (skip-in_cycle c past until h.in_cycle (there-before c past h.in_cycle) (skips-alike_due c past until due h l) (omega arith))
 
 pub skips-due_fits : (c : Channel) (past : Past) (until due : ℕ) → Skips c past until due → due ≤ c.cycle
-    → ChannelFits (passed c until)
+    → ChannelFits (skipped c until)
 skips-due_fits c past until due h l =
     let within = h.within in
     let from_now = h.from_now in
-    pass-fits c past until h.in_cycle (there-before c past h.in_cycle) (skips-alike_due c past until due h l) (omega arith) h.early
+    skip-fits c past until h.in_cycle (there-before c past h.in_cycle) (skips-alike_due c past until due h l) (omega arith) h.early
 
 -- and where there are none
 pub waited-none : (c : Channel) (past : Past) (until : ℕ) → c.cycle ≡ until → IsInCycle c past

@@ -49,7 +49,7 @@ due_count-is inbox now = length-prefix_len (λ (m : Message). eqb m.arrival now)
 -- each message has its request
 pub length-requests : (s : Config) (channel : ℕ) (mail : List Message) → Each (CarriesRequest s channel) mail → length (requests_of mail) ≡ length mail
 length-requests s channel [] h = refl
-length-requests s channel (m ∷ ms) h = by (request_in m.load) h.0 (length-requests s channel ms h.1)
+length-requests s channel (m ∷ ms) h = by (request_in m.payload) h.0 (length-requests s channel ms h.1)
   where
     by : (o : Option Request) → IsRequestIn s channel m o → length (requests_of ms) ≡ length ms → length (cons_option o (requests_of ms)) ≡ suc (length ms)
     by None i e = absurd i

@@ -29,7 +29,7 @@ joined_more q v ms i d l e =
 
 pub requests-few : (ms : List Message) → length (requests_of ms) ≤ length ms
 requests-few [] = omega arith
-requests-few (m ∷ ms) = by (request_in m.load) (requests-few ms)
+requests-few (m ∷ ms) = by (request_in m.payload) (requests-few ms)
   where
     by : (o : Option Request) → length (requests_of ms) ≤ length ms → length (cons_option o (requests_of ms)) ≤ suc (length ms)
     by None h = omega arith

@@ -25,7 +25,7 @@
 --     counted c seen command hit      its statistics after a command
 --     after_cycle c seen command hit      what it is once that is counted
 --     idle_cycle c now      the statistics of a cycle in which a channel issues nothing
---     passed c until      its statistics after such cycles
+--     skipped c until      its statistics after such cycles
 use Rattle.std.specs.Prelude.{◌≡◌, ℕ, ◌+◌, ◌-◌, ◌*◌, ◌<◌, ◌≤◌, Bool, false, List, take, length, is_some, nat_lt, Option, Some, None, IfSome, All, Vec}
 use Rattle.std.specs.List.{AllByRecursion as Each}
 use Rattle.std.specs.declared.alloc.Global.{Global}
@@ -271,5 +271,5 @@ idle_cycle c now = cycle_with_hit c.config (seen_of c now).queued (seen_of c now
 
 -- the statistics of a channel after the cycles before another one, each of which is like the next one, and in which it
 -- issues nothing
-abbrev pub passed : Channel → ℕ → ChannelStats
-passed c until = channel_joined c.stats (channel_times (until - c.cycle) (idle_cycle c c.cycle))
+abbrev pub skipped : Channel → ℕ → ChannelStats
+skipped c until = channel_joined c.stats (channel_times (until - c.cycle) (idle_cycle c c.cycle))

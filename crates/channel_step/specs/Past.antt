@@ -68,7 +68,7 @@ choice_after p = choice p.config p.channel p.steps p.mail
 
 -- the requests that messages carry, in their order
 abbrev pub requests_of : List Message → List Request
-requests_of mail = filter_map (λ m. request_in m.load) mail
+requests_of mail = filter_map (λ m. request_in m.payload) mail
 
 -- A request for a channel, as the message that carries it tells: it comes from a core of the machine on that core's
 -- link, says when it arrives and on which link, and lies where its address does, which is in this channel.
@@ -87,7 +87,7 @@ IsRequestIn s channel m None = ⊥
 
 -- a message carries a request for a channel, as a core of the machine sends it
 abbrev pub CarriesRequest : Config → ℕ → Message → Type 0
-CarriesRequest s channel m = IsRequestIn s channel m (request_in m.load)
+CarriesRequest s channel m = IsRequestIn s channel m (request_in m.payload)
 
 -- two requests are of different entries
 abbrev pub IsOther : Request → Request → Type 0

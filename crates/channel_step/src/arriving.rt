@@ -6,7 +6,7 @@ ghost use Rattle.channel_step.specs.Past.{requests_of};
 ghost use Rattle.channel_step.specs.Queued.{joined_with, with_arrivals};
 
 use queue::Queue;
-use sim_base::message::{Load, Message};
+use sim_base::message::{Payload, Message};
 
 /// Takes in the request that a message carries, if it carries one.
 #[inline(always)]
@@ -15,7 +15,7 @@ fn join(queue: &mut Queue, message: &Message)
     requires places { length queue.old.log < queue.old.places }
     ensures { queue.new ≡ joined_with queue.old (requests_of (message.now ∷ [])) }
 {
-    if let Load::Request(request) = message.load {
+    if let Payload::Request(request) = message.payload {
         queue.arrive(request);
     }
 }

@@ -22,7 +22,7 @@ ghost use Rattle.channel_step.specs.Past.{Past, commands_after, waiting_after, s
 ghost use Rattle.channel_step.specs.Channels.{KeepsServed, StandsFor, HasPast, ForPasts, StandForTheSame, PartsStand, HasMore};
 ghost use Rattle.channel_step.specs.Channels.{IsAhead, IsAheadFor, IsFound, IsQuiet, HasRank, HasBank, issues_in};
 ghost use Rattle.channel_step.specs.Channels.{IsInCycle, ForCycles, IsInSomeCycle, StaysInCycle, IsNextBefore, idle_after};
-ghost use Rattle.channel_step.specs.Channels.{CountsDrains, seen_with, seen_of, counted, after_cycle, passed};
+ghost use Rattle.channel_step.specs.Channels.{CountsDrains, seen_with, seen_of, counted, after_cycle, skipped};
 ghost use Rattle.channel_step.specs.Readied.{IsChosen, IsDoing, IsReadied, IsReady, HasReadied, seen_after};
 ghost use Rattle.channel_step.specs.Readied.{opening_command, closing_command, column_command_at, command_needed, rank_command};
 ghost use Rattle.channel_step.specs.Fit.{queue_room, IsFitAfter};
@@ -273,12 +273,12 @@ impl Channel {
 
     /// Counts the cycles before `until`, in each of which the same is seen as in the next one, and nothing is issued.
     /// They are then over.
-    fn pass(&mut self, refreshing: bool, until: Cycle)
+    fn skip(&mut self, refreshing: bool, until: Cycle)
         requires until { self.old.cycle < until }
         requires refreshing { refreshing ≡ is_some (lowest_owed self.old.refresh self.old.cycle) }
         requires drains { CountsDrains self.old }
-        requires fits { ChannelFits (passed self.old until) }
-        ensures { self.new ≡ record self.old { cycle = until; stats = passed self.old until } }
+        requires fits { ChannelFits (skipped self.old until) }
+        ensures { self.new ≡ record self.old { cycle = until; stats = skipped self.old until } }
     {
         let seen = self.seen(refreshing);
         let cycles = until - self.cycle;
@@ -338,10 +338,10 @@ impl Channel {
         }
         let due = self.due_from(until);
         if self.cycle < due {
-            self.pass(false, due);
+            self.skip(false, due);
         }
         if due < until {
-            self.pass(true, until);
+            self.skip(true, until);
         }
     }
 

@@ -9,7 +9,7 @@ ghost use Rattle.channel_step.specs.Runs.{with_command};
 use command_table::list::CommandList;
 use sim_base::command::{Command, IssuedCommand, Source};
 use sim_base::config::Config;
-use sim_base::message::{Access, ChannelId, CoreId, Cycle, Load, Message, Request};
+use sim_base::message::{Access, ChannelId, CoreId, Cycle, Payload, Message, Request};
 use std::alloc::{AllocError, Global};
 
 /// How many cycles a reply travels to a core, and how many a credit does.
@@ -76,7 +76,7 @@ fn reply_to(sender: &AnsweringChannel<'_>, source: Source, travel: AnswerLatenci
     Message {
         link: config.reply_link(source.core, sender.channel),
         arrival: data + u64::from(travel.reply),
-        load: Load::Reply(source.entry),
+        payload: Payload::Reply(source.entry),
     }
 }
 
@@ -96,7 +96,7 @@ fn credit_for(
     Message {
         link: sender.config.credit_link(source.core, sender.channel),
         arrival: sender.cycle + u64::from(travel.credit),
-        load: Load::Credit {
+        payload: Payload::Credit {
             access,
             entry: source.entry,
         },

@@ -18,14 +18,6 @@ get-front (row ∷ rows) zero place l = absurd (omega (arith, l))
 get-front (row ∷ rows) (suc end) zero l = refl
 get-front (row ∷ rows) (suc end) (suc place) l = get-front rows end place (omega (arith, l))
 
--- a row behind a place is the same without those before the place
-pub get-behind : (rows : List IssuedCommand) (place count : ℕ) → slice_get (drop place rows) count ≡ slice_get rows (place + count)
-get-behind rows zero count = let e : count ≡ 0 + count = omega arith in ap (slice_get rows) e
-get-behind [] (suc place) count = refl
-get-behind (row ∷ rows) (suc place) count =
-    let e : suc (place + count) ≡ suc place + count = omega arith in
-    get-behind rows place count ∙ ap (slice_get (row ∷ rows)) e
-
 -- of a part of a list, the first so many
 pub front-of-part : (rows : List IssuedCommand) (place end count : ℕ) → place + count ≤ end → drop place (take (place + count) rows) ≡ take count (drop place (take end rows))
 front-of-part rows place end count l = ap (drop place) (sym (take-take (place + count) end rows l)) ∙ drop-take place count (take end rows)

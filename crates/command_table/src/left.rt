@@ -152,8 +152,7 @@ impl<'a> Left<'a> {
         requires { IsRising self.now }
         ensures { unwrap_or result [] ≡ rows_up_to cycle self.now }
     {
-        // tells the proof that the end is a usize
-        let _end = self.end;
+        prove!(self.end <= usize::MAX);
         let end = self.place + self.count_up_to(cycle);
         Left::between(self.list, self.place, end)
     }

@@ -16,8 +16,8 @@ use Rattle.sim_base.specs.Windows.{is_reply_to, is_request_for}
 use Rattle.sim_base.specs.declared.history.CoreStep.{CoreStep}
 use Rattle.sim_base.specs.declared.message.Access.{Access}
 use Rattle.sim_base.specs.declared.message.Access.TheVariants as access
-use Rattle.sim_base.specs.declared.message.Load.{Load}
-use Rattle.sim_base.specs.declared.message.Load.TheVariants as load
+use Rattle.sim_base.specs.declared.message.Payload.{Payload}
+use Rattle.sim_base.specs.declared.message.Payload.TheVariants as payload
 use Rattle.sim_base.specs.declared.message.Message.{Message}
 use Rattle.sim_base.specs.declared.trace.Entry.{Entry}
 use Rattle.sim_base.specs.declared.trace.Entry.TheVariants.{Plain, Read, Write}
@@ -47,12 +47,12 @@ plain_others trace first m e h k l ne =
 unanswered : (steps : List CoreStep) (mail : List Message) → Each (FollowsItsEntry steps) mail → (entry : ℕ) → issued_before steps ≤ entry → is_answered mail entry ≡ false
 unfolding is_answered
 unanswered steps [] h entry l = refl
-unanswered steps (m ∷ mail) h entry l = ap₂ (λ a b. a || b) (by m.load h.0) (unanswered steps mail h.1 entry l)
+unanswered steps (m ∷ mail) h entry l = ap₂ (λ a b. a || b) (by m.payload h.0) (unanswered steps mail h.1 entry l)
   where
-    by : (x : Load) → IfSome (replied_entry x) (λ e. e < issued_before (take m.arrival steps)) → is_reply_to entry x ≡ false
-    by (load.Reply e) k = ne_eqb entry e (λ same. omega (arith, issued_before-take-le steps m.arrival))
-    by (load.Request r) k = refl
-    by (load.Credit w e) k = refl
+    by : (x : Payload) → IfSome (replied_entry x) (λ e. e < issued_before (take m.arrival steps)) → is_reply_to entry x ≡ false
+    by (payload.Reply e) k = ne_eqb entry e (λ same. omega (arith, issued_before-take-le steps m.arrival))
+    by (payload.Request r) k = refl
+    by (payload.Credit w e) k = refl
 
 -- an entry that issues in the last cycle
 issue_cycle-last : (steps : List CoreStep) (core_step : CoreStep) (entry : ℕ) → issued_before steps ≤ entry → entry < issued_before steps + core_step.issued → issue_cycle (steps ++ core_step ∷ []) entry ≡ length steps
@@ -170,7 +170,7 @@ is_spending s channel access None = false
 is_spending s channel access (Some e) = is_spending_entry s channel access e.entry
 
 spent-entry : (s : Config) (core cycle number channel : ℕ) (access : Access) (entry : Entry)
-    → count_by (λ m. is_request_for channel access m.load) (option_to_list (request_of s core cycle number entry)) ≡ one_if (is_spending_entry s channel access entry)
+    → count_by (λ m. is_request_for channel access m.payload) (option_to_list (request_of s core cycle number entry)) ≡ one_if (is_spending_entry s channel access entry)
 unfolding request
 spent-entry s core cycle number channel access Plain = refl
 spent-entry s core cycle number channel access.Read (Read address) = omega arith
@@ -179,7 +179,7 @@ spent-entry s core cycle number channel access.Read (Write address) = omega arit
 spent-entry s core cycle number channel access.Write (Write address) = omega arith
 
 spent-memory : (s : Config) (core cycle channel : ℕ) (access : Access) (memory : Option MemoryEntry)
-    → count_by (λ m. is_request_for channel access m.load) (requests_issued s core cycle memory) ≡ one_if (is_spending s channel access memory)
+    → count_by (λ m. is_request_for channel access m.payload) (requests_issued s core cycle memory) ≡ one_if (is_spending s channel access memory)
 spent-memory s core cycle channel access None = refl
 spent-memory s core cycle channel access (Some e) = spent-entry s core cycle e.number channel access e.entry
 
@@ -187,7 +187,7 @@ pub spent-push : (s : Config) (core : ℕ) (trace : List Entry) (steps : List Co
     → IsIssued trace (issued_before steps) core_step.issued memory → (channel : ℕ) (access : Access)
     → credits_spent s core trace (steps ++ core_step ∷ []) channel access ≡ credits_spent s core trace steps channel access + one_if (is_spending s channel access memory)
 spent-push s core trace steps core_step memory h channel access =
-    let p = λ (m : Message). is_request_for channel access m.load in
+    let p = λ (m : Message). is_request_for channel access m.payload in
     ap (count_by p) (messages-push s core trace steps core_step memory h)
     ∙ sum_by-append (λ m. one_if (p m)) (core_messages s core trace steps) (requests_issued s core (length steps) memory)
     ∙ ap (λ n. credits_spent s core trace steps channel access + n) (spent-memory s core (length steps) channel access memory)

@@ -20,7 +20,7 @@ use Rattle.sim_base.specs.Windows.{is_reply_to, is_credit}
 use Rattle.sim_base.specs.declared.history.CoreStep.{CoreStep}
 use Rattle.sim_base.specs.declared.message.Access.{Access}
 use Rattle.sim_base.specs.declared.message.Access.TheVariants as access
-use Rattle.sim_base.specs.declared.message.Load.TheVariants as load
+use Rattle.sim_base.specs.declared.message.Payload.TheVariants as payload
 use Rattle.sim_base.specs.declared.message.Message.{Message}
 use Rattle.sim_base.specs.declared.trace.Entry.{Entry}
 use Rattle.sim_base.proofs.Each.{Each-append}
@@ -63,9 +63,9 @@ reply-room s core trace steps mail a entry h l =
     }
 
 -- what the reply to an entry answers
-answered-more : (mail : List Message) (m : Message) (entry : ℕ) → is_answered (mail ++ m ∷ []) entry ≡ (is_answered mail entry || (is_reply_to entry m.load || false))
+answered-more : (mail : List Message) (m : Message) (entry : ℕ) → is_answered (mail ++ m ∷ []) entry ≡ (is_answered mail entry || (is_reply_to entry m.payload || false))
 unfolding is_answered
-answered-more mail m entry = list_any-append (λ (x : Message). is_reply_to entry x.load) mail (m ∷ [])
+answered-more mail m entry = list_any-append (λ (x : Message). is_reply_to entry x.payload) mail (m ∷ [])
 
 abbrev keep_if : {X : Type 0} → (X → Bool) → Option X → Option X
 keep_if q None = None
@@ -83,7 +83,7 @@ filter-filter_map {X = X} q f g h (x ∷ xs) = by (f x) (filter-filter_map q f g
     by None r = r
     by (Some y) r = one y (q y) r
 
-reply_takes : (trace : List Entry) (steps : List CoreStep) (mail : List Message) (m : Message) (entry : ℕ) → m.load ≡ load.Reply entry → (k : ℕ)
+reply_takes : (trace : List Entry) (steps : List CoreStep) (mail : List Message) (m : Message) (entry : ℕ) → m.payload ≡ payload.Reply entry → (k : ℕ)
     → outstanding_read trace steps (mail ++ m ∷ []) k ≡ keep_if (λ (r : OutstandingRead). not (eqb r.entry entry)) (outstanding_read trace steps mail k)
 unfolding outstanding_read
 reply_takes trace steps mail m entry e k =
@@ -106,7 +106,7 @@ reply_takes trace steps mail m entry e k =
     by true false = last (eqb k entry)
 
 -- the Reads that wait after a reply
-outstanding_reads-reply : (trace : List Entry) (steps : List CoreStep) (mail : List Message) (m : Message) (entry : ℕ) → m.load ≡ load.Reply entry
+outstanding_reads-reply : (trace : List Entry) (steps : List CoreStep) (mail : List Message) (m : Message) (entry : ℕ) → m.payload ≡ payload.Reply entry
     → outstanding_reads trace steps (mail ++ m ∷ []) ≡ filter (λ r. not (eqb r.entry entry)) (outstanding_reads trace steps mail)
 unfolding outstanding_reads
 outstanding_reads-reply trace steps mail m entry e =
@@ -191,7 +191,7 @@ had-more s core mail m channel access =
     omega arith
 
 answered-kept : (mail : List Message) (m : Message) (entry : ℕ) → is_answered mail entry ≡ true → is_answered (mail ++ m ∷ []) entry ≡ true
-answered-kept mail m entry h = answered-more mail m entry ∙ ap (λ b. b || (is_reply_to entry m.load || false)) h
+answered-kept mail m entry h = answered-more mail m entry ∙ ap (λ b. b || (is_reply_to entry m.payload || false)) h
 
 past-receives : (s : Config) (core : ℕ) (trace : List Entry) (steps : List CoreStep) (mail : List Message) (m : Message) → IsPast s core trace steps mail → m.arrival ≡ length steps
     → FollowsItsEntry steps m → length (filter is_reply (mail ++ m ∷ [])) + length (outstanding_reads trace steps (mail ++ m ∷ [])) ≤ issued_before steps
@@ -226,14 +226,14 @@ replies_in-more steps mail m now =
     and_true true = refl
     and_true false = refl
 
-reply_follows : (steps : List CoreStep) (m : Message) (entry : ℕ) → m.load ≡ load.Reply entry → m.arrival ≡ length steps → entry < issued_before steps → FollowsItsEntry steps m
+reply_follows : (steps : List CoreStep) (m : Message) (entry : ℕ) → m.payload ≡ payload.Reply entry → m.arrival ≡ length steps → entry < issued_before steps → FollowsItsEntry steps m
 reply_follows steps m entry e now l =
     subst (λ x. IfSome (replied_entry x) (λ k. k < issued_before (take m.arrival steps))) (sym e)
     (subst (λ r. entry < issued_before r) (sym (ap (λ n. take n steps) now ∙ take-length steps)) l)
 
 -- the core after a reply
 pub reply-stands : (s : Config) (core : ℕ) (trace : List Entry) (steps : List CoreStep) (mail : List Message) (m : Message) (a b : CoreView) (entry : ℕ)
-    → StandsAt s core trace steps mail a → m.arrival ≡ length steps → m.load ≡ load.Reply entry → IsAwaited trace steps mail entry
+    → StandsAt s core trace steps mail a → m.arrival ≡ length steps → m.payload ≡ payload.Reply entry → IsAwaited trace steps mail entry
     → b ≡ after_reply a (record { entry = entry; issued = issue_cycle steps entry })
     → StandsAt s core trace steps (mail ++ m ∷ []) b
 unfolding core_stats waited
@@ -284,7 +284,7 @@ reply-stands s core trace steps mail m a b entry h now is due e =
     stats : record a.stats { replies = a.stats.replies + 1; read_latency = a.stats.read_latency + (a.now - issue_cycle steps entry) }
         ≡ core_joined (core_stats s core trace steps (mail ++ m ∷ [])) (core_arrived steps (mail ++ m ∷ []))
     stats =
-        let wait = λ (x : Message). wait_of steps x.arrival (replied_entry x.load) in
+        let wait = λ (x : Message). wait_of steps x.arrival (replied_entry x.payload) in
         let one : length (replies_in (length steps) (mail ++ m ∷ [])) ≡ length (replies_in (length steps) mail) + 1 = ap length arrived ∙ length-push_suc (replies_in (length steps) mail) m ∙ sym (add-one _) in
         let sum : waited steps (replies_in (length steps) (mail ++ m ∷ [])) ≡ waited steps (replies_in (length steps) mail) + (a.now - issue_cycle steps entry) =
         ap (sum_by wait) arrived ∙ sum_by_push wait (replies_in (length steps) mail) m
@@ -325,7 +325,7 @@ more-of access.Write hr hw sr sw l k d e f = same_credits d _ (omega arith) (ome
 
 -- the core after a credit
 pub credit-stands : (s : Config) (core : ℕ) (trace : List Entry) (steps : List CoreStep) (mail : List Message) (m : Message) (a b : CoreView) (kind : Access) (entry : ℕ)
-    → StandsAt s core trace steps mail a → m.arrival ≡ length steps → m.load ≡ load.Credit kind entry → IsOwed s core trace steps mail m.link kind
+    → StandsAt s core trace steps mail a → m.arrival ≡ length steps → m.payload ≡ payload.Credit kind entry → IsOwed s core trace steps mail m.link kind
     → b ≡ record a { credits = b.credits } → length b.credits ≡ length a.credits
     → ((channel : ℕ) (c : Credits) → slice_get a.credits channel ≡ Some c → (m.link / 3 % a.config.channels ≡ channel → credits_of_kind kind c + 1 < 2 ^ 64)
     → slice_get b.credits channel ≡ Some (cond (eqb (m.link / 3 % a.config.channels) channel) (more_credit kind c) c))
@@ -372,7 +372,7 @@ credit-stands s core trace steps mail m a b kind entry h now is due rest len eac
 
         elsewhere : (channel : ℕ) → channel < s.channels → (due.channel ≡ channel → ⊥) → (w : Access) → one_if (is_credit_from (credit_link s core channel) w m) ≡ 0
         elsewhere channel l other w =
-            ap (λ b. one_if (b && is_credit w m.load)) (ne_eqb m.link (credit_link s core channel)
+            ap (λ b. one_if (b && is_credit w m.payload)) (ne_eqb m.link (credit_link s core channel)
             (λ e. other (sym (channel_of_link s core due.channel due.exists) ∙ ap (λ n. n / 3 % s.channels) (sym due.on_its_link ∙ e) ∙ channel_of_link s core channel l)))
 
         keeps : (channel : ℕ) → ((w : Access) → one_if (is_credit_from (credit_link s core channel) w m) ≡ 0) → credits_now s core trace steps mail channel ≡ credits_now s core trace steps (mail ++ m ∷ []) channel

@@ -24,8 +24,8 @@ pub replied-answered : (mail : List Message) (now entry : ℕ) → Each (λ m. m
 unfolding is_replied is_answered
 replied-answered [] now entry h = refl
 replied-answered (m ∷ mail) now entry h =
-    ap₂ (λ a b. (is_reply_to entry m.load && a) || b) (le-leb m.arrival now h.0) (replied-answered mail now entry h.1)
-    ∙ ap (λ a. a || list_any (λ (x : Message). is_reply_to entry x.load) mail) (and_true (is_reply_to entry m.load))
+    ap₂ (λ a b. (is_reply_to entry m.payload && a) || b) (le-leb m.arrival now h.0) (replied-answered mail now entry h.1)
+    ∙ ap (λ a. a || list_any (λ (x : Message). is_reply_to entry x.payload) mail) (and_true (is_reply_to entry m.payload))
   where
     and_true : (b : Bool) → (b && true) ≡ b
     and_true true = refl

@@ -114,10 +114,10 @@ underway-standing until a b x y u h =
 
 -- all of the mail came before a cycle
 held-all : (s : Config) (core : ℕ) (mail sent : List Message) (channel : ℕ) (access : Access) (until : ℕ) → Each (λ m. m.arrival < until) mail
-    → held s core mail sent channel access until ≡ credits_had s core mail channel access - count_by (λ m. is_request_for channel access m.load) sent
+    → held s core mail sent channel access until ≡ credits_had s core mail channel access - count_by (λ m. is_request_for channel access m.payload) sent
 unfolding held
 held-all s core mail sent channel access until h =
-    ap (λ n. credit_cap s access + n - count_by (λ (m : Message). is_request_for channel access m.load) sent) (same mail h)
+    ap (λ n. credit_cap s access + n - count_by (λ (m : Message). is_request_for channel access m.payload) sent) (same mail h)
   where
     link : ℕ
     link = credit_link s core channel
@@ -130,8 +130,8 @@ held-all s core mail sent channel access until h =
     same [] k = refl
     same (m ∷ ms) k =
         sum_by-cons (λ (x : Message). one_if (is_credit_on link access until x)) m ms
-        ∙ ap₂ (λ b n. one_if (eqb m.link link && is_credit access m.load && b) + n) (lt-ltb m.arrival until k.0) (same ms k.1)
-        ∙ ap (λ b. one_if b + count_by (is_credit_from link access) ms) (and_true (eqb m.link link && is_credit access m.load))
+        ∙ ap₂ (λ b n. one_if (eqb m.link link && is_credit access m.payload && b) + n) (lt-ltb m.arrival until k.0) (same ms k.1)
+        ∙ ap (λ b. one_if b + count_by (is_credit_from link access) ms) (and_true (eqb m.link link && is_credit access m.payload))
         ∙ sym (sum_by-cons (λ (x : Message). one_if (is_credit_from link access x)) m ms)
 
 credits_of-now : (s : Config) (core : ℕ) (trace : List Entry) (steps : List CoreStep) (mail : List Message) (channel : ℕ) → Each (λ m. m.arrival < length steps) mail

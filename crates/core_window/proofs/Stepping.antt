@@ -65,7 +65,7 @@ writes-issued trace first m (Some e) h =
 -- a reply of the cycle or of one before it followed its entry
 pub follows-read : (steps : List CoreStep) (core_step : CoreStep) (mail : List Message) → Each (λ m. m.arrival ≤ length steps) mail → Each (FollowsItsEntry steps) mail → RepliesFollowReads (steps ++ core_step ∷ []) mail
 follows-read steps core_step [] a h = tt
-follows-read steps core_step (m ∷ mail) a h = (by (replied_entry m.load) h.0, follows-read steps core_step mail a.1 h.1)
+follows-read steps core_step (m ∷ mail) a h = (by (replied_entry m.payload) h.0, follows-read steps core_step mail a.1 h.1)
   where
     by : (o : Option ℕ) → IfSome o (λ entry. entry < issued_before (take m.arrival steps))
         → IfSome o (λ entry. m.arrival < length (steps ++ core_step ∷ []) → entry < issued_before (take m.arrival (steps ++ core_step ∷ [])))
@@ -74,7 +74,7 @@ follows-read steps core_step (m ∷ mail) a h = (by (replied_entry m.load) h.0, 
 
 follows-entry : (steps : List CoreStep) (core_step : CoreStep) (mail : List Message) → Each (λ m. m.arrival ≤ length steps) mail → Each (FollowsItsEntry steps) mail → Each (FollowsItsEntry (steps ++ core_step ∷ [])) mail
 follows-entry steps core_step [] a h = tt
-follows-entry steps core_step (m ∷ mail) a h = (by (replied_entry m.load) h.0, follows-entry steps core_step mail a.1 h.1)
+follows-entry steps core_step (m ∷ mail) a h = (by (replied_entry m.payload) h.0, follows-entry steps core_step mail a.1 h.1)
   where
     by : (o : Option ℕ) → IfSome o (λ entry. entry < issued_before (take m.arrival steps)) → IfSome o (λ entry. entry < issued_before (take m.arrival (steps ++ core_step ∷ [])))
     by None k = tt
@@ -104,10 +104,10 @@ stats-push s core trace steps mail core_step why memory past cycle_work =
 
 -- all of the mail counts
 pub held-now : (s : Config) (core : ℕ) (mail sent : List Message) (channel : ℕ) (access : Access) (now : ℕ) → Each (λ m. m.arrival ≤ now) mail
-    → held s core mail sent channel access (now + 1) ≡ credits_had s core mail channel access - count_by (λ m. is_request_for channel access m.load) sent
+    → held s core mail sent channel access (now + 1) ≡ credits_had s core mail channel access - count_by (λ m. is_request_for channel access m.payload) sent
 unfolding held
 held-now s core mail sent channel access now h =
-    ap (λ n. credit_cap s access + n - count_by (λ (m : Message). is_request_for channel access m.load) sent) (same mail h)
+    ap (λ n. credit_cap s access + n - count_by (λ (m : Message). is_request_for channel access m.payload) sent) (same mail h)
   where
     link : ℕ
     link = credit_link s core channel
@@ -120,8 +120,8 @@ held-now s core mail sent channel access now h =
     same [] k = refl
     same (m ∷ ms) k =
         sum_by-cons (λ (x : Message). one_if (is_credit_on link access (now + 1) x)) m ms
-        ∙ ap₂ (λ b n. one_if (eqb m.link link && is_credit access m.load && b) + n) (lt-ltb m.arrival (now + 1) (omega (arith, k.0))) (same ms k.1)
-        ∙ ap (λ b. one_if b + count_by (is_credit_from link access) ms) (and_true (eqb m.link link && is_credit access m.load))
+        ∙ ap₂ (λ b n. one_if (eqb m.link link && is_credit access m.payload && b) + n) (lt-ltb m.arrival (now + 1) (omega (arith, k.0))) (same ms k.1)
+        ∙ ap (λ b. one_if b + count_by (is_credit_from link access) ms) (and_true (eqb m.link link && is_credit access m.payload))
         ∙ sym (sum_by-cons (λ (x : Message). one_if (is_credit_from link access x)) m ms)
 
 -- a memory entry issues only with a credit

@@ -1,5 +1,5 @@
 -- A Read is taken out of those that wait, which are in the order of their numbers.
-use Rattle.std.proofs.Common.{get_or, set, ◌≡◌, ℕ, ◌+◌, ◌<◌, Bool, true, false, cond, not, eqb, List, [], ◌∷◌, ◌++◌, length, drop, Option, Some, None, refl, sym, ap, ap₂, subst, ◌∙◌, arith, append_assoc}
+use Rattle.std.proofs.Common.{get_or, set, ◌≡◌, ℕ, ◌+◌, ◌<◌, Bool, true, false, cond, not, eqb, List, [], ◌∷◌, ◌++◌, length, drop, Some, None, refl, sym, ap, ap₂, subst, ◌∙◌, arith, append_assoc}
 use Rattle.std.specs.Prelude.{filter, find}
 use Rattle.std.specs.List.{AllByRecursion as Each}
 use Rattle.std.proofs.Math.Seq.{get_or-append_seam, set-append_seam}
@@ -78,12 +78,6 @@ carrying-last entry old first places place held h same read is =
       ap (drop (first + 1)) h.all ∙ drop-append-le (first + 1) h.front h.back (omega (arith, h.inside))
           ∙ sym (h.others ∙ ap (λ l. drop (first + 1) h.front ++ l) rest),
     )
-
--- no other is left
-ended : (entry : ℕ) (old : List OutstandingRead) (held : OutstandingRead) (front back : List OutstandingRead) → length (front ++ back) ≡ length front → eqb held.entry entry ≡ false
-    → read_of entry old ≡ read_of entry (held ∷ back) → read_of entry old ≡ None
-ended entry old held front [] long other found = found ∙ ap (λ b. cond {A = Option OutstandingRead} b (Some held) None) other
-ended entry old held front (x ∷ back) long other found = absurd (omega (arith, long, length-append front (x ∷ back)))
 
 -- the Read that is found has the number
 pub found-own : (e : ℕ) (reads : List OutstandingRead) (read : OutstandingRead) → find (is_it e) reads ≡ Some read → read.entry ≡ e

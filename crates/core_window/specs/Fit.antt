@@ -13,8 +13,8 @@ use Rattle.sim_base.specs.Machine.{core_run}
 use Rattle.sim_base.specs.Windows.{credit_cap}
 use Rattle.sim_base.specs.declared.history.CoreStep.{CoreStep}
 use Rattle.sim_base.specs.declared.message.Access.{Access}
-use Rattle.sim_base.specs.declared.message.Load.{Load}
-use Rattle.sim_base.specs.declared.message.Load.TheVariants as load
+use Rattle.sim_base.specs.declared.message.Payload.{Payload}
+use Rattle.sim_base.specs.declared.message.Payload.TheVariants as payload
 use Rattle.sim_base.specs.declared.message.Message.{Message}
 use Rattle.sim_base.specs.declared.trace.Entry.{Entry}
 use Rattle.core_window.specs.Stands.{credits_had, credits_spent, StandsFor}
@@ -35,14 +35,14 @@ pub record IsOwed (s : Config) (core : ℕ) (trace : List Entry) (steps : List C
   pub has_room : credits_had s core mail channel access < credit_cap s access + credits_spent s core trace steps channel access
 
 -- what a message may bring in the cycle after these steps, after this mail: a reply or a credit
-abbrev pub IsDueLoad : Config → ℕ → List Entry → List CoreStep → List Message → ℕ → Load → Type 0
-IsDueLoad s core trace steps mail link (load.Reply entry) = IsAwaited trace steps mail entry
-IsDueLoad s core trace steps mail link (load.Credit access entry) = IsOwed s core trace steps mail link access
-IsDueLoad s core trace steps mail link (load.Request r) = ⊥
+abbrev pub IsDuePayload : Config → ℕ → List Entry → List CoreStep → List Message → ℕ → Payload → Type 0
+IsDuePayload s core trace steps mail link (payload.Reply entry) = IsAwaited trace steps mail entry
+IsDuePayload s core trace steps mail link (payload.Credit access entry) = IsOwed s core trace steps mail link access
+IsDuePayload s core trace steps mail link (payload.Request r) = ⊥
 
 -- a message may come in the cycle after these steps, after this mail
 abbrev pub IsDue : Config → ℕ → List Entry → List CoreStep → List Message → Message → Type 0
-IsDue s core trace steps mail m = IsDueLoad s core trace steps mail m.link m.load
+IsDue s core trace steps mail m = IsDuePayload s core trace steps mail m.link m.payload
 
 -- each message comes no sooner than those before it
 abbrev pub IsByArrival : List Message → Type 0

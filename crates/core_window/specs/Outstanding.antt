@@ -24,7 +24,7 @@ is_read_at trace entry = is_read_in (slice_get trace entry)
 
 -- a reply to this entry is among the messages
 unfoldable pub is_answered : List Message → ℕ → Bool
-is_answered mail entry = list_any (λ m. is_reply_to entry m.load) mail
+is_answered mail entry = list_any (λ m. is_reply_to entry m.payload) mail
 
 -- an entry that was issued, if it is a Read that has no reply, with the cycle in which it was issued
 unfoldable pub outstanding_read : List Entry → List CoreStep → List Message → ℕ → Option OutstandingRead

@@ -21,11 +21,11 @@ use Rattle.std.specs.Prelude.{take, ◌==◌, ◌&&◌}
 
 -- a reply is of an entry that was issued in an earlier cycle than the one in which it arrived
 abbrev pub FollowsItsEntry : List CoreStep → Message → Type 0
-FollowsItsEntry steps m = IfSome (replied_entry m.load) (λ entry. entry < issued_before (take m.arrival steps))
+FollowsItsEntry steps m = IfSome (replied_entry m.payload) (λ entry. entry < issued_before (take m.arrival steps))
 
 -- a credit on this link
 abbrev pub is_credit_from : ℕ → Access → Message → Bool
-is_credit_from link access m = (m.link == link) && is_credit access m.load
+is_credit_from link access m = (m.link == link) && is_credit access m.payload
 
 -- the credits that a core had for a channel in all: those at first, and those that came
 abbrev pub credits_had : Config → ℕ → List Message → ℕ → Access → ℕ
@@ -33,7 +33,7 @@ credits_had s core mail channel access = credit_cap s access + count_by (is_cred
 
 -- the credits that a core spent for a channel
 abbrev pub credits_spent : Config → ℕ → List Entry → List CoreStep → ℕ → Access → ℕ
-credits_spent s core trace steps channel access = count_by (λ m. is_request_for channel access m.load) (core_messages s core trace steps)
+credits_spent s core trace steps channel access = count_by (λ m. is_request_for channel access m.payload) (core_messages s core trace steps)
 
 -- What holds of the steps of a core, one a cycle, and of the messages that it had, those of the next cycle perhaps
 -- included.

@@ -36,7 +36,7 @@ use cpu_trace::entries::MemoryEntry;
 use cpu_trace::trace::Trace;
 use sim_base::config::Config;
 use sim_base::history::CoreStep;
-use sim_base::message::{Access, CoreId, Cycle, LinkId, Load, Message};
+use sim_base::message::{Access, CoreId, Cycle, LinkId, Payload, Message};
 use sim_base::trace::{Entry, Stop};
 use statistics::cores::CoreStats;
 use statistics::final_state::Credits;
@@ -203,7 +203,7 @@ impl Core {
     }
 
     /// Goes on by some cycles, in each of which the core does the same.
-    fn pass(&mut self, core_step: CoreStep, why: Stop, cycles: u64)
+    fn repeat(&mut self, core_step: CoreStep, why: Stop, cycles: u64)
         requires stands { IsStanding (view_of self.old) }
         requires steady { IsSteady (view_of self.old) cycles core_step why }
         requires some { 0 < cycles }
@@ -245,10 +245,10 @@ impl Core {
         requires early { self.old.cycle < 2 ^ 62 }
         ensures { TakesIn (view_of self.old) message (view_of self.new) }
     {
-        match message.load {
-            Load::Reply(entry) => self.take_reply(entry),
-            Load::Credit { access, .. } => self.take_credit_on(message.link, access),
-            Load::Request(_) => (),
+        match message.payload {
+            Payload::Reply(entry) => self.take_reply(entry),
+            Payload::Credit { access, .. } => self.take_credit_on(message.link, access),
+            Payload::Request(_) => (),
         }
     }
 
@@ -287,7 +287,7 @@ impl Core {
     {
         let cycle_work = self.cycle_work();
         if cycle_work.core_step.retired == 0 && cycle_work.core_step.issued == 0 {
-            self.pass(cycle_work.core_step, cycle_work.why, until - self.cycle);
+            self.repeat(cycle_work.core_step, cycle_work.why, until - self.cycle);
             Ok(())
         } else {
             self.step(cycle_work, sent)
@@ -327,7 +327,7 @@ impl Core {
         ensures cycle { self.new.cycle ≡ until }
     {
         let cycle_work = self.idle_work();
-        self.pass(cycle_work.core_step, cycle_work.why, until - self.cycle);
+        self.repeat(cycle_work.core_step, cycle_work.why, until - self.cycle);
     }
 
     /// Goes on by the cycles, at most up to a cycle, in which the core issues its width of Plain entries and does the
@@ -346,7 +346,7 @@ impl Core {
             retired: flow.retired,
             issued: self.config.width,
         };
-        self.pass(core_step, Stop::Width, flow.cycles);
+        self.repeat(core_step, Stop::Width, flow.cycles);
     }
 
     /// Goes on by some cycles, at most up to a cycle.

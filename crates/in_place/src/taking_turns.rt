@@ -51,14 +51,14 @@ fn channels_turn(
         there: at.cores_at,
         until,
     };
-    traffic.mail.sent.clear();
+    traffic.lists.sent.clear();
     go_on(machine, traffic, &mut kinds.channels, &span)?;
     take_up(
         &machine.config,
         &mut traffic.links,
         kinds.cores.first,
         &mut kinds.cores.words,
-        &mut traffic.mail.sent,
+        &mut traffic.lists.sent,
     )?;
     Ok(())
 }
@@ -84,14 +84,14 @@ fn cores_turn(
         there: at.channels_at,
         until,
     };
-    traffic.mail.sent.clear();
+    traffic.lists.sent.clear();
     go_on(machine, traffic, &mut kinds.cores, &span)?;
     take_up(
         &machine.config,
         &mut traffic.links,
         kinds.channels.first,
         &mut kinds.channels.words,
-        &mut traffic.mail.sent,
+        &mut traffic.lists.sent,
     )?;
     Ok(())
 }

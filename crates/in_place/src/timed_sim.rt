@@ -13,7 +13,7 @@ use std::alloc::{AllocError, Global};
 use std::marker::Model;
 use std::sync::Arc;
 use units::machine::Machine;
-use units::mail::Mail;
+use units::message_lists::MessageLists;
 use units::part::UnitState;
 use units::sim::Sim;
 use units::timed_unit::Traffic;
@@ -73,7 +73,7 @@ fn by_kind(
 fn brought_up(
     alloc: Global,
     machine: &Machine,
-    mail: &mut Mail,
+    lists: &mut MessageLists,
     kinds: UnitsByKind,
     now: Cycle,
 ) -> Result<Vec<UnitState>, AllocError>
@@ -87,8 +87,8 @@ fn brought_up(
 {
     let UnitsByKind { cores, channels } = kinds;
     let mut parts = Vec::with_capacity(alloc, cores.units.len() + channels.units.len())?;
-    bring_up(machine, mail, cores, now, &mut parts)?;
-    bring_up(machine, mail, channels, now, &mut parts)?;
+    bring_up(machine, lists, cores, now, &mut parts)?;
+    bring_up(machine, lists, channels, now, &mut parts)?;
     Ok(parts)
 }
 
@@ -106,13 +106,13 @@ impl TimedSim {
             links,
         } = sim;
         let kinds = by_kind(alloc, &machine, parts, now)?;
-        let mail = Mail::new(alloc);
+        let lists = MessageLists::new(alloc);
         Ok(TimedSim {
             machine,
             now,
             phase,
             kinds,
-            traffic: Traffic { links, mail },
+            traffic: Traffic { links, lists },
         })
     }
 
@@ -128,8 +128,8 @@ impl TimedSim {
             kinds,
             traffic,
         } = self;
-        let Traffic { links, mut mail } = traffic;
-        let parts = brought_up(alloc, &machine, &mut mail, kinds, now)?;
+        let Traffic { links, mut lists } = traffic;
+        let parts = brought_up(alloc, &machine, &mut lists, kinds, now)?;
         Ok(Sim {
             machine,
             now,

@@ -20,8 +20,8 @@ use Rattle.sim_base.specs.declared.history.CoreStep.{CoreStep}
 use Rattle.sim_base.specs.declared.command.Command.{Command}
 use Rattle.sim_base.specs.declared.command.Command.TheVariants.{Act, Rd, Wr, Pre, Prea, Ref}
 use Rattle.sim_base.specs.declared.command.Source.{Source}
-use Rattle.sim_base.specs.declared.message.Load.{Load}
-use Rattle.sim_base.specs.declared.message.Load.TheVariants as load
+use Rattle.sim_base.specs.declared.message.Payload.{Payload}
+use Rattle.sim_base.specs.declared.message.Payload.TheVariants as payload
 use Rattle.sim_base.specs.declared.message.Message.{Message}
 use Rattle.sim_base.specs.declared.message.Request.{Request}
 use Rattle.sim_base.specs.declared.message.Unit.TheVariants.{Core}
@@ -60,10 +60,10 @@ issued-kept steps core_step a = go (cases_lt a (length steps))
 abbrev Answers : List (List Entry) → List MachineStep → Config → ℕ → Message → Type 0
 Answers traces history s c m = is_to s (Core c) m ≡ true → AnswersRead (trace_of traces c) (steps_of_core c history) m
 
-answers-kept : (trace : List Entry) (steps : List CoreStep) (core_step : CoreStep) (cycle : ℕ) (l : Load) → AnswersReadAs trace steps cycle l → AnswersReadAs trace (steps ++ core_step ∷ []) cycle l
-answers-kept trace steps core_step cycle (load.Reply entry) h = (h.0, let k = issued-kept steps core_step cycle in omega arith)
-answers-kept trace steps core_step cycle (load.Request r) h = tt
-answers-kept trace steps core_step cycle (load.Credit access entry) h = tt
+answers-kept : (trace : List Entry) (steps : List CoreStep) (core_step : CoreStep) (cycle : ℕ) (l : Payload) → AnswersReadAs trace steps cycle l → AnswersReadAs trace (steps ++ core_step ∷ []) cycle l
+answers-kept trace steps core_step cycle (payload.Reply entry) h = (h.0, let k = issued-kept steps core_step cycle in omega arith)
+answers-kept trace steps core_step cycle (payload.Request r) h = tt
+answers-kept trace steps core_step cycle (payload.Credit access entry) h = tt
 
 request-answers : (s : Config) (traces : List (List Entry)) (history : List MachineStep) (c core cycle entry : ℕ) (e : Entry) → IfSome (request_of s core cycle entry e) (Answers traces history s c)
 unfolding request
@@ -137,7 +137,7 @@ messages-answer s traces c (suc n) =
     Each-messages (Answers traces (history ++ machine_step ∷ []) s c) s traces history machine_step
     (Each-weaker (Answers traces history s c) (Answers traces (history ++ machine_step ∷ []) s c)
     (λ m h k. subst (λ steps. AnswersRead (trace_of traces c) steps m) (sym (map-append (step_of_core c) history (machine_step ∷ [])))
-    (answers-kept (trace_of traces c) (steps_of_core c history) (step_of_core c machine_step) m.arrival m.load (h k)))
+    (answers-kept (trace_of traces c) (steps_of_core c history) (step_of_core c machine_step) m.arrival m.payload (h k)))
     (messages s traces history) (messages-answer s traces c n))
     (sends-answers s traces n c)
 
@@ -153,7 +153,7 @@ replies_answer_reads s traces n c l =
 
 -- a reply to this entry of this core
 abbrev replies_to : Config → ℕ → ℕ → Message → Bool
-replies_to s c entry m = is_to s (Core c) m && is_reply_to entry m.load
+replies_to s c entry m = is_to s (Core c) m && is_reply_to entry m.payload
 
 abbrev Served : Config → List (List Entry) → ℕ → ℕ → ℕ → Type 0
 Served s traces c entry n = (k : ℕ) × (k < s.channels) × ServesAt s traces c entry k n
@@ -337,7 +337,7 @@ pub reads_are_answered_once : (s : Config) (traces : List (List Entry)) (n : ℕ
 unfolding inbox
 reads_are_answered_once s traces n c entry l =
     let ms = messages s traces (run s traces n) in
-    let e : count_by (λ (m : Message). is_reply_to entry m.load) (by_age (filter (is_to s (Core c)) ms)) ≡ count_by (replies_to s c entry) ms =
-    count-by_age (λ (m : Message). is_reply_to entry m.load) (filter (is_to s (Core c)) ms) ∙ count-filter (is_to s (Core c)) (λ (m : Message). is_reply_to entry m.load) ms in
+    let e : count_by (λ (m : Message). is_reply_to entry m.payload) (by_age (filter (is_to s (Core c)) ms)) ≡ count_by (replies_to s c entry) ms =
+    count-by_age (λ (m : Message). is_reply_to entry m.payload) (filter (is_to s (Core c)) ms) ∙ count-filter (is_to s (Core c)) (λ (m : Message). is_reply_to entry m.payload) ms in
     let b = one_reply s traces c entry n in
     omega arith

@@ -45,16 +45,16 @@ is_of core access r = eqb r.core core && is_access access r.access
 
 requests-more : (q : Request → Bool) (s : Config) (traces : List (List Entry)) (n k : ℕ)
     → count_by q (requests_to s traces (suc n) k)
-    ≡ count_by q (requests_to s traces n k) + count_by (λ m. is_to s (Channel k) m && test_in q (request_in m.load)) (sends s traces (run s traces n) (next_step s traces (run s traces n)))
+    ≡ count_by q (requests_to s traces n k) + count_by (λ m. is_to s (Channel k) m && test_in q (request_in m.payload)) (sends s traces (run s traces n) (next_step s traces (run s traces n)))
 requests-more q s traces n k =
-    count-filter_map q (λ (m : Message). request_in m.load) (inbox s traces (run s traces (suc n)) (Channel k))
-    ∙ inbox-more (λ (m : Message). test_in q (request_in m.load)) s traces n (Channel k)
-    ∙ ap (λ i. i + count_by (λ m. is_to s (Channel k) m && test_in q (request_in m.load)) (sends s traces (run s traces n) (next_step s traces (run s traces n))))
-    (sym (count-filter_map q (λ (m : Message). request_in m.load) (inbox s traces (run s traces n) (Channel k))))
+    count-filter_map q (λ (m : Message). request_in m.payload) (inbox s traces (run s traces (suc n)) (Channel k))
+    ∙ inbox-more (λ (m : Message). test_in q (request_in m.payload)) s traces n (Channel k)
+    ∙ ap (λ i. i + count_by (λ m. is_to s (Channel k) m && test_in q (request_in m.payload)) (sends s traces (run s traces n) (next_step s traces (run s traces n))))
+    (sym (count-filter_map q (λ (m : Message). request_in m.payload) (inbox s traces (run s traces n) (Channel k))))
 
 -- a message to this channel with a request of this kind and core
 abbrev brings : Config → ℕ → ℕ → Access → Message → Bool
-brings s core k access m = is_to s (Channel k) m && test_in (is_of core access) (request_in m.load)
+brings s core k access m = is_to s (Channel k) m && test_in (is_of core access) (request_in m.payload)
 
 -- what a core sends brings a request of another to no channel
 other-brings : (s : Config) (core k : ℕ) (access : Access) (c cycle entry : ℕ) (e : Entry) → (c ≡ core → ⊥) → IfSome (request_of s c cycle entry e) (λ (m : Message). brings s core k access m ≡ false)
@@ -70,7 +70,7 @@ request-goes s k c cycle entry access address h =
 
 -- and one of its own to the channel of its place
 own-brings : (s : Config) (core k : ℕ) (access : Access) (cycle entry : ℕ) (e : Entry)
-    → IfSome (request_of s core cycle entry e) (λ (m : Message). brings s core k access m ≡ true → is_request_for k access m.load ≡ true)
+    → IfSome (request_of s core cycle entry e) (λ (m : Message). brings s core k access m ≡ true → is_request_for k access m.payload ≡ true)
 unfolding request
 own-brings s core k access cycle entry Plain = tt
 own-brings s core k access cycle entry (Read address) = λ h.
@@ -89,7 +89,7 @@ new-requests s traces n core k access =
     let p = brings s core k access in
     let f = core_sends s traces history machine_step in
     let g = channel_sends s history machine_step in
-    let b = count_by (λ (m : Message). is_request_for k access m.load) (f core) in
+    let b = count_by (λ (m : Message). is_request_for k access m.payload) (f core) in
     let a : count_by p (flat_map f (below s.cores) ++ flat_map g (below s.channels)) ≡ count_by p (flat_map f (below s.cores)) + count_by p (flat_map g (below s.channels)) = count-append p (flat_map f (below s.cores)) _ in
     let z : count_by p (flat_map g (below s.channels)) ≡ 0 =
     count-flat_map-none p g s.channels
@@ -99,8 +99,8 @@ new-requests s traces n core k access =
     let d : count_by p (flat_map f (below s.cores)) ≤ b =
     count-flat_map-bound p f s.cores core b
     (λ i l ne. count-none p (f i) (issues-each (λ (m : Message). p m ≡ false) s traces history i l (λ j e x y v. other-brings s core k access i (length history) _ e ne)))
-    (λ l. count-weaker_each p (λ (m : Message). is_request_for k access m.load) (f core)
-    (issues-each (λ (m : Message). p m ≡ true → is_request_for k access m.load ≡ true) s traces history core l (λ j e x y v. own-brings s core k access (length history) _ e))) in
+    (λ l. count-weaker_each p (λ (m : Message). is_request_for k access m.payload) (f core)
+    (issues-each (λ (m : Message). p m ≡ true → is_request_for k access m.payload ≡ true) s traces history core l (λ j e x y v. own-brings s core k access (length history) _ e))) in
     omega arith
 
 -- a command is a column command for such a request
@@ -208,8 +208,8 @@ unserved-more s traces n core k access l =
     let new = sends s traces (run s traces n) (next_step s traces (run s traces n)) in
     let a = requests-more q s traces n k in
     let b = left-fewer s traces n core k access l in
-    let c : count_by (λ m. is_to s (Channel k) m && test_in q (request_in m.load)) new ≤ count_by (brings s core k access) new =
-    count-weaker (λ m. is_to s (Channel k) m && test_in q (request_in m.load)) (brings s core k access) (λ m h. narrower m (request_in m.load) h) new in
+    let c : count_by (λ m. is_to s (Channel k) m && test_in q (request_in m.payload)) new ≤ count_by (brings s core k access) new =
+    count-weaker (λ m. is_to s (Channel k) m && test_in q (request_in m.payload)) (brings s core k access) (λ m h. narrower m (request_in m.payload) h) new in
     let d = new-requests s traces n core k access in
     omega arith
   where
@@ -226,8 +226,8 @@ inbox-none p s traces unit = count-inbox p s traces [] unit ∙ ap (count_by (λ
 unserved-none : (s : Config) (traces : List (List Entry)) (core k : ℕ) (access : Access) → unserved s traces 0 core k access ≡ 0
 unfolding unserved
 unserved-none s traces core k access =
-    count-filter_map (is_left s traces 0 core k access) (λ (m : Message). request_in m.load) (inbox s traces (run s traces 0) (Channel k))
-    ∙ inbox-none (λ (m : Message). test_in (is_left s traces 0 core k access) (request_in m.load)) s traces (Channel k)
+    count-filter_map (is_left s traces 0 core k access) (λ (m : Message). request_in m.payload) (inbox s traces (run s traces 0) (Channel k))
+    ∙ inbox-none (λ (m : Message). test_in (is_left s traces 0 core k access) (request_in m.payload)) s traces (Channel k)
 
 served-none : (s : Config) (traces : List (List Entry)) (core k : ℕ) (access : Access) → served s traces 0 core k access ≡ 0
 unfolding served run steps_of_channel issued_commands
@@ -246,10 +246,10 @@ conserved s traces core k access l (suc n) =
 
 -- a credit of this kind for this core, from this channel
 abbrev is_credit_from : Config → ℕ → ℕ → Access → Message → Bool
-is_credit_from s core k access m = eqb m.link (credit_link s core k) && is_credit access m.load
+is_credit_from s core k access m = eqb m.link (credit_link s core k) && is_credit access m.payload
 
 credit-only : (s : Config) (core k : ℕ) (access : Access) → k < s.channels → OnlyFrom s (Channel k) (is_credit_from s core k access)
-credit-only s core k access l m h = ap (sender s) (eqb-true _ _ (and_parts (eqb m.link (credit_link s core k)) (is_credit access m.load) h).0) ∙ sender_credit s core k l
+credit-only s core k access l m h = ap (sender s) (eqb-true _ _ (and_parts (eqb m.link (credit_link s core k)) (is_credit access m.payload) h).0) ∙ sender_credit s core k l
 
 -- one link leads to one core
 credit-core : (s : Config) (core other k : ℕ) → k < s.channels → eqb (credit_link s other k) (credit_link s core k) ≡ true → eqb other core ≡ true

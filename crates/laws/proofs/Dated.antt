@@ -72,10 +72,10 @@ record DatedIn (s : Config) (history : List MachineStep) (m : Message) (r : Requ
   link : m.link ≡ request_link s r.core r.place.channel
 
 abbrev IsDated : Config → List MachineStep → Message → Type 0
-IsDated s history m = IfSome (request_in m.load) (DatedIn s history m)
+IsDated s history m = IfSome (request_in m.payload) (DatedIn s history m)
 
 dated-more : (s : Config) (history : List MachineStep) (machine_step : MachineStep) (m : Message) → IsDated s history m → IsDated s (history ++ machine_step ∷ []) m
-dated-more s history machine_step m h = IfSome-weaker _ _ (λ r k. more r k) (request_in m.load) h
+dated-more s history machine_step m h = IfSome-weaker _ _ (λ r k. more r k) (request_in m.payload) h
   where
     more : (r : Request) → DatedIn s history m r → DatedIn s (history ++ machine_step ∷ []) m r
     more r k =
@@ -150,9 +150,9 @@ pub requests_arrive_as_issued : (s : Config) (traces : List (List Entry)) (n : �
 unfolding inbox
 requests_arrive_as_issued s traces n k l =
     let history = run s traces n in
-    let P = λ (m : Message). IfSome (request_in m.load) (ArrivesAsIssued s history k) in
+    let P = λ (m : Message). IfSome (request_in m.payload) (ArrivesAsIssued s history k) in
     let ms = filter (is_to s (Channel k)) (messages s traces history) in
     All-from_recursion P (by_age ms)
     (Each-by_age P ms
-    (Each-weaker _ P (λ m h. IfSome-weaker (DatedIn s history m) (ArrivesAsIssued s history k) (λ r i. to_channel s history k m r h.0 i) (request_in m.load) h.1)
+    (Each-weaker _ P (λ m h. IfSome-weaker (DatedIn s history m) (ArrivesAsIssued s history k) (λ r i. to_channel s history k m r h.0 i) (request_in m.payload) h.1)
     _ (Each-filter_passes (IsDated s history) (is_to s (Channel k)) (messages s traces history) (messages-dated s traces n))))

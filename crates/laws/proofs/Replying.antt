@@ -46,7 +46,7 @@ weight_at w cycle (Some entry) = w cycle entry
 weight_at w cycle None = 0
 
 abbrev of_message : Weight → Message → ℕ
-of_message w m = weight_at w m.arrival (replied_entry m.load)
+of_message w m = weight_at w m.arrival (replied_entry m.payload)
 
 -- of the messages to a core that are replies and arrive before a cycle
 abbrev in_time : Config → ℕ → ℕ → Weight → Message → ℕ
@@ -274,7 +274,7 @@ replies-counted : (until : ℕ) (xs : List Message) → sum_by (of_message one) 
 replies-counted until xs =
     sum-filter (of_message one) (is_reply_before until) xs
     ∙ sum-same (λ (m : Message). cond (is_reply_before until m) (of_message one m) 0) (λ (m : Message). cond (is_reply_before until m) 1 0) xs
-    (each-same _ _ (λ m. one-each m.arrival (replied_entry m.load) (ltb m.arrival until)) xs)
+    (each-same _ _ (λ m. one-each m.arrival (replied_entry m.payload) (ltb m.arrival until)) xs)
     ∙ sym (length-filter (is_reply_before until) xs)
 
 one-row : (entry : ℕ) (o : Option ℕ) → replied_weight one entry o ≡ cond (is_some o) 1 0
@@ -335,6 +335,6 @@ core_adds_up s traces n core =
           (Each-weaker _ (λ (row : RequestTimes). replied_weight (waited steps) row.entry row.replied ≡ wait_of_row row)
           (λ row h. waited-row steps row.entry row.issued row.replied (h.1 ∙ ap (λ c. issue_cycle (steps_of_core c all) row.entry) (eqb-true row.core core h.0))) rows (core-rows-say s all core)))
           ∙ sym (replies-weigh s traces n core (waited steps))
-          ∙ sum-same (of_message (waited steps)) (λ (m : Message). wait_of steps m.arrival (replied_entry m.load)) (filter (is_reply_before (length steps)) mail)
-          (each-same _ _ (λ m. waited-message steps m.arrival (replied_entry m.load)) (filter (is_reply_before (length steps)) mail));
+          ∙ sum-same (of_message (waited steps)) (λ (m : Message). wait_of steps m.arrival (replied_entry m.payload)) (filter (is_reply_before (length steps)) mail)
+          (each-same _ _ (λ m. waited-message steps m.arrival (replied_entry m.payload)) (filter (is_reply_before (length steps)) mail));
     }

@@ -48,13 +48,13 @@ inbox-more p s traces n unit =
 
 -- what a core sends in a cycle
 unfoldable pub sent_now : Config → List (List Entry) → ℕ → ℕ → ℕ → Access → ℕ
-sent_now s traces n core channel access = count_by (λ m. is_request_for channel access m.load) (core_sends s traces (run s traces n) (next_step s traces (run s traces n)) core)
+sent_now s traces n core channel access = count_by (λ m. is_request_for channel access m.payload) (core_sends s traces (run s traces n) (next_step s traces (run s traces n)) core)
 
 pub requests_sent-more : (s : Config) (traces : List (List Entry)) (n core channel : ℕ) (access : Access)
     → requests_sent s traces (suc n) core channel access ≡ requests_sent s traces n core channel access + sent_now s traces n core channel access
 unfolding run messages_of_core sent_now
 requests_sent-more s traces n core channel access =
-    let p = λ (m : Message). is_request_for channel access m.load in
+    let p = λ (m : Message). is_request_for channel access m.payload in
     ap (count_by p) (core-grows s traces (run s traces n) (next_step s traces (run s traces n)) core)
     ∙ count-append p (messages_of_core s traces (run s traces n) core) (core_sends s traces (run s traces n) (next_step s traces (run s traces n)) core)
 
@@ -80,10 +80,10 @@ credits_back-more s traces n core channel access =
 
 -- a credit is held for what is sent
 has_credit : (s : Config) (core : ℕ) (inbox sent : List Message) (channel : ℕ) (access : Access) (until : ℕ) → eqb (held s core inbox sent channel access until) 0 ≡ false
-    → count_by (λ m. is_request_for channel access m.load) sent + 1 ≤ credit_cap s access + count_by (is_credit_on (credit_link s core channel) access until) inbox
+    → count_by (λ m. is_request_for channel access m.payload) sent + 1 ≤ credit_cap s access + count_by (is_credit_on (credit_link s core channel) access until) inbox
 unfolding held
 has_credit s core inbox sent channel access until h =
-    more (credit_cap s access) (count_by (is_credit_on (credit_link s core channel) access until) inbox) (count_by (λ m. is_request_for channel access m.load) sent) (eqb-false _ _ h)
+    more (credit_cap s access) (count_by (is_credit_on (credit_link s core channel) access until) inbox) (count_by (λ m. is_request_for channel access m.payload) sent) (eqb-false _ _ h)
   where
     more : (x y z : ℕ) → (x + y - z ≡ 0 → ⊥) → z + 1 ≤ x + y
     more x y z k = omega arith
@@ -91,7 +91,7 @@ has_credit s core inbox sent channel access until h =
 -- a request of this kind to this channel is sent only where there is a credit for it
 abbrev IsPaid : Config → List (List Entry) → ℕ → ℕ → ℕ → Access → Message → Type 0
 IsPaid s traces n core channel access m =
-    is_request_for channel access m.load ≡ true → requests_sent s traces n core channel access + 1 ≤ credit_cap s access + back_by s traces n core channel access (suc n)
+    is_request_for channel access m.payload ≡ true → requests_sent s traces n core channel access + 1 ≤ credit_cap s access + back_by s traces n core channel access (suc n)
 
 paid : (s : Config) (traces : List (List Entry)) (n core channel place : ℕ) (access : Access) → place ≡ channel
     → eqb (held s core (inbox s traces (run s traces n) (Core core)) (core_messages s core (trace_of traces core) (steps_of_core core (run s traces n))) place access (length (steps_of_core core (run s traces n)) + 1)) 0 ≡ false
@@ -138,14 +138,14 @@ sent-one : (s : Config) (traces : List (List Entry)) (n core channel : ℕ) (acc
 unfolding sent_now
 sent-one s traces n core channel access l =
     let one = issues-one s traces (run s traces n) core l in
-    let b = count_by-le-length (λ (m : Message). is_request_for channel access m.load) (core_sends s traces (run s traces n) (next_step s traces (run s traces n)) core) in
+    let b = count_by-le-length (λ (m : Message). is_request_for channel access m.payload) (core_sends s traces (run s traces n) (next_step s traces (run s traces n)) core) in
     omega arith
 
 sent-paid : (s : Config) (traces : List (List Entry)) (n core channel : ℕ) (access : Access) → core < s.cores → 0 < sent_now s traces n core channel access
     → requests_sent s traces n core channel access + 1 ≤ credit_cap s access + back_by s traces n core channel access (suc n)
 unfolding sent_now
 sent-paid s traces n core channel access l h =
-    where_some (λ (m : Message). is_request_for channel access m.load)
+    where_some (λ (m : Message). is_request_for channel access m.payload)
     (requests_sent s traces n core channel access + 1 ≤ credit_cap s access + back_by s traces n core channel access (suc n))
     (core_sends s traces (run s traces n) (next_step s traces (run s traces n)) core) (core-paid s traces n core channel access l) h
 

@@ -50,7 +50,7 @@ pub record TracedIn (s : Config) (traces : List (List Entry)) (history : List Ma
   pub link : m.link ≡ request_link s r.core r.place.channel
 
 abbrev pub IsTraced : Config → List (List Entry) → List MachineStep → Message → Type 0
-IsTraced s traces history m = IfSome (request_in m.load) (TracedIn s traces history m)
+IsTraced s traces history m = IfSome (request_in m.payload) (TracedIn s traces history m)
 
 -- entries issued stay issued
 issued-more : (history : List MachineStep) (machine_step : MachineStep) (c : ℕ) → issued_before (steps_of_core c (history ++ machine_step ∷ [])) ≡ issued_before (steps_of_core c history) + (step_of_core c machine_step).issued
@@ -58,7 +58,7 @@ unfolding steps_of_core
 issued-more history machine_step c = ap issued_before (map-append (step_of_core c) history (machine_step ∷ [])) ∙ issued_before-push (steps_of_core c history) (step_of_core c machine_step)
 
 traced-more : (s : Config) (traces : List (List Entry)) (history : List MachineStep) (machine_step : MachineStep) (m : Message) → IsTraced s traces history m → IsTraced s traces (history ++ machine_step ∷ []) m
-traced-more s traces history machine_step m h = IfSome-weaker _ _ (λ r k. more r k) (request_in m.load) h
+traced-more s traces history machine_step m h = IfSome-weaker _ _ (λ r k. more r k) (request_in m.payload) h
   where
     more : (r : Request) → TracedIn s traces history m r → TracedIn s traces (history ++ machine_step ∷ []) m r
     more r k =
@@ -107,13 +107,13 @@ abbrev IsTracedTo : Config → List (List Entry) → List MachineStep → ℕ �
 IsTracedTo s traces history k r = Traced s traces history r × r.place.channel ≡ k
 
 inbox-traced : (s : Config) (traces : List (List Entry)) (n k : ℕ)
-    → Each (λ (m : Message). IfSome (request_in m.load) (IsTracedTo s traces (run s traces n) k)) (inbox s traces (run s traces n) (Channel k))
+    → Each (λ (m : Message). IfSome (request_in m.payload) (IsTracedTo s traces (run s traces n) k)) (inbox s traces (run s traces n) (Channel k))
 unfolding inbox
 inbox-traced s traces n k =
     let history = run s traces n in
     Each-by_age _ _
-    (Each-weaker _ (λ (m : Message). IfSome (request_in m.load) (IsTracedTo s traces history k))
-    (λ m h. IfSome-weaker (TracedIn s traces history m) (IsTracedTo s traces history k) (λ r i. (i.traced, to m r h.0 i)) (request_in m.load) h.1)
+    (Each-weaker _ (λ (m : Message). IfSome (request_in m.payload) (IsTracedTo s traces history k))
+    (λ m h. IfSome-weaker (TracedIn s traces history m) (IsTracedTo s traces history k) (λ r i. (i.traced, to m r h.0 i)) (request_in m.payload) h.1)
     _ (Each-filter_passes (IsTraced s traces history) (is_to s (Channel k)) (messages s traces history) (messages-traced s traces n)))
   where
     to : (m : Message) (r : Request) → is_to s (Channel k) m ≡ true → TracedIn s traces (run s traces n) m r → r.place.channel ≡ k
@@ -125,10 +125,10 @@ inbox-traced s traces n k =
 
 -- the requests that were sent to a channel before a cycle
 abbrev pub requests_to : Config → List (List Entry) → ℕ → ℕ → List Request
-requests_to s traces n k = filter_map (λ m. request_in m.load) (inbox s traces (run s traces n) (Channel k))
+requests_to s traces n k = filter_map (λ m. request_in m.payload) (inbox s traces (run s traces n) (Channel k))
 
 pub requests-traced : (s : Config) (traces : List (List Entry)) (n k : ℕ) → Each (IsTracedTo s traces (run s traces n) k) (requests_to s traces n k)
-requests-traced s traces n k = Each-filter_map (IsTracedTo s traces (run s traces n) k) (λ m. request_in m.load) _ (inbox-traced s traces n k)
+requests-traced s traces n k = Each-filter_map (IsTracedTo s traces (run s traces n) k) (λ m. request_in m.payload) _ (inbox-traced s traces n k)
 
 -- a request in the queue of a channel in a cycle
 pub record Queued (s : Config) (traces : List (List Entry)) (n k : ℕ) (r : Request) : Type 0 where

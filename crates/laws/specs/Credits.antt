@@ -19,7 +19,7 @@ use Rattle.laws.specs.Commands.{channel_steps_of}
 -- the reads, or the writes, that a core sent to a channel in the first n cycles
 abbrev pub requests_sent : Config → List (List Entry) → ℕ → ℕ → ℕ → Access → ℕ
 requests_sent s traces n core channel access =
-    count_by (λ m. is_request_for channel access m.load) (core_messages s core (trace_of traces core) (steps_of_core core (run s traces n)))
+    count_by (λ m. is_request_for channel access m.payload) (core_messages s core (trace_of traces core) (steps_of_core core (run s traces n)))
 
 -- the credits for them that came back before cycle n
 abbrev pub credits_back : Config → List (List Entry) → ℕ → ℕ → ℕ → Access → ℕ

@@ -1,9 +1,9 @@
 -- What the messages of a run say.
---     is_request_of core entry load      a request of this entry of this core
+--     is_request_of core entry payload      a request of this entry of this core
 --     RequestsAreSentOnce s traces n      no entry is requested twice
 --     IsRequestTo s traces history channel m r      a message carries a request to a channel, as the trace of its core has it
 --     RequestsFit s traces n      each message to a channel carries such a request
---     FitsCore s core link load, AnswersFit s traces n      each message to a core is a reply or a credit of a channel, on its link
+--     FitsCore s core link payload, AnswersFit s traces n      each message to a core is a reply or a credit of a channel, on its link
 use Rattle.std.specs.Prelude.{◌≡◌, ℕ, ◌<◌, ◌≤◌, ◌==◌, Bool, false, ◌&&◌, List, slice_get, count_by, All, Some, IsSomeAnd}
 use Rattle.sim_base.specs.declared.message.Access.{Access}
 use Rattle.sim_base.specs.declared.message.Access.TheVariants as access
@@ -14,8 +14,8 @@ use Rattle.sim_base.specs.MachineStep.{MachineStep}
 use Rattle.sim_base.specs.History.{trace_of, steps_of_core, issued_before, messages, inbox}
 use Rattle.sim_base.specs.Machine.{run}
 use Rattle.sim_base.specs.Scheduling.{request_in}
-use Rattle.sim_base.specs.declared.message.Load.{Load}
-use Rattle.sim_base.specs.declared.message.Load.TheVariants as load
+use Rattle.sim_base.specs.declared.message.Payload.{Payload}
+use Rattle.sim_base.specs.declared.message.Payload.TheVariants as payload
 use Rattle.sim_base.specs.declared.message.Message.{Message}
 use Rattle.sim_base.specs.declared.message.Request.{Request}
 use Rattle.sim_base.specs.declared.message.Unit.TheVariants.{Core, Channel}
@@ -23,14 +23,14 @@ use Rattle.sim_base.specs.declared.trace.Entry.{Entry}
 use Rattle.sim_base.specs.declared.trace.Entry.TheVariants.{Read, Write}
 
 -- a request of this entry of this core
-abbrev pub is_request_of : ℕ → ℕ → Load → Bool
-is_request_of core entry (load.Request r) = (r.core == core) && (r.entry == entry)
-is_request_of core entry (load.Reply e) = false
-is_request_of core entry (load.Credit access e) = false
+abbrev pub is_request_of : ℕ → ℕ → Payload → Bool
+is_request_of core entry (payload.Request r) = (r.core == core) && (r.entry == entry)
+is_request_of core entry (payload.Reply e) = false
+is_request_of core entry (payload.Credit access e) = false
 
 -- of the messages that are sent in the first n cycles, at most one is the request of an entry of a core
 abbrev pub RequestsAreSentOnce : Config → List (List Entry) → ℕ → Type 0
-RequestsAreSentOnce s traces n = (core entry : ℕ) → count_by (λ m. is_request_of core entry m.load) (messages s traces (run s traces n)) ≤ 1
+RequestsAreSentOnce s traces n = (core entry : ℕ) → count_by (λ m. is_request_of core entry m.payload) (messages s traces (run s traces n)) ≤ 1
 
 -- the entry of a trace that reads an address, or writes to it
 abbrev pub memory_entry : Access → ℕ → Entry
@@ -53,14 +53,14 @@ pub record IsRequestTo (s : Config) (traces : List (List Entry)) (history : List
 abbrev pub RequestsFit : Config → List (List Entry) → ℕ → Type 0
 RequestsFit s traces n =
     (channel : ℕ) → channel < s.channels →
-    All (λ m. IsSomeAnd (request_in m.load) (IsRequestTo s traces (run s traces n) channel m)) (inbox s traces (run s traces n) (Channel channel))
+    All (λ m. IsSomeAnd (request_in m.payload) (IsRequestTo s traces (run s traces n) channel m)) (inbox s traces (run s traces n) (Channel channel))
 
 -- a message on this link to a core is a reply or a credit of a channel
-abbrev pub FitsCore : Config → ℕ → ℕ → Load → Type 0
-FitsCore s core link (load.Reply entry) = (channel : ℕ) × (channel < s.channels) × (link ≡ reply_link s core channel)
-FitsCore s core link (load.Credit access entry) = (channel : ℕ) × (channel < s.channels) × (link ≡ credit_link s core channel)
-FitsCore s core link (load.Request r) = ⊥
+abbrev pub FitsCore : Config → ℕ → ℕ → Payload → Type 0
+FitsCore s core link (payload.Reply entry) = (channel : ℕ) × (channel < s.channels) × (link ≡ reply_link s core channel)
+FitsCore s core link (payload.Credit access entry) = (channel : ℕ) × (channel < s.channels) × (link ≡ credit_link s core channel)
+FitsCore s core link (payload.Request r) = ⊥
 
 -- each message to a core is such a reply or credit
 abbrev pub AnswersFit : Config → List (List Entry) → ℕ → Type 0
-AnswersFit s traces n = (core : ℕ) → core < s.cores → All (λ m. FitsCore s core m.link m.load) (inbox s traces (run s traces n) (Core core))
+AnswersFit s traces n = (core : ℕ) → core < s.cores → All (λ m. FitsCore s core m.link m.payload) (inbox s traces (run s traces n) (Core core))

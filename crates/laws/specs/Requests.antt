@@ -15,8 +15,8 @@ use Rattle.sim_base.specs.Machine.{run}
 use Rattle.sim_base.specs.Windows.{is_reply_to}
 use Rattle.sim_base.specs.declared.history.CoreStep.{CoreStep}
 use Rattle.sim_base.specs.declared.command.Command.{Command}
-use Rattle.sim_base.specs.declared.message.Load.{Load}
-use Rattle.sim_base.specs.declared.message.Load.TheVariants as load
+use Rattle.sim_base.specs.declared.message.Payload.{Payload}
+use Rattle.sim_base.specs.declared.message.Payload.TheVariants as payload
 use Rattle.sim_base.specs.declared.message.Message.{Message}
 use Rattle.sim_base.specs.declared.message.Request.{Request}
 use Rattle.sim_base.specs.declared.message.Unit.TheVariants.{Core, Channel}
@@ -50,14 +50,14 @@ abbrev pub IsRead : List Entry → ℕ → Type 0
 IsRead trace entry = (address : ℕ) × (slice_get trace entry ≡ Some (Read address))
 
 -- a reply to an entry in a cycle is that of a Read that was issued in an earlier cycle
-abbrev pub AnswersReadAs : List Entry → List CoreStep → ℕ → Load → Type 0
-AnswersReadAs trace steps cycle (load.Reply entry) = IsRead trace entry × entry < issued_before (take cycle steps)
-AnswersReadAs trace steps cycle (load.Request r) = Unit {0}
-AnswersReadAs trace steps cycle (load.Credit access entry) = Unit {0}
+abbrev pub AnswersReadAs : List Entry → List CoreStep → ℕ → Payload → Type 0
+AnswersReadAs trace steps cycle (payload.Reply entry) = IsRead trace entry × entry < issued_before (take cycle steps)
+AnswersReadAs trace steps cycle (payload.Request r) = Unit {0}
+AnswersReadAs trace steps cycle (payload.Credit access entry) = Unit {0}
 
 -- a message that is a reply is that of a Read that the core issued before the cycle in which the reply arrives
 abbrev pub AnswersRead : List Entry → List CoreStep → Message → Type 0
-AnswersRead trace steps m = AnswersReadAs trace steps m.arrival m.load
+AnswersRead trace steps m = AnswersReadAs trace steps m.arrival m.payload
 
 -- each reply that is sent to a core in the first n cycles is that of such a Read
 abbrev pub RepliesAnswerReads : Config → List (List Entry) → ℕ → Type 0
@@ -68,7 +68,7 @@ RepliesAnswerReads s traces n =
 -- no two replies are sent for the same entry
 abbrev pub ReadsAreAnsweredOnce : Config → List (List Entry) → ℕ → Type 0
 ReadsAreAnsweredOnce s traces n =
-    (core entry : ℕ) → core < s.cores → count_by (λ m. is_reply_to entry m.load) (inbox s traces (run s traces n) (Core core)) ≤ 1
+    (core entry : ℕ) → core < s.cores → count_by (λ m. is_reply_to entry m.payload) (inbox s traces (run s traces n) (Core core)) ≤ 1
 
 -- each command that is issued on behalf of an entry is issued while the entry's request is in the channel's queue
 abbrev pub CommandsNameTheQueue : Config → List (List Entry) → ℕ → Type 0

@@ -14,6 +14,7 @@ use Rattle.sim_base.specs.declared.message.Unit.{Unit as MachineUnit}
 use Rattle.sim_base.specs.declared.message.Unit.TheVariants.{Core, Channel}
 use Rattle.sim_base.proofs.Arrived.{put, puts, by_age-puts, Each-put}
 use Rattle.sim_base.proofs.Each.{Each-append, Each-filter}
+use Rattle.sim_base.proofs.Lists.{filter-agree, filter-both}
 use Rattle.sim_base.proofs.Ordered.{Each-weaker, puts-append, filter-by_age}
 use Rattle.links.specs.InFlight.{receiver_of}
 use Rattle.links.specs.Rings.{ring_of, ring_to, ring_if_any, joined, IsRing, AreRings}
@@ -137,18 +138,6 @@ module _ (ch n : ℕ) (p q : Message → Bool) (is : IsOfRing ch n p q) where
 abbrev pub in_ring : ℕ → ℕ → (Message → Bool) → Message → Bool
 in_ring ch n q m = eqb (ring_to ch m) n && q m
 
-filter_same : (p q : Message → Bool) (ms : List Message) → Each (λ m. p m ≡ q m) ms → filter p ms ≡ filter q ms
-filter_same p q [] h = refl
-filter_same p q (m ∷ ms) h = ap₂ (λ b x. cond b (m ∷ x) x) h.0 (filter_same p q ms h.1)
-
-filter_twice : (f g h : Message → Bool) → ((m : Message) → (f m && g m) ≡ h m) → (ms : List Message) → filter g (filter f ms) ≡ filter h ms
-filter_twice f g h is [] = refl
-filter_twice f g h is (m ∷ ms) = by (f m) refl (filter_twice f g h is ms)
-  where
-    by : (b : Bool) → f m ≡ b → filter g (filter f ms) ≡ filter h ms → filter g (cond b (m ∷ filter f ms) (filter f ms)) ≡ filter h (m ∷ ms)
-    by true e rest = ap₂ (λ t x. cond t (m ∷ x) x) (ap (λ t. t && g m) (sym e) ∙ is m) rest
-    by false e rest = rest ∙ sym (cond-false _ _ _ (sym (is m) ∙ ap (λ t. t && g m) e))
-
 neither : (a b c : Bool) → (not (a && c) && not (b && c)) ≡ not ((a || b) && c)
 neither true true true = refl
 neither true true false = refl
@@ -187,7 +176,7 @@ module _ (ch n : ℕ) (p q : Message → Bool) (is : IsOfBoth ch n p q) where
           → filter p (joined rest) ≡ filter (in_ring ch n q) (joined rest) ++ filter (in_ring ch (n + 1) q) (joined rest)
           → filter p (joined (ms ∷ rest)) ≡ filter (in_ring ch n q) (joined (ms ∷ rest)) ++ filter (in_ring ch (n + 1) q) (joined (ms ∷ rest))
       by (inl l) others =
-          filter_same p (in_ring ch (n + 1) q) (joined (ms ∷ rest))
+          filter-agree p (in_ring ch (n + 1) q) (joined (ms ∷ rest))
           (Each-weaker (λ m. first ≤ ring_to ch m) (λ m. p m ≡ in_ring ch (n + 1) q m) (λ m k. is m ∙ high_ring (ring_to ch m) n (q m) (omega arith))
           (joined (ms ∷ rest)) (numbered_from ch first (ms ∷ rest) h))
           ∙ ap (λ x. x ++ filter (in_ring ch (n + 1) q) (joined (ms ∷ rest)))
@@ -195,7 +184,7 @@ module _ (ch n : ℕ) (p q : Message → Bool) (is : IsOfBoth ch n p q) where
       by (inr l) others =
           let apart : eqb first (n + 1) ≡ false = grind (arith, nat_tests) in
           let none = (elsewhere ch (n + 1) (in_ring ch (n + 1) q) q (λ m. refl) first ms h.0.to_ring apart).0 in
-          let same = filter_same p (in_ring ch n q) ms
+          let same = filter-agree p (in_ring ch n q) ms
           (Each-weaker (λ m. ring_to ch m ≡ first) (λ m. p m ≡ in_ring ch n q m) (λ m e. is m ∙ low_ring (ring_to ch m) n (q m) (omega arith)) ms h.0.to_ring) in
           filter-append p ms (joined rest)
           ∙ ap₂ (λ x y. x ++ y) same others
@@ -205,8 +194,8 @@ module _ (ch n : ℕ) (p q : Message → Bool) (is : IsOfBoth ch n p q) where
 
   out_of_both : (ms : List Message) → filter (λ m. not (in_ring ch (n + 1) q m)) (filter (λ m. not (in_ring ch n q m)) ms) ≡ filter (λ m. not (p m)) ms
   out_of_both ms =
-      filter_twice (λ m. not (in_ring ch n q m)) (λ m. not (in_ring ch (n + 1) q m)) (λ m. not (p m))
-      (λ m. neither (eqb (ring_to ch m) n) (eqb (ring_to ch m) (n + 1)) (q m) ∙ ap not (sym (is m))) ms
+      sym (filter-both (λ m. not (in_ring ch (n + 1) q m)) (λ m. not (in_ring ch n q m)) (λ m. not (p m))
+      (λ m. sym (neither (eqb (ring_to ch m) n) (eqb (ring_to ch m) (n + 1)) (q m) ∙ ap not (sym (is m)))) ms)
 
 pub IsRing-nil : (ch n : ℕ) → IsRing ch n []
 IsRing-nil ch n = record { to_ring = tt; in_order = by_age-nil }

@@ -4,14 +4,13 @@ use Rattle.std.specs.Prelude.{All, Any, fold}
 use Rattle.std.specs.Option.{option_map_or, IfSome, IsSomeAnd, IsNone}
 use Rattle.std.specs.List.{AllByRecursion as Each, list_any, list_all}
 use Rattle.std.proofs.lemmas.Bool.{cond_both, eqb-true, eq-eqb, cases_lt, both_ways, true≢false, and_parts, or_right}
-use Rattle.std.proofs.lemmas.Bool.Decides.{nat_tests}
 use Rattle.std.proofs.lemmas.List.Elements.{All-from_recursion}
 use Rattle.std.proofs.lemmas.List.Folds.{Any-from_list_any}
 use Rattle.std.proofs.Math.Bool.{or-false, or_comm, or_assoc}
 use Rattle.circular_buffer.specs.Buffer.{Buffer}
 use Rattle.sim_base.specs.History.{is_before, by_age}
 use Rattle.sim_base.specs.declared.message.Message.{Message}
-use Rattle.sim_base.proofs.Arrived.{put, puts, by_age-puts, Each-by_age}
+use Rattle.sim_base.proofs.Arrived.{put, puts, by_age-puts, Each-by_age, not_before_le}
 use Rattle.sim_base.proofs.Each.{Each-append}
 use Rattle.sim_base.proofs.Ordered.{Each-weaker, Sorted}
 use Rattle.links.specs.Rings.{contents, joined, earlier_arrival, AreRings}
@@ -89,15 +88,12 @@ bound_stays : (least : Option ℕ) (bound : ℕ) (rings : List (List Message)) �
 bound_stays least bound [] h = h
 bound_stays least bound (ms ∷ rest) h = bound_stays (earlier_arrival least ms) bound rest (bound_kept least bound ms h)
 
-pub not_sooner : (m y : Message) → is_before y m ≡ false → m.arrival ≤ y.arrival
-not_sooner m y h = grind (arith, nat_tests)
-
 first_bounds : (least : Option ℕ) (ms : List Message) → Sorted ms → Each (λ (m : Message). IsSomeAnd (earlier_arrival least ms) (λ a. a ≤ m.arrival)) ms
 first_bounds least [] s = tt
 first_bounds least (m ∷ ms) s = (
   lesser_last least m.arrival m.arrival (omega arith),
   Each-weaker _ (λ (y : Message). option_map_or (λ cycle. min cycle m.arrival) least m.arrival ≤ y.arrival)
-      (λ y h. lesser_last least m.arrival y.arrival (not_sooner m y h)) ms s.0,
+      (λ y h. lesser_last least m.arrival y.arrival (not_before_le y m h)) ms s.0,
 )
 
 reached : (ch first : ℕ) (least : Option ℕ) (rings : List (List Message)) → AreRings ch first rings → Each (λ (m : Message). IsSomeAnd (earliest_of least rings) (λ a. a ≤ m.arrival)) (joined rings)

@@ -106,11 +106,6 @@ any_default (suc i) d (r ∷ rings) l = any_default i d rings (omega arith)
 pub items_at : (i : ℕ) (d : Buffer Message) (rings : List (Buffer Message)) → i < length rings → d ≡ get_or rings i d → get_or (contents rings) i [] ≡ d.items
 items_at i d rings l e = get_or-map (λ ring. ring.items) rings i no_ring ∙ ap (λ ring. ring.items) (any_default i d rings l ∙ sym e)
 
-pub set_past : (i : ℕ) (ms : List Message) (rings : List (Buffer Message)) → length rings ≤ i → set (contents rings) i ms ≡ contents rings
-set_past i ms [] l = refl
-set_past zero ms (r ∷ rings) l = absurd (omega arith)
-set_past (suc i) ms (r ∷ rings) l = ap (λ x. r.items ∷ x) (set_past i ms rings (omega arith))
-
 pub in_order_at : (ch i : ℕ) (d : Buffer Message) (rings : List (Buffer Message)) → AreRings ch 0 (contents rings) → i < length rings → d ≡ get_or rings i d → by_age d.items ≡ d.items
 in_order_at ch i d rings h l e = subst (λ ms. by_age ms ≡ ms) (items_at i d rings l e) (ring_is ch i 0 (contents rings) h).in_order
 

@@ -10,12 +10,11 @@ use Rattle.std.proofs.lemmas.List.Sums.{take_while-cons}
 use Rattle.std.specs.Result.{IsOk, OnOk}
 use Rattle.sim_base.specs.History.{is_before, insert_by_age, by_age}
 use Rattle.sim_base.specs.declared.message.Message.{Message}
-use Rattle.sim_base.proofs.Arrived.{put, fold-puts}
+use Rattle.sim_base.proofs.Arrived.{put, fold-puts, not_before_le}
 use Rattle.sim_base.proofs.Ordered.{Each-weaker, Sorted}
 use Rattle.links.specs.InFlight.{arrives_before}
 use Rattle.links.specs.Rings.{arrives_later, is_younger_last, IsSunk}
 use Rattle.links.proofs.Ages.{in_order-Sorted}
-use Rattle.links.proofs.Next.{not_sooner}
 
 -- ---- putting a message in, from the back
 pub Each-at : {X : Type 0} (P : X → Type 0) (xs : List X) (k : ℕ) (d : X) → Each P xs → k < length xs → P (get_or xs k d)
@@ -222,7 +221,7 @@ late until (m ∷ ms) h =
     (cond-false _ _ _ no ∙ rest.0, cond-true _ _ _ (ap not no) ∙ ap (λ x. m ∷ x) rest.1)
 
 all_late : (until : ℕ) (m : Message) (ms : List Message) → Sorted (m ∷ ms) → until ≤ m.arrival → Each (λ (y : Message). until ≤ y.arrival) (m ∷ ms)
-all_late until m ms s l = (l, Each-weaker _ (λ (y : Message). until ≤ y.arrival) (λ y h. omega (arith, not_sooner m y h)) ms s.0)
+all_late until m ms s l = (l, Each-weaker _ (λ (y : Message). until ≤ y.arrival) (λ y h. omega (arith, not_before_le y m h)) ms s.0)
 
 due_at_head : (until : ℕ) (ms : List Message) → Sorted ms
     → (take_while (arrives_before until) ms ≡ filter (arrives_before until) ms)

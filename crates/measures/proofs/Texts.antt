@@ -5,7 +5,7 @@ use Rattle.std.specs.Result.{OkIff}
 use Rattle.std.proofs.Common.{◌≡◌, ℕ, zero, suc, ◌+◌, ◌∷◌, ◌-◌, List, [], ◌++◌, length, refl, sym, ap, ap₂, subst, ◌∙◌, arith, append_assoc, append-nil, length-append}
 use Rattle.std.specs.declared.alloc.Global.{Global}
 use Rattle.std.specs.declared.alloc.AllocError.{AllocError}
-use Rattle.measures.specs.Texts.{IsPut, Puts, PutsWords, Grows, GoesOnWithRoom, flush_right}
+use Rattle.measures.specs.Texts.{IsPut, Puts, PutsWords, GoesOnWithRoom, flush_right}
 use Rattle.measures.specs.declared.text_builder.TextBuilder.{TextBuilder}
 
 -- what was put may be said in other words
@@ -82,11 +82,6 @@ flushed n width words a b c all before last =
     let long : n + length words ≡ length (flush_right width words) =
     sym (length-append (blanks (width - length words)) words ∙ ap (λ k. k + length words) (length-blanks (width - length words) ∙ sym all)) in
     (words_as same (words_both before.0 last.0), room_as a c (n + length words) _ long (room_both n (length words) a b c before.1 last.1))
-
--- a text was put, unless memory was refused for it
-pub pushed : {a b : TextBuilder} (made : Result (String Global) AllocError) → ((words : List ℕ) → IfOk made (λ text. string_bytes text ≡ words) → PutsWords words a b) → Grows a b
-pushed (Ok text) put = puts_as (λ x is. tt) (put (string_bytes text) refl)
-pushed (Err fault) put = puts_as (λ x is. tt) (put [] tt)
 
 -- the whole text, in the end
 pub finished : {A : List ℕ → Type 0} (a b : TextBuilder) (result : Result (String Global) AllocError) → string_bytes a.text ≡ [] → Puts A a b → OkIff result (b.was_refused ≡ false) b.text

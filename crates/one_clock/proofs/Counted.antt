@@ -52,9 +52,9 @@ unfolding waited
 waited_none past_steps = refl
 
 pub waited_more : (past_steps : List CoreStep) (ms : List Message) (i : ℕ) (d : Message) → i < length ms
-    → waited past_steps (take (i + 1) ms) ≡ waited past_steps (take i ms) + wait_of past_steps (get_or ms i d).arrival (replied_entry (get_or ms i d).load)
+    → waited past_steps (take (i + 1) ms) ≡ waited past_steps (take i ms) + wait_of past_steps (get_or ms i d).arrival (replied_entry (get_or ms i d).payload)
 unfolding waited
-waited_more past_steps ms i d h = sum_by_more (λ (m : Message). wait_of past_steps m.arrival (replied_entry m.load)) ms i d h
+waited_more past_steps ms i d h = sum_by_more (λ (m : Message). wait_of past_steps m.arrival (replied_entry m.payload)) ms i d h
 
 counted : (p : Option Entry → Bool) (q : Entry → Bool) → p None ≡ false → ((e : Entry) → p (Some e) ≡ q e) → (trace : List Entry) (first m : ℕ)
     → count_by (λ k. p (slice_get trace (first + k))) (below m) ≡ count_by q (take m (drop first trace))

@@ -67,7 +67,7 @@ request_left-push h k n c (Some r) = ap not (served-push h (record { cycle = n; 
 left-push : (h : List IssuedCommand) (k n : ℕ) (o : Option Command) (m : Message)
     → is_left (h ++ option_to_list (issued_at k n o)) m ≡ (is_left h m && is_left_by o m)
 left-push h k n None m = ap (λ x. is_left x m) (append-nil h) ∙ sym (and-true (is_left h m))
-left-push h k n (Some c) m = request_left-push h k n c (request_in m.load)
+left-push h k n (Some c) m = request_left-push h k n c (request_in m.payload)
 
 pub left_after : (h : List IssuedCommand) (k n : ℕ) (o : Option Command) (mail : List Message)
     → filter (is_left (h ++ option_to_list (issued_at k n o))) mail ≡ filter (is_left_by o) (filter (is_left h) mail)
@@ -88,15 +88,15 @@ one_waiting h until rs ts e (Some r) =
     ∙ e)
 
 requests-cond : (b : Bool) (m : Message) (ms : List Message)
-    → filter_map (λ m. request_in m.load) (cond b (m ∷ ms) ms) ≡ cond b (cons_option (request_in m.load) (filter_map (λ m. request_in m.load) ms)) (filter_map (λ m. request_in m.load) ms)
+    → filter_map (λ m. request_in m.payload) (cond b (m ∷ ms) ms) ≡ cond b (cons_option (request_in m.payload) (filter_map (λ m. request_in m.payload) ms)) (filter_map (λ m. request_in m.payload) ms)
 requests-cond true m ms = refl
 requests-cond false m ms = refl
 
 queued_requests-left : (h : List IssuedCommand) (until : ℕ) (mail : List Message)
-    → filter (is_queued h until) (filter_map (λ m. request_in m.load) mail) ≡ filter (λ r. ltb r.arrival until) (filter_map (λ m. request_in m.load) (filter (is_left h) mail))
+    → filter (is_queued h until) (filter_map (λ m. request_in m.payload) mail) ≡ filter (λ r. ltb r.arrival until) (filter_map (λ m. request_in m.payload) (filter (is_left h) mail))
 queued_requests-left h until [] = refl
 queued_requests-left h until (m ∷ ms) =
-    one_waiting h until (filter_map (λ m. request_in m.load) ms) (filter_map (λ m. request_in m.load) (filter (is_left h) ms)) (queued_requests-left h until ms) (request_in m.load)
+    one_waiting h until (filter_map (λ m. request_in m.payload) ms) (filter_map (λ m. request_in m.payload) (filter (is_left h) ms)) (queued_requests-left h until ms) (request_in m.payload)
     ∙ ap (filter (λ r. ltb r.arrival until)) (sym (requests-cond (is_left h m) m (filter (is_left h) ms)))
 
 pub waiting_is : (h : List IssuedCommand) (mail : List Message) (until : ℕ) → queued_requests h mail until ≡ queue_of (filter (is_left h) mail) until

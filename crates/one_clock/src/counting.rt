@@ -16,7 +16,7 @@ use plain_steps::scheduling::{self, ChannelStep};
 use sim_base::command::{Command, IssuedCommand, Kind};
 use sim_base::config::Config;
 use sim_base::history::CoreStep;
-use sim_base::message::{Access, Load, Message, Request};
+use sim_base::message::{Access, Payload, Message, Request};
 use sim_base::trace::{Entry, Stop};
 use statistics::channels::ChannelStats;
 use statistics::cores::CoreStats;
@@ -49,19 +49,19 @@ fn access_count(trace: &Trace, first: u64, count: u16, access: Access) -> usize
         .count()
 }
 
-fn entry_replied(load: Load) -> Option<u64>
-    ensures { result ≡ replied_entry load }
+fn entry_replied(payload: Payload) -> Option<u64>
+    ensures { result ≡ replied_entry payload }
 {
-    match load {
-        Load::Reply(entry) => Some(entry),
-        Load::Request(_) | Load::Credit { .. } => None,
+    match payload {
+        Payload::Reply(entry) => Some(entry),
+        Payload::Request(_) | Payload::Credit { .. } => None,
     }
 }
 
 fn is_reply_now(now: u64, m: Message) -> bool
     ensures { result ≡ is_reply_in now m }
 {
-    entry_replied(m.load).is_some() && m.arrival == now
+    entry_replied(m.payload).is_some() && m.arrival == now
 }
 
 /// The replies that arrive in a cycle.
@@ -98,9 +98,9 @@ pub(crate) fn cycle_of_issue(past_steps: &[CoreStep], entry: u64) -> u64
 /// How long a reply's entry waited for it.
 fn wait(past_steps: &[CoreStep], m: Message) -> u64
     requires { length past_steps.now < 2 ^ 40 }
-    ensures { result ≡ wait_of past_steps.now m.arrival (replied_entry m.load) }
+    ensures { result ≡ wait_of past_steps.now m.arrival (replied_entry m.payload) }
 {
-    match entry_replied(m.load) {
+    match entry_replied(m.payload) {
         Some(entry) => m.arrival.saturating_sub(cycle_of_issue(past_steps, entry)),
         None => 0,
     }

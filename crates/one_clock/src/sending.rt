@@ -14,7 +14,7 @@ use plain_steps::scheduling::ChannelStep;
 use sim_base::command::{Command, Source};
 use sim_base::config::Config;
 use sim_base::history::CoreStep;
-use sim_base::message::{Access, ChannelId, CoreId, Load, Message};
+use sim_base::message::{Access, ChannelId, CoreId, Payload, Message};
 use sim_base::trace::Stop;
 use std::alloc::{AllocError, Global};
 
@@ -77,7 +77,7 @@ fn reply_message(s: &Config, channel: ChannelId, cycle: u64, source: Source) -> 
     Message {
         link,
         arrival: data + u64::from(s.latency(link)),
-        load: Load::Reply(source.entry),
+        payload: Payload::Reply(source.entry),
     }
 }
 
@@ -96,7 +96,7 @@ fn credit_message(
     Message {
         link,
         arrival: cycle + u64::from(s.latency(link)),
-        load: Load::Credit {
+        payload: Payload::Credit {
             access,
             entry: source.entry,
         },

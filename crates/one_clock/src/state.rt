@@ -203,7 +203,7 @@ fn is_request_passed_over(command: Option<Command>, request: Option<Request>) ->
 fn is_still_left(command: Option<Command>, m: Message) -> bool
     ensures { result ≡ is_left_by command m }
 {
-    is_request_passed_over(command, scheduling::request_of_load(m.load))
+    is_request_passed_over(command, scheduling::request_of_payload(m.payload))
 }
 
 fn messages_left(

@@ -10,7 +10,7 @@ use sessions::channel_session::fault::SessionFault;
 use sessions::channel_session::requests::SentRequest;
 use sessions::channel_session::session::Session;
 use sim_base::command::{Command, IssuedCommand, Source};
-use sim_base::message::{Access, CoreId, Cycle, Load, Message};
+use sim_base::message::{Access, CoreId, Cycle, Payload, Message};
 use sim_base::place::BankId;
 use statistics::channels::ChannelStats;
 use std::alloc::Global;
@@ -128,13 +128,13 @@ const RD: IssuedCommand = IssuedCommand {
 const REPLY: Message = Message {
     link: 1,
     arrival: 15,
-    load: Load::Reply(0),
+    payload: Payload::Reply(0),
 };
 
 const CREDIT: Message = Message {
     link: 2,
     arrival: 7,
-    load: Load::Credit {
+    payload: Payload::Credit {
         access: Access::Read,
         entry: 0,
     },
@@ -144,13 +144,13 @@ const CREDIT: Message = Message {
 const NEXT_REPLY: Message = Message {
     link: 1,
     arrival: 20,
-    load: Load::Reply(1),
+    payload: Payload::Reply(1),
 };
 
 const NEXT_CREDIT: Message = Message {
     link: 2,
     arrival: 12,
-    load: Load::Credit {
+    payload: Payload::Credit {
         access: Access::Read,
         entry: 1,
     },

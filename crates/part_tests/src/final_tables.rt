@@ -1,7 +1,7 @@
 //! The states in which small runs end, found by hand.
 
 use crate::written::{Report, assert_report};
-use sim_base::message::{Access, Load, Message, Request};
+use sim_base::message::{Access, Payload, Message, Request};
 use sim_base::place::{BankId, Place};
 use statistics::final_state::{ChannelState, CoreState, Credits, FinalState, OpenRow};
 use std::alloc::Global;
@@ -136,7 +136,7 @@ const A_REPLY: Case<'static> = Case {
     in_flight: &[Message {
         link: 1,
         arrival: 15,
-        load: Load::Reply(0),
+        payload: Payload::Reply(0),
     }],
     table: "item,core,channel,group,bank,entry,cycle,value
 issued,0,,,,,,1
@@ -195,7 +195,7 @@ const RANKS: Case<'static> = Case {
         Message {
             link: 5,
             arrival: 50,
-            load: Load::Credit {
+            payload: Payload::Credit {
                 access: Access::Read,
                 entry: 3,
             },
@@ -203,12 +203,12 @@ const RANKS: Case<'static> = Case {
         Message {
             link: 9,
             arrival: 50,
-            load: Load::Request(WRITE),
+            payload: Payload::Request(WRITE),
         },
         Message {
             link: 8,
             arrival: 51,
-            load: Load::Credit {
+            payload: Payload::Credit {
                 access: Access::Write,
                 entry: 4,
             },

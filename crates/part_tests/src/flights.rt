@@ -4,7 +4,7 @@ use crate::expect::expect;
 use fixtures::small::small;
 use links::flight::Links;
 use links::latency::shortest;
-use sim_base::message::{Access, Cycle, LinkId, Load, Message, Unit};
+use sim_base::message::{Access, Cycle, LinkId, Payload, Message, Unit};
 use std::alloc::Global;
 use std::process::Abort;
 
@@ -15,7 +15,7 @@ fn sent_on_all(rt: &impl Abort, alloc: Global) -> Vec<Message> {
         let message = Message {
             link,
             arrival: 7,
-            load: Load::Reply(link),
+            payload: Payload::Reply(link),
         };
         sent.push(message).expect(rt, "memory");
     }
@@ -63,13 +63,13 @@ const UNEVEN: &str = "[[link]]\nid = 1\nlatency = 9\n[[link]]\nid = 2\nlatency =
 const REPLY: Message = Message {
     link: 1,
     arrival: 19,
-    load: Load::Reply(0),
+    payload: Payload::Reply(0),
 };
 
 const CREDIT: Message = Message {
     link: 2,
     arrival: 12,
-    load: Load::Credit {
+    payload: Payload::Credit {
         access: Access::Read,
         entry: 1,
     },
@@ -79,19 +79,19 @@ const CREDIT: Message = Message {
 const REQUEST: Message = Message {
     link: 0,
     arrival: 13,
-    load: Load::Reply(2),
+    payload: Payload::Reply(2),
 };
 
 const EARLY: Message = Message {
     link: 4,
     arrival: 5,
-    load: Load::Reply(3),
+    payload: Payload::Reply(3),
 };
 
 const LATE: Message = Message {
     link: 4,
     arrival: 6,
-    load: Load::Reply(4),
+    payload: Payload::Reply(4),
 };
 
 /// Who takes what arrives before which cycle, what it gets, and when the next message then arrives; one after the

@@ -48,7 +48,7 @@ is_request_left history None = true
 
 -- a message whose request is not served yet
 abbrev pub is_left : List IssuedCommand → Message → Bool
-is_left history m = is_request_left history (request_in m.load)
+is_left history m = is_request_left history (request_in m.payload)
 
 -- a message whose request this command does not serve
 abbrev pub is_passed_over : Option Command → Option Request → Bool
@@ -58,7 +58,7 @@ is_passed_over None request = true
 
 -- a message that is still to be served after this command
 abbrev pub is_left_by : Option Command → Message → Bool
-is_left_by command m = is_passed_over command (request_in m.load)
+is_left_by command m = is_passed_over command (request_in m.payload)
 
 -- what a channel of the machine does in the cycle after a history
 abbrev pub channel_step_of : Config → List (List Entry) → List MachineStep → ℕ → ChannelStep
@@ -81,7 +81,7 @@ channel_view s traces history channel =
 
 -- the requests among these messages that arrived before a cycle
 unfoldable pub queue_of : List Message → ℕ → List Request
-queue_of pending until = filter (λ r. nat_lt r.arrival until) (filter_map (λ m. request_in m.load) pending)
+queue_of pending until = filter (λ r. nat_lt r.arrival until) (filter_map (λ m. request_in m.payload) pending)
 
 -- a message that is still to arrive at a cycle
 abbrev pub is_late : ℕ → Message → Bool

@@ -15,7 +15,7 @@ use cpu_trace::trace::Trace;
 use sim_base::command::Source;
 use sim_base::config::Config;
 use sim_base::history::CoreStep;
-use sim_base::message::{Access, CoreId, Load, Message, Request};
+use sim_base::message::{Access, CoreId, Payload, Message, Request};
 use sim_base::trace::{Entry, Stop};
 use std::alloc::{AllocError, Global};
 
@@ -34,7 +34,7 @@ fn request_message(
     let place = place_of(s, address);
     let link = s.request_link(core, place.channel);
     let arrival = cycle as u64 + u64::from(s.latency(link));
-    let load = Load::Request(Request {
+    let payload = Payload::Request(Request {
         core,
         entry,
         access,
@@ -46,7 +46,7 @@ fn request_message(
     Message {
         link,
         arrival,
-        load,
+        payload,
     }
 }
 
@@ -151,12 +151,12 @@ pub fn requests_of_entries(
     Ok(sent)
 }
 
-fn is_reply(entry: u64, load: Load) -> bool
-    ensures { result ≡ is_reply_to entry load }
+fn is_reply(entry: u64, payload: Payload) -> bool
+    ensures { result ≡ is_reply_to entry payload }
 {
-    match load {
-        Load::Reply(other) => entry == other,
-        Load::Request(_) | Load::Credit { .. } => false,
+    match payload {
+        Payload::Reply(other) => entry == other,
+        Payload::Request(_) | Payload::Credit { .. } => false,
     }
 }
 
@@ -164,7 +164,7 @@ fn is_reply(entry: u64, load: Load) -> bool
 fn has_reply(inbox: &[Message], now: usize, entry: u64) -> bool
     ensures { result ≡ is_replied inbox.now now entry }
 {
-    inbox.iter().any(move |m| is_reply(entry, m.load) && m.arrival <= now as u64)
+    inbox.iter().any(move |m| is_reply(entry, m.payload) && m.arrival <= now as u64)
 }
 
 #[tactic(auto, unfolding(sim_base::specs::Windows::is_done))]
@@ -201,21 +201,21 @@ fn retire_count(s: &Config, trace: &Trace, past_steps: &[CoreStep], inbox: &[Mes
     done_count(trace, inbox, past_steps.len(), most, first)
 }
 
-fn is_request(channel: u32, access: Access, load: Load) -> bool
-    ensures { result ≡ is_request_for channel access load }
+fn is_request(channel: u32, access: Access, payload: Payload) -> bool
+    ensures { result ≡ is_request_for channel access payload }
 {
-    match load {
-        Load::Request(r) => r.place.channel == channel && access.is_access(r.access),
-        Load::Reply(_) | Load::Credit { .. } => false,
+    match payload {
+        Payload::Request(r) => r.place.channel == channel && access.is_access(r.access),
+        Payload::Reply(_) | Payload::Credit { .. } => false,
     }
 }
 
-fn is_credit_for(access: Access, load: Load) -> bool
-    ensures { result ≡ is_credit access load }
+fn is_credit_for(access: Access, payload: Payload) -> bool
+    ensures { result ≡ is_credit access payload }
 {
-    match load {
-        Load::Credit { access: other, .. } => access.is_access(other),
-        Load::Request(_) | Load::Reply(_) => false,
+    match payload {
+        Payload::Credit { access: other, .. } => access.is_access(other),
+        Payload::Request(_) | Payload::Reply(_) => false,
     }
 }
 
@@ -231,7 +231,7 @@ fn cap(s: &Config, access: Access) -> u32
 fn is_link_credit(link: u64, access: Access, until: usize, m: Message) -> bool
     ensures { result ≡ is_credit_on link access until m }
 {
-    m.link == link && is_credit_for(access, m.load) && m.arrival < until as u64
+    m.link == link && is_credit_for(access, m.payload) && m.arrival < until as u64
 }
 
 fn credits_received(inbox: &[Message], link: u64, access: Access, until: usize) -> usize
@@ -245,10 +245,10 @@ fn credits_received(inbox: &[Message], link: u64, access: Access, until: usize) 
 }
 
 fn request_count(sent: &[Message], channel: u32, access: Access) -> usize
-    ensures { result ≡ count_by (λ m. is_request_for channel access m.load) sent.now }
+    ensures { result ≡ count_by (λ m. is_request_for channel access m.payload) sent.now }
 {
     sent.iter()
-        .filter(move |m| is_request(channel, access, m.load))
+        .filter(move |m| is_request(channel, access, m.payload))
         .count()
 }
 

@@ -14,16 +14,16 @@ use crate::channel_cycle::ChannelCycle;
 use crate::rules;
 use sim_base::command::{Command, IssuedCommand, Kind, Source};
 use sim_base::config::Config;
-use sim_base::message::{Access, Load, Message, Request};
+use sim_base::message::{Access, Payload, Message, Request};
 use sim_base::place::{BankId, Place, is_row};
 use std::alloc::{AllocError, Global};
 
-pub fn request_of_load(load: Load) -> Option<Request>
-    ensures { result ≡ request_in load }
+pub fn request_of_payload(payload: Payload) -> Option<Request>
+    ensures { result ≡ request_in payload }
 {
-    match load {
-        Load::Request(r) => Some(r),
-        Load::Reply(_) | Load::Credit { .. } => None,
+    match payload {
+        Payload::Request(r) => Some(r),
+        Payload::Reply(_) | Payload::Credit { .. } => None,
     }
 }
 
@@ -61,7 +61,7 @@ fn is_request_unserved(history: &[IssuedCommand], request: Option<Request>) -> b
 fn is_unserved(history: &[IssuedCommand], m: Message) -> bool
     ensures { result ≡ is_left history.now m }
 {
-    is_request_unserved(history, request_of_load(m.load))
+    is_request_unserved(history, request_of_payload(m.payload))
 }
 
 /// The messages whose requests are not served yet.
@@ -86,7 +86,7 @@ pub fn queue(alloc: Global, pending: &[Message], until: u64) -> Result<Vec<Reque
 {
     pending
         .iter()
-        .filter_map(|m| request_of_load(m.load))
+        .filter_map(|m| request_of_payload(m.payload))
         .filter(move |r| r.arrival < until)
         .collect(alloc)
 }

@@ -7,8 +7,8 @@ use Rattle.std.specs.Prelude.{ℕ, ◌/◌, ◌%◌, ◌==◌, List, [], ◌∷�
 use Rattle.reports.specs.Commands.{rank_field}
 use Rattle.reports.specs.Rows.{optional, numbered, table_text}
 use Rattle.reports.specs.declared.final_state.Numbers.{Numbers}
-use Rattle.sim_base.specs.declared.message.Load.{Load}
-use Rattle.sim_base.specs.declared.message.Load.TheVariants as load
+use Rattle.sim_base.specs.declared.message.Payload.{Payload}
+use Rattle.sim_base.specs.declared.message.Payload.TheVariants as payload
 use Rattle.sim_base.specs.declared.message.Message.{Message}
 use Rattle.sim_base.specs.declared.message.Request.{Request}
 use Rattle.sim_base.specs.declared.message.Access.{Access}
@@ -103,17 +103,17 @@ channel_rows ranks channel state =
     ++ (map (open_fields ranks channel) state.open_rows ++ map (queued_fields ranks channel) state.queue)
 
 -- what a message that carries this is called
-abbrev pub flight_item : Load → List ℕ
-flight_item (load.Request request) = codes "flight_request"
-flight_item (load.Reply entry) = codes "flight_reply"
-flight_item (load.Credit access.Read entry) = codes "flight_credit_read"
-flight_item (load.Credit access.Write entry) = codes "flight_credit_write"
+abbrev pub flight_item : Payload → List ℕ
+flight_item (payload.Request request) = codes "flight_request"
+flight_item (payload.Reply entry) = codes "flight_reply"
+flight_item (payload.Credit access.Read entry) = codes "flight_credit_read"
+flight_item (payload.Credit access.Write entry) = codes "flight_credit_write"
 
 -- the entry that a message is about
-abbrev pub flight_entry : Load → ℕ
-flight_entry (load.Request request) = request.entry
-flight_entry (load.Reply entry) = entry
-flight_entry (load.Credit access entry) = entry
+abbrev pub flight_entry : Payload → ℕ
+flight_entry (payload.Request request) = request.entry
+flight_entry (payload.Reply entry) = entry
+flight_entry (payload.Credit access entry) = entry
 
 -- the core of a link of a machine with this many channels; none where there is no channel
 abbrev pub core_of_link : ℕ → ℕ → Option ℕ
@@ -129,13 +129,13 @@ flight_numbers channels message =
     record blank {
       core = core_of_link channels message.link;
       channel = channel_of_link channels message.link;
-      entry = Some (flight_entry message.load);
+      entry = Some (flight_entry message.payload);
       cycle = Some message.arrival;
       value = Some message.link;
     }
 
 abbrev pub flight_fields : ℕ → ℕ → Message → List (List ℕ)
-flight_fields ranks channels message = final_fields ranks (flight_item message.load) (flight_numbers channels message)
+flight_fields ranks channels message = final_fields ranks (flight_item message.payload) (flight_numbers channels message)
 
 -- the rows: the progress of each core, the credits of each core, each channel, and the messages in flight
 abbrev pub final_rows : ℕ → LastState → List (List (List ℕ))

@@ -8,7 +8,7 @@ ghost use Rattle.reports.specs.Tables.{AddsRows};
 use crate::line::{put, put_last, put_rank, put_word};
 use crate::table::RowBuffer;
 use sim_base::fault::Fault;
-use sim_base::message::{Access, Load, Message, Request};
+use sim_base::message::{Access, Payload, Message, Request};
 use statistics::final_state::{ChannelState, CoreState, Credits, FinalState, OpenRow};
 use std::alloc::Global;
 use std::io::Write;
@@ -214,30 +214,30 @@ fn write_channels<W: Write>(
     }
 }
 
-fn flight_word(load: Load) -> &'static [u8]
-    ensures word { result.now ≡ flight_item load }
+fn flight_word(payload: Payload) -> &'static [u8]
+    ensures word { result.now ≡ flight_item payload }
     ensures short { length result.now ≤ 32 }
 {
-    match load {
-        Load::Request(_) => b"flight_request",
-        Load::Reply(_) => b"flight_reply",
-        Load::Credit {
+    match payload {
+        Payload::Request(_) => b"flight_request",
+        Payload::Reply(_) => b"flight_reply",
+        Payload::Credit {
             access: Access::Read,
             ..
         } => b"flight_credit_read",
-        Load::Credit {
+        Payload::Credit {
             access: Access::Write,
             ..
         } => b"flight_credit_write",
     }
 }
 
-fn entry_of(load: Load) -> u64
-    ensures { result ≡ flight_entry load }
+fn entry_of(payload: Payload) -> u64
+    ensures { result ≡ flight_entry payload }
 {
-    match load {
-        Load::Request(request) => request.entry,
-        Load::Reply(entry) | Load::Credit { entry, .. } => entry,
+    match payload {
+        Payload::Request(request) => request.entry,
+        Payload::Reply(entry) | Payload::Credit { entry, .. } => entry,
     }
 }
 
@@ -247,7 +247,7 @@ fn numbers_of_flight(channels: u64, message: Message) -> Numbers
     Numbers {
         core: (message.link / 3).checked_div(channels),
         channel: (message.link / 3).checked_rem(channels),
-        entry: Some(entry_of(message.load)),
+        entry: Some(entry_of(message.payload)),
         cycle: Some(message.arrival),
         value: Some(message.link),
         ..BLANK
@@ -265,7 +265,7 @@ fn write_in_flight<W: Write>(
         (rows_text (map (flight_fields ranks channels) in_flight.now)) }
 {
     for message in in_flight {
-        let item = flight_word(message.load);
+        let item = flight_word(message.payload);
         write_numbers(
             table,
             ranks,

@@ -2,26 +2,22 @@
 use Rattle.std.proofs.Common.{◌≡◌, ℕ, ◌*◌, ◌/◌, ◌%◌, ◌<◌, ◌∙◌, List, [], length, get_or, replicate, None, sym, ap}
 use Rattle.std.specs.Prelude.{Vec}
 use Rattle.std.specs.Vec.{with_items}
-use Rattle.std.proofs.lemmas.List.{with_items_is, length-replicate, get_or-replicate}
+use Rattle.std.proofs.lemmas.List.{length-replicate, get_or-replicate}
 use Rattle.sim_base.specs.declared.config.Config.{Config}
 use Rattle.sim_base.specs.Rules.{open_row}
+use Rattle.sim_base.proofs.Lists.{with_items_lent}
 use Rattle.rule_check.specs.Kept.{nothing, latest_where, no_window, window_from, first_deadline, deadline_from, bank_past, bank_numbered, group_past, rank_past, IsKept}
 use Rattle.rule_check.specs.declared.state.Bank.{Bank}
 use Rattle.rule_check.specs.declared.state.Group.{Group}
 use Rattle.rule_check.specs.declared.state.Rank.{Rank}
 use Rattle.rule_check.specs.declared.state.Channel.{Channel}
 
--- a list that a loop changed keeps its length
-pub length-changed : {X Z : Type 0} (v : Vec X Z) (lent states : List X) → lent ≡ v.items → length states ≡ length lent → length (with_items v states).items ≡ length v.items
-length-changed v lent states is long = ap length (with_items_is v states (long ∙ ap length is ∙ sym v.ok.0)) ∙ long ∙ ap length is
-
 -- a list that a loop changed, element by element
 pub items-changed : {X Z : Type 0} (v : Vec X Z) (items lent states : List X) (f : ℕ → X → X) → items ≡ (with_items v states).items → lent ≡ v.items
     → length states ≡ length lent → ((k : ℕ) (d : X) → k < length lent → get_or states k d ≡ f k (get_or lent k d))
     → (length items ≡ length v.items) × ((k : ℕ) (d : X) → k < length v.items → get_or items k d ≡ f k (get_or v.items k d))
 items-changed {X} v items lent states f put is long each =
-    let whole : length states ≡ v.len = long ∙ ap length is ∙ sym v.ok.0 in
-    let all : items ≡ states = put ∙ with_items_is v states whole in (
+    let all : items ≡ states = put ∙ with_items_lent v lent states is long in (
       ap length all ∙ long ∙ ap length is,
       λ k d l. ap (λ (xs : List X). get_or xs k d) all ∙ each k d (rw is l) ∙ ap (λ (xs : List X). f k (get_or xs k d)) is,
     )

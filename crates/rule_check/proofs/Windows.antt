@@ -7,10 +7,10 @@ use Rattle.sim_base.specs.declared.timing.Timing.{Timing}
 use Rattle.sim_base.specs.declared.command.IssuedCommand.{IssuedCommand}
 use Rattle.sim_base.specs.Rules.{recent_acts}
 use Rattle.rule_check.specs.Kept.{no_window, window_after, window_where, window_from, activates}
-use Rattle.rule_check.specs.declared.window.Window.{Window}
+use Rattle.rule_check.specs.declared.window.ActWindow.{ActWindow}
 
 -- of n ends that are still ahead, the window has the latest four
-record Ahead (now n : ℕ) (w : Window) : Type 0 where
+record Ahead (now n : ℕ) (w : ActWindow) : Type 0 where
   first_in : now < w.first → 1 ≤ n
   first_out : 1 ≤ n → now < w.first
   second_in : now < w.second → 2 ≤ n
@@ -30,7 +30,7 @@ step_in now a b end m n f g k =
 step_out : (now a b end m n : ℕ) → (m ≤ n → now < b) → now < end → m + 1 ≤ 1 + n → now < max a (min b end)
 step_out now a b end m n g l k = let h : now < b = g (omega arith) in omega arith
 
-ahead-one : (now n end : ℕ) (w : Window) → Ahead now n w → now < end → Ahead now (1 + n) (window_after end w)
+ahead-one : (now n end : ℕ) (w : ActWindow) → Ahead now n w → now < end → Ahead now (1 + n) (window_after end w)
 ahead-one now n end w h l =
     record {
       first_in = λ k. omega arith;
@@ -43,7 +43,7 @@ ahead-one now n end w h l =
       fourth_out = step_out now w.fourth w.third end 3 n h.third_out l;
     }
 
-ahead-none : (now n end : ℕ) (w : Window) → Ahead now n w → end ≤ now → Ahead now (0 + n) (window_after end w)
+ahead-none : (now n end : ℕ) (w : ActWindow) → Ahead now n w → end ≤ now → Ahead now (0 + n) (window_after end w)
 ahead-none now n end w h l =
     record {
       first_in = λ k. omega (arith, h.first_in);
@@ -56,10 +56,10 @@ ahead-none now n end w h l =
       fourth_out = λ k. omega (arith, h.fourth_out);
     }
 
-ahead-same : (now n m : ℕ) (w : Window) → n ≡ m → Ahead now n w → Ahead now m w
+ahead-same : (now n m : ℕ) (w : ActWindow) → n ≡ m → Ahead now n w → Ahead now m w
 ahead-same now n m w e h = rw (← e) h
 
-ahead-where : (counts : Bool) (now n end : ℕ) (w : Window) → Ahead now n w → Ahead now (cond (counts && nat_lt now end) 1 0 + n) (window_where counts end w)
+ahead-where : (counts : Bool) (now n end : ℕ) (w : ActWindow) → Ahead now n w → Ahead now (cond (counts && nat_lt now end) 1 0 + n) (window_where counts end w)
 ahead-where false now n end w h = ahead-same now n (0 + n) w (omega arith) h
 ahead-where true now n end w h =
     elim (cases_lt now end) [
@@ -70,7 +70,7 @@ ahead-where true now n end w h =
 abbrev counted : Timing → ℕ → ℕ → IssuedCommand → Bool
 counted t rank now i = activates rank i.command && nat_lt now (i.cycle + t.n_faw)
 
-ahead-fold : (t : Timing) (rank now n : ℕ) (w : Window) (history : List IssuedCommand) → Ahead now n w
+ahead-fold : (t : Timing) (rank now n : ℕ) (w : ActWindow) (history : List IssuedCommand) → Ahead now n w
     → Ahead now (n + count_by (counted t rank now) history) (fold (λ w (i : IssuedCommand). window_where (activates rank i.command) (i.cycle + t.n_faw) w) w history)
 ahead-fold t rank now n w [] h = ahead-same now n _ w (omega arith) h
 ahead-fold t rank now n w (i ∷ history) h =

@@ -26,7 +26,7 @@ use Rattle.sim_base.specs.Scheduling.{refreshes}
 use Rattle.timing.specs.Relation.{relation_to}
 use Rattle.rule_check.specs.Numbers.{number_limit}
 use Rattle.rule_check.specs.declared.latest.Latest.{Latest}
-use Rattle.rule_check.specs.declared.window.Window.{Window}
+use Rattle.rule_check.specs.declared.window.ActWindow.{ActWindow}
 use Rattle.rule_check.specs.declared.state.Bank.{Bank}
 use Rattle.rule_check.specs.declared.state.Group.{Group}
 use Rattle.rule_check.specs.declared.state.Rank.{Rank}
@@ -72,11 +72,11 @@ unfoldable pub latest_where : (Command → Bool) → List IssuedCommand → Late
 latest_where p history = fold (λ l i. noted_where (p i.command) (kind_of i.command) i.cycle l) nothing history
 
 -- no ACT so far
-abbrev pub no_window : Window
+abbrev pub no_window : ActWindow
 no_window = record { first = 0; second = 0; third = 0; fourth = 0 }
 
 -- one more ACT, given the cycle from which on it no longer counts
-abbrev pub window_after : ℕ → Window → Window
+abbrev pub window_after : ℕ → ActWindow → ActWindow
 window_after end w =
     record { first = max w.first end; second = max w.second (min w.first end); third = max w.third (min w.second end); fourth = max w.fourth (min w.third end) }
 
@@ -85,11 +85,11 @@ abbrev pub activates : ℕ → Command → Bool
 activates rank command = is_kind (kind_of command) kind.Act && (rank_of command == rank)
 
 -- one more command, where only an ACT of the rank counts
-abbrev pub window_where : Bool → ℕ → Window → Window
+abbrev pub window_where : Bool → ℕ → ActWindow → ActWindow
 window_where counts end w = if counts then window_after end w else w
 
 -- the four latest of the cycles from which on an ACT of a rank no longer counts
-unfoldable pub window_from : Timing → ℕ → List IssuedCommand → Window
+unfoldable pub window_from : Timing → ℕ → List IssuedCommand → ActWindow
 window_from t rank history = fold (λ w i. window_where (activates rank i.command) (i.cycle + t.n_faw) w) no_window history
 
 -- the cycle after which the next refresh of a rank is overdue, after one more refresh; it stays once no cycle of a

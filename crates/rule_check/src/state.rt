@@ -3,7 +3,7 @@
 ghost use Rattle.std.specs.Prelude.{◌≡◌, ◌*◌, ◌≤◌, length};
 
 use crate::latest::{Latest, NOTHING};
-use crate::window::{NO_ACTS, Window};
+use crate::window::{NO_ACTS, ActWindow};
 use sim_base::command::IssuedCommand;
 
 /// A bank: the latest command of each kind that concerned it, and its open row.
@@ -38,7 +38,7 @@ pub(crate) static NEW_GROUP: Group = Group {
 pub(crate) struct Rank {
     pub(crate) within: Latest,
     pub(crate) across: Latest,
-    pub(crate) window: Window,
+    pub(crate) window: ActWindow,
     pub(crate) deadline: u64,
 }
 

@@ -5,7 +5,7 @@ ghost use Rattle.rule_check.specs.Kept.{window_after};
 
 /// The four latest of the cycles from which on an ACT no longer counts, the latest first; 0 where there were fewer.
 #[derive(Clone, Copy)]
-pub(crate) struct Window {
+pub(crate) struct ActWindow {
     pub(crate) first: u64,
     pub(crate) second: u64,
     pub(crate) third: u64,
@@ -13,7 +13,7 @@ pub(crate) struct Window {
 }
 
 /// No ACT so far.
-pub(crate) const NO_ACTS: Window = Window {
+pub(crate) const NO_ACTS: ActWindow = ActWindow {
     first: 0,
     second: 0,
     third: 0,
@@ -21,10 +21,10 @@ pub(crate) const NO_ACTS: Window = Window {
 };
 
 /// One more ACT, which no longer counts from this cycle on.
-pub(crate) fn window_after(end: u64, w: Window) -> Window
+pub(crate) fn window_after(end: u64, w: ActWindow) -> ActWindow
     ensures { result ≡ window_after end w }
 {
-    Window {
+    ActWindow {
         first: w.first.max(end),
         second: w.second.max(w.first.min(end)),
         third: w.third.max(w.second.min(end)),

@@ -81,8 +81,8 @@ queue-arrived s traces n k cycle l =
     let same : r.arrival ≡ arrival_of s history k (source_of r) = h.1 in
     omega (arith, soon, same))
     _ (Each-filter_passes P (is_queued done (cycle + 1)) _
-    (Each-filter_map P (λ m. request_in m.load) mail
-    (recursion_from_All (λ (m : Message). IfSome (request_in m.load) P) mail (requests_arrive_as_issued s traces n k l))))
+    (Each-filter_map P (λ m. request_in m.payload) mail
+    (recursion_from_All (λ (m : Message). IfSome (request_in m.payload) P) mail (requests_arrive_as_issued s traces n k l))))
 
 -- the entry in whose name a command is issued has its request there by then
 abbrev HasArrived : Config → List MachineStep → IssuedCommand → Command → Type 0

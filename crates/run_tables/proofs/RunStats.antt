@@ -12,8 +12,8 @@ use Rattle.sim_base.specs.Machine.{run}
 use Rattle.sim_base.specs.Windows.{is_reply_to}
 use Rattle.sim_base.specs.declared.config.Config.{Config}
 use Rattle.sim_base.specs.declared.history.CoreStep.{CoreStep}
-use Rattle.sim_base.specs.declared.message.Load.{Load}
-use Rattle.sim_base.specs.declared.message.Load.TheVariants as load
+use Rattle.sim_base.specs.declared.message.Payload.{Payload}
+use Rattle.sim_base.specs.declared.message.Payload.TheVariants as payload
 use Rattle.sim_base.specs.declared.message.Message.{Message}
 use Rattle.sim_base.specs.declared.message.Unit.TheVariants.{Core, Channel}
 use Rattle.sim_base.specs.declared.trace.Entry.{Entry}
@@ -41,10 +41,10 @@ use Rattle.run_tables.specs.Stats.{CoreInRange, StatsFit}
 eqb-self : (n : ℕ) → eqb n n ≡ true
 eqb-self n = elim (cases_Bool (eqb n n)) [ inl holds ↦ holds | inr fails ↦ absurd (eqb-false n n fails refl) ]
 
-absent-one : (entry : ℕ) (l : Load) (kept : List ℕ) → is_reply_to entry l ≡ false → Each (λ other. eqb entry other ≡ false) kept → Each (λ other. eqb entry other ≡ false) (cons_option (replied_entry l) kept)
-absent-one entry (load.Reply other) kept h k = (h, k)
-absent-one entry (load.Request r) kept h k = k
-absent-one entry (load.Credit w e) kept h k = k
+absent-one : (entry : ℕ) (l : Payload) (kept : List ℕ) → is_reply_to entry l ≡ false → Each (λ other. eqb entry other ≡ false) kept → Each (λ other. eqb entry other ≡ false) (cons_option (replied_entry l) kept)
+absent-one entry (payload.Reply other) kept h k = (h, k)
+absent-one entry (payload.Request r) kept h k = k
+absent-one entry (payload.Credit w e) kept h k = k
 
 counted-none : (b : Bool) (n : ℕ) → cond b 1 0 + n ≡ 0 → b ≡ false
 counted-none true n h = absurd (omega (arith, h))
@@ -63,37 +63,37 @@ counted-once true n e h = omega (arith, h)
 counted-once false n e h = cc e
 
 -- no reply to this entry is among them
-entry-absent : (entry cycle : ℕ) (ms : List Message) → count_by (λ (m : Message). is_reply_to entry m.load) ms ≡ 0
-    → Each (λ other. eqb entry other ≡ false) (filter_map (λ (m : Message). replied_entry m.load) (filter (is_reply_before cycle) ms))
+entry-absent : (entry cycle : ℕ) (ms : List Message) → count_by (λ (m : Message). is_reply_to entry m.payload) ms ≡ 0
+    → Each (λ other. eqb entry other ≡ false) (filter_map (λ (m : Message). replied_entry m.payload) (filter (is_reply_before cycle) ms))
 entry-absent entry cycle [] none = tt
 entry-absent entry cycle (m ∷ ms) none =
     let kept = filter (is_reply_before cycle) ms in
-    let more = count_by (λ (y : Message). is_reply_to entry y.load) ms in
-    let parts = sym (count-cons (λ (y : Message). is_reply_to entry y.load) m ms) ∙ none in
-    let rest = entry-absent entry cycle ms (none-more (is_reply_to entry m.load) more parts) in
-    cond_both (is_reply_before cycle m) (m ∷ kept) kept (λ (x : List Message). Each (λ other. eqb entry other ≡ false) (filter_map (λ (y : Message). replied_entry y.load) x))
-    (λ e. absent-one entry m.load (filter_map (λ (y : Message). replied_entry y.load) kept) (counted-none (is_reply_to entry m.load) more parts) rest)
+    let more = count_by (λ (y : Message). is_reply_to entry y.payload) ms in
+    let parts = sym (count-cons (λ (y : Message). is_reply_to entry y.payload) m ms) ∙ none in
+    let rest = entry-absent entry cycle ms (none-more (is_reply_to entry m.payload) more parts) in
+    cond_both (is_reply_before cycle m) (m ∷ kept) kept (λ (x : List Message). Each (λ other. eqb entry other ≡ false) (filter_map (λ (y : Message). replied_entry y.payload) x))
+    (λ e. absent-one entry m.payload (filter_map (λ (y : Message). replied_entry y.payload) kept) (counted-none (is_reply_to entry m.payload) more parts) rest)
     (λ e. rest)
 
-distinct-one : (l : Load) (kept : List ℕ) → ((entry : ℕ) → is_reply_to entry l ≡ true → Each (λ other. eqb entry other ≡ false) kept) → IsDistinct eqb kept → IsDistinct eqb (cons_option (replied_entry l) kept)
+distinct-one : (l : Payload) (kept : List ℕ) → ((entry : ℕ) → is_reply_to entry l ≡ true → Each (λ other. eqb entry other ≡ false) kept) → IsDistinct eqb kept → IsDistinct eqb (cons_option (replied_entry l) kept)
 unfolding IsDistinct
-distinct-one (load.Reply entry) kept h k = (h entry (eqb-self entry), k)
-distinct-one (load.Request r) kept h k = k
-distinct-one (load.Credit w e) kept h k = k
+distinct-one (payload.Reply entry) kept h k = (h entry (eqb-self entry), k)
+distinct-one (payload.Request r) kept h k = k
+distinct-one (payload.Credit w e) kept h k = k
 
 -- an entry is replied to once at most
-once-distinct : (cycle : ℕ) (ms : List Message) → ((entry : ℕ) → count_by (λ (m : Message). is_reply_to entry m.load) ms ≤ 1)
-    → IsDistinct eqb (filter_map (λ (m : Message). replied_entry m.load) (filter (is_reply_before cycle) ms))
+once-distinct : (cycle : ℕ) (ms : List Message) → ((entry : ℕ) → count_by (λ (m : Message). is_reply_to entry m.payload) ms ≤ 1)
+    → IsDistinct eqb (filter_map (λ (m : Message). replied_entry m.payload) (filter (is_reply_before cycle) ms))
 unfolding IsDistinct
 once-distinct cycle [] once = tt
 once-distinct cycle (m ∷ ms) once =
     let kept = filter (is_reply_before cycle) ms in
-    let more = λ (entry : ℕ). count_by (λ (y : Message). is_reply_to entry y.load) ms in
-    let parts = λ (entry : ℕ). subst (λ (k : ℕ). k ≤ 1) (count-cons (λ (y : Message). is_reply_to entry y.load) m ms) (once entry) in
-    let rest = once-distinct cycle ms (λ entry. few-more (is_reply_to entry m.load) (more entry) (parts entry)) in
-    cond_both (is_reply_before cycle m) (m ∷ kept) kept (λ (x : List Message). IsDistinct eqb (filter_map (λ (y : Message). replied_entry y.load) x))
-    (λ e. distinct-one m.load (filter_map (λ (y : Message). replied_entry y.load) kept)
-    (λ entry is. entry-absent entry cycle ms (counted-once (is_reply_to entry m.load) (more entry) is (parts entry))) rest)
+    let more = λ (entry : ℕ). count_by (λ (y : Message). is_reply_to entry y.payload) ms in
+    let parts = λ (entry : ℕ). subst (λ (k : ℕ). k ≤ 1) (count-cons (λ (y : Message). is_reply_to entry y.payload) m ms) (once entry) in
+    let rest = once-distinct cycle ms (λ entry. few-more (is_reply_to entry m.payload) (more entry) (parts entry)) in
+    cond_both (is_reply_before cycle m) (m ∷ kept) kept (λ (x : List Message). IsDistinct eqb (filter_map (λ (y : Message). replied_entry y.payload) x))
+    (λ e. distinct-one m.payload (filter_map (λ (y : Message). replied_entry y.payload) kept)
+    (λ entry is. entry-absent entry cycle ms (counted-once (is_reply_to entry m.payload) (more entry) is (parts entry))) rest)
     (λ e. rest)
 
 few-replies : (s : Config) (traces : List (List Entry)) (n core : ℕ) → core < s.cores

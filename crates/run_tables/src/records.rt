@@ -42,8 +42,7 @@ impl<'t> Records<'t> {
         let mut reader = open(alloc, table);
         let mut first = ByteRecord::new(alloc);
         let found = read_next(&mut reader, &mut first)?;
-        // tells the proof that the table's length is a usize
-        let _few = table.len();
+        prove!(table.len() <= usize::MAX);
         Ok(Records {
             reader,
             first,

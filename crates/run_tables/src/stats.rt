@@ -196,8 +196,7 @@ fn core_at(table: &RecordList, row: usize, id: u64) -> Result<CoreStats, Fault>
     ensures value { result ≡ core_at table.now row id }
     ensures few { row + core_records < 2 ^ 64 }
 {
-    // tells the proof that the row can be counted
-    let _few = table.len();
+    prove!(row <= table.len());
     let core = Unit { scope: b"core", id };
     let mut numbers = [None; cores::COUNTERS];
     read_numbers(table, row, core, &cores::counters(), &mut numbers)?;
@@ -260,8 +259,7 @@ fn channel_at(table: &RecordList, row: usize, id: u64) -> Result<ChannelStats, F
     ensures value { result ≡ channel_at table.now row id }
     ensures few { row + channel_records + 1 < 2 ^ 64 }
 {
-    // tells the proof that the row can be counted
-    let _few = table.len();
+    prove!(row <= table.len());
     let channel = Unit {
         scope: b"channel",
         id,

@@ -14,6 +14,7 @@ use Rattle.sim_base.specs.declared.command.IssuedCommand.{IssuedCommand}
 use Rattle.sim_base.specs.declared.message.Message.{Message}
 use Rattle.sim_base.specs.declared.message.Request.{Request}
 use Rattle.statistics.proofs.ChannelCounts.{AgreeUpTo-later}
+use Rattle.channel_step.proofs.Fits.{split-differ}
 use Rattle.channel_step.specs.Channels.{StandsFor}
 use Rattle.channel_step.specs.Fit.{queue_room, IsUnnamed, ComeByAge, IsFit}
 use Rattle.channel_step.specs.Past.{requests_of, CarriesRequest, IsOther, Differ}
@@ -22,7 +23,7 @@ use Rattle.channel_step.specs.declared.channel.Channel.{Channel}
 use Rattle.channel_step.proofs.Requests.{carries-stamped, requests-append, requests-arrived}
 use Rattle.channel_step.proofs.Spans.{length-channel_run, channel_run-more, channel_run-same}
 use Rattle.sessions.specs.Keeps.{steps_of, waiting, Keeps}
-use Rattle.sessions.proofs.Lists.{age-first, age-last, differ-first, differ-across}
+use Rattle.sessions.proofs.Lists.{age-first, age-last}
 use Rattle.sessions.proofs.Naming.{run-unnamed}
 use Rattle.sessions.proofs.Sending.{steps-late}
 use Rattle.sessions.proofs.Waiting.{waits-left, room-left, queued-late}
@@ -69,8 +70,8 @@ fit-of c s channel now firsts sent coming inbox rest until k =
     let carries = inbox-carries c s channel now firsts sent coming inbox rest until k in
     let differ : Differ (requests_of (mail ++ inbox) ++ requests_of rest) =
     subst Differ (requests-append (mail ++ inbox) rest) (subst (λ x. Differ (requests_of x)) (all-sent c s channel now firsts sent coming inbox rest until k) k.h.differ) in
-    let first : Differ (requests_of (mail ++ inbox)) = differ-first (requests_of (mail ++ inbox)) (requests_of rest) differ in
-    let across : Each (λ (r : Request). Each (IsOther r) (requests_of inbox)) (requests_of mail) = differ-across (requests_of mail) (requests_of inbox) (subst Differ (requests-append mail inbox) first) in
+    let first : Differ (requests_of (mail ++ inbox)) = (split-differ (requests_of (mail ++ inbox)) (requests_of rest) differ).0 in
+    let across : Each (λ (r : Request). Each (IsOther r) (requests_of inbox)) (requests_of mail) = (split-differ (requests_of mail) (requests_of inbox) (subst Differ (requests-append mail inbox) first)).1 in
     let ran : steps ≡ steps_of s channel mail now =
     ap (λ x. steps_of s channel x now) k.h.sent_is ∙ steps-late s channel mail coming now (carries-stamped s channel mail past.requests) (carries-stamped s channel coming k.h.requests) k.h.late in
     record {

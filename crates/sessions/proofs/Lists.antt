@@ -6,18 +6,13 @@ use Rattle.std.proofs.lemmas.Option.{slice_get_cases}
 use Rattle.std.specs.List.{AllByRecursion as Each, list_all, prefix_len}
 use Rattle.std.proofs.lemmas.Bool.{and_parts, ltb-true, ltb-false}
 use Rattle.std.proofs.lemmas.Bool.Decides.{nat_tests}
-use Rattle.sim_base.proofs.Each.{Each-all, Each-append, Each-first, Each-last, Each-both}
+use Rattle.sim_base.proofs.Each.{Each-append, Each-first}
 use Rattle.sim_base.proofs.Ordered.{Each-weaker}
 use Rattle.sim_base.specs.History.{is_before}
 use Rattle.sim_base.specs.declared.message.Message.{Message}
 use Rattle.sim_base.specs.declared.message.Request.{Request}
 use Rattle.channel_step.specs.Fit.{ComeByAge}
 use Rattle.channel_step.specs.Past.{IsOther, Differ}
-
--- each of these with each of those, the other way round
-pub each-turned : {X Y : Type 0} (R : X → Y → Type 0) (xs : List X) (ys : List Y) → Each (λ x. Each (R x) ys) xs → Each (λ y. Each (λ x. R x y) xs) ys
-each-turned R [] ys h = Each-all _ (λ y. tt) ys
-each-turned R (x ∷ xs) ys h = Each-both (R x) (λ y. Each (λ z. R z y) xs) ys h.0 (each-turned R xs ys h.1)
 
 -- what comes by age does so cut in two
 pub age-first : (xs ys : List Message) → ComeByAge (xs ++ ys) → ComeByAge xs
@@ -38,15 +33,6 @@ age-more (x ∷ xs) m h k =
 pub differ-append : (xs ys : List Request) → Differ xs → Differ ys → Each (λ (r : Request). Each (IsOther r) ys) xs → Differ (xs ++ ys)
 differ-append [] ys d e h = e
 differ-append (x ∷ xs) ys d e h = (Each-append (IsOther x) xs ys d.0 h.0, differ-append xs ys d.1 e h.1)
-
-pub differ-first : (xs ys : List Request) → Differ (xs ++ ys) → Differ xs
-differ-first [] ys h = tt
-differ-first (x ∷ xs) ys h = (Each-first (IsOther x) xs ys h.0, differ-first xs ys h.1)
-
--- each of the first part differs from each of the last
-pub differ-across : (xs ys : List Request) → Differ (xs ++ ys) → Each (λ (r : Request). Each (IsOther r) ys) xs
-differ-across [] ys h = tt
-differ-across (x ∷ xs) ys h = (Each-last (IsOther x) xs ys h.0, differ-across xs ys h.1)
 
 -- how many at the head of these arrive before a cycle
 abbrev pub due : ℕ → List Message → ℕ

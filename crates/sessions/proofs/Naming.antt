@@ -2,7 +2,7 @@
 use Rattle.std.proofs.Common.{◌≡◌, ℕ, zero, suc, ◌+◌, false, List, [], length, take, Option, Some, None, refl, sym, subst}
 use Rattle.std.specs.Option.{IfSome}
 use Rattle.std.specs.List.{AllByRecursion as Each}
-use Rattle.sim_base.proofs.Each.{Each-append, Each-filter}
+use Rattle.sim_base.proofs.Each.{Each-append, Each-filter, Each-turned}
 use Rattle.sim_base.proofs.Ordered.{Each-weaker}
 use Rattle.sim_base.specs.declared.config.Config.{Config}
 use Rattle.sim_base.specs.Counts.{source_in}
@@ -18,7 +18,6 @@ use Rattle.statistics.proofs.ChannelCounts.{issued_now, issued_commands-push}
 use Rattle.channel_step.specs.Fit.{is_of, is_named_by, IsUnnamed}
 use Rattle.channel_step.specs.Past.{requests_of, IsOther}
 use Rattle.channel_step.proofs.Chosen.{chosen-named}
-use Rattle.sessions.proofs.Lists.{each-turned}
 
 -- what is chosen stands in the name of a request, if it stands in the name of one
 choice-named : (P : Source → Type 0) (s : Config) (channel : ℕ) (steps : List (Option Command)) (mail : List Message) → Each (λ (r : Request). P (source_of r)) (requests_of mail)
@@ -56,4 +55,4 @@ run-unnamed s channel mail n later h =
     Each-weaker (λ (q : Request). Each (λ (r : Request). IsOther r q) (requests_of mail)) (IsUnnamed history)
     (λ q k. Each-weaker (λ (i : IssuedCommand). IfSome (source_in i.command) (λ (source : Source). is_source q source ≡ false)) (λ (i : IssuedCommand). is_named_by i.command q ≡ false)
     (λ i l. unnamed-of q (source_in i.command) l) history (run-named (λ (source : Source). is_source q source ≡ false) s channel mail n k))
-    later (each-turned IsOther (requests_of mail) later h)
+    later (Each-turned IsOther (requests_of mail) later h)

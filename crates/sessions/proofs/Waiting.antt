@@ -103,7 +103,7 @@ room-left s channel steps mail inbox n h =
 
 unarrived : (history : List IssuedCommand) (now : ℕ) (later : List Message) → Each Stamped later → NotBefore now later → filter (is_queued history now) (requests_of later) ≡ []
 unarrived history now [] h k = refl
-unarrived history now (m ∷ ms) h k = by (request_in m.load) h.0 (unarrived history now ms h.1 k.1)
+unarrived history now (m ∷ ms) h k = by (request_in m.payload) h.0 (unarrived history now ms h.1 k.1)
   where
     late : (r : Request) → r.arrival ≡ m.arrival → now ≤ r.arrival
     late r e = let l = k.0 in omega arith

@@ -9,7 +9,7 @@ use Rattle.std.specs.Prelude.{ℕ, ◌+◌, ◌-◌, ◌^◌, ◌<◌, nat_lt, n
 use Rattle.sim_base.specs.Config.{request_link}
 use Rattle.sim_base.specs.Places.{place_of}
 use Rattle.sim_base.specs.declared.config.Config.{Config}
-use Rattle.sim_base.specs.declared.message.Load.TheVariants as load
+use Rattle.sim_base.specs.declared.message.Payload.TheVariants as payload
 use Rattle.sim_base.specs.declared.message.Message.{Message}
 use Rattle.sim_base.specs.declared.message.Request.{Request}
 use Rattle.sessions.specs.declared.channel_session.requests.SentRequest.{SentRequest}
@@ -30,7 +30,7 @@ request_of s channel sent =
 -- the message that carries it
 abbrev pub message_of : Config → ℕ → SentRequest → Message
 message_of s channel sent =
-    record { link = request_link s sent.core channel; arrival = sent.arrival; load = load.Request (request_of s channel sent) }
+    record { link = request_link s sent.core channel; arrival = sent.arrival; payload = payload.Request (request_of s channel sent) }
 
 -- an entry of a core may be asked for: neither it nor a later one was, and it is not the last number there is
 abbrev pub is_unasked : List ℕ → ℕ → ℕ → Bool

@@ -38,7 +38,7 @@ use Rattle.units.specs.Flight.{among, sent_by}
 use Rattle.units.specs.Runs.{flight_at}
 use Rattle.units.specs.Units.{unit_at, unit_count}
 use Rattle.units.specs.declared.machine.Machine.{Machine}
-use Rattle.units.specs.declared.mail.Mail.{Mail}
+use Rattle.units.specs.declared.message_lists.MessageLists.{MessageLists}
 use Rattle.units.specs.declared.part.UnitState.{UnitState}
 use Rattle.units.specs.Wakes.{IsStill, HaveGone, IsAsleep, Waits, sent_in, sleeper}
 use Rattle.units.specs.declared.timed_unit.TimedUnit.{TimedUnit}
@@ -108,9 +108,9 @@ abbrev pub sent_of_shard : Machine → ℕ → ℕ → Shard → List Message
 sent_of_shard machine from until shard = sent_by machine from until shard.range.first (length shard.range.units.items)
 
 -- a list holds what units send in a span
-abbrev pub HaveSent : Machine → ℕ → ℕ → UnitRange → Mail → Type 0
-HaveSent machine from until range mail =
-    mail.sent.items ≡ sent_by machine from until range.first (length range.units.items)
+abbrev pub HaveSent : Machine → ℕ → ℕ → UnitRange → MessageLists → Type 0
+HaveSent machine from until range lists =
+    lists.sent.items ≡ sent_by machine from until range.first (length range.units.items)
 
 -- lists hold, of what all units sent in a span, what goes to those of a shard
 abbrev pub AreFor : Machine → ℕ → ℕ → Shard → List (Vec Message Global) → Type 0
@@ -146,11 +146,11 @@ LowersWords lists old new = LowersAll (arc_value old.machine).config old.range.f
 
 -- a shard keeps what its units sent in a span
 abbrev pub HasSent : ℕ → ℕ → Shard → Shard → Type 0
-HasSent from until old new = new.traffic.mail.sent.items ≡ sent_of_shard (arc_value old.machine) from until old
+HasSent from until old new = new.traffic.lists.sent.items ≡ sent_of_shard (arc_value old.machine) from until old
 
 -- lists hold what a shard keeps, by the shard that it goes to
 abbrev pub HoldWhatWasSent : Shard → List (Vec Message Global) → Type 0
-HoldWhatWasSent shard lists = AreSortedByShard (arc_value shard.machine).config shard.bounds.items shard.traffic.mail.sent.items lists
+HoldWhatWasSent shard lists = AreSortedByShard (arc_value shard.machine).config shard.bounds.items shard.traffic.lists.sent.items lists
 
 -- A shard at the end of a phase. Before a cycle its units send nothing, and nothing that they sent arrives.
 pub record IsAtRest (machine : Machine) (bounds : List ℕ) (index from until wake : ℕ) (shard : Shard) : Type 0 where

@@ -96,12 +96,12 @@ fn go_all(
     requires order { now < until }
     requires early { until ≤ 10 ^ 12 }
     requires travels { TravelsFor machine.now.config (until - now) }
-    requires sent { traffic.old.mail.sent.items ≡ [] }
+    requires sent { traffic.old.lists.sent.items ≡ [] }
     ensures first { range.new.first ≡ range.old.first }
     ensures count { length range.new.units.items ≡ length range.old.units.items }
     ensures words { length range.new.words.items ≡ length range.old.words.items }
     ensures gone { OnOk result (HasRangeGone machine.now now until range.new traffic.new.links) }
-    ensures sent { OnOk result (HaveSent machine.now now until range.old traffic.new.mail) }
+    ensures sent { OnOk result (HaveSent machine.now now until range.old traffic.new.lists) }
 {
     let span = Span {
         here: now,
@@ -147,9 +147,9 @@ impl Shard {
         ensures sent { OnOk result (HasSent now until self.old self.new) }
         ensures since { IfOk result (λ wake. until ≤ wake) }
         ensures sleep { IfOk result (λ wake. All (λ word. wake ≤ word) self.new.range.words.items) }
-        ensures arrivals { IfOk result (λ wake. NoneBefore wake self.new.traffic.mail.sent.items) }
+        ensures arrivals { IfOk result (λ wake. NoneBefore wake self.new.traffic.lists.sent.items) }
     {
-        self.traffic.mail.sent.clear();
+        self.traffic.lists.sent.clear();
         go_all(
             &self.machine,
             &mut self.traffic,
@@ -157,7 +157,7 @@ impl Shard {
             now,
             until,
         )?;
-        Ok(first_arrival(&self.traffic.mail.sent, least(&self.range.words)))
+        Ok(first_arrival(&self.traffic.lists.sent, least(&self.range.words)))
     }
 
     /// Sorts what the units sent into lists, by the shard that it goes to.
@@ -171,7 +171,7 @@ impl Shard {
         sort_by_shard(
             &self.machine.config,
             &self.bounds,
-            &self.traffic.mail.sent,
+            &self.traffic.lists.sent,
             lists,
         )
     }

@@ -19,7 +19,7 @@ use std::alloc::{AllocError, Global};
 use std::mem;
 use std::sync::Arc;
 use units::machine::Machine;
-use units::mail::Mail;
+use units::message_lists::MessageLists;
 use units::part::UnitState;
 use units::sim::Sim;
 use units::timed_unit::{TimedUnit, Traffic};
@@ -155,12 +155,12 @@ fn shard_of(
         end,
         &snapshot.messages,
     )?;
-    let mail = Mail::new(alloc);
+    let lists = MessageLists::new(alloc);
     let shard = Shard {
         machine: snapshot.machine.clone()?,
         bounds: Vec::from_slice(alloc, bounds)?,
         range,
-        traffic: Traffic { links, mail },
+        traffic: Traffic { links, lists },
     };
     Ok(Box::new(alloc, shard)?)
 }
@@ -254,9 +254,9 @@ fn join_shard(
     let Shard { range, traffic, .. } = Box::into_inner(shard);
     let Traffic {
         links: own,
-        mut mail,
+        mut lists,
     } = traffic;
-    bring_up(&standing.machine, &mut mail, range, standing.at, parts)?;
+    bring_up(&standing.machine, &mut lists, range, standing.at, parts)?;
     links.accept(&mut own.messages(alloc)?)?;
     Ok(())
 }

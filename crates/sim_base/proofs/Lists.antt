@@ -6,10 +6,12 @@ use Rattle.std.proofs.lemmas.Bool.{false≢true, cond-true, cond-false, cond_bot
 use Rattle.std.proofs.lemmas.List.Sums.{sum_by-cons, sum_by_push}
 use Rattle.std.proofs.Math.Nat.{suc-add}
 use Rattle.std.specs.Option.{option_to_list}
+use Rattle.std.specs.declared.vec.Vec.{Vec}
+use Rattle.std.specs.Vec.{with_items}
 use Rattle.std.proofs.lemmas.List.FromFn.{map-range_with_len_more, length-range_with_len}
 use Rattle.sim_base.specs.History.{below}
 use Rattle.sim_base.proofs.Below.{flat_map_below_more as flat_map_below_suc}
-use Rattle.std.proofs.lemmas.List.{length-map}
+use Rattle.std.proofs.lemmas.List.{length-map, with_items_is}
 
 -- two tests that agree on each element keep the same
 pub filter-agree : {X : Type 0} (p q : X → Bool) (xs : List X) → Each (λ x. p x ≡ q x) xs → filter p xs ≡ filter q xs
@@ -143,3 +145,10 @@ tails x y xs ys e = cc
 pub not-or : (a b : Bool) → not (a || b) ≡ (not a && not b)
 not-or true b = refl
 not-or false b = refl
+
+-- a vector that was lent to a loop, and what the loop gave back
+pub with_items_lent : {X Z : Type 0} (v : Vec X Z) (lent given : List X) → lent ≡ v.items → length given ≡ length lent → (with_items v given).items ≡ given
+with_items_lent v lent given is long = with_items_is v given (long ∙ ap length is ∙ sym v.ok.0)
+
+pub length-lent : {X Z : Type 0} (v : Vec X Z) (lent given : List X) → lent ≡ v.items → length given ≡ length lent → length (with_items v given).items ≡ length v.items
+length-lent v lent given is long = ap length (with_items_lent v lent given is long) ∙ long ∙ ap length is

@@ -21,7 +21,7 @@ use Rattle.sim_base.specs.declared.command.Source.{Source}
 use Rattle.sim_base.specs.declared.history.CoreStep.{CoreStep}
 use Rattle.sim_base.specs.declared.message.Access.{Access}
 use Rattle.sim_base.specs.declared.message.Access.TheVariants as access
-use Rattle.sim_base.specs.declared.message.Load.TheVariants as load
+use Rattle.sim_base.specs.declared.message.Payload.TheVariants as payload
 use Rattle.sim_base.specs.declared.message.Message.{Message}
 use Rattle.sim_base.specs.declared.message.Unit.{Unit as MachineUnit}
 use Rattle.sim_base.specs.declared.message.Unit.TheVariants.{Core, Channel}
@@ -66,7 +66,7 @@ request s core cycle entry access address =
     record {
       link = link;
       arrival = arrival;
-      load = load.Request (record { core = core; entry = entry; access = access; address = address; place = place; arrival = arrival; link = link });
+      payload = payload.Request (record { core = core; entry = entry; access = access; address = address; place = place; arrival = arrival; link = link });
     }
 
 -- the request of an entry that issues in a cycle, if it has one
@@ -100,13 +100,13 @@ core_messages s core trace steps = flat_map (requests_in s core trace steps) (be
 unfoldable pub reply : Config → ℕ → ℕ → Source → Message
 reply s channel cycle source =
     let link = reply_link s source.core channel in
-    record { link = link; arrival = cycle + s.timing.n_cl + 4 + latency s link; load = load.Reply source.entry }
+    record { link = link; arrival = cycle + s.timing.n_cl + 4 + latency s link; payload = payload.Reply source.entry }
 
 -- the credit for a request that is served in a cycle
 unfoldable pub credit : Config → ℕ → ℕ → Access → Source → Message
 credit s channel cycle access source =
     let link = credit_link s source.core channel in
-    record { link = link; arrival = cycle + latency s link; load = load.Credit access source.entry }
+    record { link = link; arrival = cycle + latency s link; payload = payload.Credit access source.entry }
 
 -- what a channel sends for a command that it issues in a cycle
 unfoldable pub messages_of : Config → ℕ → ℕ → Command → List Message

@@ -139,7 +139,7 @@ impl Request {
 
 /// What a message carries.
 #[derive(Clone, Copy, PartialEq, Eq, Debug)]
-pub enum Load {
+pub enum Payload {
     Request(Request),
     Reply(u64),
     Credit { access: Access, entry: u64 },
@@ -150,7 +150,7 @@ pub enum Load {
 pub struct Message {
     pub link: LinkId,
     pub arrival: Cycle,
-    pub load: Load,
+    pub payload: Payload,
 }
 
 impl Message {

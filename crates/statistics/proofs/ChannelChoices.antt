@@ -32,7 +32,7 @@ Unserved history r = is_served history r ≡ false
 queued_requests-unserved : (history : List IssuedCommand) (inbox : List Message) (until : ℕ) → Each (Unserved history) (queued_requests history inbox until)
 unfolding queued_requests
 queued_requests-unserved history inbox until =
-    let requests = filter_map (λ m. request_in m.load) inbox in
+    let requests = filter_map (λ m. request_in m.payload) inbox in
     Each-weaker (λ (r : Request). is_queued history until r ≡ true) (Unserved history) (λ r e. not-true _ (and_parts _ _ e).1)
     (filter (is_queued history until) requests) (passes (is_queued history until) requests)
 

@@ -26,7 +26,7 @@ use Rattle.sim_base.specs.declared.place.BankId.{BankId}
 use Rattle.sim_base.specs.Access.{is_access}
 use Rattle.sim_base.proofs.Added.{length-push_suc}
 use Rattle.statistics.specs.Counts.{one_if, sum_of_counts}
-use Rattle.statistics.specs.Channels.{draining_of, channel_stats, issues, issues_hit, channel_cycle_with, channel_cycle, channel_joined, is_entry, is_column_command_of, is_late_act, channel_stretch, ChannelFits, channel_none, channel_counters, channel_numbers, channel_of}
+use Rattle.statistics.specs.Channels.{draining_of, channel_stats, issues, issues_hit, channel_cycle_with, channel_cycle, channel_joined, is_entry, is_column_command_of, is_late_act, ChannelFits, channel_none, channel_counters, channel_numbers, channel_of}
 use Rattle.statistics.proofs.Lists.{take-push, map_below_more, map_below_same, count_below_more, count_below_same, sum_push}
 use Rattle.sim_base.proofs.Arrived.{NotBefore, NotBefore-weaker}
 use Rattle.sim_base.proofs.Same.{Stamped, AgreeUpTo, sooner, queue-same, drains-same}
@@ -287,13 +287,6 @@ channel_stats-same s channel steps a b h =
     let e = queue_lengths-same channel steps a b h in
     let f = draining-same s channel steps a b h in
     cc
-
-pub channel_cycle-same : (s : Config) (channel : ℕ) (steps : List (Option Command)) (a b : List Message) → AgreeUpTo (length steps + 1) a b
-    → (o : Option Command) → channel_cycle s channel steps a o ≡ channel_cycle s channel steps b o
-unfolding channel_cycle
-channel_cycle-same s channel steps a b h o =
-    ap₂ (λ n d. channel_cycle_with s (issued_commands channel steps) n (has_refresh_due s channel steps (length steps)) d o)
-    (queue_length-same channel steps a b (length steps) h) (drains-same s channel steps a b (length steps + 1) h)
 
 -- messages that arrive later
 pub AgreeUpTo-later : (until : ℕ) (mail later : List Message) → Each Stamped mail → Each Stamped later → NotBefore until later → AgreeUpTo until (mail ++ later) mail

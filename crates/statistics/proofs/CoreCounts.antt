@@ -22,7 +22,7 @@ use Rattle.sim_base.specs.declared.trace.Entry.{Entry}
 use Rattle.sim_base.specs.declared.trace.Stop.{Stop}
 use Rattle.sim_base.proofs.Added.{length-push_suc}
 use Rattle.sim_base.proofs.Grows.{issued_before-push}
-use Rattle.statistics.specs.Cores.{issued_in, is_reply_in, replies_in, waited, finish_in, core_stats, core_cycle_with, core_cycle, core_joined, RepliesFollowReads, core_stretch, CoreFits, core_none, core_counters, core_numbers, core_of}
+use Rattle.statistics.specs.Cores.{issued_in, is_reply_in, replies_in, waited, finish_in, core_stats, core_cycle_with, core_cycle, core_joined, RepliesFollowReads, CoreFits, core_none, core_counters, core_numbers, core_of}
 use Rattle.statistics.specs.Counts.{one_if}
 use Rattle.statistics.proofs.Lists.{take-push, map_below_more, map_below_same, find_below_more, find_below_same, option_or-none, prefix_len-append_stop}
 use Rattle.sim_base.proofs.Arrived.{arrived, NotBefore, filter-arrived}
@@ -166,12 +166,12 @@ waited-push : (steps : List CoreStep) (core_step : CoreStep) (ms : List Message)
 unfolding waited
 waited-push steps core_step [] h = refl
 waited-push steps core_step (m ∷ ms) h =
-    let after = λ (x : Message). wait_of (steps ++ core_step ∷ []) x.arrival (replied_entry x.load) in
-    let before = λ (x : Message). wait_of steps x.arrival (replied_entry x.load) in
+    let after = λ (x : Message). wait_of (steps ++ core_step ∷ []) x.arrival (replied_entry x.payload) in
+    let before = λ (x : Message). wait_of steps x.arrival (replied_entry x.payload) in
     let early = is_reply_before (suc (length steps)) in
     cond_both (early m) (m ∷ filter early ms) (filter early ms) (λ x. sum_by after x ≡ sum_by before x)
     (λ e. sum_by-cons after m (filter early ms)
-    ∙ ap₂ (λ a b. a + b) (wait-push steps core_step m.arrival (ltb-true _ _ (and_parts _ _ e).1) (replied_entry m.load) h.0) (waited-push steps core_step ms h.1)
+    ∙ ap₂ (λ a b. a + b) (wait-push steps core_step m.arrival (ltb-true _ _ (and_parts _ _ e).1) (replied_entry m.payload) h.0) (waited-push steps core_step ms h.1)
     ∙ sym (sum_by-cons before m (filter early ms)))
     (λ e. waited-push steps core_step ms h.1)
 
@@ -315,7 +315,7 @@ replies-same steps a b h = sym (replies-arrived steps a) ∙ ap (replies steps) 
 
 pub read_latency-same : (steps : List CoreStep) (a b : List Message) → arrived a (length steps) ≡ arrived b (length steps) → read_latency steps a ≡ read_latency steps b
 unfolding read_latency
-read_latency-same steps a b h = ap (sum_by (λ m. wait_of steps m.arrival (replied_entry m.load))) (replies-same steps a b h)
+read_latency-same steps a b h = ap (sum_by (λ m. wait_of steps m.arrival (replied_entry m.payload))) (replies-same steps a b h)
 
 replies_in-arrived : (cycle : ℕ) (inbox : List Message) → replies_in cycle (arrived inbox (cycle + 1)) ≡ replies_in cycle inbox
 unfolding replies_in
@@ -363,17 +363,17 @@ wait_of-le steps arrival None = omega arith
 wait_of-le steps arrival (Some entry) = omega arith
 
 waits-le : (steps : List CoreStep) (cycles : ℕ) (ms : List Message)
-    → sum_by (λ m. wait_of steps m.arrival (replied_entry m.load)) (filter (is_reply_before cycles) ms) ≤ length (filter (is_reply_before cycles) ms) * cycles
+    → sum_by (λ m. wait_of steps m.arrival (replied_entry m.payload)) (filter (is_reply_before cycles) ms) ≤ length (filter (is_reply_before cycles) ms) * cycles
 waits-le steps cycles [] = omega arith
 waits-le steps cycles (m ∷ ms) =
     let kept = filter (is_reply_before cycles) ms in
-    let wait = λ (x : Message). wait_of steps x.arrival (replied_entry x.load) in
+    let wait = λ (x : Message). wait_of steps x.arrival (replied_entry x.payload) in
     cond_both (is_reply_before cycles m) (m ∷ kept) kept (λ x. sum_by wait x ≤ length x * cycles)
     (λ e.
     let l : m.arrival < cycles = ltb-true m.arrival cycles (and_parts (is_reply m) (ltb m.arrival cycles) e).1 in
     let rest : sum_by wait kept ≤ length kept * cycles = waits-le steps cycles ms in
     let one : suc (length kept) * cycles ≡ length kept * cycles + cycles = grind arith in
-    omega (arith, sum_by-cons wait m kept, wait_of-le steps m.arrival (replied_entry m.load)))
+    omega (arith, sum_by-cons wait m kept, wait_of-le steps m.arrival (replied_entry m.payload)))
     (λ e. waits-le steps cycles ms)
 
 pub read_latency-le : (steps : List CoreStep) (inbox : List Message) → read_latency steps inbox ≤ length (replies steps inbox) * length steps

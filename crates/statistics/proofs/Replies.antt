@@ -94,7 +94,7 @@ abbrev pub RequestIssued : List MachineStep → Request → Type 0
 RequestIssued history r = r.entry < issued_before (take r.arrival (steps_of_core r.core history))
 
 abbrev pub CarriesIssued : List MachineStep → Message → Type 0
-CarriesIssued history m = IfSome (request_in m.load) (RequestIssued history)
+CarriesIssued history m = IfSome (request_in m.payload) (RequestIssued history)
 
 request-issued : (s : Config) (history : List MachineStep) (core cycle entry : ℕ) (access : Access) (address : ℕ)
     → entry < issued_before (take (cycle + 1) (steps_of_core core history)) → CarriesIssued history (request s core cycle entry access address)
@@ -192,7 +192,7 @@ queued_requests-issued : (s : Config) (traces : List (List Entry)) (history : Li
 unfolding queue_in queued_requests
 queued_requests-issued s traces history channel steps e =
     Each-filter_with (RequestIssued history) (λ r. IssuedBefore history (length history) (source_of r)) _ in_time _
-    (Each-filter_map (RequestIssued history) (λ m. request_in m.load) (inbox s traces history (Channel channel)) (inbox-issued s traces history (Channel channel)))
+    (Each-filter_map (RequestIssued history) (λ m. request_in m.payload) (inbox s traces history (Channel channel)) (inbox-issued s traces history (Channel channel)))
   where
     in_time : (r : Request) → is_queued (issued_commands channel (take (length steps) steps)) (length steps + 1) r ≡ true → RequestIssued history r
         → IssuedBefore history (length history) (source_of r)
@@ -260,7 +260,7 @@ serves-run s traces (suc n) channel l = serves-next s traces (run s traces n) ch
 
 -- the entry of a reply was issued before it came to the core at the end of its link
 abbrev pub AnswersIssued : Config → List MachineStep → Message → Type 0
-AnswersIssued s history m = IfSome (replied_entry m.load) (λ entry. entry < issued_before (take m.arrival (steps_of_core (m.link / 3 / s.channels) history)))
+AnswersIssued s history m = IfSome (replied_entry m.payload) (λ entry. entry < issued_before (take m.arrival (steps_of_core (m.link / 3 / s.channels) history)))
 
 reply-answers : (s : Config) (history : List MachineStep) (channel cycle : ℕ) → channel < s.channels → (source : Source) → IssuedBefore history cycle source
     → AnswersIssued s history (reply s channel cycle source)
@@ -317,7 +317,7 @@ core_of_link s core m h = by (eqb (m.link % 3) 0) h
 
 answers-follow : (s : Config) (history : List MachineStep) (core : ℕ) (m : Message) → is_to s (Core core) m ≡ true → AnswersIssued s history m → FollowsItsRead (steps_of_core core history) m
 answers-follow s history core m h k =
-    IfSome_then (replied_entry m.load) (subst (λ c. IfSome (replied_entry m.load) (λ entry. entry < issued_before (take m.arrival (steps_of_core c history)))) (core_of_link s core m h) k)
+    IfSome_then (replied_entry m.payload) (subst (λ c. IfSome (replied_entry m.payload) (λ entry. entry < issued_before (take m.arrival (steps_of_core c history)))) (core_of_link s core m h) k)
     (λ entry i l. i)
 
 -- in a run each reply is of an entry that was issued before it came

@@ -1,15 +1,12 @@
 -- What one cycle more of a run adds to the statistics of its units.
-use Rattle.std.proofs.Common.{◌≡◌, ℕ, zero, suc, ◌+◌, ◌<◌, ◌≤◌, false, List, [], ◌∷◌, ◌++◌, length, take, get_or, Option, None, sym, ap, ap₂, subst, ◌∙◌, ⊎_elim, add-one, arith}
-use Rattle.std.proofs.Math.ListN.{get_or-append}
-use Rattle.std.proofs.Math.Seq.{get_or-append_seam, take-append_seam}
-use Rattle.std.proofs.lemmas.Bool.{cases_lt}
+use Rattle.std.proofs.Common.{◌≡◌, ℕ, suc, ◌+◌, ◌<◌, List, [], ◌∷◌, ◌++◌, length, Option, sym, ap, ap₂, subst, ◌∙◌, add-one, arith}
 use Rattle.sim_base.proofs.Arrived.{arrived}
 use Rattle.sim_base.proofs.Same.{AgreeUpTo}
 use Rattle.sim_base.proofs.Spans.{length-run, step_of_core-next, step_of_channel-next, inbox-run, inbox-stamped}
 use Rattle.sim_base.specs.declared.config.Config.{Config}
-use Rattle.sim_base.specs.History.{trace_of, steps_of_core, steps_of_channel, issued_commands, inbox}
+use Rattle.sim_base.specs.History.{trace_of, steps_of_core, steps_of_channel, inbox}
 use Rattle.sim_base.specs.Locality.{TravelsFor}
-use Rattle.sim_base.specs.Machine.{next_step, run, channel_run}
+use Rattle.sim_base.specs.Machine.{next_step, run}
 use Rattle.sim_base.specs.Scheduling.{choice}
 use Rattle.sim_base.specs.Windows.{step}
 use Rattle.sim_base.specs.declared.command.Command.{Command}
@@ -19,13 +16,12 @@ use Rattle.sim_base.specs.declared.message.Unit.TheVariants.{Core, Channel}
 use Rattle.sim_base.specs.declared.trace.Entry.{Entry}
 use Rattle.sim_base.proofs.Added.{length-push_suc}
 use Rattle.sim_base.proofs.Grows.{has_channels}
-use Rattle.statistics.specs.Channels.{channel_stats, channel_cycle, channel_joined, is_late_act, ActsComeFirst}
+use Rattle.statistics.specs.Channels.{channel_stats, channel_cycle, channel_joined}
 use Rattle.statistics.specs.Cores.{core_stats, core_cycle, core_joined, RepliesFollowReads}
 use Rattle.statistics.specs.Runs.{stats_of_core, stats_of_channel}
 use Rattle.statistics.proofs.ChannelChoices.{choice-not_late}
 use Rattle.statistics.proofs.ChannelCounts.{channel_stats-same, channel_stats-push}
 use Rattle.statistics.proofs.CoreCounts.{core_stats-same, core_cycle-same, core_stats-push}
-use Rattle.statistics.proofs.Lists.{take-push}
 use Rattle.statistics.proofs.Messages.{arrived-sooner}
 use Rattle.statistics.proofs.Replies.{latency_positive, length-steps_of_core, length-steps_of_channel, steps_of_core-push, steps_of_channel-push, RepliesFollowReads-run}
 
@@ -110,26 +106,3 @@ stats_of_channel-next s traces n channel l =
     ap (λ x. channel_stats s channel x then) (steps_of_channel-next s traces n channel l)
     ∙ channel_stats-same s channel (steps ++ choice s channel steps mail ∷ []) then mail agree
     ∙ channel_stats-choice s channel steps mail
-
--- in a run no ACT is issued for an entry that was served
-pub ActsComeFirst-push : (channel : ℕ) (steps : List (Option Command)) (o : Option Command) → ActsComeFirst channel steps → is_late_act (issued_commands channel steps) o ≡ false
-    → ActsComeFirst channel (steps ++ o ∷ [])
-ActsComeFirst-push channel steps o h k cycle l =
-    let len : length (steps ++ o ∷ []) ≡ suc (length steps) = length-push_suc steps o in
-    ⊎_elim
-    (λ (b : cycle < length steps).
-    ap₂ (λ x c. is_late_act (issued_commands channel x) c) (take-push steps o cycle (omega arith)) (get_or-append steps (o ∷ []) None cycle b) ∙ h cycle b)
-    (λ (b : length steps ≤ cycle).
-    let now : cycle ≡ length steps = omega arith in
-    ap (λ i. is_late_act (issued_commands channel (take i (steps ++ o ∷ []))) (get_or (steps ++ o ∷ []) i None)) now
-    ∙ ap₂ (λ x c. is_late_act (issued_commands channel x) c) (take-append_seam steps (o ∷ [])) (get_or-append_seam steps o [] None) ∙ k)
-    (cases_lt cycle (length steps))
-
-pub ActsComeFirst-run : (s : Config) (traces : List (List Entry)) (channel : ℕ) → channel < s.channels → (n : ℕ) → ActsComeFirst channel (steps_of_channel channel (run s traces n))
-unfolding run steps_of_channel
-ActsComeFirst-run s traces channel l zero = λ cycle b. absurd (omega arith)
-ActsComeFirst-run s traces channel l (suc n) =
-    let steps = steps_of_channel channel (run s traces n) in
-    let mail = inbox s traces (run s traces n) (Channel channel) in
-    subst (ActsComeFirst channel) (sym (steps_of_channel-next s traces n channel l))
-    (ActsComeFirst-push channel steps (choice s channel steps mail) (ActsComeFirst-run s traces channel l n) (choice-not_late s channel steps mail))

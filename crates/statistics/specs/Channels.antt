@@ -3,15 +3,13 @@
 --     channel_cycle s channel steps inbox o      of the one cycle after these steps, in which the channel does this
 --     channel_none      of no cycle
 --     channel_joined a b      of two stretches of cycles, the first and what follows it
---     channel_stretch s channel steps inbox more      of the cycles after these steps, in which the channel does this, one after the other
 --     channel_times n a      of n cycles that are each like this one
 --     quiet_cycle drained queued has_due drains      of a cycle in which nothing is issued
 --     one_command k hit      of a command alone
 --     channel_counters, channel_numbers channel      its counters in `stats.csv`, and their numbers
 --     channel_of numbers draining      the statistics that have these numbers
 --     ChannelFits a      each count fits
---     ActsComeFirst channel steps      no ACT is issued for an entry that was served before
-use Rattle.std.specs.Prelude.{◌≡◌, ℕ, ◌+◌, ◌*◌, ◌^◌, ◌<◌, ◌==◌, nat_lt, max, Bool, false, ◌&&◌, List, [], ◌∷◌, ◌++◌, length, take, slice_index_or, codes, option_map, Option, Some, None, if◌then◌else◌}
+use Rattle.std.specs.Prelude.{ℕ, ◌+◌, ◌*◌, ◌^◌, ◌<◌, ◌==◌, nat_lt, max, Bool, false, ◌&&◌, List, [], ◌∷◌, length, codes, option_map, Option, Some, None, if◌then◌else◌}
 use Rattle.std.specs.List.{list_any}
 use Rattle.std.specs.Option.{IfSome}
 use Rattle.sim_base.specs.declared.config.Config.{Config}
@@ -225,12 +223,6 @@ channel_of numbers draining =
       draining = draining;
     }
 
--- the statistics of the cycles after these steps, in which the channel does this, one after the other
-unfoldable pub channel_stretch : Config → ℕ → List (Option Command) → List Message → List (Option Command) → ChannelStats
-channel_stretch s channel steps inbox [] = channel_none
-channel_stretch s channel steps inbox (o ∷ more) =
-    channel_joined (channel_cycle s channel steps inbox o) (channel_stretch s channel (steps ++ o ∷ []) inbox more)
-
 -- whether two sources are the same entry of the same core
 abbrev pub is_entry : Source → Source → Bool
 is_entry a b = (a.core == b.core) && (a.entry == b.entry)
@@ -253,8 +245,3 @@ is_late_act history (Some (Pre bank source)) = false
 is_late_act history (Some (Prea rank)) = false
 is_late_act history (Some (Ref rank)) = false
 is_late_act history None = false
-
--- no ACT is issued for an entry that was served in an earlier cycle
-abbrev pub ActsComeFirst : ℕ → List (Option Command) → Type 0
-ActsComeFirst channel steps =
-    (cycle : ℕ) → cycle < length steps → is_late_act (issued_commands channel (take cycle steps)) (slice_index_or steps cycle None) ≡ false

@@ -5,13 +5,12 @@
 --     only_replies steps arrived      of these replies alone
 --     core_none      of no cycle
 --     core_joined a b      of two stretches of cycles, the first and what follows it
---     core_stretch s core trace steps inbox more      of the cycles after these steps, in which the core does this, one after the other
 --     core_times n a      of n cycles that are each like this one
 --     CoreFits a      each count fits
 --     core_counters, core_numbers core      its counters in `stats.csv`, and their numbers
 --     core_of numbers      the statistics that have these numbers
 --     RepliesFollowReads steps inbox      each reply that arrived is of an entry that was issued before
-use Rattle.std.specs.Prelude.{ℕ, ◌+◌, ◌*◌, ◌^◌, ◌<◌, ◌==◌, nat_lt, nat_le, Bool, ◌&&◌, List, [], ◌∷◌, ◌++◌, length, take, drop, filter, count_by, sum_by, codes, slice_index_or, Option, Some, None, if◌then◌else◌}
+use Rattle.std.specs.Prelude.{ℕ, ◌+◌, ◌*◌, ◌^◌, ◌<◌, ◌==◌, nat_lt, nat_le, Bool, ◌&&◌, List, [], ◌∷◌, length, take, drop, filter, count_by, sum_by, codes, slice_index_or, Option, Some, None, if◌then◌else◌}
 use Rattle.std.specs.Option.{IfSome, option_or}
 use Rattle.std.specs.List.{AllByRecursion as Each}
 use Rattle.sim_base.specs.declared.config.Config.{Config}
@@ -61,7 +60,7 @@ replies_in cycle inbox = filter (is_reply_in cycle) inbox
 
 -- how long these replies were waited for, after these steps
 unfoldable pub waited : List CoreStep → List Message → ℕ
-waited steps ms = sum_by (λ m. wait_of steps m.arrival (replied_entry m.load)) ms
+waited steps ms = sum_by (λ m. wait_of steps m.arrival (replied_entry m.payload)) ms
 
 -- the cycle after these steps, if the last entry retires in it
 unfoldable pub finish_in : List Entry → List CoreStep → CoreStep → Option ℕ
@@ -171,15 +170,9 @@ pub record CoreFits (a : CoreStats) : Type 0 where
   pub stop_memory : a.stop_memory < 2 ^ 64
   pub stop_credit : a.stop_credit < 2 ^ 64
 
--- the statistics of the cycles after these steps, in which the core does this, one after the other
-unfoldable pub core_stretch : Config → ℕ → List Entry → List CoreStep → List Message → List CoreStep → CoreStats
-core_stretch s core trace steps inbox [] = core_none
-core_stretch s core trace steps inbox (done ∷ more) =
-    core_joined (core_cycle s core trace steps inbox done) (core_stretch s core trace (steps ++ done ∷ []) inbox more)
-
 -- a reply, if it arrived within these steps, is of an entry that was issued in an earlier cycle
 abbrev pub FollowsItsRead : List CoreStep → Message → Type 0
-FollowsItsRead steps m = IfSome (replied_entry m.load) (λ entry. m.arrival < length steps → entry < issued_before (take m.arrival steps))
+FollowsItsRead steps m = IfSome (replied_entry m.payload) (λ entry. m.arrival < length steps → entry < issued_before (take m.arrival steps))
 
 -- each reply that arrived within these steps is of an entry that was issued in an earlier cycle
 abbrev pub RepliesFollowReads : List CoreStep → List Message → Type 0

@@ -115,9 +115,9 @@ requests-are machine now =
 
 -- what a channel keeps is what it served in the run
 dated : (s : Config) (history : List MachineStep) (channel : ℕ) (mail : List Message)
-    → Each (λ m. IfSome (request_in m.load) (λ r. r.arrival ≡ arrival_of s history channel (source_of r))) mail → Each (λ r. r.arrival ≡ arrival_of s history channel (source_of r)) (requests_in mail)
+    → Each (λ m. IfSome (request_in m.payload) (λ r. r.arrival ≡ arrival_of s history channel (source_of r))) mail → Each (λ r. r.arrival ≡ arrival_of s history channel (source_of r)) (requests_in mail)
 dated s history channel [] h = tt
-dated s history channel (m ∷ mail) h = by (request_in m.load) h.0 (dated s history channel mail h.1)
+dated s history channel (m ∷ mail) h = by (request_in m.payload) h.0 (dated s history channel mail h.1)
   where
     by : (o : Option Request) → IfSome o (λ r. r.arrival ≡ arrival_of s history channel (source_of r)) → Each (λ r. r.arrival ≡ arrival_of s history channel (source_of r)) (requests_in mail)
         → Each (λ (r : Request). r.arrival ≡ arrival_of s history channel (source_of r)) (cons_option o (requests_in mail))
@@ -129,7 +129,7 @@ pub kept-is : (machine : Machine) (now channel : ℕ) (kept : Option (Vec Served
 kept-is machine now channel None l h = tt
 kept-is machine now channel (Some rows) l h =
     let history = run_of machine now in
-    let P = λ (m : Message). IfSome (request_in m.load) (λ r. r.arrival ≡ arrival_of machine.config history channel (source_of r)) in
+    let P = λ (m : Message). IfSome (request_in m.payload) (λ r. r.arrival ≡ arrival_of machine.config history channel (source_of r)) in
     h (arrival_of machine.config history channel)
     (dated machine.config history channel (mail_before machine.config machine.traces.items now (unit.Channel channel) now)
     (Each-filter P _ (inbox machine.config machine.traces.items history (unit.Channel channel)) (recursion_from_All P (inbox machine.config machine.traces.items history (unit.Channel channel)) (requests_arrive_as_issued machine.config machine.traces.items now channel l))))

@@ -10,7 +10,7 @@ ghost use Rattle.units.specs.GoingOn.{MayBeWoken, MayBeBroughtUp, IsBroughtTo, G
 ghost use Rattle.units.specs.Wakes.{HasRunAndTells, sleeper};
 
 use crate::machine::{Machine, unit_at};
-use crate::mail::Mail;
+use crate::message_lists::MessageLists;
 use crate::part::UnitState;
 use links::flight::Links;
 use sim_base::message::{Cycle, Message, Unit};
@@ -36,7 +36,7 @@ pub struct TimedUnit {
 #[derive(Drop)]
 pub struct Traffic {
     pub links: Links,
-    pub mail: Mail,
+    pub lists: MessageLists,
 }
 
 /// A cycle, not before `from`, where the unit stands, before which it sends nothing, if nothing arrives at it; the
@@ -103,14 +103,14 @@ impl TimedUnit {
         requires brought { IsBroughtTo machine.now place span.now traffic.old.links }
         ensures gone { IfOk result (λ wake.
             GoesOnOver machine.now place span.now (sleeper self.new wake)
-            traffic.old.mail.sent.items traffic.new.mail.sent.items) }
+            traffic.old.lists.sent.items traffic.new.lists.sent.items) }
         ensures links { OnOk result (
             traffic.new.links ≡ links_taken machine.now place span.now traffic.old.links) }
     {
         let until = span.until;
         let unit = unit_at(&machine.config, place);
-        let Traffic { links, mail } = traffic;
-        let Mail { inbox, sent } = mail;
+        let Traffic { links, lists } = traffic;
+        let MessageLists { inbox, sent } = lists;
         inbox.clear();
         links.take_due_into(unit, until, inbox)?;
         let send = run_and_tell(&mut self.part, inbox, self.at, until, sent)?;
@@ -122,7 +122,7 @@ impl TimedUnit {
     pub fn brought_up(
         self,
         machine: &Machine,
-        mail: &mut Mail,
+        lists: &mut MessageLists,
         place: usize,
         now: Cycle,
     ) -> Result<UnitState, AllocError>
@@ -132,8 +132,8 @@ impl TimedUnit {
         ensures { IfOk result (IsPartAt machine.now place now) }
     {
         let TimedUnit { mut part, at, .. } = self;
-        mail.inbox.clear();
-        part.run(&mail.inbox, at, now, &mut mail.sent)?;
+        lists.inbox.clear();
+        part.run(&lists.inbox, at, now, &mut lists.sent)?;
         Ok(part)
     }
 }

@@ -21,4 +21,4 @@ reply-given m channels now number pasts reply is h =
 
 -- the row of a reply that goes to a core
 abbrev pub row-to : Message → ℕ → ReplyRow
-row-to reply core = record { arrival = reply.arrival; entry = entry_in reply.load; core = core; kind = reply_kind reply.load }
+row-to reply core = record { arrival = reply.arrival; entry = entry_in reply.payload; core = core; kind = reply_kind reply.payload }

@@ -19,8 +19,8 @@ use Rattle.sim_base.specs.declared.command.Kind.{Kind}
 use Rattle.sim_base.specs.declared.command.Kind.TheVariants as kind
 use Rattle.sim_base.specs.declared.command.Source.{Source}
 use Rattle.sim_base.specs.declared.config.Config.{Config}
-use Rattle.sim_base.specs.declared.message.Load.{Load}
-use Rattle.sim_base.specs.declared.message.Load.TheVariants as load
+use Rattle.sim_base.specs.declared.message.Payload.{Payload}
+use Rattle.sim_base.specs.declared.message.Payload.TheVariants as payload
 use Rattle.sim_base.specs.declared.message.Message.{Message}
 use Rattle.sim_base.specs.declared.place.BankId.{BankId}
 use Rattle.sim_base.specs.declared.place.Place.{Place}
@@ -96,22 +96,22 @@ command_row issued =
     }
 
 -- the entry that a message is about
-abbrev pub entry_in : Load → ℕ
-entry_in (load.Request request) = request.entry
-entry_in (load.Reply entry) = entry
-entry_in (load.Credit access entry) = entry
+abbrev pub entry_in : Payload → ℕ
+entry_in (payload.Request request) = request.entry
+entry_in (payload.Reply entry) = entry
+entry_in (payload.Credit access entry) = entry
 
 -- 0 for the data of a Read, 1 for the credit of a Read, 2 for that of a Write
-abbrev pub reply_kind : Load → ℕ
-reply_kind (load.Request request) = 0
-reply_kind (load.Reply entry) = 0
-reply_kind (load.Credit access.Read entry) = 1
-reply_kind (load.Credit access.Write entry) = 2
+abbrev pub reply_kind : Payload → ℕ
+reply_kind (payload.Request request) = 0
+reply_kind (payload.Reply entry) = 0
+reply_kind (payload.Credit access.Read entry) = 1
+reply_kind (payload.Credit access.Write entry) = 2
 
 -- the row of a message to the core with a number
 abbrev pub message_row : ℕ → Message → ReplyRow
 message_row core reply =
-    record { arrival = reply.arrival; entry = entry_in reply.load; core = core; kind = reply_kind reply.load }
+    record { arrival = reply.arrival; entry = entry_in reply.payload; core = core; kind = reply_kind reply.payload }
 
 -- the row of a reply or of a credit
 abbrev pub reply_row : Config → Message → ReplyRow

@@ -5,7 +5,7 @@ ghost use Rattle.dramsim_c.specs.CInterface.Rows.{sent_access, sent_request, kin
 
 use sessions::channel_session::requests::SentRequest;
 use sim_base::command::{Command, IssuedCommand, Kind, Source};
-use sim_base::message::{Access, Load, Message};
+use sim_base::message::{Access, Payload, Message};
 use sim_base::place::{BankId, Place};
 use statistics::channels::ChannelStats;
 
@@ -170,26 +170,26 @@ pub struct ReplyRow {
 }
 
 /// The entry that a message is about.
-fn entry_in(load: Load) -> u64
-    ensures { result ≡ entry_in load }
+fn entry_in(payload: Payload) -> u64
+    ensures { result ≡ entry_in payload }
 {
-    match load {
-        Load::Request(request) => request.entry,
-        Load::Reply(entry) | Load::Credit { entry, .. } => entry,
+    match payload {
+        Payload::Request(request) => request.entry,
+        Payload::Reply(entry) | Payload::Credit { entry, .. } => entry,
     }
 }
 
 /// The number of what a message carries to a core.
-fn reply_kind(load: Load) -> u8
-    ensures { result ≡ reply_kind load }
+fn reply_kind(payload: Payload) -> u8
+    ensures { result ≡ reply_kind payload }
 {
-    match load {
-        Load::Request(_) | Load::Reply(_) => 0,
-        Load::Credit {
+    match payload {
+        Payload::Request(_) | Payload::Reply(_) => 0,
+        Payload::Credit {
             access: Access::Read,
             ..
         } => 1,
-        Load::Credit {
+        Payload::Credit {
             access: Access::Write,
             ..
         } => 2,
@@ -203,9 +203,9 @@ impl ReplyRow {
     {
         ReplyRow {
             arrival: reply.arrival,
-            entry: entry_in(reply.load),
+            entry: entry_in(reply.payload),
             core,
-            kind: reply_kind(reply.load),
+            kind: reply_kind(reply.payload),
         }
     }
 }

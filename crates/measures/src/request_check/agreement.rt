@@ -141,7 +141,7 @@ pub fn row_of(mismatch: Mismatch, stats: &Stats, requests: &[RequestTimes]) -> u
     requires { IsMismatch stats.now requests.now mismatch }
     ensures { result ≡ row_of mismatch (length requests.now) }
 {
-    let _cycles = stats.cycles;
+    prove!(stats.cycles <= u64::MAX);
     let rows = requests.len() as u64;
     match mismatch {
         Mismatch::Stranger(place) | Mismatch::Excess(_, place) => place as u64 + 1,

@@ -235,8 +235,7 @@ impl BankCandidates {
             → log.now.log ≡ waiting earlier
             → StandsFor self.old earlier open_rows → StandsFor self.new log.now.log open_rows }
     {
-        // tells the proof that the log has fewer than 2^16 - 1 requests
-        let _short = log.len();
+        prove!(log.len() < 65_535);
         for bank in 0..self.rows.len() {
             let row = self.rows[bank];
             self.places.renew(log, bank, Access::Read, row);
@@ -253,8 +252,7 @@ impl BankCandidates {
             → StandsFor self.old log.now.log open_rows
             → StandsFor self.new log.now.log (with_row (number_of bank) (Some row) open_rows) }
     {
-        // tells the proof that the log has fewer than 2^16 - 1 requests
-        let _short = log.len();
+        prove!(log.len() < 65_535);
         let number = number_of(bank);
         self.rows[number] = Some(row);
         self.open_banks = self.open_banks.with(number);

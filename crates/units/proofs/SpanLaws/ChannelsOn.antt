@@ -88,19 +88,19 @@ waiting_all p until (Some r) rs ts h = ap (λ x. cond (ltb r.arrival until && p 
 
 -- what has not arrived does not wait
 queued_requests-arrived : (p : Request → Bool) (until : ℕ) (ms : List Message) → Each Stamped ms
-    → filter (λ r. ltb r.arrival until && p r) (filter_map (λ m. request_in m.load) (arrived ms until))
-    ≡ filter (λ r. ltb r.arrival until && p r) (filter_map (λ m. request_in m.load) ms)
+    → filter (λ r. ltb r.arrival until && p r) (filter_map (λ m. request_in m.payload) (arrived ms until))
+    ≡ filter (λ r. ltb r.arrival until && p r) (filter_map (λ m. request_in m.payload) ms)
 queued_requests-arrived p until [] h = refl
 queued_requests-arrived p until (m ∷ ms) h =
     cond_both (ltb m.arrival until) (m ∷ arrived ms until) (arrived ms until)
-    (λ x. filter (λ r. ltb r.arrival until && p r) (filter_map (λ m. request_in m.load) x) ≡ filter (λ r. ltb r.arrival until && p r) (filter_map (λ m. request_in m.load) (m ∷ ms)))
-    (λ e. waiting_all p until (request_in m.load) _ _ (queued_requests-arrived p until ms h.1))
-    (λ e. queued_requests-arrived p until ms h.1 ∙ sym (waiting_in p until m.arrival e (request_in m.load) h.0 (filter_map (λ m. request_in m.load) ms)))
+    (λ x. filter (λ r. ltb r.arrival until && p r) (filter_map (λ m. request_in m.payload) x) ≡ filter (λ r. ltb r.arrival until && p r) (filter_map (λ m. request_in m.payload) (m ∷ ms)))
+    (λ e. waiting_all p until (request_in m.payload) _ _ (queued_requests-arrived p until ms h.1))
+    (λ e. queued_requests-arrived p until ms h.1 ∙ sym (waiting_in p until m.arrival e (request_in m.payload) h.0 (filter_map (λ m. request_in m.payload) ms)))
 
 pub queue-alike : (channel now : ℕ) (steps : List (Option Command)) (ms : List Message) → length steps ≡ now → Each Stamped ms → queue_left channel steps (arrived ms now) ≡ queue_left channel steps ms
 unfolding queue_left queued_requests
 queue-alike channel now steps ms e h =
-    subst (λ u. filter (is_queued (issued_commands channel steps) (length steps)) (filter_map (λ m. request_in m.load) (arrived ms u)) ≡ filter (is_queued (issued_commands channel steps) (length steps)) (filter_map (λ m. request_in m.load) ms)) e
+    subst (λ u. filter (is_queued (issued_commands channel steps) (length steps)) (filter_map (λ m. request_in m.payload) (arrived ms u)) ≡ filter (is_queued (issued_commands channel steps) (length steps)) (filter_map (λ m. request_in m.payload) ms)) e
     (queued_requests-arrived (λ r. not (is_served (issued_commands channel steps) r)) (length steps) ms h)
 
 stats-alike : (s : Config) (traces : List (List Entry)) (now channel : ℕ)

@@ -9,7 +9,7 @@ use Rattle.sim_base.specs.Windows.{step}
 use Rattle.sim_base.specs.declared.message.Message.{Message}
 use Rattle.sim_base.specs.declared.message.Unit.TheVariants.{Core}
 use Rattle.sim_base.specs.declared.trace.Entry.{Entry}
-use Rattle.sim_base.proofs.Arrived.{arrived}
+use Rattle.sim_base.proofs.Arrived.{arrived, not_before_le}
 use Rattle.sim_base.proofs.Each.{Each-append}
 use Rattle.sim_base.proofs.Ordered.{Each-weaker, Sorted}
 use Rattle.sim_base.proofs.Same.{step-same}
@@ -26,7 +26,6 @@ use Rattle.units.specs.SpanLaws.Mail.{mail_before, mail_in}
 use Rattle.units.proofs.SpanLaws.Arrivals.{arrived-agree, spans-join}
 use Rattle.units.proofs.SpanLaws.Dues.{ComesTo, comes-due}
 use Rattle.units.proofs.SpanLaws.Lists.{Sorted-filter, arriving-within, before-within}
-use Rattle.links.proofs.Next.{not_sooner}
 
 -- the first cycles of a span
 core-alone : (s : Config) (traces : List (List Entry)) (from until core : ℕ) → core < s.cores → (n : ℕ) → from + n ≤ until
@@ -61,7 +60,7 @@ cores-run_alone s traces from until core k l =
 
 by-arrival : (ms : List Message) → Sorted ms → IsByArrival ms
 by-arrival [] h = tt
-by-arrival (m ∷ ms) h = (Each-weaker (λ (y : Message). is_before y m ≡ false) (λ (y : Message). m.arrival ≤ y.arrival) (λ y k. not_sooner m y k) ms h.0, by-arrival ms h.1)
+by-arrival (m ∷ ms) h = (Each-weaker (λ (y : Message). is_before y m ≡ false) (λ (y : Message). m.arrival ≤ y.arrival) (λ y k. not_before_le y m k) ms h.0, by-arrival ms h.1)
 
 at-split : (P : Message → Type 0) (xs ys : List Message) (m : Message) → Each P (xs ++ m ∷ ys) → P m
 at-split P [] ys m h = h.0
@@ -74,7 +73,7 @@ sooner-split (x ∷ xs) ys m h = (at-split (λ (n : Message). x.arrival ≤ n.ar
 
 -- what holds of each message to a core
 abbrev IsAnswer : Config → List (List Entry) → ℕ → ℕ → Message → Type 0
-IsAnswer s traces n core m = FitsCore s core m.link m.load × AnswersRead (trace_of traces core) (core_steps_of s traces n core) m
+IsAnswer s traces n core m = FitsCore s core m.link m.payload × AnswersRead (trace_of traces core) (core_steps_of s traces n core) m
 
 Each-both : (P Q : Message → Type 0) (ms : List Message) → Each P ms → Each Q ms → Each (λ m. P m × Q m) ms
 Each-both P Q [] h k = tt
@@ -83,7 +82,7 @@ Each-both P Q (m ∷ ms) h k = ((h.0, k.0), Each-both P Q ms h.1 k.1)
 all-answer : (s : Config) (traces : List (List Entry)) (n core : ℕ) → core < s.cores → Each (IsAnswer s traces n core) (inbox s traces (run s traces n) (Core core))
 all-answer s traces n core k =
     let all = inbox s traces (run s traces n) (Core core) in
-    let P = λ (m : Message). FitsCore s core m.link m.load in
+    let P = λ (m : Message). FitsCore s core m.link m.payload in
     let Q = AnswersRead (trace_of traces core) (core_steps_of s traces n core) in
     Each-both P Q all (recursion_from_All P all (answers_fit s traces n core k)) (recursion_from_All Q all (replies_answer_reads s traces n core k))
 

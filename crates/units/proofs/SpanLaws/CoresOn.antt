@@ -79,14 +79,14 @@ credits-arrived link access until ms =
     let q = is_credit_on link access until in
     let a : count_by q (arrived ms until) ≡ count_by (λ m. p m && q m) ms = count-filter p q ms in
     let b = count-weaker (λ m. p m && q m) q (λ m h. (and_parts (p m) (q m) h).1) ms in
-    let c = count-weaker q (λ m. p m && q m) (λ m h. and_from (p m) (q m) (and_parts (eqb m.link link && is_credit access m.load) (p m) h).1 h) ms in
+    let c = count-weaker q (λ m. p m && q m) (λ m h. and_from (p m) (q m) (and_parts (eqb m.link link && is_credit access m.payload) (p m) h).1 h) ms in
     omega arith
 
 credits-alike : (s : Config) (core now : ℕ) (trace : List Entry) (steps : List CoreStep) (ms : List Message) (channel : ℕ) → length steps ≡ now
     → credits_of s core trace steps (arrived ms now) channel ≡ credits_of s core trace steps ms channel
 unfolding credits_of credits_left held
 credits-alike s core now trace steps ms channel e =
-    let left = λ (access : Access) (n : ℕ). credit_cap s access + n - count_by (λ m. is_request_for channel access m.load) (core_messages s core trace steps) in
+    let left = λ (access : Access) (n : ℕ). credit_cap s access + n - count_by (λ m. is_request_for channel access m.payload) (core_messages s core trace steps) in
     let same : (access : Access) → count_by (is_credit_on (credit_link s core channel) access (length steps)) (arrived ms now) ≡ count_by (is_credit_on (credit_link s core channel) access (length steps)) ms =
     λ access. subst (λ u. count_by (is_credit_on (credit_link s core channel) access (length steps)) (arrived ms u) ≡ count_by (is_credit_on (credit_link s core channel) access (length steps)) ms) e
     (credits-arrived (credit_link s core channel) access (length steps) ms) in

@@ -12,8 +12,8 @@ use Rattle.sim_base.specs.MachineStep.{step_of_core}
 use Rattle.sim_base.specs.History.{trace_of, steps_of_core, messages, inbox, issued_before}
 use Rattle.sim_base.specs.Machine.{run, next_step}
 use Rattle.sim_base.specs.Windows.{is_reply_to, is_credit}
-use Rattle.sim_base.specs.declared.message.Load.{Load}
-use Rattle.sim_base.specs.declared.message.Load.TheVariants as load
+use Rattle.sim_base.specs.declared.message.Payload.{Payload}
+use Rattle.sim_base.specs.declared.message.Payload.TheVariants as payload
 use Rattle.sim_base.specs.declared.message.Message.{Message}
 use Rattle.sim_base.specs.declared.message.Unit.TheVariants.{Core}
 use Rattle.sim_base.specs.declared.trace.Entry.{Entry}
@@ -29,7 +29,7 @@ use Rattle.laws.specs.Requests.{AnswersReadAs}
 use Rattle.laws.proofs.Answered.{reads_are_answered_once}
 use Rattle.laws.proofs.Conserved.{served, conserved, credits-served}
 use Rattle.laws.proofs.Counting.{count-append}
-use Rattle.core_window.specs.Fit.{IsDueLoad, IsDue}
+use Rattle.core_window.specs.Fit.{IsDuePayload, IsDue}
 use Rattle.core_window.specs.Stands.{is_credit_from}
 use Rattle.core_window.specs.Outstanding.{is_read_in, is_answered}
 use Rattle.units.specs.SpanLaws.Cores.{core_steps_of}
@@ -58,7 +58,7 @@ take-steps_of_core : (s : Config) (traces : List (List Entry)) (n t core : ℕ) 
 unfolding steps_of_core
 take-steps_of_core s traces n t core h = take-map (step_of_core core) t (run s traces n) ∙ ap (map (step_of_core core)) (take-run s traces n t h)
 
-own_reply : (entry : ℕ) (l : Load) → l ≡ load.Reply entry → is_reply_to entry l ≡ true
+own_reply : (entry : ℕ) (l : Payload) → l ≡ payload.Reply entry → is_reply_to entry l ≡ true
 own_reply entry l e = ap (is_reply_to entry) e ∙ eq-eqb entry entry refl
 
 none-any : (p : Message → Bool) (ms : List Message) → Each (λ m. p m ≡ false) ms → list_any p ms ≡ false
@@ -66,13 +66,13 @@ none-any p [] h = refl
 none-any p (m ∷ ms) h = ap₂ (λ a b. a || b) h.0 (none-any p ms h.1)
 
 -- among messages of which at most one is the reply to an entry, none before it is
-reply-first : (entry : ℕ) (mail after : List Message) (m : Message) → m.load ≡ load.Reply entry → count_by (λ n. is_reply_to entry n.load) (mail ++ m ∷ after) ≤ 1
+reply-first : (entry : ℕ) (mail after : List Message) (m : Message) → m.payload ≡ payload.Reply entry → count_by (λ n. is_reply_to entry n.payload) (mail ++ m ∷ after) ≤ 1
     → is_answered mail entry ≡ false
 unfolding is_answered
 reply-first entry mail after m e h =
-    let p = λ (n : Message). is_reply_to entry n.load in
+    let p = λ (n : Message). is_reply_to entry n.payload in
     let a : count_by p (mail ++ m ∷ after) ≡ count_by p mail + count_by p (m ∷ after) = count-append p mail (m ∷ after) in
-    let b : count_by p (m ∷ after) ≡ 1 + count_by p after = count-cons p m after ∙ ap (λ x. cond x 1 0 + count_by p after) (own_reply entry m.load e) in
+    let b : count_by p (m ∷ after) ≡ 1 + count_by p after = count-cons p m after ∙ ap (λ x. cond x 1 0 + count_by p after) (own_reply entry m.payload e) in
     none-any p mail (each-none p mail (omega arith))
 
 -- a credit that has come by a cycle is for a request that was sent before
@@ -105,9 +105,9 @@ pub record ComesTo (s : Config) (traces : List (List Entry)) (until core : ℕ) 
   pub no_later : Each (λ (n : Message). n.arrival ≤ m.arrival) mail
 
 replied-once : (s : Config) (traces : List (List Entry)) (until core entry : ℕ) (mail after : List Message) (m : Message) → core < s.cores → ComesTo s traces until core mail after m
-    → m.load ≡ load.Reply entry → is_answered mail entry ≡ false
+    → m.payload ≡ payload.Reply entry → is_answered mail entry ≡ false
 replied-once s traces until core entry mail after m l h e =
-    let p = λ (n : Message). is_reply_to entry n.load in
+    let p = λ (n : Message). is_reply_to entry n.payload in
     let all = inbox s traces (run s traces until) (Core core) in
     let a : count_by p (mail_before s traces until (Core core) until) ≤ count_by p all = count-kept (λ (n : Message). ltb n.arrival until) p all in
     let b : count_by p all ≤ 1 = reads_are_answered_once s traces until core entry l in
@@ -115,13 +115,13 @@ replied-once s traces until core entry mail after m l h e =
     reply-first entry mail after m e (omega arith)
 
 credit-owed : (s : Config) (traces : List (List Entry)) (until core channel : ℕ) (access : Access) (entry : ℕ) (mail after : List Message) (m : Message) → channel < s.channels
-    → ComesTo s traces until core mail after m → m.load ≡ load.Credit access entry → m.link ≡ credit_link s core channel
+    → ComesTo s traces until core mail after m → m.payload ≡ payload.Credit access entry → m.link ≡ credit_link s core channel
     → count_by (is_credit_from (credit_link s core channel) access) mail < requests_sent s traces m.arrival core channel access
 credit-owed s traces until core channel access entry mail after m l h e f =
     let p = is_credit_from (credit_link s core channel) access in
     let now = m.arrival in
     let then = inbox s traces (run s traces now) (Core core) in
-    let mine : p m ≡ true = and_from (eqb m.link (credit_link s core channel)) (is_credit access m.load) (eq-eqb m.link (credit_link s core channel) f) (ap (is_credit access) e ∙ is_access-own access) in
+    let mine : p m ≡ true = and_from (eqb m.link (credit_link s core channel)) (is_credit access m.payload) (eq-eqb m.link (credit_link s core channel) f) (ap (is_credit access) e ∙ is_access-own access) in
     let same : arrived (mail ++ m ∷ after) (now + 1) ≡ arrived then (now + 1) =
     ap (λ x. arrived x (now + 1)) (sym h.whole) ∙ (arrived-agree s traces now until (Core core) h.in_time).same (now + 1) (omega arith) in
     let a = counted-arrived p mail after m h.no_later mine in
@@ -132,20 +132,20 @@ credit-owed s traces until core channel access entry mail after m l h e f =
 
 -- each message to a core may come in its cycle
 pub comes-due : (s : Config) (traces : List (List Entry)) (until core : ℕ) (mail after : List Message) (m : Message) → core < s.cores → ComesTo s traces until core mail after m
-    → FitsCore s core m.link m.load → AnswersReadAs (trace_of traces core) (core_steps_of s traces until core) m.arrival m.load
+    → FitsCore s core m.link m.payload → AnswersReadAs (trace_of traces core) (core_steps_of s traces until core) m.arrival m.payload
     → IsDue s core (trace_of traces core) (core_steps_of s traces m.arrival core) mail m
-comes-due s traces until core mail after m l h fits answers = by m.load refl fits answers
+comes-due s traces until core mail after m l h fits answers = by m.payload refl fits answers
   where
-    by : (d : Load) → m.load ≡ d → FitsCore s core m.link d → AnswersReadAs (trace_of traces core) (core_steps_of s traces until core) m.arrival d
-        → IsDueLoad s core (trace_of traces core) (core_steps_of s traces m.arrival core) mail m.link d
-    by (load.Request r) e f a = f
-    by (load.Reply entry) e f a =
+    by : (d : Payload) → m.payload ≡ d → FitsCore s core m.link d → AnswersReadAs (trace_of traces core) (core_steps_of s traces until core) m.arrival d
+        → IsDuePayload s core (trace_of traces core) (core_steps_of s traces m.arrival core) mail m.link d
+    by (payload.Request r) e f a = f
+    by (payload.Reply entry) e f a =
         record {
           is_of_a_read = ap is_read_in a.0.1;
           is_issued = subst (λ steps. entry < issued_before steps) (take-steps_of_core s traces until m.arrival core (omega (arith, h.in_time))) a.1;
           is_first = replied-once s traces until core entry mail after m l h e;
         }
-    by (load.Credit access entry) e f a =
+    by (payload.Credit access entry) e f a =
         record {
           channel = f.0;
           exists = f.1;

@@ -6,7 +6,7 @@ use Rattle.std.proofs.lemmas.Bool.{cond_both, cond-true, cond-false, and_parts, 
 use Rattle.std.proofs.lemmas.Bool.Decides.{nat_tests}
 use Rattle.sim_base.specs.History.{is_before}
 use Rattle.sim_base.specs.declared.message.Message.{Message}
-use Rattle.sim_base.proofs.Arrived.{arrived, NotBefore, arrived-none}
+use Rattle.sim_base.proofs.Arrived.{arrived, NotBefore, arrived-none, not_before_le}
 use Rattle.sim_base.proofs.Each.{Each-filter}
 use Rattle.sim_base.proofs.Ordered.{Each-weaker, Sorted}
 use Rattle.sim_base.proofs.Lists.{count-cons}
@@ -15,7 +15,6 @@ use Rattle.laws.proofs.Receivers.{Each-filter_passes}
 use Rattle.laws.specs.Links.{arrives_on}
 use Rattle.channel_step.specs.Fit.{ComeByAge}
 use Rattle.units.specs.SpanLaws.Mail.{arriving}
-use Rattle.links.proofs.Next.{not_sooner}
 
 -- where all arrive at the start of a span or later, those that arrive in it are those that arrive by its end
 arriving-late : (from until : ℕ) (ms : List Message) → NotBefore from ms → arriving from until ms ≡ arrived ms until
@@ -34,7 +33,7 @@ arriving-more from until l (m ∷ ms) h =
     ap (λ x. (m ∷ arrived ms from) ++ x) (cond-false _ _ _ b) ∙ ap (λ x. m ∷ x) (arriving-more from until l ms h.1) ∙ sym (cond-true _ _ _ c))
     (λ e.
     let a : from ≤ m.arrival = ltb-false _ _ e in
-    let rest : NotBefore from ms = Each-weaker (λ (y : Message). is_before y m ≡ false) (λ (y : Message). from ≤ y.arrival) (λ y k. let d = not_sooner m y k in omega arith) ms h.0 in
+    let rest : NotBefore from ms = Each-weaker (λ (y : Message). is_before y m ≡ false) (λ (y : Message). from ≤ y.arrival) (λ y k. let d = not_before_le y m k in omega arith) ms h.0 in
     ap (λ x. x ++ arriving from until (m ∷ ms)) (arrived-none from ms rest) ∙ arriving-late from until (m ∷ ms) (a, rest))
 
 -- each message of a span arrives in it

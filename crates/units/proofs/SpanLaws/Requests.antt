@@ -14,14 +14,14 @@ use Rattle.sim_base.specs.Scheduling.{request_in, is_source, source_of, is_queue
 use Rattle.sim_base.specs.declared.command.Command.{Command}
 use Rattle.sim_base.specs.declared.command.IssuedCommand.{IssuedCommand}
 use Rattle.sim_base.specs.declared.command.Source.{Source}
-use Rattle.sim_base.specs.declared.message.Load.{Load}
-use Rattle.sim_base.specs.declared.message.Load.TheVariants as load
+use Rattle.sim_base.specs.declared.message.Payload.{Payload}
+use Rattle.sim_base.specs.declared.message.Payload.TheVariants as payload
 use Rattle.sim_base.specs.declared.message.Message.{Message}
 use Rattle.sim_base.specs.declared.message.Request.{Request}
 use Rattle.sim_base.specs.declared.message.Unit.TheVariants.{Channel}
 use Rattle.sim_base.specs.declared.trace.Entry.{Entry}
 use Rattle.sim_base.proofs.Arrived.{arrived}
-use Rattle.sim_base.proofs.Each.{Each-filter, Each-filter_map, Each-last}
+use Rattle.sim_base.proofs.Each.{Each-filter, Each-filter_map, Each-turned}
 use Rattle.sim_base.proofs.Ordered.{Each-weaker}
 use Rattle.sim_base.proofs.Same.{Stamped, AgreeUpTo, queue-same}
 use Rattle.sim_base.proofs.Spans.{inbox-stamped}
@@ -33,6 +33,7 @@ use Rattle.laws.proofs.Legal.{channel_steps_of-at, Each-history_of}
 use Rattle.laws.proofs.Named.{commands_name_the_queue}
 use Rattle.channel_step.specs.Past.{requests_of, IsRequestIn, CarriesRequest, IsOther, Differ}
 use Rattle.channel_step.specs.Fit.{is_of, is_named_by, IsUnnamed}
+use Rattle.channel_step.proofs.Fits.{split-differ}
 use Rattle.channel_step.proofs.Requests.{requests-append}
 use Rattle.units.specs.SpanLaws.Mail.{mail_before, mail_in}
 use Rattle.units.proofs.SpanLaws.Arrivals.{count-mine, spans-join, mail-settled}
@@ -46,24 +47,24 @@ carried s traces history channel m (Some r) h = record { core = h.core; link = h
 -- each message to a channel carries a request for it
 pub all-carry : (s : Config) (traces : List (List Entry)) (n channel : ℕ) → channel < s.channels → Each (CarriesRequest s channel) (inbox s traces (run s traces n) (Channel channel))
 all-carry s traces n channel l =
-    let fits = λ (m : Message). IsSomeAnd (request_in m.load) (IsRequestTo s traces (run s traces n) channel m) in
+    let fits = λ (m : Message). IsSomeAnd (request_in m.payload) (IsRequestTo s traces (run s traces n) channel m) in
     let all = inbox s traces (run s traces n) (Channel channel) in
-    Each-weaker fits (CarriesRequest s channel) (λ m h. carried s traces (run s traces n) channel m (request_in m.load) h) all
+    Each-weaker fits (CarriesRequest s channel) (λ m h. carried s traces (run s traces n) channel m (request_in m.payload) h) all
     (recursion_from_All fits all (requests_fit s traces n channel l))
 
 -- a request of an entry of a core
 abbrev asks : ℕ → ℕ → Message → Bool
-asks core entry m = is_request_of core entry m.load
+asks core entry m = is_request_of core entry m.payload
 
-other_in : (r : Request) (l : Load) → is_request_of r.core r.entry l ≡ false → IfSome (request_in l) (IsOther r)
-other_in r (load.Request q) h = h
-other_in r (load.Reply entry) h = tt
-other_in r (load.Credit access entry) h = tt
+other_in : (r : Request) (l : Payload) → is_request_of r.core r.entry l ≡ false → IfSome (request_in l) (IsOther r)
+other_in r (payload.Request q) h = h
+other_in r (payload.Reply entry) h = tt
+other_in r (payload.Credit access entry) h = tt
 
 others : (r : Request) (ms : List Message) → count_by (asks r.core r.entry) ms ≡ 0 → Each (IsOther r) (requests_of ms)
 others r ms h =
-    Each-filter_map (IsOther r) (λ (m : Message). request_in m.load) ms
-    (Each-weaker (λ (m : Message). asks r.core r.entry m ≡ false) (λ (m : Message). IfSome (request_in m.load) (IsOther r)) (λ m k. other_in r m.load k) ms
+    Each-filter_map (IsOther r) (λ (m : Message). request_in m.payload) ms
+    (Each-weaker (λ (m : Message). asks r.core r.entry m ≡ false) (λ (m : Message). IfSome (request_in m.payload) (IsOther r)) (λ m k. other_in r m.payload k) ms
     (each-none (asks r.core r.entry) ms h))
 
 own_entry : (r : Request) → (eqb r.core r.core && eqb r.entry r.entry) ≡ true
@@ -72,12 +73,12 @@ own_entry r = grind (arith, nat_tests)
 -- where no entry is requested twice, the requests are of different entries
 pub differ-once : (ms : List Message) → ((core entry : ℕ) → count_by (asks core entry) ms ≤ 1) → Differ (requests_of ms)
 differ-once [] h = tt
-differ-once (m ∷ ms) h = by m.load refl (differ-once ms (λ core entry. let e = count-tail (asks core entry) m ms in let f = h core entry in omega arith))
+differ-once (m ∷ ms) h = by m.payload refl (differ-once ms (λ core entry. let e = count-tail (asks core entry) m ms in let f = h core entry in omega arith))
   where
-    by : (l : Load) → m.load ≡ l → Differ (requests_of ms) → Differ (cons_option (request_in l) (requests_of ms))
-    by (load.Request r) e rest = (others r ms (count-others (asks r.core r.entry) m ms (ap (is_request_of r.core r.entry) e ∙ own_entry r) (h r.core r.entry)), rest)
-    by (load.Reply entry) e rest = rest
-    by (load.Credit access entry) e rest = rest
+    by : (l : Payload) → m.payload ≡ l → Differ (requests_of ms) → Differ (cons_option (request_in l) (requests_of ms))
+    by (payload.Request r) e rest = (others r ms (count-others (asks r.core r.entry) m ms (ap (is_request_of r.core r.entry) e ∙ own_entry r) (h r.core r.entry)), rest)
+    by (payload.Reply entry) e rest = rest
+    by (payload.Credit access entry) e rest = rest
 
 -- those that arrive at a channel are
 pub mail-differ : (s : Config) (traces : List (List Entry)) (n channel cycle : ℕ) → Differ (requests_of (mail_before s traces n (Channel channel) cycle))
@@ -99,15 +100,6 @@ span-differ s traces from until channel l =
 -- each of these requests is of another entry than each of those
 abbrev AreOther : List Request → Request → Type 0
 AreOther new r = Each (IsOther r) new
-
-differ-across : (xs ys : List Request) → Differ (xs ++ ys) → Each (AreOther ys) xs
-differ-across [] ys d = tt
-differ-across (x ∷ xs) ys d = (Each-last (IsOther x) xs ys d.0, differ-across xs ys d.1)
-
-each-swap : (P : IssuedCommand → Request → Type 0) (xs : List IssuedCommand) (ys : List Request) → Each (λ i. Each (P i) ys) xs → Each (λ r. Each (λ i. P i r) xs) ys
-each-swap P xs [] h = tt
-each-swap P xs (y ∷ ys) h =
-    (Each-weaker (λ i. Each (P i) (y ∷ ys)) (λ i. P i y) (λ i k. k.0) xs h, each-swap P xs ys (Each-weaker (λ i. Each (P i) (y ∷ ys)) (λ i. Each (P i) ys) (λ i k. k.1) xs h))
 
 -- a command that stands in the name of none of these requests
 abbrev NamesNone : List Request → Command → Type 0
@@ -147,7 +139,7 @@ queue-other s traces from until channel cycle l b =
     let steps = channel_steps_of s traces from channel in
     let P = AreOther (requests_of new) in
     let apart : Each P (requests_of mail) =
-    differ-across (requests_of mail) (requests_of new) (subst Differ (requests-append mail new) (span-differ s traces from until channel l)) in
+    (split-differ (requests_of mail) (requests_of new) (subst Differ (requests-append mail new) (span-differ s traces from until channel l))).1 in
     subst (Each P)
     (queue-same channel steps mail (inbox s traces (run s traces from) (Channel channel)) cycle (settled-agree s traces from until channel cycle l b))
     (Each-filter P (is_queued (issued_commands channel (take cycle steps)) (cycle + 1)) (requests_of mail) apart)
@@ -176,5 +168,5 @@ history-names s traces from until channel k l (suc n) h =
 pub span-unnamed : (s : Config) (traces : List (List Entry)) (from until channel : ℕ) → channel < s.channels → from ≤ until
     → Each (IsUnnamed (history_of s traces from channel)) (requests_of (mail_in s traces until (Channel channel) from until))
 span-unnamed s traces from until channel k l =
-    each-swap (λ i r. is_named_by i.command r ≡ false) (history_of s traces from channel) (requests_of (mail_in s traces until (Channel channel) from until))
+    Each-turned (λ i r. is_named_by i.command r ≡ false) (history_of s traces from channel) (requests_of (mail_in s traces until (Channel channel) from until))
     (history-names s traces from until channel k l from (omega arith))

@@ -1,11 +1,12 @@
 -- The row is noted in each bank, group and rank.
 use Rattle.std.proofs.Common.{◌*◌, ◌/◌, ◌%◌, ◌≤◌, refl, sym, ap, subst, ◌∙◌}
+use Rattle.sim_base.proofs.Lists.{length-lent}
 use Rattle.rule_check.specs.Kept.{bank_after, bank_numbered, group_after, rank_after}
 use Rattle.rule_check.specs.declared.state.Bank.{Bank}
 use Rattle.rule_check.specs.declared.state.Group.{Group}
 use Rattle.rule_check.specs.declared.state.Rank.{Rank}
 use Rattle.rule_check.proofs.Keeping.{kept-more}
-use Rattle.rule_check.proofs.Noting.{length-changed, items-changed}
+use Rattle.rule_check.proofs.Noting.{items-changed}
 use Rattle.rule_check.proofs.channel.note.Goals as goal
 
 pub returns : goal.returns
@@ -27,9 +28,9 @@ returns c history h =
 pub invariant_of-channel : goal.invariant_of-channel
 invariant_of-channel c =
     let before = c.args.channel.now in
-    let banks = length-changed before.banks _ c.note_in_banks.new.banks c.deref_mut.ensures.value c.note_in_banks.auto.banks in
-    let groups = length-changed before.groups _ c.note_in_groups.new.groups c.deref_mut-2.ensures.value c.note_in_groups.auto.groups in
-    let ranks = length-changed before.ranks _ c.note_in_ranks.new.ranks c.deref_mut-3.ensures.value c.note_in_ranks.auto.ranks in
+    let banks = length-lent before.banks _ c.note_in_banks.new.banks c.deref_mut.ensures.value c.note_in_banks.auto.banks in
+    let groups = length-lent before.groups _ c.note_in_groups.new.groups c.deref_mut-2.ensures.value c.note_in_groups.auto.groups in
+    let ranks = length-lent before.ranks _ c.note_in_ranks.new.ranks c.deref_mut-3.ensures.value c.note_in_ranks.auto.ranks in
     record {
       few = subst (λ count. count ≤ 4) (sym ranks) before.few;
       all_banks = banks ∙ before.all_banks ∙ ap (λ count. 16 * count) (sym ranks);

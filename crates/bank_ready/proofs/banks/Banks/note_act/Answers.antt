@@ -4,10 +4,11 @@ use Rattle.sim_base.specs.declared.command.Command.TheVariants.{Act}
 use Rattle.sim_base.specs.declared.command.Kind.TheVariants as kind
 use Rattle.sim_base.specs.declared.command.Relation.{Relation}
 use Rattle.sim_base.specs.Places.{is_bank}
+use Rattle.sim_base.proofs.Lists.{length-lent}
 use Rattle.bank_ready.specs.Ready.{held_until}
 use Rattle.bank_ready.specs.Words.{bank_at, relation_from, group_relation_from, rank_state_after, act_pushed, rank_raised}
 use Rattle.bank_ready.proofs.Bounds.{act_grows, act_other_rank, act_to_rd, act_to_wr, act_to_pre}
-use Rattle.bank_ready.proofs.Noting.{put-count, all-words, left-words, own_inside, at_distances, lifted, lifted-own, own-word, alone, joint, joint-own, put, window-of-act, act-tests}
+use Rattle.bank_ready.proofs.Noting.{all-words, left-words, own_inside, at_distances, lifted, lifted-own, own-word, alone, joint, joint-own, put, window-of-act, act-tests}
 use Rattle.bank_ready.proofs.Places.{act_joint}
 use Rattle.bank_ready.proofs.banks.Banks.note_act.Goals as goal
 
@@ -26,7 +27,7 @@ raise_own-requires-4 c = own_inside _ _ _ c.own_number-own.ensures.inside (omega
 pub invariant_of-self : goal.invariant_of-self
 invariant_of-self c =
     let banks = c.args.self.now in
-    let same = put-count banks.ranks _ _ c.deref_mut-6.ensures.value c.note_act_in_rank.auto.ranks in
+    let same = length-lent banks.ranks _ _ c.deref_mut-6.ensures.value c.note_act_in_rank.auto.ranks in
     record {
       few = rw same banks.few;
       all_acts = all-words 16 banks.act _ _ banks.ranks _ c.deref_mut-2.ensures.value c.raise_own.auto.words same banks.all_acts;

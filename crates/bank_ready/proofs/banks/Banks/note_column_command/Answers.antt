@@ -2,12 +2,13 @@
 use Rattle.std.proofs.Common.{◌*◌, length, refl, ap, arith}
 use Rattle.sim_base.specs.declared.command.Kind.TheVariants as kind
 use Rattle.sim_base.specs.Rules.{kind_of}
+use Rattle.sim_base.proofs.Lists.{length-lent}
 use Rattle.bank_ready.specs.Ready.{held_until}
 use Rattle.bank_ready.specs.Words.{act_word, group_relation_from}
 use Rattle.timing.specs.Relation.{relation_to}
 use Rattle.bank_ready.proofs.Allowed.{rank_of-bank}
 use Rattle.bank_ready.proofs.Bounds.{column_pre_bound, column_to_pre}
-use Rattle.bank_ready.proofs.Noting.{put-count, all-words, left-words, floor-raised, own_inside, at_distances, lifted, lifted-own, own-word, column-word, alone, joint-groups, column-acts, no-act, left, put-rank}
+use Rattle.bank_ready.proofs.Noting.{all-words, left-words, floor-raised, own_inside, at_distances, lifted, lifted-own, own-word, column-word, alone, joint-groups, column-acts, no-act, left, put-rank}
 use Rattle.bank_ready.proofs.banks.Banks.note_column_command.Goals as goal
 
 pub bound_until-to_pre-requires-clause-bound : goal.bound_until-to_pre-requires-clause-bound
@@ -19,7 +20,7 @@ raise_own-requires c = own_inside _ _ _ c.own_number-own.ensures.inside (omega (
 pub invariant_of-self : goal.invariant_of-self
 invariant_of-self c =
     let banks = c.args.self.now in
-    let same = put-count banks.ranks _ _ c.deref_mut-4.ensures.value c.raise_rank_words.auto.ranks in
+    let same = length-lent banks.ranks _ _ c.deref_mut-4.ensures.value c.raise_rank_words.auto.ranks in
     record {
       few = rw same banks.few;
       all_acts = left-words 16 banks.act.items banks.ranks _ same banks.all_acts;

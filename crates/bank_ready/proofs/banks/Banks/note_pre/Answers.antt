@@ -2,9 +2,10 @@
 use Rattle.std.proofs.Common.{◌*◌, length, refl, ap, arith}
 use Rattle.sim_base.specs.declared.command.Command.TheVariants.{Pre}
 use Rattle.sim_base.specs.declared.command.Kind.TheVariants as kind
+use Rattle.sim_base.proofs.Lists.{length-lent}
 use Rattle.bank_ready.specs.Words.{relation_from, rd_word, wr_word, pre_word}
 use Rattle.bank_ready.proofs.Bounds.{pre_to_act, pre_nothing}
-use Rattle.bank_ready.proofs.Noting.{put-count, all-words, left-words, own_inside, at_distances, lifted-own, own-word, joint-own, left, put-rank}
+use Rattle.bank_ready.proofs.Noting.{all-words, left-words, own_inside, at_distances, lifted-own, own-word, joint-own, left, put-rank}
 use Rattle.bank_ready.proofs.banks.Banks.note_pre.Goals as goal
 
 pub raise_own-requires : goal.raise_own-requires
@@ -13,7 +14,7 @@ raise_own-requires c = own_inside _ _ _ c.own_number-own.ensures.inside (omega (
 pub invariant_of-self : goal.invariant_of-self
 invariant_of-self c =
     let banks = c.args.self.now in
-    let same = put-count banks.ranks _ _ c.deref_mut-2.ensures.value c.raise_rank_words.auto.ranks in
+    let same = length-lent banks.ranks _ _ c.deref_mut-2.ensures.value c.raise_rank_words.auto.ranks in
     record {
       few = rw same banks.few;
       all_acts = all-words 16 banks.act _ _ banks.ranks _ c.deref_mut.ensures.value c.raise_own.auto.words same banks.all_acts;

@@ -4,16 +4,17 @@ use Rattle.sim_base.specs.declared.command.Command.TheVariants.{Prea}
 use Rattle.sim_base.specs.declared.command.Kind.TheVariants as kind
 use Rattle.sim_base.specs.declared.command.Relation.{Relation}
 use Rattle.sim_base.specs.declared.command.Relation.TheVariants.{SameBank, OtherRank}
+use Rattle.sim_base.proofs.Lists.{length-lent}
 use Rattle.bank_ready.specs.Ready.{held_until}
 use Rattle.bank_ready.specs.Words.{rd_word, wr_word, pre_word}
 use Rattle.bank_ready.proofs.Bounds.{prea_rank, prea_nothing}
-use Rattle.bank_ready.proofs.Noting.{put-count, all-words, left-words, at_distances, lifted, group-rank-word, joint-groups, left, put-rank}
+use Rattle.bank_ready.proofs.Noting.{all-words, left-words, at_distances, lifted, group-rank-word, joint-groups, left, put-rank}
 use Rattle.bank_ready.proofs.banks.Banks.note_prea.Goals as goal
 
 pub invariant_of-self : goal.invariant_of-self
 invariant_of-self c =
     let banks = c.args.self.now in
-    let same = put-count banks.ranks _ _ c.deref_mut-2.ensures.value c.raise_rank_words.auto.ranks in
+    let same = length-lent banks.ranks _ _ c.deref_mut-2.ensures.value c.raise_rank_words.auto.ranks in
     record {
       few = rw same banks.few;
       all_acts = left-words 16 banks.act.items banks.ranks _ same banks.all_acts;

@@ -9,4 +9,4 @@ returns-then-flow-eq0 c = quiet-none (view_of c.args.self.now) c.args.until (ome
 
 pub returns : goal.returns
 returns c =
-    quiet-steady (view_of c.args.self.now) (view_of c.pass.new.self) c.flow-flow.result.cycles c.args.until _ _ c.flow-flow.ensures.steady c.pass.ensures (omega (arith, c.flow-flow.ensures.most))
+    quiet-steady (view_of c.args.self.now) (view_of c.repeat.new.self) c.flow-flow.result.cycles c.args.until _ _ c.flow-flow.ensures.steady c.repeat.ensures (omega (arith, c.flow-flow.ensures.most))

@@ -5,19 +5,19 @@ use Rattle.core_window.specs.CoreViews.{view_of}
 use Rattle.core_window.proofs.Stretching.{rest-steady, quiet-steady}
 use Rattle.core_window.proofs.core_unit.Core.rest.Goals as goal
 
-pub pass-requires-clause-steady : goal.pass-requires-clause-steady
-pass-requires-clause-steady c =
+pub repeat-requires-clause-steady : goal.repeat-requires-clause-steady
+repeat-requires-clause-steady c =
     rest-steady (view_of c.args.self.now) c.idle_work-cycle_work.result.core_step c.idle_work-cycle_work.result.why c.idle_work-cycle_work.result.memory _
     (ap (λ (r : CoreStep). r.retired) c.idle_work-cycle_work.ensures.idle) (ap (λ (r : CoreStep). r.issued) c.idle_work-cycle_work.ensures.idle) c.idle_work-cycle_work.ensures.does
 
 pub returns-clause-goes : goal.returns-clause-goes
 returns-clause-goes c =
-    quiet-steady (view_of c.args.self.now) (view_of c.pass.new.self) (c.args.until - c.args.self.now.cycle) c.args.until c.idle_work-cycle_work.result.core_step c.idle_work-cycle_work.result.why
+    quiet-steady (view_of c.args.self.now) (view_of c.repeat.new.self) (c.args.until - c.args.self.now.cycle) c.args.until c.idle_work-cycle_work.result.core_step c.idle_work-cycle_work.result.why
     (rest-steady (view_of c.args.self.now) c.idle_work-cycle_work.result.core_step c.idle_work-cycle_work.result.why c.idle_work-cycle_work.result.memory _
     (ap (λ (r : CoreStep). r.retired) c.idle_work-cycle_work.ensures.idle) (ap (λ (r : CoreStep). r.issued) c.idle_work-cycle_work.ensures.idle) c.idle_work-cycle_work.ensures.does)
-    c.pass.ensures (omega arith)
+    c.repeat.ensures (omega arith)
 
-pub pass-requires-clause-within : goal.pass-requires-clause-within
-pass-requires-clause-within c =
+pub repeat-requires-clause-within : goal.repeat-requires-clause-within
+repeat-requires-clause-within c =
     let none : c.idle_work-cycle_work.result.core_step.issued ≡ 0 = ap (λ (r : CoreStep). r.issued) c.idle_work-cycle_work.ensures.idle in
     rw none (omega (arith, c.args.self.now.seen.ahead.first.is_from))

@@ -21,7 +21,7 @@ returns-clause-since c =
     subst (All (λ w. until ≤ w)) (sym c.deref-3.ensures.value) (gone-words c.deref.result.now range.first now until range.units.items range.words.items traffic.links gone.gone) in
     let sent : c.deref-2.result.now ≡ sent_by m now until old.range.first (length old.range.units.items) =
     c.deref-2.ensures.value
-    ∙ subst (λ (y : Machine). traffic.mail.sent.items ≡ sent_by y now until old.range.first (length old.range.units.items)) c.deref.ensures gone.sent in
+    ∙ subst (λ (y : Machine). traffic.lists.sent.items ≡ sent_by y now until old.range.first (length old.range.units.items)) c.deref.ensures gone.sent in
     let arrive : All (λ m. until ≤ m.arrival) c.deref-2.result.now =
     subst (All (λ (y : Message). until ≤ y.arrival)) (sym sent)
     (part-late m now until old.range.first (length old.range.units.items) c.requires.asleep.within (omega (arith, c.requires.order)) c.requires.travels) in

@@ -3,7 +3,7 @@ use Rattle.std.proofs.Common.{◌+◌, ap, arith}
 use Rattle.statistics.specs.declared.cores.CoreStats.{CoreStats}
 use Rattle.core_window.specs.CoreViews.{view_of}
 use Rattle.core_window.proofs.Stretching.{steady-fits}
-use Rattle.core_window.proofs.core_unit.Core.pass.Goals as goal
+use Rattle.core_window.proofs.core_unit.Core.repeat.Goals as goal
 
 pub count_cycles-requires : goal.count_cycles-requires
 count_cycles-requires c =

@@ -11,7 +11,7 @@ use Rattle.sim_base.specs.declared.command.IssuedCommand.{IssuedCommand}
 use Rattle.sim_base.specs.Rules.{recent_acts}
 use Rattle.bank_ready.specs.Ready.{is_act_in, window_ends}
 use Rattle.bank_ready.specs.Words.{no_acts, pushed, window_from}
-use Rattle.bank_ready.specs.declared.words.Window.{Window}
+use Rattle.bank_ready.specs.declared.words.ActWindow.{ActWindow}
 use Rattle.bank_ready.specs.Stands.{Ascends}
 
 -- how many ends are still ahead
@@ -121,7 +121,7 @@ window_from-more t rank history i =
     ]
 
 -- the oldest of the last four is not after the second one
-folded-up : (es : List ℕ) (w : Window) → w.oldest ≤ w.second → w.second ≤ w.third → w.third ≤ w.last → Each (λ e. w.last ≤ e) es → Ascending es
+folded-up : (es : List ℕ) (w : ActWindow) → w.oldest ≤ w.second → w.second ≤ w.third → w.third ≤ w.last → Each (λ e. w.last ≤ e) es → Ascending es
     → (fold pushed w es).oldest ≤ (fold pushed w es).second
 folded-up [] w a b c h up = a
 folded-up (e ∷ es) w a b c h up = folded-up es (pushed w e) b c h.0 up.0 up.1

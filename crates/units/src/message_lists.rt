@@ -7,17 +7,17 @@ use std::alloc::Global;
 
 /// Lists that each span reuses together with their room: what arrives at a unit, and what is sent.
 #[derive(Drop)]
-pub struct Mail {
+pub struct MessageLists {
     pub inbox: Vec<Message>,
     pub sent: Vec<Message>,
 }
 
-impl Mail {
+impl MessageLists {
     /// Lists that hold nothing, and have no room.
-    pub fn new(alloc: Global) -> Mail
+    pub fn new(alloc: Global) -> MessageLists
         ensures { (result.inbox.items ≡ []) × (result.sent.items ≡ []) }
     {
-        Mail {
+        MessageLists {
             inbox: Vec::new(alloc),
             sent: Vec::new(alloc),
         }
