@@ -1,5 +1,6 @@
 -- What a channel does next.
 --     StandFor bank_candidates banks refresh queue groups s history      the parts of a channel stand for a configuration and its commands so far
+--     ForParts parts fact      a fact of each configuration and its commands so far that the parts of a channel stand for
 --     choice_in s history queue now      the command of a cycle
 --     command_of s history log choice      the command that is needed by what was chosen
 --     IsFor ranks log choice      what was chosen is a request that waits, or a rank that there is
@@ -20,6 +21,7 @@ use Rattle.queue.specs.declared.request_log.Arrived.{Arrived}
 use Rattle.queue.specs.Log.{all_requests, waits_at}
 use Rattle.queue.specs.View.{QueueView}
 use Rattle.channel_step.specs.FrFcfs.Requests.{candidates_of}
+use Rattle.channel_step.specs.declared.fr_fcfs.choice.ChannelParts.{ChannelParts}
 use Rattle.channel_step.specs.declared.fr_fcfs.choice.Choice.{Choice}
 use Rattle.channel_step.specs.declared.fr_fcfs.choice.Choice.TheVariants as chosen
 
@@ -31,6 +33,12 @@ pub record StandFor (bank_candidates : BankCandidates) (banks : Banks) (refresh 
   pub refreshes_stand : RefreshesStandFor refresh s history
   pub groups_are : s.groups ≡ groups
   pub high_is : s.write_high ≡ queue.high
+
+-- a fact of each configuration, and its commands so far, that the parts of a channel stand for
+abbrev pub ForParts : ChannelParts → (Config → List IssuedCommand → Type 0) → Type 0
+ForParts parts fact =
+    (s : Config) (history : List IssuedCommand)
+    → StandFor parts.bank_candidates.now parts.banks.now parts.refresh.now parts.queue.now parts.groups s history → fact s history
 
 -- the command of a cycle, with this queue
 abbrev pub choice_in : Config → List IssuedCommand → QueueView → ℕ → Option Command

@@ -5,6 +5,7 @@
 --     OfSameBanks bank_candidates banks      candidates and banks are of the same ranks
 --     KnowsRows bank_candidates history      candidates that know which rows are open
 --     StandForLog bank_candidates banks s history log      they stand for a log after a list of commands
+--     ForRequests banks bank_candidates queue fact      a fact of each configuration and history for which they stand
 --     IsLegalFrom s history command cycle      from which cycle on a command may be issued
 --     is_hit history r      the request waits for its data alone
 --     candidates_of s queue      the requests that may be served next
@@ -55,6 +56,13 @@ pub record StandForLog (bank_candidates : BankCandidates) (banks : Banks) (s : C
   pub banks_stand : BanksStandFor banks s history
   pub candidates_stand : CandidatesStandFor bank_candidates log (rows_after history)
   pub in_banks : AreInBanks (rank_count banks) log
+
+-- a fact of each configuration, with the queue's `high`, and each list of commands that banks and the candidates of a
+-- queue stand for
+abbrev pub ForRequests : Banks → BankCandidates → QueueView → (Config → List IssuedCommand → Type 0) → Type 0
+ForRequests banks bank_candidates queue fact =
+    (s : Config) (history : List IssuedCommand) → BanksStandFor banks s history
+    → CandidatesStandFor bank_candidates queue.log (rows_after history) → s.write_high ≡ queue.high → fact s history
 
 -- from this cycle on, and not before, a command may be issued after a history
 abbrev pub IsLegalFrom : Config → List IssuedCommand → Command → ℕ → Type 0

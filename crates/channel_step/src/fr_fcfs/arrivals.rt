@@ -9,14 +9,11 @@ ghost use Rattle.sim_base.specs.declared.command.IssuedCommand.{IssuedCommand};
 ghost use Rattle.sim_base.specs.declared.message.Request.{Request};
 ghost use Rattle.bank_ready.specs.Words.{names_bank};
 ghost use Rattle.bank_ready.specs.Stands.{rank_count, StandsFor as BanksStandFor};
-ghost use Rattle.queue.specs.View.{QueueView};
 ghost use Rattle.queue.specs.Log.{all_requests};
-ghost use Rattle.queue.specs.Candidates.{rows_after};
-ghost use Rattle.queue.specs.Stands.{StandsFor as CandidatesStandFor};
 ghost use Rattle.channel_step.specs.declared.fr_fcfs.choice.Choice.TheVariants as chosen;
-ghost use Rattle.channel_step.specs.FrFcfs.Arrivals.{ComesAfter, KeepsNext};
-ghost use Rattle.channel_step.specs.FrFcfs.Choices.{choice_in, command_of, IsFor};
-ghost use Rattle.channel_step.specs.FrFcfs.Requests.{IsInBanks, IsOfBank, AreInBanks, OfSameBanks, KnowsRows, is_hit};
+ghost use Rattle.channel_step.specs.FrFcfs.Arrivals.{ComesAfter, StaysFound};
+ghost use Rattle.channel_step.specs.FrFcfs.Choices.{command_of, IsFor};
+ghost use Rattle.channel_step.specs.FrFcfs.Requests.{IsInBanks, IsOfBank, AreInBanks, OfSameBanks, KnowsRows, ForRequests, is_hit};
 
 use crate::fr_fcfs::choice::Choice;
 use crate::fr_fcfs::offers::ready;
@@ -117,13 +114,8 @@ pub fn stays(
     requires places { AreInBanks (rank_count banks.now) queue.now.log }
     requires banks { OfSameBanks bank_candidates.now banks.now }
     requires choice { IsFor (rank_count banks.now) queue.now.log found.1 }
-    ensures { (s : Config) (history : List IssuedCommand) (earlier : QueueView) (command : Command)
-        → result ≡ true → BanksStandFor banks.now s history
-        → CandidatesStandFor bank_candidates.now queue.now.log (rows_after history)
-        → s.write_high ≡ queue.now.high → earlier.log ≡ take from queue.now.log
-        → command_of s history queue.now.log found.1 ≡ Some command
-        → KeepsNext (choice_in s history earlier) (choice_in s history queue.now)
-        found.0 command }
+    ensures { result ≡ true → ForRequests banks.now bank_candidates.now queue.now (λ s history.
+        StaysFound s history (take from queue.now.log) queue.now found) }
 {
     if queue.high() != 0 {
         return false;

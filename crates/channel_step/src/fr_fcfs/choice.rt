@@ -6,11 +6,9 @@ ghost use Rattle.sim_base.specs.declared.command.Command.{Command};
 ghost use Rattle.sim_base.specs.declared.command.IssuedCommand.{IssuedCommand};
 ghost use Rattle.bank_ready.specs.Stands.{rank_count, StandsFor as BanksStandFor};
 ghost use Rattle.queue.specs.declared.request_log.Arrived.{Arrived};
-ghost use Rattle.queue.specs.Candidates.{rows_after};
-ghost use Rattle.queue.specs.Stands.{StandsFor as CandidatesStandFor};
-ghost use Rattle.channel_step.specs.FrFcfs.Requests.{AreInBanks, OfSameBanks, KnowsRows, first_ready_in};
+ghost use Rattle.channel_step.specs.FrFcfs.Requests.{AreInBanks, OfSameBanks, KnowsRows, ForRequests, first_ready_in};
 ghost use Rattle.channel_step.specs.FrFcfs.Cycles.{IsNext};
-ghost use Rattle.channel_step.specs.FrFcfs.Choices.{StandFor, choice_in, command_of, HasPlace, HoldsBack};
+ghost use Rattle.channel_step.specs.FrFcfs.Choices.{ForParts, choice_in, command_of, HasPlace, HoldsBack};
 
 use crate::fr_fcfs::needs::refresh_ready;
 use crate::fr_fcfs::offers::first_offer;
@@ -50,17 +48,11 @@ fn next_of_requests(
 ) -> Option<(Cycle, Choice)>
     requires places { AreInBanks (rank_count banks.now) queue.now.log }
     requires banks { OfSameBanks bank_candidates.now banks.now }
-    ensures next { (s : Config) (history : List IssuedCommand)
-        → BanksStandFor banks.now s history
-        → CandidatesStandFor bank_candidates.now queue.now.log (rows_after history)
-        → s.write_high ≡ queue.now.high
-        → IsNext (first_ready_in s history queue.now)
-        (command_of s history queue.now.log) now result }
-    ensures place { (s : Config) (history : List IssuedCommand)
-        → BanksStandFor banks.now s history
-        → CandidatesStandFor bank_candidates.now queue.now.log (rows_after history)
-        → s.write_high ≡ queue.now.high
-        → HasPlace (rank_count banks.now) queue.now.log result }
+    ensures next { ForRequests banks.now bank_candidates.now queue.now (λ s history.
+        IsNext (first_ready_in s history queue.now)
+        (command_of s history queue.now.log) now result) }
+    ensures place { ForRequests banks.now bank_candidates.now queue.now (λ s history.
+        HasPlace (rank_count banks.now) queue.now.log result) }
 {
     match first_offer(queue, bank_candidates, banks, now) {
         Some(offer) => Some((offer.cycle, Choice::Request(offer.place as u32))),
@@ -114,15 +106,11 @@ pub fn next(parts: &ChannelParts<'_>, now: Cycle) -> Option<(Cycle, Choice)>
     requires banks { OfSameBanks parts.now.bank_candidates.now parts.now.banks.now }
     requires ranks { parts.now.refresh.now.ranks ≤ rank_count parts.now.banks.now }
     requires groups { parts.now.groups ≤ 4 }
-    ensures next { (s : Config) (history : List IssuedCommand)
-        → StandFor parts.now.bank_candidates.now parts.now.banks.now parts.now.refresh.now
-        parts.now.queue.now parts.now.groups s history
-        → IsNext (choice_in s history parts.now.queue.now)
-        (command_of s history parts.now.queue.now.log) now result }
-    ensures place { (s : Config) (history : List IssuedCommand)
-        → StandFor parts.now.bank_candidates.now parts.now.banks.now parts.now.refresh.now
-        parts.now.queue.now parts.now.groups s history
-        → HasPlace (rank_count parts.now.banks.now) parts.now.queue.now.log result }
+    ensures next { ForParts parts.now (λ s history.
+        IsNext (choice_in s history parts.now.queue.now)
+        (command_of s history parts.now.queue.now.log) now result) }
+    ensures place { ForParts parts.now (λ s history.
+        HasPlace (rank_count parts.now.banks.now) parts.now.queue.now.log result) }
 {
     let mut next = next_of_requests(parts.queue, parts.bank_candidates, parts.banks, now);
     if let Some((cycle, _)) = next {

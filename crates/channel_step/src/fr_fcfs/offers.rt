@@ -5,9 +5,8 @@ ghost use Rattle.sim_base.specs.declared.config.Config.{Config};
 ghost use Rattle.sim_base.specs.declared.command.IssuedCommand.{IssuedCommand};
 ghost use Rattle.bank_ready.specs.Words.{names_bank};
 ghost use Rattle.bank_ready.specs.Stands.{rank_count, StandsFor as BanksStandFor};
-ghost use Rattle.queue.specs.Candidates.{bank_at, rows_after};
-ghost use Rattle.queue.specs.Stands.{StandsFor as CandidatesStandFor};
-ghost use Rattle.channel_step.specs.FrFcfs.Requests.{AreInBanks, OfSameBanks};
+ghost use Rattle.queue.specs.Candidates.{bank_at};
+ghost use Rattle.channel_step.specs.FrFcfs.Requests.{AreInBanks, OfSameBanks, ForRequests};
 ghost use Rattle.channel_step.specs.FrFcfs.Offers.{goes_before, better_of, offer_from, IsReadyFrom, IsFirstReady};
 
 use crate::fr_fcfs::accesses::{ALL_ACCESSES, READS, WRITES, access_that_goes};
@@ -86,11 +85,8 @@ fn first_of_one_access(
     requires drains { 0 < queue.now.high }
     ensures within { IfSome result (λ o. o.place < length queue.now.log) }
     ensures short { IfSome result (λ o. o.place < 2 ^ 16 - 1) }
-    ensures first { (s : Config) (history : List IssuedCommand)
-        → BanksStandFor banks.now s history
-        → CandidatesStandFor bank_candidates.now queue.now.log (rows_after history)
-        → s.write_high ≡ queue.now.high
-        → IsFirstReady s history queue.now now result }
+    ensures first { ForRequests banks.now bank_candidates.now queue.now (λ s history.
+        IsFirstReady s history queue.now now result) }
 {
     match access_that_goes(queue, bank_candidates) {
         Access::Read => first_of(queue, bank_candidates, READS, banks, now),
@@ -111,11 +107,8 @@ pub(crate) fn first_offer(
     requires banks { OfSameBanks bank_candidates.now banks.now }
     ensures within { IfSome result (λ o. o.place < length queue.now.log) }
     ensures short { IfSome result (λ o. o.place < 2 ^ 16 - 1) }
-    ensures first { (s : Config) (history : List IssuedCommand)
-        → BanksStandFor banks.now s history
-        → CandidatesStandFor bank_candidates.now queue.now.log (rows_after history)
-        → s.write_high ≡ queue.now.high
-        → IsFirstReady s history queue.now now result }
+    ensures first { ForRequests banks.now bank_candidates.now queue.now (λ s history.
+        IsFirstReady s history queue.now now result) }
 {
     if queue.high() == 0 {
         return first_of(queue, bank_candidates, ALL_ACCESSES, banks, now);

@@ -20,5 +20,5 @@ returns-in-Some c s history earlier keeps more known =
     let found_is : Known c.args.found ≡ Known (Some (cycle, choice)) = ap Known c.in-Some.is in
     subst (IsAhead s history x.queue x.cycle) (sym found_is)
     (ahead-kept s history earlier x.queue c.args.older x.cycle cycle choice more.earlier_is
-    (λ command needs. c.stays.ensures s history earlier command keeps more.banks_stand more.candidates_stand more.high_is more.earlier_is needs)
+    (λ command needs. c.stays.ensures keeps s history more.banks_stand more.candidates_stand more.high_is earlier command more.earlier_is needs)
     (subst (IsAhead s history earlier x.cycle) found_is known))

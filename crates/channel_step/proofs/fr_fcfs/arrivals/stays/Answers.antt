@@ -30,7 +30,7 @@ loop-place-preserved c s history stands knows =
     (λ d. subst P (sym (get_or-map request log place absent d c.loop-place-test.true)) (c.if-not-comes_after.ensures s history refl stands knows))
 
 pub returns : goal.returns
-returns c s history earlier command always stands bank_candidates high whole needs =
+returns c always s history stands bank_candidates high earlier command whole needs =
     let log = c.args.queue.now.log in
     let from = c.args.from in
     let knows : KnowsRows c.args.bank_candidates.now history = record { log = log; stands = bank_candidates } in
