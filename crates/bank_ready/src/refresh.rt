@@ -80,6 +80,7 @@ impl Refresh {
         self.issued.get(rank as usize).copied().unwrap_or(0)
     }
 
+    /// Refreshes of a rank that are due in a cycle: the intervals that have ended, less those that were issued.
     fn owed(&self, now: Cycle, rank: u32) -> u64
         ensures { result ≡ owed self.now rank now }
     {

@@ -64,6 +64,7 @@ fn travel_to(sender: &AnsweringChannel<'_>, core: CoreId) -> AnswerLatencies
     }
 }
 
+/// The reply to a Read whose RD is issued in this cycle: it leaves with the last data, after nCL and 4 cycles of the bus.
 #[inline(always)]
 #[tactic(auto, unfolding(sim_base::specs::History::reply))]
 fn reply_to(sender: &AnsweringChannel<'_>, source: Source, travel: AnswerLatencies) -> Message
@@ -80,6 +81,7 @@ fn reply_to(sender: &AnsweringChannel<'_>, source: Source, travel: AnswerLatenci
     }
 }
 
+/// The credit that goes back for a request whose RD or WR is issued in this cycle.
 #[inline(always)]
 #[tactic(auto, unfolding(sim_base::specs::History::credit))]
 fn credit_for(

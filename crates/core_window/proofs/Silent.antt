@@ -16,8 +16,7 @@ use Rattle.cpu_trace.specs.NextMemory.{IsPlainBetween}
 use Rattle.statistics.proofs.KeepsToTrace.{first_stop-le_width, issues-le}
 use Rattle.core_window.specs.Inside.{StandsAt}
 use Rattle.core_window.specs.Rests.{idle_step, IsAtRest}
-use Rattle.core_window.specs.Silence.{IsSilentUntil}
-use Rattle.core_window.specs.Stands.{StandsFor}
+use Rattle.core_window.specs.Silence.{IsSilentUntil, KeepsSilent}
 use Rattle.core_window.specs.OneCycle.{IsSeen}
 use Rattle.core_window.specs.Views.{CoreView}
 use Rattle.core_window.proofs.Issuing.{messages-push}
@@ -83,7 +82,7 @@ rest-silent s core trace steps mail until h n l =
 -- its width of them
 pub plain-silent : (a : CoreView) (first_at second_at cycles until : ℕ) (entry : Entry) → IsSeen a.trace a.stats.issued first_at second_at entry
     → (first_at < length a.trace → a.stats.issued + cycles * a.config.width ≤ first_at) → until ≤ a.now + cycles
-    → (s : Config) (core : ℕ) (trace : List Entry) (steps : List CoreStep) (mail : List Message) → StandsFor s core trace steps mail a → IsSilentUntil s core trace steps mail until
+    → KeepsSilent a until
 plain-silent a first_at second_at cycles until entry seen few near s core trace steps mail h n l =
     silent-by s core trace steps mail first_at n moved.0.ahead.first.is_plain_before (λ m k. bound m (omega (arith, here.now)))
   where

@@ -14,7 +14,7 @@ ghost use Rattle.core_window.specs.Fit.{MayRun, RunsOnto};
 ghost use Rattle.core_window.specs.Stands.{StandsFor};
 ghost use Rattle.core_window.specs.Inside.{IsStanding, IsReceiving, GoesQuietly};
 ghost use Rattle.core_window.specs.Rests.{MayRest, idle_step};
-ghost use Rattle.core_window.specs.Silence.{IsSilentUntil};
+ghost use Rattle.core_window.specs.Silence.{KeepsSilent};
 ghost use Rattle.core_window.specs.Steady.{steady_view, IsSteady};
 ghost use Rattle.core_window.specs.Replies.{MayTakeReply, AnswersRead};
 ghost use Rattle.core_window.specs.Outstanding.{IsByNumber};
@@ -519,8 +519,7 @@ impl Core {
         requires at { self.now.cycle ≡ from }
         requires stands { MayRest (view_of self.now) }
         ensures since { from ≤ result }
-        ensures silent { (s : Config) (core : ℕ) (trace : List Entry) (steps : List CoreStep) (mail : List Message)
-            → StandsFor s core trace steps mail (view_of self.now) → IsSilentUntil s core trace steps mail result }
+        ensures silent { KeepsSilent (view_of self.now) result }
     {
         match self.next_act(from) {
             Some(_) => from.saturating_add(self.plain_cycles()),

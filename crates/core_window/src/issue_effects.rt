@@ -106,6 +106,7 @@ fn travel_to(sender: &RequestingCore<'_>, channel: ChannelId) -> u32
     sender.latencies[channel as usize]
 }
 
+/// The request for a line, which the core sends in this cycle to the channel of its place.
 #[tactic(auto, unfolding(sim_base::specs::History::request))]
 fn request_of_address(
     sender: &RequestingCore<'_>,

@@ -455,6 +455,7 @@ fn earlier(first: Option<Cycle>, second: Option<Cycle>) -> Option<Cycle>
     }
 }
 
+/// Whether nothing is in flight in any of these rings.
 fn all_empty(rings: &[Ring]) -> bool
     ensures { result ≡ list_all (λ ring. length ring.items == 0) rings.now }
 {

@@ -10,7 +10,6 @@ use Rattle.sim_base.specs.Counts.{in_flight}
 use Rattle.sim_base.specs.History.{is_unit, trace_of, core_messages, channel_messages, inbox}
 use Rattle.sim_base.specs.Locality.{TravelsFor}
 use Rattle.sim_base.specs.Machine.{run}
-use Rattle.sim_base.specs.declared.history.CoreStep.{CoreStep}
 use Rattle.sim_base.specs.declared.message.Message.{Message}
 use Rattle.sim_base.specs.declared.message.Unit.{Unit as MachineUnit}
 use Rattle.sim_base.specs.declared.message.Unit.TheVariants.{Core, Channel}
@@ -22,8 +21,7 @@ use Rattle.laws.specs.Commands.{channel_steps_of}
 use Rattle.channel_step.proofs.Stretches.{idle-messages, idle-run}
 use Rattle.core_window.specs.CoreViews.{view_of}
 use Rattle.core_window.specs.Rests.{Rests}
-use Rattle.core_window.specs.Silence.{IsSilentUntil}
-use Rattle.core_window.specs.Stands.{StandsFor as CoreStandsFor}
+use Rattle.core_window.specs.Silence.{KeepsSilent}
 use Rattle.core_window.specs.declared.core_unit.Core.{Core as CoreUnit}
 use Rattle.links.specs.InFlight.{is_due, receiver_of}
 use Rattle.units.specs.SpanLaws.Cores.{core_steps_of}
@@ -169,12 +167,7 @@ pub word-since : (machine : Machine) (u : MachineUnit) (from most : ℕ) (next :
 word-since machine u from most None h l = l
 word-since machine u from most (Some act) h l = h.since
 
--- what a core tells of its silence
-abbrev pub CoreKeepsSilent : CoreUnit → ℕ → Type 0
-CoreKeepsSilent c until =
-    (s : Config) (core : ℕ) (trace : List Entry) (rows : List CoreStep) (mail : List Message) → CoreStandsFor s core trace rows mail (view_of c) → IsSilentUntil s core trace rows mail until
-
-pub core-silent : (machine : Machine) (u : MachineUnit) (c : Box CoreUnit Global) (from until : ℕ) → IsPart machine u from (part.Core c) → CoreKeepsSilent c.value until → IsSilent machine.config machine.traces.items from until u
+pub core-silent : (machine : Machine) (u : MachineUnit) (c : Box CoreUnit Global) (from until : ℕ) → IsPart machine u from (part.Core c) → KeepsSilent (view_of c.value) until → IsSilent machine.config machine.traces.items from until u
 core-silent machine (Core core) c from until h keeps = λ n l.
     keeps machine.config core (trace_of machine.traces.items core) (core_steps_of machine.config machine.traces.items from core) (mail_before machine.config machine.traces.items from (Core core) from) h n (omega (arith, length-core_steps_of machine.config machine.traces.items from core, l))
 core-silent machine (Channel channel) c from until h keeps = absurd h

@@ -1,4 +1,3 @@
-pub mod Everywhere
 pub mod Mail
 pub mod Channels
 pub mod Cores

@@ -23,11 +23,13 @@ pub(crate) const ALL_ACCESSES: Accesses = Accesses {
     writes: true,
 };
 
+/// Requests to read go.
 pub(crate) const READS: Accesses = Accesses {
     reads: true,
     writes: false,
 };
 
+/// Requests to write go.
 pub(crate) const WRITES: Accesses = Accesses {
     reads: false,
     writes: true,
@@ -45,6 +47,7 @@ fn favoured_access(draining: bool) -> Access
     }
 }
 
+/// The other of the two.
 #[inline(always)]
 fn other_access(access: Access) -> Access
     ensures { result ≡ other_access access }

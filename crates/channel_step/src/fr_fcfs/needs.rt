@@ -15,6 +15,7 @@ use sim_base::command::{Command, Kind};
 use sim_base::message::Cycle;
 use sim_base::place::BankId;
 
+/// Whether a row of a bank is open.
 fn is_open(bank_candidates: &BankCandidates, rank: u32, group: u32, bank: u32) -> bool
     requires rank { 16 * rank + 16 ≤ bank_count bank_candidates.now }
     requires group { group < 4 }
@@ -27,6 +28,7 @@ fn is_open(bank_candidates: &BankCandidates, rank: u32, group: u32, bank: u32) -
         .is_some()
 }
 
+/// Whether a row of some bank of a group is open.
 fn has_open_bank_in_group(bank_candidates: &BankCandidates, rank: u32, group: u32) -> bool
     requires rank { 16 * rank + 16 ≤ bank_count bank_candidates.now }
     requires group { group < 4 }
@@ -39,6 +41,7 @@ fn has_open_bank_in_group(bank_candidates: &BankCandidates, rank: u32, group: u3
         || is_open(bank_candidates, rank, group, 3)
 }
 
+/// Whether a row of some bank of a rank is open.
 fn has_open_bank(bank_candidates: &BankCandidates, rank: u32, groups: u32) -> bool
     requires rank { 16 * rank + 16 ≤ bank_count bank_candidates.now }
     requires groups { groups ≤ 4 }

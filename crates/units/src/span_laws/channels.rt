@@ -1,6 +1,6 @@
 //! The channels of a run, each run alone over a span.
 
-ghost use Rattle.units.specs.SpanLaws.Everywhere.{InEachRun, InEachCycle, InEachSpan};
+ghost use Rattle.laws.specs.Everywhere.{InEachRun, InEachCycle, InEachSpan};
 ghost use Rattle.units.specs.SpanLaws.Channels.{RequestsFitSpans, ChannelsRunAlone, ChannelsStart, ChannelsMayRun, ChannelsGoOn, ChannelsEndAlike};
 
 /// The requests of a run that come to a channel in a span are fit for it, and from them the channel alone does what

@@ -1,6 +1,6 @@
 //! The cores of a run, each run alone over a span.
 
-ghost use Rattle.units.specs.SpanLaws.Everywhere.{InEachRun, InEachCycle, InEachSpan};
+ghost use Rattle.laws.specs.Everywhere.{InEachRun, InEachCycle, InEachSpan};
 ghost use Rattle.units.specs.SpanLaws.Cores.{MessagesFitSpans, CoresRunAlone, CoresStart, CoresMayRun, CoresGoOn, CoresEndAlike};
 
 /// The replies and credits of a run that come to a core in a span are fit for it, and from them the core alone does

@@ -1,7 +1,7 @@
 //! The end of a run.
 
 ghost use Rattle.std.specs.Prelude.{ℕ, List};
-ghost use Rattle.units.specs.SpanLaws.Everywhere.{InEachRun, InEachCycle, InEachSpan};
+ghost use Rattle.laws.specs.Everywhere.{InEachRun, InEachCycle, InEachSpan};
 ghost use Rattle.units.specs.SpanLaws.Ends.{RunsStayOver, OverIsSeen, CyclesAreCounted, RetiresByWidth, FlightStays, LastsForTrace, LastsForFlight};
 
 /// A run that is over stays over, so that to know how many cycles it has, it is enough to look at the last of them

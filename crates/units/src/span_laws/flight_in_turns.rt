@@ -2,7 +2,7 @@
 
 ghost use Rattle.std.specs.Prelude.{ℕ};
 ghost use Rattle.sim_base.specs.declared.config.Config.{Config};
-ghost use Rattle.units.specs.SpanLaws.Everywhere.{InEachCycle, InEachTurn};
+ghost use Rattle.laws.specs.Everywhere.{InEachCycle, InEachTurn};
 ghost use Rattle.units.specs.SpanLaws.FlightInTurns.{FlightsMeet, ChannelsAreBrought, CoresAreBrought, ChannelsTakeTheirs, CoresTakeTheirs, LaterStays, ChannelsGoFurther, CoresGoFurther, ChannelsGoFurtherFor, CoresGoFurtherFor};
 
 /// Where all units stand at one cycle, what is in flight is what is in flight in the run. In turns, it brings each

@@ -1,6 +1,6 @@
 //! What arrives at the one kind of units, known from the other kind alone.
 
-ghost use Rattle.units.specs.SpanLaws.Everywhere.{InEachSpan};
+ghost use Rattle.laws.specs.Everywhere.{InEachSpan};
 ghost use Rattle.units.specs.SpanLaws.Known.{RequestsAreKnown, AnswersAreKnown};
 
 /// What arrives at a channel before a cycle is exactly what the cores sent up to the least latency of requests before

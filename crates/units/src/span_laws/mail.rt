@@ -1,6 +1,6 @@
 //! The messages of a run that come to a unit, span by span.
 
-ghost use Rattle.units.specs.SpanLaws.Everywhere.{InEachSpan};
+ghost use Rattle.laws.specs.Everywhere.{InEachSpan};
 ghost use Rattle.units.specs.SpanLaws.Mail.{MailIsSettled, MailIsKnown, SpansJoin, MailIsSent};
 
 /// What arrives at a unit before a cycle is settled when the run has come to this cycle, and known earlier by as many

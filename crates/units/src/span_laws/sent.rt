@@ -1,7 +1,7 @@
 //! How long what is sent takes at least.
 
 ghost use Rattle.sim_base.specs.declared.config.Config.{Config};
-ghost use Rattle.units.specs.SpanLaws.Everywhere.{InEachSpan};
+ghost use Rattle.laws.specs.Everywhere.{InEachSpan};
 ghost use Rattle.units.specs.SpanLaws.Sent.{PhasesAreTurns, RequestsAreLate, AnswersAreLate};
 
 /// What a core sends from a cycle on arrives no sooner than the least latency of a request after it; what a channel

@@ -1,6 +1,6 @@
 //! A machine whose cores and channels go on in turns.
 
-ghost use Rattle.units.specs.SpanLaws.Everywhere.{InEachCycle, InEachTurn};
+ghost use Rattle.laws.specs.Everywhere.{InEachCycle, InEachTurn};
 ghost use Rattle.units.specs.SpanLaws.Turns.{ChannelsAreReady, CoresAreReady, ChannelsTurn, CoresTurn, TurnsBegin, TurnsJump, ChannelGoes, CoreGoes, ChannelStays, CoreStays, ChannelsIdle, CoresIdle};
 
 /// In a turn, what is in flight brings each unit of the kind whose turn it is what arrives at it, from where it

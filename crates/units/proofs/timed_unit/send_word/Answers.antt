@@ -4,12 +4,13 @@ use Rattle.std.specs.Box.{with_value}
 use Rattle.channel_step.specs.Runs.{StandsAt}
 use Rattle.core_window.specs.CoreViews.{view_of}
 use Rattle.core_window.specs.Rests.{MayRest}
+use Rattle.core_window.specs.Silence.{KeepsSilent}
 use Rattle.core_window.specs.declared.core_unit.Core.{Core}
 use Rattle.units.specs.Parts.{IsPart}
 use Rattle.units.specs.declared.part.UnitState.TheVariants as part
 use Rattle.units.specs.Quiet.{SendsNothing}
 use Rattle.units.proofs.Resting.{ChannelTells, core-cycle, core-may_rest, channel-stands_at, channel-tells}
-use Rattle.units.proofs.Waiting.{CoreKeepsSilent, core-silent, word-silent, word-since}
+use Rattle.units.proofs.Waiting.{core-silent, word-silent, word-since}
 use Rattle.units.proofs.timed_unit.send_word.Goals as goal
 
 pub silent_until-requires-clause-at : goal.silent_until-requires-clause-at
@@ -33,7 +34,7 @@ next_act-requires c =
 pub returns-in-Core-clause-silent : goal.returns-in-Core-clause-silent
 returns-in-Core-clause-silent c machine unit h =
     core-silent machine unit c.in-Core.core c.args.from c.silent_until.result (subst (IsPart machine unit c.args.from) c.in-Core.is h)
-    (subst (λ x. CoreKeepsSilent x c.silent_until.result) c.deref.ensures c.silent_until.ensures.silent)
+    (subst (λ x. KeepsSilent (view_of x) c.silent_until.result) c.deref.ensures c.silent_until.ensures.silent)
 
 pub returns-in-Channel-clause-silent : goal.returns-in-Channel-clause-silent
 returns-in-Channel-clause-silent c machine unit h =
