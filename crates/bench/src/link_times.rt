@@ -1,7 +1,6 @@
 //! Sends messages over the links of 256 cores and 16 channels, phase by phase, and prints how many arrived, and how
 //! long each kind of call took.
 
-ghost use Rattle.std.specs.Prelude.{◌≡◌, []};
 
 use crate::figures::{Effort, now, show_count};
 use fixtures::small::small;

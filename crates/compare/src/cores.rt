@@ -1,9 +1,8 @@
 //! The core that gained most against the first run, and the one that lost most.
 
-ghost use Rattle.std.specs.Prelude.{◌≡◌, ◌^◌, ◌<◌, IfSome, fold, length};
-ghost use Rattle.sim_base.specs.History.{below};
+ghost use Rattle.std.specs.Prelude.{◌≡◌, ◌^◌, ◌<◌, IfSome};
 ghost use Rattle.compare.specs.Quotients.{quotient};
-ghost use Rattle.compare.specs.Cores.{amount, core_change, further, no_core, most};
+ghost use Rattle.compare.specs.Cores.{amount, core_change, further, most};
 
 use crate::changes::{Change, change_of};
 use crate::quotients::quotient;

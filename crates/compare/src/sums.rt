@@ -1,7 +1,7 @@
 //! Sums over the channels and the cores of a run, its least and its greatest.
 
-ghost use Rattle.std.specs.Prelude.{◌≡◌, length, fold, max, min};
-ghost use Rattle.compare.specs.Sums.{saturated, count_of_channel, channel_sum, count_of_core, core_sum, first_retired, least_retired, greatest_retired, longest_queue, ever_drains, channel_cycles};
+ghost use Rattle.std.specs.Prelude.{◌≡◌, fold, max, min};
+ghost use Rattle.compare.specs.Sums.{count_of_channel, channel_sum, count_of_core, core_sum, first_retired, least_retired, greatest_retired, longest_queue, ever_drains, channel_cycles};
 
 use statistics::channels::ChannelStats;
 use statistics::cores::CoreStats;

@@ -1,6 +1,6 @@
 //! A core.
 
-ghost use Rattle.std.specs.Prelude.{[], IsTrue, ◌↔◌, ◌/◌, ◌%◌, ◌≡◌, ◌^◌, ◌+◌, ◌*◌, ◌-◌, ◌≤◌, ◌<◌, ℕ, Some, List, length, slice_get, min, replicate, OnOk, IfOk};
+ghost use Rattle.std.specs.Prelude.{[], IsTrue, ◌↔◌, ◌/◌, ◌%◌, ◌≡◌, ◌^◌, ◌+◌, ◌*◌, ◌-◌, ◌≤◌, ◌<◌, ℕ, Some, length, slice_get, min, replicate, OnOk, IfOk};
 ghost use Rattle.std.specs.Option.{IfSome};
 ghost use Rattle.sim_base.specs.declared.history.CoreStep.{CoreStep};
 ghost use Rattle.sim_base.specs.declared.message.Message.{Message};

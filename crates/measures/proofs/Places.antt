@@ -2,7 +2,7 @@
 use Rattle.std.proofs.Common.{◌≡◌, ℕ, suc, ◌+◌, ◌-◌, ◌*◌, ◌/◌, ◌<◌, ◌≤◌, List, [], ◌∷◌, length, refl, subst, Option, Some, None, arith}
 use Rattle.std.specs.Prelude.{slice_get, IfSome, MatchOption}
 use Rattle.std.specs.List.Sorted.{IsNonDecreasing}
-use Rattle.measures.specs.Percentile.{at_rank, IsPercentile, IsLeast}
+use Rattle.measures.specs.Percentile.{IsPercentile, IsLeast}
 use Rattle.measures.proofs.Ranks.{rank_gives, rank_none}
 
 -- the percentile that stands at a place

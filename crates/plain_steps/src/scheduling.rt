@@ -1,6 +1,6 @@
 //! First-ready first-come-first-served scheduling of one channel.
 
-ghost use Rattle.std.specs.Prelude.{◌≡◌, ◌<◌, ◌^◌, find, filter, count_by, take, IfOk};
+ghost use Rattle.std.specs.Prelude.{◌≡◌, ◌<◌, find, filter, count_by, take, IfOk};
 ghost use Rattle.sim_base.specs.Access.{is_access};
 ghost use Rattle.sim_base.specs.declared.message.Access.TheVariants as access;
 ghost use Rattle.sim_base.specs.Scheduling.{request_in, is_source, serves, is_served, drains_with, asks_for_line};

@@ -1,7 +1,7 @@
 //! When a request that was served was where.
 
 ghost use Rattle.std.specs.Prelude.{◌≡◌, ◌+◌};
-ghost use Rattle.request_table.specs.Requests.{replied_in, if_within, reply_cycle};
+ghost use Rattle.request_table.specs.Requests.{replied_in, if_within};
 ghost use Rattle.request_table.specs.Tables.{times_of};
 
 use crate::served_requests::ServedRequest;

@@ -1,6 +1,6 @@
 //! How the results of a phase are put together, in whatever order they come.
 
-ghost use Rattle.std.specs.Prelude.{◌≡◌, ◌<◌, ◌^◌, [], Some, None, Err, length, map, is_some, slice_index_or, All, IfOk, IfErr, IfSome, IsOkUnless, OnOk};
+ghost use Rattle.std.specs.Prelude.{◌≡◌, ◌<◌, [], Some, None, Err, length, map, is_some, slice_index_or, All, IfOk, IfErr, IfSome, IsOkUnless, OnOk};
 ghost use Rattle.shards.specs.Merging.{AreAllThere, ArePlaced, IsMissing, IsNameFault, IsOf, IsFirstFault, IsOneOfEach, IsPut, IsWhyUnmerged, fault_in, has_span, is_among, names_in, names_of, results_at};
 ghost use Rattle.shards.specs.Phases.{UnloadAny, ended, jobs_of, shard_count};
 

@@ -1,11 +1,11 @@
 //! The banks of a run, a line for each that a command names.
 
-ghost use Rattle.std.specs.Prelude.{◌≡◌, codes, true, IfOk, length, string_bytes};
+ghost use Rattle.std.specs.Prelude.{◌≡◌, codes, true, IfOk, string_bytes};
 ghost use Rattle.measures.specs.Banks.{channel_counts};
 ghost use Rattle.show.specs.Rows.{bank_headings, bank_row, machine_in};
 ghost use Rattle.show.specs.Banks.{bank_label, bank_line, banks_text, all_banks_text, IsBanksScreen};
 ghost use Rattle.show.specs.Tables.{IsLayout};
-ghost use Rattle.measures.specs.Texts.{Puts, PutsWords};
+ghost use Rattle.measures.specs.Texts.{PutsWords};
 
 use crate::options::Options;
 use crate::screen::put_screen;

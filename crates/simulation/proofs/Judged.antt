@@ -1,5 +1,5 @@
 -- The verdict on the table of a run.
-use Rattle.std.proofs.Common.{◌≡◌, ℕ, zero, suc, ◌+◌, ◌≤◌, ◌^◌, Bool, true, false, ◌&&◌, cond, leb, List, [], ◌∷◌, length, Result, Ok, Err, refl, subst, arith}
+use Rattle.std.proofs.Common.{◌≡◌, ℕ, ◌+◌, ◌≤◌, ◌^◌, Bool, true, false, cond, leb, List, [], ◌∷◌, length, Result, Ok, Err, refl, subst, arith}
 use Rattle.std.specs.List.{AllByRecursion as Each}
 use Rattle.std.proofs.lemmas.Bool.Decides.{nat_tests}
 use Rattle.std.proofs.lemmas.List.Elements.{All-from_recursion}
@@ -8,7 +8,7 @@ use Rattle.sim_base.specs.declared.fault.Fault.{Fault}
 use Rattle.sim_base.specs.declared.fault.Fault.TheVariants.{TraceTooLong}
 use Rattle.sim_base.specs.declared.trace.Entry.{Entry}
 use Rattle.sim_base.specs.TraceText.{◌>>=◌, trace_answer, in_trace, trace_entries, limited}
-use Rattle.sim_base.specs.Machine.{run, is_over, cycles_run}
+use Rattle.sim_base.specs.Machine.{cycles_run}
 use Rattle.sim_base.proofs.Cycles.{cycles-within}
 use Rattle.run_tables.proofs.TableLaws.Verdicts.{runs-legal}
 use Rattle.simulation.specs.Runs.{traces_of, IsLegalRun}

@@ -3,7 +3,6 @@
 ghost use Rattle.std.specs.Prelude.{◌≡◌, ◌≤◌, ◌<◌, ◌^◌, ◌==◌, ◌&&◌, ◌↔◌, nat_le, length, vec_len, IsTrue, Ok, IfOk, IfErr, IfSome};
 ghost use Rattle.std.specs.List.{AllZip, range_with_len};
 ghost use Rattle.config_reader.specs.Document.{document_of};
-ghost use Rattle.sim_base.specs.TraceText.{trace_answer};
 ghost use Rattle.sim_base.specs.Values.{values_of};
 ghost use Rattle.simulation.specs.Runs.{unless, limits_of, texts_in, traces_of, IsTextOf, IsTraceFault, IsTracesFault, IsInputFault, PassesTests};
 ghost use Rattle.simulation.specs.Traces.{text_of, len_to_read, bytes_to_read, trace_in, AreSources, IsTraceFor, IsFound, IsBefore};

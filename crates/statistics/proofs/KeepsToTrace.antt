@@ -10,7 +10,7 @@ use Rattle.std.proofs.lemmas.List.FromFn.{length-range_with_len}
 use Rattle.std.proofs.lemmas.List.Sums.{prefix_len-le-length}
 use Rattle.sim_base.specs.declared.config.Config.{Config}
 use Rattle.sim_base.specs.History.{below, trace_of, steps_of_core, retired_before, issued_before, core_messages, inbox}
-use Rattle.sim_base.specs.Machine.{run, core_run}
+use Rattle.sim_base.specs.Machine.{run}
 use Rattle.sim_base.specs.Windows.{done_from, is_done, retires, stop_after, has_cause, first_stop, step}
 use Rattle.sim_base.specs.declared.history.CoreStep.{CoreStep}
 use Rattle.sim_base.specs.declared.message.Message.{Message}

@@ -1,6 +1,6 @@
 //! All units of a machine between two spans.
 
-ghost use Rattle.std.specs.Prelude.{◌≡◌, ◌<◌, ◌≤◌, ◌+◌, true, false, List, length, is_some, [], IfOk, OnOk, IfSome, IfNone};
+ghost use Rattle.std.specs.Prelude.{◌≡◌, ◌<◌, ◌≤◌, ◌+◌, false, length, is_some, [], IfOk, OnOk, IfSome, IfNone};
 ghost use Rattle.std.specs.Arc.{arc_value};
 ghost use Rattle.sim_base.specs.History.{trace_of};
 ghost use Rattle.channel_step.specs.Channels.{StandsFor as ChannelStandsFor};

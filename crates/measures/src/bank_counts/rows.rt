@@ -3,7 +3,7 @@
 ghost use Rattle.std.specs.Prelude.{◌≡◌, ◌<◌, ◌^◌, IfOk};
 ghost use Rattle.sim_base.specs.Counts.{issued_of_kind};
 ghost use Rattle.sim_base.specs.Rules.{is_kind, kind_of};
-ghost use Rattle.measures.specs.Banks.{is_of_channel, of_channel, is_named, names_bank, of_bank, is_of_rank, of_rank, bank_at, is_used, used_banks};
+ghost use Rattle.measures.specs.Banks.{is_of_channel, of_channel, names_bank, of_bank, is_of_rank, of_rank, bank_at, is_used, used_banks};
 
 use command_table::list::CommandList;
 use sim_base::command::{IssuedCommand, Kind};

@@ -1,6 +1,6 @@
 //! How long requests waited in the queue of their channel, from their arrival to their RD or WR.
 
-ghost use Rattle.std.specs.Prelude.{◌≡◌, ◌-◌, ◌<◌, ◌^◌};
+ghost use Rattle.std.specs.Prelude.{◌≡◌, ◌-◌};
 ghost use Rattle.measures.specs.Waiting.{is_in_class, is_of, waited, counted, waited_in, channel_waits};
 
 use request_table::times::RequestTimes;

@@ -48,7 +48,7 @@ impl BankCandidates {
     ghost use Rattle.queue.specs.Candidates.{number_of, first_place, bank_asked_at, rows_after};
     ghost use Rattle.queue.specs.Served.{IsServed};
     ghost use Rattle.queue.specs.Sets.{is_in};
-    ghost use Rattle.queue.specs.Stands.{bank_count, candidates_of_bank, candidates_to, oldest_of_bank, row_of_bank};
+    ghost use Rattle.queue.specs.Stands.{bank_count, candidates_to, oldest_of_bank, row_of_bank};
     ghost use Rattle.queue.specs.Stands.{StandsFor, StandsUpTo, with_row, closed_in, IsAmong};
 
     /// The candidates of an empty log, for `banks` banks, which are all closed. Only this call allocates memory.

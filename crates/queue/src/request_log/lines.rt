@@ -1,9 +1,8 @@
 //! Which requests wait for a line, and counters of the requests for a line, or for a row.
 
-ghost use Rattle.std.specs.Prelude.{◌≡◌, ◌<◌, ◌^◌, [], false, IfOk, length};
-ghost use Rattle.sim_base.specs.Scheduling.{asks_for_line};
-ghost use Rattle.queue.specs.Log.{is_for, waiting_requests};
-ghost use Rattle.queue.specs.Columns.{tag_column, counter_of_line, counter_of_row, AreCounted};
+ghost use Rattle.std.specs.Prelude.{◌≡◌, ◌<◌, ◌^◌, [], IfOk, length};
+ghost use Rattle.queue.specs.Log.{is_for};
+ghost use Rattle.queue.specs.Columns.{counter_of_line, counter_of_row, AreCounted};
 ghost use Rattle.queue.specs.Lines.{IsFirstTold};
 
 use crate::request_log::Arrived;

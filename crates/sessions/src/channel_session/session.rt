@@ -1,6 +1,6 @@
 //! A channel as a session.
 
-ghost use Rattle.std.specs.Prelude.{◌≡◌, ◌≢◌, ◌+◌, ◌-◌, ◌<◌, ◌≤◌, ◌^◌, nat_lt, nat_le, length, take_while, option_map, IfOk, IfErr, OnOk, OnErr, ◌++◌};
+ghost use Rattle.std.specs.Prelude.{◌≡◌, ◌≢◌, ◌+◌, ◌-◌, ◌<◌, ◌≤◌, ◌^◌, nat_lt, nat_le, length, take_while, option_map, IfOk, IfErr, OnOk, OnErr};
 ghost use Rattle.std.specs.List.{list_all};
 ghost use Rattle.sim_base.specs.History.{is_before};
 ghost use Rattle.sim_base.specs.Places.{place_of};

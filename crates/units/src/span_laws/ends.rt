@@ -1,6 +1,6 @@
 //! The end of a run.
 
-ghost use Rattle.std.specs.Prelude.{ℕ, List};
+ghost use Rattle.std.specs.Prelude.{ℕ};
 ghost use Rattle.laws.specs.Everywhere.{InEachRun, InEachCycle, InEachSpan};
 ghost use Rattle.units.specs.SpanLaws.Ends.{RunsStayOver, OverIsSeen, CyclesAreCounted, RetiresByWidth, FlightStays, LastsForTrace, LastsForFlight};
 

@@ -1,5 +1,5 @@
 -- Where the search finds none, no word is before the cycle.
-use Rattle.std.proofs.Common.{◌≡◌, ◌≤◌, ℕ, false, ltb, List, length, get_or, Option, Some, None, inl, inr, refl, sym, ◌∙◌, arith}
+use Rattle.std.proofs.Common.{◌≡◌, ◌≤◌, ℕ, ltb, List, length, get_or, Some, None, inl, inr, sym, ◌∙◌, arith}
 use Rattle.std.specs.Prelude.{All}
 use Rattle.std.specs.List.{position, position_or_len}
 use Rattle.std.proofs.lemmas.Bool.{cases_lt, cond-true, lt-ltb, ltb-false}

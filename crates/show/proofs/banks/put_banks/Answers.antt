@@ -1,5 +1,5 @@
 -- The head, the headings, and a line for each bank.
-use Rattle.std.proofs.Common.{◌≡◌, ◌++◌, [], ap, ap₂, length, append_assoc, append-nil, refl}
+use Rattle.std.proofs.Common.{◌++◌, ap₂, length, append_assoc, append-nil, refl}
 use Rattle.std.specs.Prelude.{codes}
 use Rattle.show.specs.Banks.{banks_head, banks_text, bank_line}
 use Rattle.show.specs.Rows.{bank_headings}

@@ -1,5 +1,5 @@
 -- The head, and the table and its last line below it.
-use Rattle.std.proofs.Common.{◌≡◌, ◌++◌, ap, ap₂, ◌∙◌, append_assoc, refl}
+use Rattle.std.proofs.Common.{◌++◌, ap, ap₂, ◌∙◌, append_assoc, refl}
 use Rattle.std.specs.Prelude.{codes}
 use Rattle.show.specs.Requests.{latencies_head, replies_of, AreLatencyLines}
 use Rattle.show.specs.Rows.{latency_row}

@@ -1,5 +1,5 @@
 -- As many replies came as there are read latencies.
-use Rattle.std.proofs.Common.{◌≡◌, subst, sym}
+use Rattle.std.proofs.Common.{subst, sym}
 use Rattle.measures.specs.Texts.{Puts}
 use Rattle.show.specs.Requests.{latencies_head, AreLatencyRows, AreLatencyLines}
 use Rattle.show.specs.Screen.{IsBelow}

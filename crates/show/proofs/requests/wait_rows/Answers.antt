@@ -1,5 +1,5 @@
 -- A row for one channel more.
-use Rattle.std.proofs.Common.{◌++◌, ◌∷◌, [], ap, ap₂, sym, ◌∙◌}
+use Rattle.std.proofs.Common.{◌++◌, ◌∷◌, [], ap₂, sym, ◌∙◌}
 use Rattle.sim_base.proofs.Lists.{map_below-more}
 use Rattle.show.specs.Rows.{wait_row}
 use Rattle.show.proofs.requests.wait_rows.Goals as goal

@@ -1,5 +1,5 @@
 -- The head, and the table below it.
-use Rattle.std.proofs.Common.{◌≡◌, ◌∙◌, ap, ap₂, length, map, append_assoc, refl, rules}
+use Rattle.std.proofs.Common.{◌≡◌, ◌∙◌, ap₂, length, map, append_assoc, refl, rules}
 use Rattle.show.specs.Rows.{core_row}
 use Rattle.show.specs.Screen.{cores_head, finished}
 use Rattle.measures.proofs.Texts.{words_as, puts_as}

@@ -1,5 +1,4 @@
 -- The results come in another order.
-use Rattle.std.proofs.Common.{IsPermutation}
 use Rattle.std.proofs.lemmas.List.Sorted.{IsPermutation-trans}
 use Rattle.run_tests.proofs.shared_out.ReversedRunner.run_phase.Goals as goal
 

@@ -1,7 +1,6 @@
 -- One heading after the other, and the end of the line.
 use Rattle.std.proofs.Common.{◌++◌, ap}
 use Rattle.std.specs.Prelude.{codes}
-use Rattle.std.specs.List.{flat_map}
 use Rattle.measures.specs.Texts.{flush_right}
 use Rattle.measures.proofs.Texts.{words_as}
 use Rattle.show.specs.Tables.{headings_text}
