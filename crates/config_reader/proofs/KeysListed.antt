@@ -9,7 +9,8 @@ use Rattle.sim_base.specs.Keys.{numbers_before_fields, numbers_behind_fields, ha
 use Rattle.sim_base.specs.declared.fault.Fault.{Fault}
 use Rattle.sim_base.specs.declared.key.Key.{Key}
 use Rattle.sim_base.specs.declared.key.Key.TheVariants as key
-use Rattle.config_reader.specs.Document.Keys.{◌>>=◌, number_at}
+use Rattle.sim_base.specs.TraceText.{◌>>=◌}
+use Rattle.config_reader.specs.Document.Keys.{number_at}
 use Rattle.config_reader.specs.Document.Numbers.{AreNumbers, numbers_of}
 
 -- what holds of each key of both lists holds of each at which a number stands

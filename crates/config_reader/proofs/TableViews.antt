@@ -13,7 +13,8 @@ use Rattle.sim_base.specs.declared.overrides.Override.{Override}
 use Rattle.sim_base.specs.declared.place.Field.{Field}
 use Rattle.config_reader.specs.Document.Fields.{are_texts, field_named, fields_named}
 use Rattle.config_reader.specs.Document.Links.{override_from, overrides_in}
-use Rattle.config_reader.specs.Document.Keys.{◌>>=◌, is_known, keys_are_known, count_of}
+use Rattle.sim_base.specs.TraceText.{◌>>=◌}
+use Rattle.config_reader.specs.Document.Keys.{is_known, keys_are_known, count_of}
 
 pub keys_are_known-view : (es : List Entry) → list_all (λ k. is_known (string_bytes k)) (keys_of es) ≡ keys_are_known (members_view es)
 keys_are_known-view [] = refl

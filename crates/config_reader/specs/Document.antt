@@ -13,7 +13,8 @@ use Rattle.config_reader.specs.declared.draft.Draft.{Draft}
 use Rattle.sim_base.specs.declared.fault.Fault.{Fault}
 use Rattle.sim_base.specs.declared.fault.Fault.TheVariants.{ConfigSyntax}
 use Rattle.config_reader.specs.Document.Fields.{fields_of}
-use Rattle.config_reader.specs.Document.Keys.{◌>>=◌, known_of}
+use Rattle.sim_base.specs.TraceText.{◌>>=◌}
+use Rattle.config_reader.specs.Document.Keys.{known_of}
 use Rattle.config_reader.specs.Document.Links.{overrides_of}
 use Rattle.config_reader.specs.Document.Numbers.{numbers_of, number_in, end_of}
 use Rattle.config_reader.specs.Document.Relations.{relations_of}

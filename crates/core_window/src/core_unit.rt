@@ -454,7 +454,8 @@ impl Core {
         requires order { from ≤ until }
         requires early { until < 2 ^ 62 }
         requires fit { MayRun (view_of self.old) from until inbox.now }
-        ensures { OnOk result (RunsOnto (view_of self.old) from until inbox.now (view_of self.new) sent.old.items sent.new.items) }
+        ensures { OnOk result (RunsOnto (view_of self.old) from until inbox.now
+            (view_of self.new) sent.old.items sent.new.items) }
     {
         for message in inbox {
             self.advance(message.arrival, sent)?;

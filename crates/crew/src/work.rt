@@ -25,7 +25,8 @@ pub(crate) fn run_one<T, D: DoneOf<T> + Drop, W: Work<T, D>>(
     task: T,
     results: &mut Vec<D>,
 ) -> Result<(), AllocError>
-    ensures { OnOk result (map D.task results.new.items ≡ map D.task results.old.items ++ task ∷ []) }
+    ensures { OnOk result (map D.task results.new.items
+        ≡ map D.task results.old.items ++ task ∷ []) }
 {
     results.push(work.run(alloc, worker, task)?)?;
     Ok(())

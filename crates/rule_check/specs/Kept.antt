@@ -3,6 +3,7 @@
 --     latest_where p history      the latest cycle of each kind of command, among those of which p holds
 --     bank_past, group_past, rank_past      what the rows of a channel make of a bank, of a group and of a rank
 --     bank_after, group_after, rank_after      what one more row makes of them
+--     ChangesEach change before after      each element of a list is changed, by its place
 --     IsKept channel s history      a `Channel` keeps just this of the rows of a channel
 --     kept_breaks s rules channel row number      which rules a row breaks, by what is kept
 --     keeps_each s rules channel row      a row keeps every rule of its channel, by what is kept
@@ -169,6 +170,10 @@ bank_numbered k = record { rank = k / 16; group = k / 4 % 4; bank = k % 4 }
 -- the number of a group
 abbrev pub group_number : BankId → ℕ
 group_number bank = bank.rank * 4 + bank.group
+
+-- each element of a list is changed, by its place
+abbrev pub ChangesEach : {X : Type 0} → (ℕ → X → X) → List X → List X → Type 0
+ChangesEach {X} change before after = (k : ℕ) (d : X) → k < length before → slice_index_or after k d ≡ change k (slice_index_or before k d)
 
 -- a `Channel` keeps just this of the rows of a channel
 pub record IsKept (c : Channel) (s : Config) (history : List IssuedCommand) : Type 0 where

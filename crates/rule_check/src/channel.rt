@@ -1,13 +1,13 @@
 //! How one more row changes what is kept of a channel.
 
-ghost use Rattle.std.specs.Prelude.{ℕ, ◌≡◌, ◌+◌, ◌*◌, ◌/◌, ◌%◌, ◌<◌, ◌≤◌, ◌^◌, max, ◌&&◌, ◌==◌, ◌++◌, ◌∷◌, [], List, Some, IfSome, IfOk, length, slice_index_or};
+ghost use Rattle.std.specs.Prelude.{◌≡◌, ◌+◌, ◌*◌, ◌/◌, ◌%◌, ◌<◌, ◌≤◌, ◌^◌, max, ◌&&◌, ◌==◌, ◌++◌, ◌∷◌, [], List, Some, IfSome, IfOk, length};
 ghost use Rattle.sim_base.specs.declared.config.Config.{Config};
 ghost use Rattle.sim_base.specs.declared.command.IssuedCommand.{IssuedCommand};
 ghost use Rattle.sim_base.specs.Rules.{bank_of};
 ghost use Rattle.sim_base.specs.Scheduling.{refreshes};
 ghost use Rattle.rule_check.specs.Numbers.{number_limit};
 ghost use Rattle.rule_check.specs.Fields.{limits_of, RowFits};
-ghost use Rattle.rule_check.specs.Kept.{activates, deadline_after, first_deadline, bank_after, group_after, rank_after, number_of, HasPlace, bank_numbered, group_number, IsKept};
+ghost use Rattle.rule_check.specs.Kept.{activates, deadline_after, first_deadline, bank_after, group_after, rank_after, number_of, HasPlace, bank_numbered, group_number, ChangesEach, IsKept};
 
 use crate::latest;
 use crate::state::{Bank, Channel, Group, NEW_BANK, NEW_GROUP, NEW_RANK, Rank};
@@ -113,8 +113,7 @@ fn bank_numbered(k: usize) -> BankId
 
 fn note_in_all_banks(banks: &mut [Bank], command: Command, cycle: u64)
     requires { length banks.old ≤ 64 }
-    ensures each { (k : ℕ) (d : Bank) → k < length banks.old
-        → slice_index_or banks.new k d ≡ bank_after (bank_numbered k) cycle command (slice_index_or banks.old k d) }
+    ensures each { ChangesEach (λ k. bank_after (bank_numbered k) cycle command) banks.old banks.new }
 {
     for (k, state) in banks.iter_mut().enumerate() {
         note_in_bank(state, bank_numbered(k), command, cycle);
@@ -126,8 +125,7 @@ fn note_in_own_bank(banks: &mut [Bank], bank: BankId, command: Command, cycle: u
     requires group { bank.group < 4 }
     requires bank { bank.bank < 4 }
     requires number { number_of bank < length banks.old }
-    ensures each { (k : ℕ) (d : Bank) → k < length banks.old
-        → slice_index_or banks.new k d ≡ bank_after (bank_numbered k) cycle command (slice_index_or banks.old k d) }
+    ensures each { ChangesEach (λ k. bank_after (bank_numbered k) cycle command) banks.old banks.new }
 {
     note_in_bank(&mut banks[number_of(bank)], bank, command, cycle);
 }
@@ -136,8 +134,7 @@ fn note_in_own_bank(banks: &mut [Bank], bank: BankId, command: Command, cycle: u
 fn note_in_banks(banks: &mut [Bank], command: Command, cycle: u64)
     requires few { length banks.old ≤ 64 }
     requires names { IfSome (bank_of command) (HasPlace banks.old) }
-    ensures each { (k : ℕ) (d : Bank) → k < length banks.old
-        → slice_index_or banks.new k d ≡ bank_after (bank_numbered k) cycle command (slice_index_or banks.old k d) }
+    ensures each { ChangesEach (λ k. bank_after (bank_numbered k) cycle command) banks.old banks.new }
 {
     match command.bank() {
         Some(bank) => note_in_own_bank(banks, bank, command, cycle),
@@ -147,8 +144,7 @@ fn note_in_banks(banks: &mut [Bank], command: Command, cycle: u64)
 
 fn note_in_groups(groups: &mut [Group], command: Command, cycle: u64)
     requires { length groups.old ≤ 16 }
-    ensures each { (k : ℕ) (d : Group) → k < length groups.old
-        → slice_index_or groups.new k d ≡ group_after (k / 4) (k % 4) cycle command (slice_index_or groups.old k d) }
+    ensures each { ChangesEach (λ k. group_after (k / 4) (k % 4) cycle command) groups.old groups.new }
 {
     for (k, state) in groups.iter_mut().enumerate() {
         let rank = k as u32 / 4;
@@ -160,8 +156,7 @@ fn note_in_groups(groups: &mut [Group], command: Command, cycle: u64)
 fn note_in_ranks(t: &Timing, ranks: &mut [Rank], command: Command, cycle: u64)
     requires few { length ranks.old ≤ 4 }
     requires cycle { cycle < number_limit }
-    ensures each { (k : ℕ) (d : Rank) → k < length ranks.old
-        → slice_index_or ranks.new k d ≡ rank_after t.now k cycle command (slice_index_or ranks.old k d) }
+    ensures each { ChangesEach (λ k. rank_after t.now k cycle command) ranks.old ranks.new }
 {
     for (k, state) in ranks.iter_mut().enumerate() {
         note_in_rank(state, t, k as u32, command, cycle);

@@ -6,7 +6,7 @@ use Rattle.std.proofs.lemmas.Option.{slice_get_within}
 use Rattle.std.specs.List.{slice_get}
 use Rattle.sim_base.specs.declared.fault.Fault.{Fault}
 use Rattle.sim_base.specs.declared.fault.Fault.TheVariants.{CheckRow}
-use Rattle.run_tables.specs.Lines.{◌>>=◌}
+use Rattle.sim_base.specs.TraceText.{◌>>=◌}
 
 -- TWO TABLES WITH THE SAME FIRST ROWS
 

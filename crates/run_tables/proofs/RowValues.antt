@@ -7,7 +7,8 @@ use Rattle.sim_base.specs.declared.fault.Fault.{Fault}
 use Rattle.sim_base.specs.declared.fault.Fault.TheVariants.{CheckRow}
 use Rattle.reports.specs.Stats.{value_fields}
 use Rattle.rule_check.specs.Fields.{text_at}
-use Rattle.run_tables.specs.Lines.{◌>>=◌, or_refused, narrow, narrow_optional, line_value, value_in, sum_in, count_in, cycle_in, number_in, has_text}
+use Rattle.sim_base.specs.TraceText.{◌>>=◌}
+use Rattle.run_tables.specs.Lines.{or_refused, narrow, narrow_optional, line_value, value_in, sum_in, count_in, cycle_in, number_in, has_text}
 use Rattle.run_tables.specs.Units.{count_at, number_at, draining_in, draining_at}
 use Rattle.statistics.specs.Counters.{IsNumberOf}
 use Rattle.statistics.specs.declared.counters.CounterKind.{CounterKind}

@@ -6,18 +6,13 @@
 --     is_stats_header fields      a record is the header
 use Rattle.std.specs.Prelude.{ℕ, ◌^◌, ◌==◌, nat_lt, Bool, false, ◌&&◌, List, length, codes, decimal, option_map, option_and_then, Option, Some, None, Result, Ok, Err, if◌then◌else◌}
 use Rattle.std.specs.Str.{bytes_eq}
+use Rattle.sim_base.specs.TraceText.{◌>>=◌}
 use Rattle.sim_base.specs.declared.fault.Fault.{Fault}
 use Rattle.sim_base.specs.declared.fault.Fault.TheVariants.{CheckRow}
 use Rattle.rule_check.specs.Fields.{is_empty, text_at}
 use Rattle.run_tables.specs.Numbers.{number_written}
 use Rattle.statistics.specs.declared.counters.CounterKind.{CounterKind}
 use Rattle.statistics.specs.declared.counters.CounterKind.TheVariants.{Count, Sum, Cycle}
-
--- what is made of a value that may have been refused: the first fault stays
-infixl 10 ◌>>=◌
-abbrev pub ◌>>=◌ : {A B : Type 0} → Result A Fault → (A → Result B Fault) → Result B Fault
-Ok x >>= f = f x
-Err e >>= f = Err e
 
 -- whether a record is the line of a count, whatever its value
 abbrev pub is_line : List ℕ → ℕ → List ℕ → List (List ℕ) → Bool

@@ -14,7 +14,8 @@ use Rattle.statistics.specs.Values.{RunStats}
 use Rattle.statistics.specs.declared.channels.ChannelStats.{ChannelStats}
 use Rattle.statistics.specs.declared.cores.CoreStats.{CoreStats}
 use Rattle.statistics.specs.declared.counters.CounterKind.{CounterKind}
-use Rattle.run_tables.specs.Lines.{◌>>=◌, number_in, count_in, has_text, is_header_row}
+use Rattle.sim_base.specs.TraceText.{◌>>=◌}
+use Rattle.run_tables.specs.Lines.{number_in, count_in, has_text, is_header_row}
 
 -- a count of a row
 abbrev pub count_at : List (List (List ℕ)) → ℕ → List ℕ → ℕ → List ℕ → Result ℕ Fault

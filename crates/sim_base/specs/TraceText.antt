@@ -15,7 +15,7 @@ use Rattle.sim_base.specs.declared.fault.LineCause.TheVariants.{TooFew, TooMany,
 use Rattle.sim_base.specs.declared.trace.Entry.{Entry}
 use Rattle.sim_base.specs.declared.trace.Entry.TheVariants.{Plain, Read, Write}
 
--- a value that may be refused, and what is made of it
+-- what is made of a value that may have been refused: the first fault stays
 infixl 10 ◌>>=◌
 abbrev pub ◌>>=◌ : {A B E : Type 0} → Result A E → (A → Result B E) → Result B E
 Ok x >>= f = f x

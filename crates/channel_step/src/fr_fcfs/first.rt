@@ -222,7 +222,8 @@ fn with_acts(
     commands: RowCommands,
 )
     requires same_banks { OfSameBanks bank_candidates.now banks.now }
-    requires within { (bank : ℕ) → is_in closed bank ≡ true → bank < bank_count bank_candidates.now }
+    requires within { (bank : ℕ) → is_in closed bank ≡ true
+        → bank < bank_count bank_candidates.now }
     requires needed { (bank : ℕ) → is_in closed bank ≡ true
         → NeedsRow commands bank_candidates.now bank }
     requires acts { commands.kind ≡ Kind.Act }

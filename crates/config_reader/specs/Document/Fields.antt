@@ -12,7 +12,8 @@ use Rattle.sim_base.specs.declared.key.Key.{Key}
 use Rattle.sim_base.specs.declared.key.Key.TheVariants as key
 use Rattle.sim_base.specs.declared.place.Field.{Field}
 use Rattle.sim_base.specs.declared.place.Field.TheVariants.{Channel, Column, Rank, Group, Bank, Row}
-use Rattle.config_reader.specs.Document.Keys.{◌>>=◌, data_at}
+use Rattle.sim_base.specs.TraceText.{◌>>=◌}
+use Rattle.config_reader.specs.Document.Keys.{data_at}
 
 -- the items at a key, if it holds an array
 abbrev pub items_at : Members → Key → Option Items

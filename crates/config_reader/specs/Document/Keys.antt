@@ -1,5 +1,4 @@
 -- What one key of a document gives: its value, or the fault by which the document is refused.
---     x >>= f      what f makes of x, where x was not refused
 --     data_at, integer_at      what stands at a key
 --     number_refused_as named ms key, number_at ms key      the number at a key, by what the key accepts
 --     known_of      refuses a key that no configuration has
@@ -9,18 +8,13 @@ use Rattle.std.specs.List.{list_any}
 use Rattle.std.specs.Str.{bytes_eq}
 use Rattle.toml.specs.Data.{Data, Members, no_members, member, get_member, as_integer}
 use Rattle.sim_base.specs.Keys.{key_name, key_accepts, key_default, document_keys}
+use Rattle.sim_base.specs.TraceText.{◌>>=◌}
 use Rattle.sim_base.specs.declared.fault.Fault.{Fault}
 use Rattle.sim_base.specs.declared.fault.Fault.TheVariants.{ConfigKey, ConfigRange}
 use Rattle.sim_base.specs.declared.key.Key.{Key}
 use Rattle.sim_base.specs.declared.key.Key.TheVariants as key
 use Rattle.sim_base.specs.declared.key.Accepts.{Accepts}
 use Rattle.sim_base.specs.declared.key.Accepts.TheVariants.{Integer, PowerOfTwo}
-
--- what is made of a value that may have been refused: the first fault stays
-infixl 10 ◌>>=◌
-abbrev pub ◌>>=◌ : {A B : Type 0} → Result A Fault → (A → Result B Fault) → Result B Fault
-Ok x >>= f = f x
-Err e >>= f = Err e
 
 -- what stands at a key
 abbrev pub data_at : Members → Key → Option Data

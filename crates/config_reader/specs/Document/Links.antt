@@ -7,7 +7,8 @@ use Rattle.sim_base.specs.declared.fault.Fault.{Fault}
 use Rattle.sim_base.specs.declared.fault.Fault.TheVariants.{ConfigKey}
 use Rattle.sim_base.specs.declared.key.Key.TheVariants as key
 use Rattle.sim_base.specs.declared.overrides.Override.{Override}
-use Rattle.config_reader.specs.Document.Keys.{◌>>=◌, data_at, integer_at, number_refused_as, count_of}
+use Rattle.sim_base.specs.TraceText.{◌>>=◌}
+use Rattle.config_reader.specs.Document.Keys.{data_at, integer_at, number_refused_as, count_of}
 
 -- an item has exactly the two integers, and then each is one that its key accepts; a fault names the key `link`
 unfoldable pub override_of : Members → Result Override Fault

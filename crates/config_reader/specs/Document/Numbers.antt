@@ -12,7 +12,8 @@ use Rattle.sim_base.specs.declared.fault.Fault.{Fault}
 use Rattle.sim_base.specs.declared.fault.Fault.TheVariants.{ConfigKey, ConfigRange}
 use Rattle.sim_base.specs.declared.key.Key.{Key}
 use Rattle.sim_base.specs.declared.key.Key.TheVariants as key
-use Rattle.config_reader.specs.Document.Keys.{◌>>=◌, data_at, number_at}
+use Rattle.sim_base.specs.TraceText.{◌>>=◌}
+use Rattle.config_reader.specs.Document.Keys.{data_at, number_at}
 
 -- the numbers at these keys, tested one after the other: the fault is that of the first that is refused
 unfoldable pub numbers_of : Members → List Key → Result (Unit {0}) Fault

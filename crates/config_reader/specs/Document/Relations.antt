@@ -13,7 +13,7 @@ use Rattle.sim_base.specs.declared.overrides.Override.{Override}
 use Rattle.sim_base.specs.declared.place.Field.{Field}
 use Rattle.sim_base.specs.declared.place.Field.TheVariants.{Rank}
 use Rattle.sim_base.specs.declared.timing.Timing.{Timing}
-use Rattle.config_reader.specs.Document.Keys.{◌>>=◌}
+use Rattle.sim_base.specs.TraceText.{◌>>=◌}
 
 -- what relations 8 and 9 say: each override is for a link of the machine, no two for the same one
 abbrev pub LinksFit : ℕ → ℕ → List Override → Type 0
