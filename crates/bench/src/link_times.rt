@@ -1,12 +1,11 @@
 //! Sends messages over the links of 256 cores and 16 channels, phase by phase, and prints how many arrived, and how
 //! long each kind of call took.
 
-
 use crate::figures::{Effort, now, show_count};
 use fixtures::small::small;
 use links::flight::Links;
 use sim_base::fault::Fault;
-use sim_base::message::{Cycle, LinkId, Payload, Message, Unit};
+use sim_base::message::{Cycle, LinkId, Message, Payload, Unit};
 use std::alloc::{AllocError, Global};
 use std::rt::Clock;
 

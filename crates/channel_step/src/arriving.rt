@@ -6,7 +6,7 @@ ghost use Rattle.channel_step.specs.Past.{requests_of};
 ghost use Rattle.channel_step.specs.Queued.{joined_with, with_arrivals};
 
 use queue::Queue;
-use sim_base::message::{Payload, Message};
+use sim_base::message::{Message, Payload};
 
 /// Takes in the request that a message carries, if it carries one.
 #[inline(always)]

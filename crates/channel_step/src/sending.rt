@@ -9,7 +9,7 @@ ghost use Rattle.channel_step.specs.Runs.{with_command};
 use command_table::list::CommandList;
 use sim_base::command::{Command, IssuedCommand, Source};
 use sim_base::config::Config;
-use sim_base::message::{Access, ChannelId, CoreId, Cycle, Payload, Message, Request};
+use sim_base::message::{Access, ChannelId, CoreId, Cycle, Message, Payload, Request};
 use std::alloc::{AllocError, Global};
 
 /// How many cycles a reply travels to a core, and how many a credit does.

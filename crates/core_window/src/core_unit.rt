@@ -36,7 +36,7 @@ use cpu_trace::entries::MemoryEntry;
 use cpu_trace::trace::Trace;
 use sim_base::config::Config;
 use sim_base::history::CoreStep;
-use sim_base::message::{Access, CoreId, Cycle, LinkId, Payload, Message};
+use sim_base::message::{Access, CoreId, Cycle, LinkId, Message, Payload};
 use sim_base::trace::{Entry, Stop};
 use statistics::cores::CoreStats;
 use statistics::final_state::Credits;

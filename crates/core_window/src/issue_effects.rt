@@ -17,7 +17,7 @@ use crate::outstanding::{OutstandingRead, OutstandingReads};
 use crate::receive::take_credit;
 use cpu_trace::entries::MemoryEntry;
 use sim_base::config::Config;
-use sim_base::message::{Access, ChannelId, CoreId, Cycle, Payload, Message, Request};
+use sim_base::message::{Access, ChannelId, CoreId, Cycle, Message, Payload, Request};
 use sim_base::place::Place;
 use sim_base::trace::Entry;
 use statistics::final_state::Credits;

@@ -16,7 +16,7 @@ use plain_steps::scheduling::{self, ChannelStep};
 use sim_base::command::{Command, IssuedCommand, Kind};
 use sim_base::config::Config;
 use sim_base::history::CoreStep;
-use sim_base::message::{Access, Payload, Message, Request};
+use sim_base::message::{Access, Message, Payload, Request};
 use sim_base::trace::{Entry, Stop};
 use statistics::channels::ChannelStats;
 use statistics::cores::CoreStats;

@@ -14,7 +14,7 @@ use plain_steps::scheduling::ChannelStep;
 use sim_base::command::{Command, Source};
 use sim_base::config::Config;
 use sim_base::history::CoreStep;
-use sim_base::message::{Access, ChannelId, CoreId, Payload, Message};
+use sim_base::message::{Access, ChannelId, CoreId, Message, Payload};
 use sim_base::trace::Stop;
 use std::alloc::{AllocError, Global};
 

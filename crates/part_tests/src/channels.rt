@@ -10,7 +10,7 @@ use sessions::channel_session::fault::SessionFault;
 use sessions::channel_session::requests::SentRequest;
 use sessions::channel_session::session::Session;
 use sim_base::command::{Command, IssuedCommand, Source};
-use sim_base::message::{Access, CoreId, Cycle, Payload, Message};
+use sim_base::message::{Access, CoreId, Cycle, Message, Payload};
 use sim_base::place::BankId;
 use statistics::channels::ChannelStats;
 use std::alloc::Global;

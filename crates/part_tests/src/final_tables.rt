@@ -1,7 +1,7 @@
 //! The states in which small runs end, found by hand.
 
 use crate::written::{Report, assert_report};
-use sim_base::message::{Access, Payload, Message, Request};
+use sim_base::message::{Access, Message, Payload, Request};
 use sim_base::place::{BankId, Place};
 use statistics::final_state::{ChannelState, CoreState, Credits, FinalState, OpenRow};
 use std::alloc::Global;

@@ -4,7 +4,7 @@ use crate::expect::expect;
 use fixtures::small::small;
 use links::flight::Links;
 use links::latency::shortest;
-use sim_base::message::{Access, Cycle, LinkId, Payload, Message, Unit};
+use sim_base::message::{Access, Cycle, LinkId, Message, Payload, Unit};
 use std::alloc::Global;
 use std::process::Abort;
 

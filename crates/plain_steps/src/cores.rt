@@ -15,7 +15,7 @@ use cpu_trace::trace::Trace;
 use sim_base::command::Source;
 use sim_base::config::Config;
 use sim_base::history::CoreStep;
-use sim_base::message::{Access, CoreId, Payload, Message, Request};
+use sim_base::message::{Access, CoreId, Message, Payload, Request};
 use sim_base::trace::{Entry, Stop};
 use std::alloc::{AllocError, Global};
 

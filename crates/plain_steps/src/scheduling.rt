@@ -14,7 +14,7 @@ use crate::channel_cycle::ChannelCycle;
 use crate::rules;
 use sim_base::command::{Command, IssuedCommand, Kind, Source};
 use sim_base::config::Config;
-use sim_base::message::{Access, Payload, Message, Request};
+use sim_base::message::{Access, Message, Payload, Request};
 use sim_base::place::{BankId, Place, is_row};
 use std::alloc::{AllocError, Global};
 

@@ -8,7 +8,7 @@ ghost use Rattle.reports.specs.Tables.{AddsRows};
 use crate::line::{put, put_last, put_rank, put_word};
 use crate::table::RowBuffer;
 use sim_base::fault::Fault;
-use sim_base::message::{Access, Payload, Message, Request};
+use sim_base::message::{Access, Message, Payload, Request};
 use statistics::final_state::{ChannelState, CoreState, Credits, FinalState, OpenRow};
 use std::alloc::Global;
 use std::io::Write;

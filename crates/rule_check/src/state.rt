@@ -3,7 +3,7 @@
 ghost use Rattle.std.specs.Prelude.{◌≡◌, ◌*◌, ◌≤◌, length};
 
 use crate::latest::{Latest, NOTHING};
-use crate::window::{NO_ACTS, ActWindow};
+use crate::window::{ActWindow, NO_ACTS};
 use sim_base::command::IssuedCommand;
 
 /// A bank: the latest command of each kind that concerned it, and its open row.

@@ -5,7 +5,7 @@ ghost use Rattle.dramsim_c.specs.CInterface.Rows.{sent_access, sent_request, kin
 
 use sessions::channel_session::requests::SentRequest;
 use sim_base::command::{Command, IssuedCommand, Kind, Source};
-use sim_base::message::{Access, Payload, Message};
+use sim_base::message::{Access, Message, Payload};
 use sim_base::place::{BankId, Place};
 use statistics::channels::ChannelStats;
 

@@ -6,7 +6,7 @@ ghost use Rattle.sessions.specs.Sent.{request_of, message_of};
 ghost use Rattle.sessions.specs.Sessions.{core_of};
 
 use sim_base::config::Config;
-use sim_base::message::{Access, ChannelId, CoreId, Cycle, Payload, Message, Request};
+use sim_base::message::{Access, ChannelId, CoreId, Cycle, Message, Payload, Request};
 use sim_base::place::Place;
 
 /// A request as it is sent: an access to the line of 64 bytes at an address, for an entry of a core's trace, and
