@@ -1,6 +1,7 @@
 pub mod Requests
 pub mod Spans
 pub mod Stretches
+pub mod Repeats
 pub mod Foreseen
 pub mod Logs
 pub mod Marks

@@ -11,11 +11,10 @@ use Rattle.sim_base.specs.History.{issued_commands}
 use Rattle.sim_base.specs.Scheduling.{queued_requests, drains_before, drains, lowest_due}
 use Rattle.sim_base.specs.declared.command.Command.{Command}
 use Rattle.sim_base.specs.declared.message.Message.{Message}
-use Rattle.statistics.specs.Channels.{channel_stats, channel_cycle, channel_cycle_with, channel_joined, channel_times, channel_stretch, ChannelFits}
+use Rattle.statistics.specs.Channels.{channel_stats, channel_cycle, channel_cycle_with, channel_joined, channel_times, ChannelFits}
 use Rattle.statistics.specs.declared.channels.ChannelStats.{ChannelStats}
 use Rattle.statistics.proofs.ChannelCounts.{channel_stats-push, channel_stats-fit}
 use Rattle.statistics.proofs.ChannelStretches.{channel_joined-assoc, channel_joined-none}
-use Rattle.statistics.proofs.Repeats.{channel_stretch-replicate}
 use Rattle.bank_ready.specs.Stands.{StandsFor as BanksStandFor}
 use Rattle.bank_ready.specs.Refreshes.{RefreshCounts, lowest_owed, StandsFor as RefreshesStandFor}
 use Rattle.bank_ready.proofs.Due.{lowest_due_from_owed}
@@ -31,6 +30,7 @@ use Rattle.channel_step.proofs.Requests.{ArrivedBefore, requests-arrived, queued
 use Rattle.channel_step.proofs.Spans.{drains_before-row}
 use Rattle.channel_step.proofs.Stretches.{idle-push, length-idle, idle-issued, idle-queued_requests, idle-drains, idle-cycle}
 use Rattle.channel_step.proofs.Cycle.{cycle-with}
+use Rattle.channel_step.proofs.Repeats.{channel_stretch, channel_stretch-replicate}
 use Rattle.channel_step.proofs.Foreseen.{foreseen-later, foreseen-drain_decided}
 use Rattle.channel_step.proofs.Deciding.{drain_decided-drains}
 use Rattle.channel_step.proofs.Starting.{at-drains}
@@ -80,7 +80,6 @@ settled_stands c d past e h = subst (λ x. IsInCycle x past) (sym e) (drain_deci
 -- the statistics of steps and of idle cycles after them
 idle-stretch : (s : Config) (channel : ℕ) (mail : List Message) (n : ℕ) (steps : List (Option Command))
     → channel_stats s channel (steps ++ replicate n None) mail ≡ channel_joined (channel_stats s channel steps mail) (channel_stretch s channel steps mail (replicate n None))
-unfolding channel_stretch
 idle-stretch s channel mail zero steps = ap (λ x. channel_stats s channel x mail) (append-nil steps) ∙ sym (channel_joined-none (channel_stats s channel steps mail))
 idle-stretch s channel mail (suc n) steps =
     let next = steps ++ None ∷ [] in
