@@ -4,6 +4,7 @@ use Rattle.request_table.specs.declared.times.RequestTimes.{RequestTimes}
 use Rattle.sim_base.specs.declared.fault.Fault.{Fault}
 use Rattle.sim_base.specs.declared.fault.Fault.TheVariants.{Memory}
 use Rattle.sim_base.proofs.Lists.{get-push}
+use Rattle.std.proofs.lemmas.Option.{get_or_from_slice_get, slice_get-get_or}
 use Rattle.statistics.specs.Values.{RunStats}
 use Rattle.whole_files.specs.Files.{Held, SameFiles}
 use Rattle.answers.specs.Refused.{IsReady, IsInputFault, IsFaultBeside, IsRightBeside, HoldRuns, IsNoComparison, IsRightCompare}
@@ -119,20 +120,10 @@ value_at f [] k d v at = absurd cc
 value_at f (x ∷ xs) zero d v at = cc at
 value_at f (x ∷ xs) (suc k) d v at = value_at f xs k d v at
 
-item_at : {A : Type 0} (xs : List A) (k : ℕ) (d v : A) → slice_get xs k ≡ Some v → get_or xs k d ≡ v
-item_at [] k d v at = absurd cc
-item_at (x ∷ xs) zero d v at = cc at
-item_at (x ∷ xs) (suc k) d v at = item_at xs k d v at
-
 pub there : {A B : Type 0} (f : A → B) (xs : List A) (k : ℕ) (d : A) → k < length xs → slice_get (map f xs) k ≡ Some (f (get_or xs k d))
 there f [] k d within = absurd (omega (arith, within))
 there f (x ∷ xs) zero d within = refl
 there f (x ∷ xs) (suc k) d within = there f xs k d (omega (arith, within))
-
-item_there : {A : Type 0} (xs : List A) (k : ℕ) (d : A) → k < length xs → slice_get xs k ≡ Some (get_or xs k d)
-item_there [] k d within = absurd (omega (arith, within))
-item_there (x ∷ xs) zero d within = refl
-item_there (x ∷ xs) (suc k) d within = item_there xs k d (omega (arith, within))
 
 -- the percentiles so far are those of the first folders
 abbrev pub TailsSoFar : {A : Type 0} → (A → List ℕ) → Held → List A → List RunStats → List (Option ℕ) → Type 0
@@ -147,7 +138,7 @@ tails_more now held dirs runs tails more place tail d r count so_far pushed is k
       | inr last ↦
           let here : k ≡ place = last.0 ∙ count in
           let dir_is : now (get_or dirs place d) ≡ dir = value_at now dirs place d dir (ap (slice_get (map now dirs)) (sym here) ∙ at_dir) in
-          let run_is : get_or runs place r ≡ run = item_at runs place r run (ap (slice_get runs) (sym here) ∙ at_run) in
+          let run_is : get_or runs place r ≡ run = get_or_from_slice_get runs place run r (ap (slice_get runs) (sym here) ∙ at_run) in
           subst (λ x. IsTailAt (held (requests_path dir)) run x) last.1
           (subst (λ x. IsTailAt (held (requests_path dir)) x tail) run_is (subst (λ x. IsTailAt (held (requests_path x)) (get_or runs place r) tail) dir_is is))
     ]
@@ -156,7 +147,7 @@ tails_more now held dirs runs tails more place tail d r count so_far pushed is k
 requests_so_far : {A : Type 0} (now : A → List ℕ) (held : Held) (dirs : List A) (runs : List RunStats) (tails : List (Option ℕ)) (place : ℕ) → length tails ≡ place
     → TailsSoFar now held dirs runs tails → HaveRequests (map now dirs) held runs place
 requests_so_far now held dirs runs tails place count so_far k dir run below at_dir at_run =
-    let found = so_far k dir run (get_or tails k None) at_dir at_run (item_there tails k None (omega (arith, below, count))) in
+    let found = so_far k dir run (get_or tails k None) at_dir at_run (slice_get-get_or tails k None (omega (arith, below, count))) in
     record { requests = found.requests; requests_are = found.requests_are }
 
 -- ---- one folder more
@@ -169,7 +160,7 @@ folder_refused tells now old mid dirs runs tails place d r fault within counts c
   dir = now (get_or dirs place d);
   run = r;
   dir_is = there now dirs place d within;
-  run_is = item_there runs place r (omega (arith, within, counts)) ∙ ap Some (sym here);
+  run_is = slice_get-get_or runs place r (omega (arith, within, counts)) ∙ ap Some (sym here);
   before = λ t. requests_so_far now old dirs runs tails place count (so_far t);
   refused = refused_before tells old mid (requests_path (now (get_or dirs place d))) r fault same refused;
 }

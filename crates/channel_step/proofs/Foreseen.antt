@@ -15,28 +15,28 @@ use Rattle.channel_step.specs.Queued.{request_at, drain_decided}
 use Rattle.channel_step.specs.FrFcfs.Cycles.{IsNext}
 use Rattle.channel_step.specs.declared.fr_fcfs.choice.Choice.{Choice}
 use Rattle.channel_step.specs.declared.fr_fcfs.choice.Choice.TheVariants as chosen
-use Rattle.channel_step.specs.Channels.{IsAhead, IsAheadAt, IsForeseen, IsFound, IsInCycle, HasPast}
+use Rattle.channel_step.specs.Channels.{IsNextCommand, IsNextCommandAt, IsForeseen, IsFound, IsInCycle, HasPast}
 use Rattle.channel_step.specs.declared.channel.Channel.{Channel}
-use Rattle.channel_step.specs.declared.ahead.Ahead.{Ahead}
-use Rattle.channel_step.specs.declared.ahead.Ahead.TheVariants.{Unknown, Known}
+use Rattle.channel_step.specs.declared.next_command.NextCommand.{NextCommand}
+use Rattle.channel_step.specs.declared.next_command.NextCommand.TheVariants.{Unknown, Known}
 use Rattle.channel_step.proofs.Stretches.{settled_twice}
 
 -- what is foreseen, by cases
-pub ahead-from : (s : Config) (history : List IssuedCommand) (queue : QueueView) (from : ℕ) (ahead : Ahead) → IsForeseen s history queue from ahead → IsAhead s history queue from ahead
-ahead-from s history queue from Unknown h = tt
-ahead-from s history queue from (Known None) h = h.never refl
-ahead-from s history queue from (Known (Some next)) h = h.at next.0 next.1 refl
+pub next_command-from : (s : Config) (history : List IssuedCommand) (queue : QueueView) (from : ℕ) (next_command : NextCommand) → IsForeseen s history queue from next_command → IsNextCommand s history queue from next_command
+next_command-from s history queue from Unknown h = tt
+next_command-from s history queue from (Known None) h = h.never refl
+next_command-from s history queue from (Known (Some next)) h = h.at next.0 next.1 refl
 
-pub foreseen-from : (s : Config) (history : List IssuedCommand) (queue : QueueView) (from : ℕ) (ahead : Ahead) → IsAhead s history queue from ahead → IsForeseen s history queue from ahead
+pub foreseen-from : (s : Config) (history : List IssuedCommand) (queue : QueueView) (from : ℕ) (next_command : NextCommand) → IsNextCommand s history queue from next_command → IsForeseen s history queue from next_command
 foreseen-from s history queue from Unknown h = record { never = λ e. cc; at = λ cycle choice e. cc }
 foreseen-from s history queue from (Known None) h = record { never = λ e. h; at = λ cycle choice e. cc }
-foreseen-from s history queue from (Known (Some next)) h = record { never = λ e. cc; at = λ cycle choice e. subst (IsAhead s history queue from) e h }
+foreseen-from s history queue from (Known (Some next)) h = record { never = λ e. cc; at = λ cycle choice e. subst (IsNextCommand s history queue from) e h }
 
 -- it is so from each later cycle on
-ahead-later : (s : Config) (history : List IssuedCommand) (queue : QueueView) (from later : ℕ) (ahead : Ahead) → from ≤ later → IsAhead s history queue from ahead → IsAhead s history queue later ahead
-ahead-later s history queue from later Unknown l h = tt
-ahead-later s history queue from later (Known None) l h = λ t m. h t (omega arith)
-ahead-later s history queue from later (Known (Some next)) l h =
+next_command-later : (s : Config) (history : List IssuedCommand) (queue : QueueView) (from later : ℕ) (next_command : NextCommand) → from ≤ later → IsNextCommand s history queue from next_command → IsNextCommand s history queue later next_command
+next_command-later s history queue from later Unknown l h = tt
+next_command-later s history queue from later (Known None) l h = λ t m. h t (omega arith)
+next_command-later s history queue from later (Known (Some next)) l h =
     record { then_is = h.then_is; none_before = λ t m k. h.none_before t (omega arith) k; place = h.place }
 
 -- a queue that is decided drains as before
@@ -48,23 +48,23 @@ choice-drain_decided s history queue t =
     ap (λ d. choice_between s history t (candidates s d (waiting_requests queue.log)) (lowest_due s history t)) (sym (drain_decided-same queue))
 
 -- and it is so for the queue when that is decided
-ahead-drain_decided : (s : Config) (history : List IssuedCommand) (queue : QueueView) (from : ℕ) (ahead : Ahead) → IsAhead s history queue from ahead → IsAhead s history (drain_decided queue) from ahead
-ahead-drain_decided s history queue from Unknown h = tt
-ahead-drain_decided s history queue from (Known None) h = λ t m. choice-drain_decided s history queue t ∙ h t m
-ahead-drain_decided s history queue from (Known (Some next)) h = record {
+next_command-drain_decided : (s : Config) (history : List IssuedCommand) (queue : QueueView) (from : ℕ) (next_command : NextCommand) → IsNextCommand s history queue from next_command → IsNextCommand s history (drain_decided queue) from next_command
+next_command-drain_decided s history queue from Unknown h = tt
+next_command-drain_decided s history queue from (Known None) h = λ t m. choice-drain_decided s history queue t ∙ h t m
+next_command-drain_decided s history queue from (Known (Some next)) h = record {
   then_is = choice-drain_decided s history queue next.0 ∙ h.then_is;
   none_before = λ t m k. choice-drain_decided s history queue t ∙ h.none_before t m k;
   place = h.place;
 }
 
 -- what was found is known from the cycle on in which it was looked for
-found-ahead : (s : Config) (history : List IssuedCommand) (queue : QueueView) (now : ℕ) (next : Option (ℕ × Choice)) → IsNext (choice_in s history queue) (command_of s history queue.log) now next
-    → IfSome next (λ n. IsFor s.ranks queue.log n.1) → IsAhead s history queue now (Known next)
-found-ahead s history queue now None h place = h
-found-ahead s history queue now (Some next) h place = record { then_is = h.then_is; none_before = h.none_before; place = place }
+found-next_command : (s : Config) (history : List IssuedCommand) (queue : QueueView) (now : ℕ) (next : Option (ℕ × Choice)) → IsNext (choice_in s history queue) (command_of s history queue.log) now next
+    → IfSome next (λ n. IsFor s.ranks queue.log n.1) → IsNextCommand s history queue now (Known next)
+found-next_command s history queue now None h place = h
+found-next_command s history queue now (Some next) h place = record { then_is = h.then_is; none_before = h.none_before; place = place }
 
 pub kept-in_cycle : (c : Channel) (past : Past) (now : ℕ) (next : Option (ℕ × Choice)) → IsInCycle c past → now ≡ c.cycle
-    → IsFound c past.config (commands_after past) now next → IsInCycle (record c { ahead = Known next }) past
+    → IsFound c past.config (commands_after past) now next → IsInCycle (record c { next_command = Known next }) past
 kept-in_cycle c past now next h at f =
     let history = commands_after past in
     record {
@@ -87,13 +87,13 @@ kept-in_cycle c past now next h at f =
       refreshes_stand = h.refreshes_stand;
       foresees =
           foreseen-from past.config history c.queue c.cycle (Known next)
-          (subst (λ t. IsAhead past.config history c.queue t (Known next)) at (found-ahead past.config history c.queue now next f.0 f.1));
+          (subst (λ t. IsNextCommand past.config history c.queue t (Known next)) at (found-next_command past.config history c.queue now next f.0 f.1));
       keeps_served = h.keeps_served;
     }
 
 -- a channel between two cycles still stands for its past when it keeps the next command that was found
 pub kept-stands : (c : Channel) (past : Past) (now : ℕ) (next : Option (ℕ × Choice)) → HasPast c past → now ≡ c.cycle
-    → IsFound c past.config (commands_after past) now next → HasPast (record c { ahead = Known next }) past
+    → IsFound c past.config (commands_after past) now next → HasPast (record c { next_command = Known next }) past
 kept-stands c past now next h at f =
     let history = commands_after past in
     record {
@@ -116,7 +116,7 @@ kept-stands c past now next h at f =
       refreshes_stand = h.refreshes_stand;
       foresees =
           foreseen-from past.config history c.queue c.cycle (Known next)
-          (subst (λ t. IsAhead past.config history c.queue t (Known next)) at (found-ahead past.config history c.queue now next f.0 f.1));
+          (subst (λ t. IsNextCommand past.config history c.queue t (Known next)) at (found-next_command past.config history c.queue now next f.0 f.1));
       keeps_served = h.keeps_served;
     }
 
@@ -124,13 +124,13 @@ kept-stands c past now next h at f =
 pub foreseen-unknown : (s : Config) (history : List IssuedCommand) (queue : QueueView) (from : ℕ) → IsForeseen s history queue from Unknown
 foreseen-unknown s history queue from = foreseen-from s history queue from Unknown tt
 
-pub foreseen-later : (s : Config) (history : List IssuedCommand) (queue : QueueView) (from later : ℕ) (ahead : Ahead) → from ≤ later → IsForeseen s history queue from ahead → IsForeseen s history queue later ahead
-foreseen-later s history queue from later ahead l h =
-    foreseen-from s history queue later ahead (ahead-later s history queue from later ahead l (ahead-from s history queue from ahead h))
+pub foreseen-later : (s : Config) (history : List IssuedCommand) (queue : QueueView) (from later : ℕ) (next_command : NextCommand) → from ≤ later → IsForeseen s history queue from next_command → IsForeseen s history queue later next_command
+foreseen-later s history queue from later next_command l h =
+    foreseen-from s history queue later next_command (next_command-later s history queue from later next_command l (next_command-from s history queue from next_command h))
 
-pub foreseen-drain_decided : (s : Config) (history : List IssuedCommand) (queue : QueueView) (from : ℕ) (ahead : Ahead) → IsForeseen s history queue from ahead → IsForeseen s history (drain_decided queue) from ahead
-foreseen-drain_decided s history queue from ahead h =
-    foreseen-from s history (drain_decided queue) from ahead (ahead-drain_decided s history queue from ahead (ahead-from s history queue from ahead h))
+pub foreseen-drain_decided : (s : Config) (history : List IssuedCommand) (queue : QueueView) (from : ℕ) (next_command : NextCommand) → IsForeseen s history queue from next_command → IsForeseen s history (drain_decided queue) from next_command
+foreseen-drain_decided s history queue from next_command h =
+    foreseen-from s history (drain_decided queue) from next_command (next_command-drain_decided s history queue from next_command (next_command-from s history queue from next_command h))
 
 -- a place among the first requests is one among all
 taken-place : (n place : ℕ) (log : List Arrived) → place < length (take n log) → waits_at (take n log) place ≡ true
@@ -169,10 +169,10 @@ pub request-needs : (s : Config) (history : List IssuedCommand) (log : List Arri
 request-needs s history log place l = ap (option_map (needed history)) (request-some place log l)
 
 -- What was found is so still where what is next stays so with the requests that follow.
-pub ahead-kept : (s : Config) (history : List IssuedCommand) (earlier queue : QueueView) (n from cycle : ℕ) (choice : Choice) → earlier.log ≡ take n queue.log
+pub next_command-kept : (s : Config) (history : List IssuedCommand) (earlier queue : QueueView) (n from cycle : ℕ) (choice : Choice) → earlier.log ≡ take n queue.log
     → ((command : Command) → command_of s history queue.log choice ≡ Some command → KeepsNext (choice_in s history earlier) (choice_in s history queue) cycle command)
-    → IsAheadAt s history earlier from cycle choice → IsAheadAt s history queue from cycle choice
-ahead-kept s history earlier queue n from cycle choice is keeps h =
+    → IsNextCommandAt s history earlier from cycle choice → IsNextCommandAt s history queue from cycle choice
+next_command-kept s history earlier queue n from cycle choice is keeps h =
     let place = taken-for n s.ranks queue.log earlier.log choice is h.place in
     let need = needs s history queue.log choice place in
     let k = keeps need.0 need.1 in

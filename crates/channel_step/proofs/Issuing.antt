@@ -30,7 +30,6 @@ use Rattle.statistics.proofs.ChannelCounts.{channel_stats-fit, issued_commands-p
 use Rattle.statistics.proofs.ChannelChoices.{choice-not_late}
 use Rattle.queue.specs.declared.request_log.Arrived.{Arrived}
 use Rattle.queue.specs.Log.{waiting_requests, all_requests}
-use Rattle.queue.specs.View.{is_draining}
 use Rattle.queue.specs.declared.bank_candidates.all_banks.BankCandidates.{BankCandidates}
 use Rattle.queue.specs.Candidates.{bank_at}
 use Rattle.queue.specs.Stands.{bank_count, StandsFor as CandidatesStandFor}
@@ -45,10 +44,10 @@ use Rattle.channel_step.specs.Counted.{cycle_with_hit}
 use Rattle.channel_step.specs.Owed.{RefIsOwed}
 use Rattle.channel_step.specs.Runs.{issued_in, with_more, HasIssued}
 use Rattle.std.proofs.lemmas.List.{append-nil}
-use Rattle.channel_step.specs.Channels.{CandidatesStand, KeepsServed, StandsFor, IsInCycle, CountsDrains, seen_of}
+use Rattle.channel_step.specs.Channels.{CandidatesStand, KeepsServed, StandsFor, IsInCycle, CountsDrains, seen_of, seen_with}
 use Rattle.channel_step.specs.Readied.{row_of, IsReadied, seen_after}
 use Rattle.channel_step.specs.declared.counting.Seen.{Seen}
-use Rattle.channel_step.specs.declared.ahead.Ahead.TheVariants.{Unknown}
+use Rattle.channel_step.specs.declared.next_command.NextCommand.TheVariants.{Unknown}
 use Rattle.channel_step.specs.declared.channel.Channel.{Channel}
 use Rattle.channel_step.proofs.Deciding.{drain_decided-drains}
 use Rattle.channel_step.proofs.Draining.{drains-counted}
@@ -118,10 +117,6 @@ seen-is c past h =
     let draining = drain_decided-drains c past h ∙ j.drained_is in
     (λ i. record { queued = queued i; refreshing = refreshing i; draining = draining i })
 
--- what is seen of it, where it is told whether a refresh is due
-abbrev pub seen_with : Channel → Bool → Seen
-seen_with c refreshing = record { queued = length (waiting_requests c.queue.log); refreshing = refreshing; draining = is_draining c.queue }
-
 pub seen-told : (c : Channel) (past : Past) (refreshing : Bool) (seen : Seen) → IsInCycle c past → seen ≡ seen_with c refreshing
     → refreshing ≡ is_some (lowest_owed c.refresh c.cycle) → seen ≡ seen_after past
 seen-told c past refreshing seen h e f = e ∙ ap (seen_with c) f ∙ seen-is c past h
@@ -167,7 +162,7 @@ pub issued-stands : (c : Channel) (past : Past) (command : Command) (hit : Bool)
     → IsReadied c past command hit → seen ≡ seen_after past
     → BanksStandFor banks past.config (commands_after past ++ row_of past.channel c.cycle command ∷ [])
     → RefreshesStandFor refresh past.config (commands_after past ++ row_of past.channel c.cycle command ∷ [])
-    → StandsFor (record c { cycle = c.cycle + 1; banks = banks; refresh = refresh; ahead = Unknown; stats = channel_joined c.stats (cycle_with_hit c.config seen.queued seen.refreshing seen.draining (Some command) hit) })
+    → StandsFor (record c { cycle = c.cycle + 1; banks = banks; refresh = refresh; next_command = Unknown; stats = channel_joined c.stats (cycle_with_hit c.config seen.queued seen.refreshing seen.draining (Some command) hit) })
     past.config past.channel (past.steps ++ Some command ∷ []) past.mail
 issued-stands c past command hit seen banks refresh h e b r =
     let o = Some command in

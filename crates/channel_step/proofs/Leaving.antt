@@ -1,5 +1,5 @@
 -- What is left of a log, and of the marks of those that wait, when one is served or an ACT is issued in its name.
-use Rattle.std.proofs.Common.{◌≡◌, ℕ, zero, suc, ◌<◌, Bool, true, false, cond, ◌||◌, List, [], ◌∷◌, length, get_or, take, drop, map, Some, sym, ap, ap₂, subst, ◌∙◌, arith}
+use Rattle.std.proofs.Common.{◌≡◌, ℕ, zero, suc, ◌<◌, Bool, true, false, cond, ◌||◌, List, [], ◌∷◌, length, get_or, take, map, Some, sym, ap, ap₂, subst, ◌∙◌, arith}
 use Rattle.std.specs.Prelude.{slice_get}
 use Rattle.std.specs.List.{All, AllByRecursion as Each}
 use Rattle.std.proofs.lemmas.Bool.{true≢false}
@@ -9,6 +9,7 @@ use Rattle.std.proofs.Math.Bool.{or-false, or-true}
 use Rattle.sim_base.proofs.Ordered.{Each-weaker}
 use Rattle.sim_base.specs.Scheduling.{is_source, source_of, column_command}
 use Rattle.sim_base.specs.declared.message.Request.{Request}
+use Rattle.sim_base.proofs.Lists.{heads, tails}
 use Rattle.queue.specs.declared.request_log.Arrived.{Arrived}
 use Rattle.queue.specs.Log.{absent, waiting, waiting_requests, all_requests, served_at, activated_at, waits_at}
 use Rattle.queue.proofs.Places.{waiting_at, waiting_within, waiting_served}
@@ -40,12 +41,6 @@ served-waits log place l w d =
     waiting_served log place l w
     ∙ sym (served-remove (waiting_requests log) (length (waiting_requests (take place log))) (request_at log place) d (request-waits log place l w))
 
-head : (x y : Bool) (xs ys : List Bool) → x ∷ xs ≡ y ∷ ys → x ≡ y
-head x y xs ys e = ap (λ zs. get_or zs 0 x) e
-
-tail : (x y : Bool) (xs ys : List Bool) → x ∷ xs ≡ y ∷ ys → xs ≡ ys
-tail x y xs ys e = ap (drop 1) e
-
 -- their marks stay
 pub served-marks : (g : Request → Bool) (log : List Arrived) (place : ℕ) → marks_in log ≡ map g (waiting_requests log) → marks_in (served_at log place) ≡ map g (waiting_requests (served_at log place))
 unfolding waiting
@@ -54,7 +49,7 @@ served-marks g (a ∷ log) zero h = by a.waits h
   where
     by : (b : Bool) → map (λ (x : Arrived). x.activated) (cond b (a ∷ waiting log) (waiting log)) ≡ map g (map (λ (x : Arrived). x.request) (cond b (a ∷ waiting log) (waiting log)))
         → marks_in log ≡ map g (waiting_requests log)
-    by true e = tail _ _ _ _ e
+    by true e = tails _ _ _ _ e
     by false e = e
 served-marks g (a ∷ log) (suc place) h = by a.waits (served-marks g log place) h
   where
@@ -62,7 +57,7 @@ served-marks g (a ∷ log) (suc place) h = by a.waits (served-marks g log place)
         → map (λ (x : Arrived). x.activated) (cond b (a ∷ waiting log) (waiting log)) ≡ map g (map (λ (x : Arrived). x.request) (cond b (a ∷ waiting log) (waiting log)))
         → map (λ (x : Arrived). x.activated) (cond b (a ∷ waiting (served_at log place)) (waiting (served_at log place)))
         ≡ map g (map (λ (x : Arrived). x.request) (cond b (a ∷ waiting (served_at log place)) (waiting (served_at log place))))
-    by true later e = ap₂ (λ x xs. x ∷ xs) (head _ _ _ _ e) (later (tail _ _ _ _ e))
+    by true later e = ap₂ (λ x xs. x ∷ xs) (heads _ _ _ _ e) (later (tails _ _ _ _ e))
     by false later e = later e
 
 -- its mark is there as well
@@ -74,14 +69,14 @@ mark-at g (a ∷ log) zero l w h = by a.waits w h
   where
     by : (b : Bool) → b ≡ true → map (λ (x : Arrived). x.activated) (cond b (a ∷ waiting log) (waiting log)) ≡ map g (map (λ (x : Arrived). x.request) (cond b (a ∷ waiting log) (waiting log)))
         → a.activated ≡ g a.request
-    by true w e = head _ _ _ _ e
+    by true w e = heads _ _ _ _ e
     by false w e = absurd (true≢false (sym w))
 mark-at g (a ∷ log) (suc place) l w h = by a.waits (mark-at g log place (omega arith) w) h
   where
     by : (b : Bool) → (marks_in log ≡ map g (waiting_requests log) → (get_or log place absent).activated ≡ g (request_at log place))
         → map (λ (x : Arrived). x.activated) (cond b (a ∷ waiting log) (waiting log)) ≡ map g (map (λ (x : Arrived). x.request) (cond b (a ∷ waiting log) (waiting log)))
         → (get_or log place absent).activated ≡ g (request_at log place)
-    by true later e = later (tail _ _ _ _ e)
+    by true later e = later (tails _ _ _ _ e)
     by false later e = later e
 
 -- an ACT in its name marks it, and no other one
@@ -97,7 +92,7 @@ activated-marks g (a ∷ log) zero l w d h = by a.waits w d h
         ≡ map (λ r. g r || is_source r (source_of a.request)) (map (λ (x : Arrived). x.request) (cond b (a ∷ waiting log) (waiting log)))
     by true w d e =
         ap₂ (λ x xs. x ∷ xs) (sym (ap (λ b. g a.request || b) (own_source a.request) ∙ or-true (g a.request)))
-        (tail _ _ _ _ e
+        (tails _ _ _ _ e
         ∙ map-agree g (λ r. g r || is_source r (source_of a.request)) (waiting_requests log)
         (Each-weaker (IsOther a.request) _ (λ r o. sym (ap (λ b. g r || b) o ∙ or-false (g r))) (waiting_requests log) d.0))
     by false w d e = absurd (true≢false (sym w))
@@ -112,8 +107,8 @@ activated-marks g (a ∷ log) (suc place) l w d h = by a.waits (activated-marks 
         ≡ map (λ r. g r || is_source r (source_of (request_at log place))) (map (λ (x : Arrived). x.request) (cond b (a ∷ waiting log) (waiting log)))
     by true later d e =
         let other = same_source (request_at log place) a.request (at-waiting (IsOther a.request) log place (omega arith) w d.0) in
-        ap₂ (λ x xs. x ∷ xs) (head _ _ _ _ e ∙ sym (ap (λ b. g a.request || b) other ∙ or-false (g a.request)))
-        (later d.1 (tail _ _ _ _ e))
+        ap₂ (λ x xs. x ∷ xs) (heads _ _ _ _ e ∙ sym (ap (λ b. g a.request || b) other ∙ or-false (g a.request)))
+        (later d.1 (tails _ _ _ _ e))
     by false later d e = later d e
 
 waits-each : (P : Request → Type 0) (log : List Arrived) → Each P (all_requests log) → Each P (waiting_requests log)

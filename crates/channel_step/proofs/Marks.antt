@@ -17,13 +17,10 @@ use Rattle.sim_base.specs.declared.place.BankId.{BankId}
 use Rattle.sim_base.proofs.Accesses.{column_both}
 use Rattle.sim_base.proofs.Each.{Each-all}
 use Rattle.sim_base.proofs.Lists.{filter-each, filter-agree}
+use Rattle.channel_step.specs.Stands.{marks_of}
 use Rattle.channel_step.specs.Past.{Differ, is_named}
 use Rattle.channel_step.specs.Fit.{is_named_by, IsUnnamed}
 use Rattle.channel_step.proofs.Requests.{unserved_by, unserved-remove}
-
--- the marks of some requests
-abbrev pub marks : List IssuedCommand → List Request → List Bool
-marks history requests = map (is_named history) requests
 
 pub map-agree : {X Y : Type 0} (f g : X → Y) (xs : List X) → Each (λ x. f x ≡ g x) xs → map f xs ≡ map g xs
 map-agree f g [] h = refl
@@ -42,7 +39,7 @@ pub unnamed-no_mark : (history : List IssuedCommand) (r : Request) → IsUnnamed
 unnamed-no_mark [] r h = refl
 unnamed-no_mark (i ∷ history) r h = ap₂ (λ a b. a || b) (act-named r i.command h.0) (unnamed-no_mark history r h.1)
 
-pub unnamed-marks : (history : List IssuedCommand) (rs : List Request) → Each (IsUnnamed history) rs → marks history rs ≡ map (λ r. false) rs
+pub unnamed-marks : (history : List IssuedCommand) (rs : List Request) → Each (IsUnnamed history) rs → marks_of history rs ≡ map (λ r. false) rs
 unnamed-marks history rs h = map-agree (is_named history) (λ r. false) rs (Each-weaker (IsUnnamed history) _ (unnamed-no_mark history) rs h)
 
 -- one command more may name it
@@ -69,14 +66,14 @@ no_act source (Prea rank) h = refl
 no_act source (Ref rank) h = refl
 
 -- it leaves the marks as they are
-pub marks-no_act : (history : List IssuedCommand) (i : IssuedCommand) (rs : List Request) → opens_none i.command ≡ true → marks (history ++ i ∷ []) rs ≡ marks history rs
+pub marks-no_act : (history : List IssuedCommand) (i : IssuedCommand) (rs : List Request) → opens_none i.command ≡ true → marks_of (history ++ i ∷ []) rs ≡ marks_of history rs
 marks-no_act history i rs h =
     map-agree (is_named (history ++ i ∷ [])) (is_named history) rs
     (Each-all _ (λ r. named-command history i r ∙ ap (λ b. is_named history r || b) (no_act (source_of r) i.command h) ∙ or-false (is_named history r)) rs)
 
 -- an ACT adds the mark of the request of its entry
 pub marks-act : (history : List IssuedCommand) (i : IssuedCommand) (rs : List Request) (bank : BankId) (row : ℕ) (source : Source) → i.command ≡ Act bank row source
-    → marks (history ++ i ∷ []) rs ≡ map (λ r. is_named history r || is_source r source) rs
+    → marks_of (history ++ i ∷ []) rs ≡ map (λ r. is_named history r || is_source r source) rs
 marks-act history i rs bank row source e =
     map-agree (is_named (history ++ i ∷ [])) (λ r. is_named history r || is_source r source) rs
     (Each-all _ (λ r. named-command history i r ∙ ap (λ c. is_named history r || is_act_for (source_of r) c) e) rs)

@@ -29,7 +29,7 @@ use Rattle.statistics.specs.Channels.{issues_hit}
 use Rattle.channel_step.specs.FrFcfs.Requests.{IsInBanks, KnowsRows}
 use Rattle.channel_step.specs.Past.{is_named, Past, commands_after, choice_after}
 use Rattle.channel_step.specs.Stands.{marks_of}
-use Rattle.channel_step.specs.Queued.{request_at, served_now}
+use Rattle.channel_step.specs.Queued.{request_at, served_now, kept_rows}
 use Rattle.channel_step.specs.Runs.{with_more}
 use Rattle.channel_step.specs.Channels.{CandidatesStand, IsInCycle}
 use Rattle.channel_step.specs.Readied.{IsChosen, IsDoing, row_of, IsReadied}
@@ -40,7 +40,7 @@ use Rattle.channel_step.proofs.Foreseen.{request-needs}
 use Rattle.channel_step.proofs.Issuing.{readied, late-none}
 use Rattle.channel_step.proofs.Leaving.{at-waiting, served-waits, served-marks, mark-at, activated-marks}
 use Rattle.channel_step.proofs.Marks.{column_either, opens_none, marks-act, marks-no_act, served-none, hit-mark, column-opens_none}
-use Rattle.channel_step.proofs.Serving.{rows_in, kept-quiet, kept-served}
+use Rattle.channel_step.proofs.Serving.{kept-quiet, kept-served}
 
 -- the bank that the request at a place asks for is one that has candidates
 pub placed-among : (c : Channel) (past : Past) (place : ℕ) → IsInCycle c past → place < length c.queue.log
@@ -122,7 +122,7 @@ pub served-readied : (c : Channel) (past : Past) (place : ℕ) (bank_candidates 
     let hit = not (get_or c.queue.log place absent).activated in
     Some (column_command r) ≡ choice_after past → bank_count bank_candidates ≡ bank_count c.bank_candidates
     → CandidatesStand bank_candidates (served_at c.queue.log place) (commands_after past)
-    → rows_in served ≡ with_more (rows_in c.served) (served_now c.number c.cycle r hit ∷ [])
+    → kept_rows served ≡ with_more (kept_rows c.served) (served_now c.number c.cycle r hit ∷ [])
     → IsReadied (record c { queue = record c.queue { log = served_at c.queue.log place }; bank_candidates = bank_candidates; served = served }) past (column_command r) hit
 served-readied c past place bank_candidates served h l w chosen count stands more =
     let j = h.joined in
@@ -142,7 +142,7 @@ served-readied c past place bank_candidates served h l w chosen count stands mor
     (same_rows bank_candidates (served_at log place) rows (λ n. row_after (bank_at n) (rows n) command) stands (λ n there. column-rows (bank_at n) (rows n) r))
     (kept-served c.served served history row r hit past.mail (length past.steps + 1) refl (late-none past.config past.channel past.steps past.mail command chosen)
     (λ P each. at-waiting P log place l w (subst (Each P) (sym j.queue_is) each)) is_hit
-    (more ∙ ap₂ (λ number t. with_more (rows_in c.served) (served_now number t r hit ∷ [])) h.made_for.number_is h.cycle_is)
+    (more ∙ ap₂ (λ number t. with_more (kept_rows c.served) (served_now number t r hit ∷ [])) h.made_for.number_is h.cycle_is)
     h.keeps_served)
 
 -- what a rank needs that is to be refreshed closes its banks, or leaves them closed

@@ -9,7 +9,7 @@ use Rattle.channel_step.specs.FrFcfs.Requests.{IsInBanks}
 use Rattle.channel_step.specs.Past.{Past, commands_after}
 use Rattle.channel_step.specs.Stands.{marks_of}
 use Rattle.channel_step.specs.Channels.{CandidatesStand, HasPast}
-use Rattle.channel_step.specs.declared.ahead.Ahead.TheVariants.{Unknown}
+use Rattle.channel_step.specs.declared.next_command.NextCommand.TheVariants.{Unknown}
 use Rattle.channel_step.specs.declared.channel.Channel.{Channel}
 use Rattle.channel_step.proofs.Foreseen.{foreseen-unknown}
 use Rattle.channel_step.proofs.Leaving.{waits-all}
@@ -21,7 +21,7 @@ waiting-same log = ap (map (λ (a : Arrived). a.request)) (waiting_twice log)
 -- so it stands for the same past
 pub renewed-stands : (c : Channel) (past : Past) (bank_candidates : BankCandidates) → HasPast c past
     → bank_count bank_candidates ≡ bank_count c.bank_candidates → CandidatesStand bank_candidates (waiting c.queue.log) (commands_after past)
-    → HasPast (record c { queue = record c.queue { log = waiting c.queue.log }; bank_candidates = bank_candidates; ahead = Unknown }) past
+    → HasPast (record c { queue = record c.queue { log = waiting c.queue.log }; bank_candidates = bank_candidates; next_command = Unknown }) past
 renewed-stands c past bank_candidates h count stands =
     let history = commands_after past in
     let same = waiting-same c.queue.log in

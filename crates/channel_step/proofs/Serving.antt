@@ -1,6 +1,6 @@
 -- The requests that a channel keeps when it has served them.
 use Rattle.std.proofs.Common.{◌≡◌, ℕ, Bool, false, List, [], ◌∷◌, ◌++◌, Option, Some, None, refl, sym, ap, ap₂, subst, ◌∙◌}
-use Rattle.std.specs.Prelude.{filter_map, option_map, Vec}
+use Rattle.std.specs.Prelude.{filter_map, Vec}
 use Rattle.std.specs.List.{AllByRecursion as Each, cons_option}
 use Rattle.std.specs.declared.alloc.Global.{Global}
 use Rattle.std.proofs.lemmas.Bool.{true≢false}
@@ -23,7 +23,7 @@ use Rattle.statistics.proofs.ChannelCounts.{opens_for, is_hit-push, opens_for-it
 use Rattle.request_table.specs.Served.{served_by, served_in, served_requests}
 use Rattle.request_table.specs.declared.served_requests.ServedRequest.{ServedRequest}
 use Rattle.channel_step.specs.Past.{requests_of}
-use Rattle.channel_step.specs.Queued.{served_now}
+use Rattle.channel_step.specs.Queued.{served_now, kept_rows}
 use Rattle.channel_step.specs.Runs.{with_more}
 use Rattle.channel_step.specs.Channels.{KeepsServed}
 
@@ -84,13 +84,9 @@ kept-later None history mail new h = tt
 kept-later (Some rows) history mail new h = λ arrivals each.
     h arrivals (Each-first (TellsOf arrivals) (requests_of mail) (requests_of new) (subst (Each (TellsOf arrivals)) (filter_map-append (λ (m : Message). request_in m.payload) mail new) each))
 
--- the rows of a list, if there is one
-abbrev pub rows_in : Option (Vec ServedRequest Global) → Option (List ServedRequest)
-rows_in kept = option_map (λ rows. rows.items) kept
-
 -- rows are added
 kept-more : (kept then : Option (Vec ServedRequest Global)) (history : List IssuedCommand) (i : IssuedCommand) (new : List ServedRequest) (mail : List Message)
-    → rows_in then ≡ with_more (rows_in kept) new
+    → kept_rows then ≡ with_more (kept_rows kept) new
     → ((arrivals : Source → ℕ) → Each (TellsOf arrivals) (requests_of mail) → served_requests arrivals (history ++ i ∷ []) ≡ served_requests arrivals history ++ new)
     → KeepsServed kept history mail → KeepsServed then (history ++ i ∷ []) mail
 kept-more kept None history i new mail e more h = tt
@@ -112,7 +108,7 @@ kept-quiet (Some rows) history i mail late quiet h = λ arrivals each.
 -- the column command of a request that waits adds that
 pub kept-served : (kept then : Option (Vec ServedRequest Global)) (history : List IssuedCommand) (i : IssuedCommand) (r : Request) (hit : Bool) (mail : List Message) (until : ℕ)
     → i.command ≡ column_command r → is_late_act history (Some i.command) ≡ false → ((P : Request → Type 0) → Each P (queued_requests history mail until) → P r) → is_hit history i.command ≡ hit
-    → rows_in then ≡ with_more (rows_in kept) (served_now i.channel i.cycle r hit ∷ [])
+    → kept_rows then ≡ with_more (kept_rows kept) (served_now i.channel i.cycle r hit ∷ [])
     → KeepsServed kept history mail → KeepsServed then (history ++ i ∷ []) mail
 unfolding queued_requests
 kept-served kept then history i r hit mail until is late waits e more h =

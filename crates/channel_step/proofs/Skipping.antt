@@ -67,7 +67,7 @@ drain_decided-in_cycle c past h =
       candidates_stand = h.candidates_stand;
       banks_stand = h.banks_stand;
       refreshes_stand = h.refreshes_stand;
-      foresees = foreseen-drain_decided past.config (commands_after past) c.queue c.cycle c.ahead h.foresees;
+      foresees = foreseen-drain_decided past.config (commands_after past) c.queue c.cycle c.next_command h.foresees;
       keeps_served = h.keeps_served;
     }
 
@@ -185,8 +185,8 @@ skipped-in_cycle c past n due until h before alike e =
       banks_stand = subst (BanksStandFor c.banks past.config) (sym history) h.banks_stand;
       refreshes_stand = subst (RefreshesStandFor c.refresh past.config) (sym history) h.refreshes_stand;
       foresees =
-          subst (λ x. IsForeseen past.config x c.queue until c.ahead) (sym history)
-          (foreseen-later past.config (commands_after past) c.queue c.cycle until c.ahead (omega (arith, h.cycle_is)) h.foresees);
+          subst (λ x. IsForeseen past.config x c.queue until c.next_command) (sym history)
+          (foreseen-later past.config (commands_after past) c.queue c.cycle until c.next_command (omega (arith, h.cycle_is)) h.foresees);
       keeps_served = subst (λ x. KeepsServed c.served x past.mail) (sym history) h.keeps_served;
     }
 

@@ -28,7 +28,7 @@ use Rattle.channel_step.specs.Past.{requests_of, past_of, Past, commands_after}
 use Rattle.channel_step.specs.Stands.{Recalls}
 use Rattle.channel_step.specs.Channels.{IsForeseen, KeepsServed, StandsFor, HasPast}
 use Rattle.channel_step.specs.Runs.{StandsAt}
-use Rattle.channel_step.specs.declared.ahead.Ahead.TheVariants.{Unknown}
+use Rattle.channel_step.specs.declared.next_command.NextCommand.TheVariants.{Unknown}
 use Rattle.channel_step.specs.declared.channel.Channel.{Channel}
 use Rattle.channel_step.proofs.Requests.{ArrivedBefore, requests-arrived, queued_requests-until}
 use Rattle.channel_step.proofs.Spans.{drains-next}
@@ -107,9 +107,9 @@ at-first c past from o h at f =
 pub start-stands : (c : Channel) (s : Config) (number : ℕ) → c.config ≡ s → c.number ≡ number → c.latencies.items ≡ answer_latencies s number → c.cycle ≡ 0
     → c.queue ≡ record { room = queue_room s; places = places_for (queue_room s); high = s.write_high; low = s.write_low; log = []; drain_decided = false }
     → BanksStandFor c.banks s [] → RefreshesStandFor c.refresh s [] → c.stats ≡ record channel_none { draining = draining_of s 0 } → bank_count c.bank_candidates ≡ 16 * s.ranks
-    → CandidatesStandFor c.bank_candidates [] (λ bank. None) → c.ahead ≡ Unknown → c.served ≡ None → StandsFor c s number [] []
+    → CandidatesStandFor c.bank_candidates [] (λ bank. None) → c.next_command ≡ Unknown → c.served ≡ None → StandsFor c s number [] []
 unfolding issued_commands open_row waiting
-start-stands c s number config is latencies cycle queue_is banks refresh stats count bank_candidates ahead served =
+start-stands c s number config is latencies cycle queue_is banks refresh stats count bank_candidates next_command served =
     let R : QueueView → ChannelStats → Type 0 = λ q t. Recalls (waiting_requests q.log) q.drain_decided (marks_in q.log) t (past_of s number [] []) in
     let empty : QueueView = record { room = queue_room s; places = places_for (queue_room s); high = s.write_high; low = s.write_low; log = []; drain_decided = false } in
     let base : R empty (record channel_none { draining = draining_of s 0 }) = recalls-none s number in
@@ -133,7 +133,7 @@ start-stands c s number config is latencies cycle queue_is banks refresh stats c
       candidates_stand = subst (λ (q : QueueView). CandidatesStandFor c.bank_candidates q.log (λ bank. None)) (sym queue_is) bank_candidates;
       banks_stand = banks;
       refreshes_stand = refresh;
-      foresees = subst (IsForeseen s [] c.queue c.cycle) (sym ahead) (foreseen-unknown s [] c.queue c.cycle);
+      foresees = subst (IsForeseen s [] c.queue c.cycle) (sym next_command) (foreseen-unknown s [] c.queue c.cycle);
       keeps_served = subst (λ kept. KeepsServed kept [] []) (sym served) tt;
     }
 

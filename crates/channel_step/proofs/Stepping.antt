@@ -28,9 +28,9 @@ use Rattle.channel_step.specs.Past.{requests_of, IsRequestIn, CarriesRequest, Pa
 use Rattle.channel_step.specs.Fit.{queue_room, IsFitAfter}
 use Rattle.channel_step.specs.Stands.{marks_of}
 use Rattle.channel_step.specs.Queued.{marks_in, with_arrivals}
-use Rattle.channel_step.specs.Channels.{CandidatesStand, IsAhead, IsAheadFor, IsInCycle, HasPast}
-use Rattle.channel_step.specs.declared.ahead.Ahead.{Ahead}
-use Rattle.channel_step.specs.declared.ahead.Ahead.TheVariants.{Unknown, Known}
+use Rattle.channel_step.specs.Channels.{CandidatesStand, IsNextCommand, NextCommandIsFor, IsInCycle, HasPast}
+use Rattle.channel_step.specs.declared.next_command.NextCommand.{NextCommand}
+use Rattle.channel_step.specs.declared.next_command.NextCommand.TheVariants.{Unknown, Known}
 use Rattle.channel_step.specs.declared.channel.Channel.{Channel}
 use Rattle.channel_step.specs.FrFcfs.Choices.{IsFor}
 use Rattle.channel_step.specs.FrFcfs.Requests.{IsInBanks}
@@ -98,12 +98,12 @@ arrived-in_banks c past inbox now until q h at f e =
     banks-below past.config.ranks (bank_count c.bank_candidates) q.log h.made_for.banks_are (arrived-places c past inbox now until q h at f e)
 
 -- when they have joined
-pub arrived-stands : (c : Channel) (past : Past) (inbox : List Message) (now until : ℕ) (q : QueueView) (bank_candidates : BankCandidates) (ahead : Ahead) → HasPast c past → length past.steps ≡ now → now < until
+pub arrived-stands : (c : Channel) (past : Past) (inbox : List Message) (now until : ℕ) (q : QueueView) (bank_candidates : BankCandidates) (next_command : NextCommand) → HasPast c past → length past.steps ≡ now → now < until
     → IsFitAfter past inbox now until → q ≡ with_arrivals c.queue (arriving inbox now)
     → bank_count bank_candidates ≡ bank_count c.bank_candidates → CandidatesStand bank_candidates q.log (commands_after past)
-    → IsAhead past.config (commands_after past) q c.cycle ahead
-    → IsInCycle (record c { queue = q; bank_candidates = bank_candidates; ahead = ahead }) (with_mail past (take (due_count inbox now) inbox))
-arrived-stands c past inbox now until q bank_candidates ahead h at l f e count candidates_stand known =
+    → IsNextCommand past.config (commands_after past) q c.cycle next_command
+    → IsInCycle (record c { queue = q; bank_candidates = bank_candidates; next_command = next_command }) (with_mail past (take (due_count inbox now) inbox))
+arrived-stands c past inbox now until q bank_candidates next_command h at l f e count candidates_stand known =
     let history = commands_after past in
     let new = take (due_count inbox now) inbox in
     let requests = arriving inbox now in
@@ -142,7 +142,7 @@ arrived-stands c past inbox now until q bank_candidates ahead h at l f e count c
       candidates_stand = candidates_stand;
       banks_stand = h.banks_stand;
       refreshes_stand = h.refreshes_stand;
-      foresees = foreseen-from past.config history q c.cycle ahead known;
+      foresees = foreseen-from past.config history q c.cycle next_command known;
       keeps_served = kept-later c.served history past.mail new h.keeps_served;
     }
 
@@ -165,9 +165,9 @@ pub log-after : (c : Channel) (new : List Request) (n : ℕ) (q : QueueView) →
 log-after c new n q e x = subst (λ (z : QueueView). All (λ (a : Arrived). a.waits ≡ true) (drop n z.log)) (sym x) (subst (λ k. All (λ (a : Arrived). a.waits ≡ true) (drop k (c.queue.log ++ map arrived_now new))) (sym e) (arrived-wait c.queue.log new))
 
 -- what is known of the next command was for one of those that were there before
-pub ahead-for : (s : Config) (history : List IssuedCommand) (n ranks : ℕ) (earlier queue : QueueView) (from : ℕ) (ahead : Ahead) → ranks ≡ s.ranks → earlier.log ≡ take n queue.log
-    → IsAhead s history earlier from ahead → IsAheadFor ranks queue.log ahead
-ahead-for s history n ranks earlier queue from Unknown e is h = tt
-ahead-for s history n ranks earlier queue from (Known None) e is h = tt
-ahead-for s history n ranks earlier queue from (Known (Some next)) e is h =
+pub next_command-for : (s : Config) (history : List IssuedCommand) (n ranks : ℕ) (earlier queue : QueueView) (from : ℕ) (next_command : NextCommand) → ranks ≡ s.ranks → earlier.log ≡ take n queue.log
+    → IsNextCommand s history earlier from next_command → NextCommandIsFor ranks queue.log next_command
+next_command-for s history n ranks earlier queue from Unknown e is h = tt
+next_command-for s history n ranks earlier queue from (Known None) e is h = tt
+next_command-for s history n ranks earlier queue from (Known (Some next)) e is h =
     taken-for n ranks queue.log earlier.log next.1 is (subst (λ k. IsFor k earlier.log next.1) (sym e) h.place)

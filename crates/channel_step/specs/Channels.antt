@@ -12,7 +12,7 @@
 --     idle_after p from cycle      a past, and cycles in which nothing is issued and nothing arrives
 --     issues_in p from cycle      whether a channel issues a command in a cycle, if nothing arrives
 --     IsQuiet s history queue from end      nothing is issued before a cycle
---     IsAhead s history queue from ahead, IsForeseen s history queue from ahead      what is known of the next command from a cycle on is so
+--     IsNextCommand s history queue from next_command, IsForeseen s history queue from next_command      what is known of the next command from a cycle on is so
 --     Foresees c s history      the same of what a channel knows
 --     IsFound c s history now next      the next command from a cycle on, if there is one
 --     HasRank c rank, HasBank c bank      a channel of a machine with this rank, or with this bank
@@ -59,8 +59,8 @@ use Rattle.channel_step.specs.Fit.{queue_room, idle_until, IsIdle}
 use Rattle.channel_step.specs.Latencies.{answer_latencies}
 use Rattle.channel_step.specs.Queued.{marks_in}
 use Rattle.channel_step.specs.Stands.{Recalls, HasJoined}
-use Rattle.channel_step.specs.declared.ahead.Ahead.{Ahead}
-use Rattle.channel_step.specs.declared.ahead.Ahead.TheVariants.{Unknown, Known}
+use Rattle.channel_step.specs.declared.next_command.NextCommand.{NextCommand}
+use Rattle.channel_step.specs.declared.next_command.NextCommand.TheVariants.{Unknown, Known}
 use Rattle.channel_step.specs.declared.channel.Channel.{Channel}
 use Rattle.channel_step.specs.declared.counting.Seen.{Seen}
 
@@ -89,33 +89,33 @@ IsQuiet s history queue from end = (t : ℕ) → from ≤ t → t < end → choi
 
 -- what was chosen needs a command that is issued in a cycle, and none is in the cycles from a given one on and before
 -- that
-pub record IsAheadAt (s : Config) (history : List IssuedCommand) (queue : QueueView) (from cycle : ℕ) (choice : Choice) : Type 0 where
+pub record IsNextCommandAt (s : Config) (history : List IssuedCommand) (queue : QueueView) (from cycle : ℕ) (choice : Choice) : Type 0 where
   pub then_is : choice_in s history queue cycle ≡ command_of s history queue.log choice
   pub none_before : IsQuiet s history queue from cycle
   pub place : IsFor s.ranks queue.log choice
 
 -- what is known of the next command from a cycle on: nothing; or that none is ever issued; or its cycle, and what needs
 -- it
-abbrev pub IsAhead : Config → List IssuedCommand → QueueView → ℕ → Ahead → Type 0
-IsAhead s history queue from Unknown = Unit {0}
-IsAhead s history queue from (Known None) = (t : ℕ) → from ≤ t → choice_in s history queue t ≡ None
-IsAhead s history queue from (Known (Some next)) = IsAheadAt s history queue from next.0 next.1
+abbrev pub IsNextCommand : Config → List IssuedCommand → QueueView → ℕ → NextCommand → Type 0
+IsNextCommand s history queue from Unknown = Unit {0}
+IsNextCommand s history queue from (Known None) = (t : ℕ) → from ≤ t → choice_in s history queue t ≡ None
+IsNextCommand s history queue from (Known (Some next)) = IsNextCommandAt s history queue from next.0 next.1
 
 -- what is known of the next command, if it is, is for a request that waits or a rank that there is
-abbrev pub IsAheadFor : ℕ → List Arrived → Ahead → Type 0
-IsAheadFor ranks log Unknown = Unit {0}
-IsAheadFor ranks log (Known next) = HasPlace ranks log next
+abbrev pub NextCommandIsFor : ℕ → List Arrived → NextCommand → Type 0
+NextCommandIsFor ranks log Unknown = Unit {0}
+NextCommandIsFor ranks log (Known next) = HasPlace ranks log next
 
 -- What is known of the next command is so from a cycle on:
 --     never      there is none
 --     at      it is issued in its cycle, and none before that
-pub record IsForeseen (s : Config) (history : List IssuedCommand) (queue : QueueView) (from : ℕ) (ahead : Ahead) : Type 0 where
-  pub never : ahead ≡ Known None → (t : ℕ) → from ≤ t → choice_in s history queue t ≡ None
-  pub at : (cycle : ℕ) (choice : Choice) → ahead ≡ Known (Some (cycle, choice)) → IsAheadAt s history queue from cycle choice
+pub record IsForeseen (s : Config) (history : List IssuedCommand) (queue : QueueView) (from : ℕ) (next_command : NextCommand) : Type 0 where
+  pub never : next_command ≡ Known None → (t : ℕ) → from ≤ t → choice_in s history queue t ≡ None
+  pub at : (cycle : ℕ) (choice : Choice) → next_command ≡ Known (Some (cycle, choice)) → IsNextCommandAt s history queue from cycle choice
 
 -- what a channel knows of its next command is so after these commands, as long as nothing arrives
 abbrev pub Foresees : Channel → Config → List IssuedCommand → Type 0
-Foresees c s history = IsForeseen s history c.queue c.cycle c.ahead
+Foresees c s history = IsForeseen s history c.queue c.cycle c.next_command
 
 -- the next command from a cycle on, and what needs it, if there is one
 abbrev pub IsFound : Channel → Config → List IssuedCommand → ℕ → Option (ℕ × Choice) → Type 0
@@ -263,7 +263,7 @@ counted c seen command hit = channel_joined c.stats (cycle_with_hit c.config see
 
 -- the channel once this cycle is counted: it is over, and what comes next is not known
 abbrev pub after_cycle : Channel → Seen → Command → Bool → Channel
-after_cycle c seen command hit = record c { cycle = c.cycle + 1; ahead = Unknown; stats = counted c seen command hit }
+after_cycle c seen command hit = record c { cycle = c.cycle + 1; next_command = Unknown; stats = counted c seen command hit }
 
 -- the statistics of a cycle in which a channel issues nothing
 abbrev pub idle_cycle : Channel → ℕ → ChannelStats

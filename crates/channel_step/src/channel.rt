@@ -17,10 +17,10 @@ ghost use Rattle.channel_step.specs.declared.fr_fcfs.choice.Choice.TheVariants a
 ghost use Rattle.channel_step.specs.FrFcfs.Requests.{AreInBanks, OfSameBanks};
 ghost use Rattle.channel_step.specs.FrFcfs.Cycles.{IsFirstCycle};
 ghost use Rattle.statistics.specs.Channels.{ChannelFits};
-ghost use Rattle.channel_step.specs.declared.ahead.Ahead.TheVariants.{Known};
+ghost use Rattle.channel_step.specs.declared.next_command.NextCommand.TheVariants.{Known};
 ghost use Rattle.channel_step.specs.Past.{Past, commands_after, waiting_after, stats_after, choice_after, with_step, with_mail};
 ghost use Rattle.channel_step.specs.Channels.{KeepsServed, StandsFor, HasPast, ForPasts, StandForTheSame, PartsStand, HasMore};
-ghost use Rattle.channel_step.specs.Channels.{IsAhead, IsAheadFor, IsFound, IsQuiet, HasRank, HasBank, issues_in};
+ghost use Rattle.channel_step.specs.Channels.{IsNextCommand, NextCommandIsFor, IsFound, IsQuiet, HasRank, HasBank, issues_in};
 ghost use Rattle.channel_step.specs.Channels.{IsInCycle, ForCycles, IsInSomeCycle, StaysInCycle, IsNextBefore, idle_after};
 ghost use Rattle.channel_step.specs.Channels.{CountsDrains, seen_with, seen_of, counted, after_cycle, skipped};
 ghost use Rattle.channel_step.specs.Readied.{IsChosen, IsDoing, IsReadied, IsReady, HasReadied, seen_after};
@@ -28,12 +28,12 @@ ghost use Rattle.channel_step.specs.Readied.{opening_command, closing_command, c
 ghost use Rattle.channel_step.specs.Fit.{queue_room, IsFitAfter};
 ghost use Rattle.channel_step.specs.Runs.{CanStep, CanRun, HasIssued, HasAdvanced, IsDoneAfter, StandsAt, first_arrival, IsListed};
 
-use crate::ahead::Ahead;
 use crate::arriving::admit;
 use crate::counting::{Seen, drained};
 use crate::fr_fcfs::arrivals::stays;
 use crate::fr_fcfs::choice::{ChannelParts, Choice, next};
 use crate::fr_fcfs::needs::refresh_command;
+use crate::next_command::NextCommand;
 use crate::noting::{keep_served, note_refresh};
 use crate::sending::{AnswerLatencies, AnsweringChannel, answer_latencies, keep, send};
 use bank_ready::banks::Banks;
@@ -65,7 +65,7 @@ pub struct Channel {
     stats: ChannelStats,
     bank_candidates: BankCandidates,
     /// What it issues next, if nothing arrives.
-    ahead: Ahead,
+    next_command: NextCommand,
     /// The requests that it served, if they are kept.
     served: Option<Vec<ServedRequest>>,
 }
@@ -97,7 +97,7 @@ impl Channel {
             refresh: Refresh::new(config.timing.n_refi, config.ranks),
             stats,
             bank_candidates,
-            ahead: Ahead::Unknown,
+            next_command: NextCommand::Unknown,
             served: None,
         })
     }
@@ -189,12 +189,12 @@ impl Channel {
         requires groups { self.now.config.groups ≤ 4 }
         ensures { (s : Config) (history : List IssuedCommand)
             → PartsStand self.now s history
-            → IsAhead s history self.now.queue self.now.cycle self.now.ahead
+            → IsNextCommand s history self.now.queue self.now.cycle self.now.next_command
             → self.now.cycle ≤ now → IsFound self.now s history now result }
     {
-        match self.ahead {
-            Ahead::Known(None) => None,
-            Ahead::Known(Some((cycle, choice))) if now <= cycle => Some((cycle, choice)),
+        match self.next_command {
+            NextCommand::Known(None) => None,
+            NextCommand::Known(Some((cycle, choice))) if now <= cycle => Some((cycle, choice)),
             _ => next(
                 &ChannelParts {
                     queue: &self.queue,
@@ -212,12 +212,12 @@ impl Channel {
     #[inline(always)]
     fn waits_until(&self, end: Cycle) -> bool
         ensures { (s : Config) (history : List IssuedCommand) (queue : QueueView) (from : ℕ)
-            → result ≡ true → IsAhead s history queue from self.now.ahead
+            → result ≡ true → IsNextCommand s history queue from self.now.next_command
             → IsQuiet s history queue from end }
     {
-        match self.ahead {
-            Ahead::Known(found) => is_none_before(found, end),
-            Ahead::Unknown => false,
+        match self.next_command {
+            NextCommand::Known(found) => is_none_before(found, end),
+            NextCommand::Unknown => false,
         }
     }
 
@@ -237,7 +237,7 @@ impl Channel {
         match found {
             Some((cycle, choice)) if cycle < end => Some((cycle, choice)),
             _ => {
-                self.ahead = Ahead::Known(found);
+                self.next_command = NextCommand::Known(found);
                 None
             }
         }
@@ -263,7 +263,7 @@ impl Channel {
         requires fits { ChannelFits (counted self.old seen command hit) }
         ensures { self.new ≡ after_cycle self.old seen command hit }
     {
-        self.ahead = Ahead::Unknown;
+        self.next_command = NextCommand::Unknown;
         let stats = &mut self.stats;
         stats.add_cycles(1, seen.queued, seen.refreshing, seen.draining);
         stats.add_command(command.kind(), hit);
@@ -554,8 +554,8 @@ impl Channel {
         requires found { HasPlace (rank_count self.now.banks) self.now.queue.log found }
         ensures { (s : Config) (history : List IssuedCommand) (earlier : QueueView)
             → result ≡ true → HasMore self.now s history earlier older
-            → IsAhead s history earlier self.now.cycle (Known found)
-            → IsAhead s history self.now.queue self.now.cycle (Known found) }
+            → IsNextCommand s history earlier self.now.cycle (Known found)
+            → IsNextCommand s history self.now.queue self.now.cycle (Known found) }
     {
         match found {
             Some(next) => stays(&self.queue, &self.bank_candidates, &self.banks, older, next),
@@ -568,15 +568,15 @@ impl Channel {
     fn keeps(&self, older: usize) -> bool
         requires places { AreInBanks (rank_count self.now.banks) self.now.queue.log }
         requires banks { OfSameBanks self.now.bank_candidates self.now.banks }
-        requires ahead { IsAheadFor (rank_count self.now.banks) self.now.queue.log self.now.ahead }
+        requires next_command { NextCommandIsFor (rank_count self.now.banks) self.now.queue.log self.now.next_command }
         ensures { (s : Config) (history : List IssuedCommand) (earlier : QueueView)
             → result ≡ true → HasMore self.now s history earlier older
-            → IsAhead s history earlier self.now.cycle self.now.ahead
-            → IsAhead s history self.now.queue self.now.cycle self.now.ahead }
+            → IsNextCommand s history earlier self.now.cycle self.now.next_command
+            → IsNextCommand s history self.now.queue self.now.cycle self.now.next_command }
     {
-        match self.ahead {
-            Ahead::Known(found) => self.keeps_found(found, older),
-            Ahead::Unknown => false,
+        match self.next_command {
+            NextCommand::Known(found) => self.keeps_found(found, older),
+            NextCommand::Unknown => false,
         }
     }
 
@@ -586,15 +586,15 @@ impl Channel {
     fn reconsider(&mut self, older: usize)
         requires places { AreInBanks (rank_count self.old.banks) self.old.queue.log }
         requires banks { OfSameBanks self.old.bank_candidates self.old.banks }
-        requires ahead { IsAheadFor (rank_count self.old.banks) self.old.queue.log self.old.ahead }
-        ensures rest { self.new ≡ record self.old { ahead = self.new.ahead } }
-        ensures ahead { (s : Config) (history : List IssuedCommand) (earlier : QueueView)
+        requires next_command { NextCommandIsFor (rank_count self.old.banks) self.old.queue.log self.old.next_command }
+        ensures rest { self.new ≡ record self.old { next_command = self.new.next_command } }
+        ensures next_command { (s : Config) (history : List IssuedCommand) (earlier : QueueView)
             → HasMore self.old s history earlier older
-            → IsAhead s history earlier self.old.cycle self.old.ahead
-            → IsAhead s history self.old.queue self.old.cycle self.new.ahead }
+            → IsNextCommand s history earlier self.old.cycle self.old.next_command
+            → IsNextCommand s history self.old.queue self.old.cycle self.new.next_command }
     {
         if !self.keeps(older) {
-            self.ahead = Ahead::Unknown;
+            self.next_command = NextCommand::Unknown;
         }
     }
 
@@ -607,7 +607,7 @@ impl Channel {
         ensures queue { self.new.queue ≡ self.old.queue }
     {
         self.bank_candidates.renew(self.queue.log());
-        self.ahead = Ahead::Unknown;
+        self.next_command = NextCommand::Unknown;
     }
 
     /// Makes places for so many requests that arrive.
@@ -697,7 +697,7 @@ impl Channel {
         requires { StandsAt self.old from }
         ensures { ForPasts self.old (λ past. length past.steps ≡ from → HasPast self.new past) }
     {
-        self.ahead = Ahead::Known(self.find(from));
+        self.next_command = NextCommand::Known(self.find(from));
     }
 
     /// Looks for the next command, where it is not known, so that whoever asks when the channel acts, or runs it on,
@@ -707,7 +707,7 @@ impl Channel {
         requires { StandsAt self.old from }
         ensures { ForPasts self.old (λ past. length past.steps ≡ from → HasPast self.new past) }
     {
-        if let Ahead::Unknown = self.ahead {
+        if let NextCommand::Unknown = self.next_command {
             self.look_ahead(from);
         }
     }
@@ -792,7 +792,7 @@ fn banks_of(config: &Config) -> usize
 #[inline(always)]
 fn is_none_before(found: Option<(Cycle, Choice)>, end: Cycle) -> bool
     ensures { (s : Config) (history : List IssuedCommand) (queue : QueueView) (from : ℕ)
-        → result ≡ true → IsAhead s history queue from (Known found)
+        → result ≡ true → IsNextCommand s history queue from (Known found)
         → IsQuiet s history queue from end }
 {
     match found {

@@ -24,6 +24,7 @@ use Rattle.statistics.specs.Counts.{one_if}
 use Rattle.sim_base.specs.Counts.{is_reply}
 use Rattle.sim_base.proofs.Kept.{arrived-added}
 use Rattle.sim_base.proofs.Added.{length-push_suc}
+use Rattle.sim_base.proofs.Each.{Each-append}
 use Rattle.statistics.specs.Cores.{core_stats, replies_in, is_reply_in}
 use Rattle.statistics.specs.Runs.{credits_of}
 use Rattle.statistics.specs.declared.final_state.Credits.{Credits}
@@ -386,9 +387,185 @@ pub taking-more : (a : CoreView) (from until : ℕ) (inbox : List Message) (i : 
 taking-more a from until inbox i d e w y m h at now receives =
     record { sent = h.sent; behind = h.behind; taking = has_taken-more a from until inbox i d e h.sent m h.taking at now receives }
 
-Each-both : (P : Message → Type 0) (xs ys : List Message) → Each P xs → Each P ys → Each P (xs ++ ys)
-Each-both P [] ys h k = k
-Each-both P (x ∷ xs) ys h k = (h.0, Each-both P xs ys h.1 k)
+drop-all : (inbox : List Message) (i : ℕ) → take i inbox ++ drop i inbox ≡ inbox
+take-drop-all [] zero = refl
+take-drop-all [] (suc i) = refl
+take-drop-all (x ∷ xs) zero = refl
+take-drop-all (x ∷ xs) (suc i) = ap (λ l. x ∷ l) (take-drop-all xs i)
+
+ordered-drop : (inbox : List Message) (i : ℕ) → IsByArrival inbox → IsByArrival (drop i inbox)
+ordered-drop [] zero h = h
+ordered-drop [] (suc i) h = h
+ordered-drop (x ∷ xs) zero h = h
+ordered-drop (x ∷ xs) (suc i) h = ordered-drop xs i h.1
+
+-- no message that is left comes sooner than the next
+pub next_first : (inbox : List Message) (i : ℕ) (m : Message) → IsByArrival inbox → IsAt inbox i m → Each (λ n. m.arrival ≤ n.arrival) (drop i inbox)
+next_first inbox i m h at =
+    subst (Each (λ (n : Message). m.arrival ≤ n.arrival)) (sym at.rest)
+    (let k : IsByArrival (m ∷ drop (i + 1) inbox) = subst IsByArrival at.rest (ordered-drop inbox i h) in (omega arith, k.0))
+
+Each-drop : (P : Message → Type 0) (inbox : List Message) (i : ℕ) → Each P inbox → Each P (drop i inbox)
+Each-drop P [] zero h = h
+Each-drop P [] (suc i) h = h
+Each-drop P (x ∷ xs) zero h = h
+Each-drop P (x ∷ xs) (suc i) h = Each-drop P xs i h.1
+
+Each-at : (P : Message → Type 0) (inbox : List Message) (i : ℕ) (m : Message) → Each P (drop i inbox) → IsAt inbox i m → P m
+Each-at P inbox i m h at = (subst (Each P) at.rest h).0
+
+-- a core goes on up to a cycle before which no message comes
+pub goes_on : (s : Config) (core : ℕ) (trace : List Entry) (steps : List CoreStep) (mail : List Message) (from until : ℕ) (inbox : List Message) (i : ℕ) (b d : CoreView) (x y : List Message) (t : ℕ)
+    → length steps ≡ from → IsMidway s core trace steps mail from until inbox i b x → b.now ≤ t → t ≤ until → Each (λ m. t ≤ m.arrival) (drop i inbox)
+    → Sends (t - b.now) b d y → IsMidway s core trace steps mail from until inbox i d (x ++ y)
+goes_on s core trace steps mail from until inbox i b d x y t start mid l u others adv =
+    let full = mail ++ inbox in
+    let had = mail ++ take i inbox in
+    let at = core_run s core trace steps full (b.now - from) in
+    let n = t - b.now in
+    let all : had ++ drop i inbox ≡ full = append_assoc mail (take i inbox) (drop i inbox) ∙ ap (λ ms. mail ++ ms) (take-drop-all inbox i) in
+    let long : length at ≡ b.now = sym mid.stands.now in
+    let late : NotBefore (length at + n) (drop i inbox) = Each-weaker (λ (m : Message). t ≤ m.arrival) (λ m. length at + n ≤ m.arrival) (λ m h. omega arith) (drop i inbox) others in
+    let sum : (b.now - from) + n ≡ t - from = omega (arith, mid.since) in
+    let same : core_run s core trace at had n ≡ core_run s core trace steps full (t - from) =
+    sym (core_run-later s core trace at had (drop i inbox) n late) ∙ ap (λ ms. core_run s core trace at ms n) all
+    ∙ sym (core_run-add s core trace steps full (b.now - from) n) ∙ ap (core_run s core trace steps full) sum in
+    let one = adv s core trace at had mid.stands in
+    let stands : StandsAt s core trace (core_run s core trace steps full (t - from)) had d = subst (λ r. StandsAt s core trace r had d) same one.0 in
+    let now : d.now ≡ t = omega (arith, stands.now, length-core_run s core trace steps full (t - from), mid.since) in
+    let messages : core_messages s core trace (core_run s core trace steps full (t - from)) ≡ core_messages s core trace steps ++ (x ++ y) =
+    ap (core_messages s core trace) (sym same) ∙ one.1 ∙ ap (λ l. l ++ y) mid.messages ∙ append_assoc (core_messages s core trace steps) x y in
+    record {
+      since = omega (arith, mid.since);
+      stands = subst (λ k. StandsAt s core trace (core_run s core trace steps full (k - from)) had d) (sym now) stands;
+      messages = ap (λ k. core_messages s core trace (core_run s core trace steps full (k - from))) now ∙ messages;
+      others = Each-weaker (λ (m : Message). t ≤ m.arrival) (λ m. d.now ≤ m.arrival) (λ m h. omega arith) (drop i inbox) others;
+      until_then = omega arith;
+    }
+
+pub now_at : (s : Config) (core : ℕ) (trace : List Entry) (steps : List CoreStep) (mail : List Message) (from until : ℕ) (inbox : List Message) (i : ℕ) (b d : CoreView) (x y : List Message) (t : ℕ)
+    → length steps ≡ from → IsMidway s core trace steps mail from until inbox i b x → b.now ≤ t → Sends (t - b.now) b d y → d.now ≡ t
+now_at s core trace steps mail from until inbox i b d x y t start mid l adv =
+    let at = core_run s core trace steps (mail ++ inbox) (b.now - from) in
+    let one = adv s core trace at (mail ++ take i inbox) mid.stands in
+    omega (arith, one.0.now, mid.stands.now, length-core_run s core trace at (mail ++ take i inbox) (t - b.now))
+
+-- a core takes a message
+pub takes : (s : Config) (core : ℕ) (trace : List Entry) (steps : List CoreStep) (mail : List Message) (from until : ℕ) (inbox : List Message) (i : ℕ) (d e : CoreView) (y : List Message) (m : Message)
+    → IsMidway s core trace steps mail from until inbox i d y → IsAt inbox i m
+    → StandsAt s core trace (core_run s core trace steps (mail ++ inbox) (d.now - from)) ((mail ++ take i inbox) ++ m ∷ []) e
+    → IsMidway s core trace steps mail from until inbox (i + 1) e y
+takes s core trace steps mail from until inbox i d e y m mid at stands =
+    let now : e.now ≡ d.now = stands.now ∙ sym mid.stands.now in
+    let had : (mail ++ take i inbox) ++ m ∷ [] ≡ mail ++ take (i + 1) inbox = append_assoc mail (take i inbox) (m ∷ []) ∙ ap (λ ms. mail ++ ms) (sym at.more) in
+    let P : ℕ → List Message → Type 0 = λ k ms. StandsAt s core trace (core_run s core trace steps (mail ++ inbox) (k - from)) ms e in
+    let st1 : P e.now ((mail ++ take i inbox) ++ m ∷ []) = subst (λ k. P k ((mail ++ take i inbox) ++ m ∷ [])) (sym now) stands in
+    record {
+      since = omega (arith, mid.since);
+      stands = subst (λ ms. P e.now ms) had st1;
+      messages = ap (λ k. core_messages s core trace (core_run s core trace steps (mail ++ inbox) (k - from))) now ∙ mid.messages;
+      others = Each-weaker (λ (n : Message). d.now ≤ n.arrival) (λ n. e.now ≤ n.arrival) (λ n h. omega arith) (drop (i + 1) inbox) (subst (Each (λ (n : Message). d.now ≤ n.arrival)) at.rest mid.others).1;
+      until_then = omega (arith, mid.until_then);
+    }
+
+-- it may take the message
+pub may_take : (s : Config) (core : ℕ) (trace : List Entry) (steps : List CoreStep) (mail : List Message) (from until : ℕ) (inbox : List Message) (i : ℕ) (d : CoreView) (y : List Message) (m : Message)
+    → IsMidway s core trace steps mail from until inbox i d y → IsAt inbox i m → d.now ≡ m.arrival → Fit s core trace steps mail from until inbox
+    → IsDue s core trace (core_run s core trace steps (mail ++ inbox) (d.now - from)) (mail ++ take i inbox) m
+may_take s core trace steps mail from until inbox i d y m mid at now fit =
+    let split : inbox ≡ take i inbox ++ m ∷ drop (i + 1) inbox = sym (take-drop-all inbox i) ∙ ap (λ l. take i inbox ++ l) at.rest in
+    subst (λ k. IsDue s core trace (core_run s core trace steps (mail ++ inbox) (k - from)) (mail ++ take i inbox) m) (sym now) (fit.due (take i inbox) (drop (i + 1) inbox) m split)
+
+has_taken-first : (a : CoreView) (from until : ℕ) (inbox : List Message) → a.now ≡ from → from ≤ until → HasTaken a from until inbox 0 a []
+unfolding core_run
+has_taken-first a from until inbox at l s core trace steps mail h fit =
+    let z : a.now - from ≡ 0 = omega arith in
+    record {
+      since = omega arith;
+      stands = subst (λ k. StandsAt s core trace (core_run s core trace steps (mail ++ inbox) k) (mail ++ []) a) (sym z)
+          (subst (λ ms. StandsAt s core trace steps ms a) (sym (append-nil mail)) (stands-at s core trace steps mail a h));
+      messages = ap (λ k. core_messages s core trace (core_run s core trace steps (mail ++ inbox) k)) z ∙ sym (append-nil (core_messages s core trace steps));
+      others = Each-weaker (λ (m : Message). from ≤ m.arrival) (λ m. a.now ≤ m.arrival) (λ m k. omega arith) inbox fit.from_then;
+      until_then = omega arith;
+    }
+
+pub taking-first : (a : CoreView) (from until : ℕ) (inbox held : List Message) → a.now ≡ from → from ≤ until → IsTaking a from until inbox 0 a held held
+taking-first a from until inbox held at l = record { sent = []; behind = sym (append-nil held); taking = has_taken-first a from until inbox at l }
+
+pub taking-standing : (a : CoreView) (from until : ℕ) (inbox : List Message) (i : ℕ) (b : CoreView) (w x : List Message) → MayRun a from until inbox → IsTaking a from until inbox i b w x → IsStanding b
+taking-standing a from until inbox i b w x may h =
+    record {
+      s = may.s;
+      core = may.core;
+      trace = may.trace;
+      steps = core_run may.s may.core may.trace may.steps (may.mail ++ inbox) (b.now - from);
+      mail = may.mail ++ take i inbox;
+      stands = (h.taking may.s may.core may.trace may.steps may.mail may.stands may.fit).stands;
+    }
+
+pub taking-order : (a : CoreView) (from until : ℕ) (inbox : List Message) (i : ℕ) (b : CoreView) (w x : List Message) (m : Message) → MayRun a from until inbox → IsTaking a from until inbox i b w x → IsAt inbox i m → b.now ≤ m.arrival
+taking-order a from until inbox i b w x m may h at =
+    Each-at (λ (n : Message). b.now ≤ n.arrival) inbox i m (h.taking may.s may.core may.trace may.steps may.mail may.stands may.fit).others at
+
+pub taking-within : (a : CoreView) (from until : ℕ) (inbox : List Message) (i : ℕ) (m : Message) → MayRun a from until inbox → IsAt inbox i m → m.arrival < until
+taking-within a from until inbox i m may at = Each-at (λ (n : Message). n.arrival < until) inbox i m (Each-drop (λ (n : Message). n.arrival < until) inbox i may.fit.until_then) at
+
+pub taking-until : (a : CoreView) (from until : ℕ) (inbox : List Message) (i : ℕ) (b : CoreView) (w x : List Message) → MayRun a from until inbox → IsTaking a from until inbox i b w x → b.now ≤ until
+taking-until a from until inbox i b w x may h = (h.taking may.s may.core may.trace may.steps may.mail may.stands may.fit).until_then
+
+-- up to the cycle of the next message
+has_taken-on : (a : CoreView) (from until : ℕ) (inbox : List Message) (i : ℕ) (b d : CoreView) (x y : List Message) (m : Message) → a.now ≡ from → b.now ≤ m.arrival → IsAt inbox i m
+    → HasTaken a from until inbox i b x → Sends (m.arrival - b.now) b d y → HasTaken a from until inbox i d (x ++ y)
+has_taken-on a from until inbox i b d x y m start l at h adv s core trace steps mail st fit =
+    goes_on s core trace steps mail from until inbox i b d x y m.arrival (sym st.now ∙ start) (h s core trace steps mail st fit) l
+    (omega (arith, Each-at (λ (n : Message). n.arrival < until) inbox i m (Each-drop (λ (n : Message). n.arrival < until) inbox i fit.until_then) at))
+    (next_first inbox i m fit.in_order at) adv
+
+pub taking-on : (a : CoreView) (from until : ℕ) (inbox : List Message) (i : ℕ) (b d : CoreView) (w x y : List Message) (m : Message) → a.now ≡ from → b.now ≤ m.arrival → IsAt inbox i m
+    → IsTaking a from until inbox i b w x → Advances (m.arrival - b.now) b x d y → IsTaking a from until inbox i d w y
+taking-on a from until inbox i b d w x y m start l at h adv =
+    record {
+      sent = h.sent ++ adv.sent;
+      behind = adv.behind ∙ ap (λ l. l ++ adv.sent) h.behind ∙ append_assoc w h.sent adv.sent;
+      taking = has_taken-on a from until inbox i b d h.sent adv.sent m start l at h.taking adv.sends;
+    }
+
+pub taking-receives : (a : CoreView) (from until : ℕ) (inbox : List Message) (i : ℕ) (d : CoreView) (w y : List Message) (m : Message) → MayRun a from until inbox → IsTaking a from until inbox i d w y
+    → IsAt inbox i m → d.now ≡ m.arrival → IsReceiving d m
+taking-receives a from until inbox i d w y m may h at now =
+    let mid = h.taking may.s may.core may.trace may.steps may.mail may.stands may.fit in
+    record {
+      s = may.s;
+      core = may.core;
+      trace = may.trace;
+      steps = core_run may.s may.core may.trace may.steps (may.mail ++ inbox) (d.now - from);
+      mail = may.mail ++ take i inbox;
+      stands = mid.stands;
+      now = sym now ∙ mid.stands.now;
+      due = may_take may.s may.core may.trace may.steps may.mail from until inbox i d h.sent m mid at now may.fit;
+    }
+
+has_taken-more : (a : CoreView) (from until : ℕ) (inbox : List Message) (i : ℕ) (d e : CoreView) (y : List Message) (m : Message) → HasTaken a from until inbox i d y
+    → IsAt inbox i m → d.now ≡ m.arrival
+    → ((s : Config) (core : ℕ) (trace : List Entry) (steps : List CoreStep) (mail : List Message) → StandsAt s core trace steps mail d → m.arrival ≡ length steps → IsDue s core trace steps mail m
+    → StandsAt s core trace steps (mail ++ m ∷ []) e)
+    → HasTaken a from until inbox (i + 1) e y
+has_taken-more a from until inbox i d e y m h at now receives s core trace steps mail st fit =
+    let mid = h s core trace steps mail st fit in
+    takes s core trace steps mail from until inbox i d e y m mid at
+    (receives s core trace _ _ mid.stands (sym now ∙ mid.stands.now) (may_take s core trace steps mail from until inbox i d y m mid at now fit))
+
+pub taking-more : (a : CoreView) (from until : ℕ) (inbox : List Message) (i : ℕ) (d e : CoreView) (w y : List Message) (m : Message) → IsTaking a from until inbox i d w y
+    → IsAt inbox i m → d.now ≡ m.arrival
+    → ((s : Config) (core : ℕ) (trace : List Entry) (steps : List CoreStep) (mail : List Message) → StandsAt s core trace steps mail d → m.arrival ≡ length steps → IsDue s core trace steps mail m
+    → StandsAt s core trace steps (mail ++ m ∷ []) e)
+    → IsTaking a from until inbox (i + 1) e w y
+taking-more a from until inbox i d e w y m h at now receives =
+    record { sent = h.sent; behind = h.behind; taking = has_taken-more a from until inbox i d e h.sent m h.taking at now receives }
+
+Each-append : (P : Message → Type 0) (xs ys : List Message) → Each P xs → Each P ys → Each P (xs ++ ys)
+Each-append P [] ys h k = k
+Each-append P (x ∷ xs) ys h k = (h.0, Each-append P xs ys h.1 k)
 
 drop-all : (inbox : List Message) → drop (length inbox) inbox ≡ []
 drop-all [] = refl
@@ -411,7 +588,7 @@ has_taken-last a from until inbox b d x y start l h adv s core trace steps mail 
     let st2 : StandsAt s core trace rows' (mail ++ inbox) d = subst (λ ms. P until ms) all st1 in
     let long : length rows' ≡ until = sym st2.now ∙ now in (
       stands-for s core trace rows' (mail ++ inbox) d st2
-          (Each-both (λ (m : Message). m.arrival < length rows') mail inbox
+          (Each-append (λ (m : Message). m.arrival < length rows') mail inbox
           (Each-weaker (λ (m : Message). m.arrival < length steps) (λ m. m.arrival < length rows') (λ m k. omega (arith, before.since)) mail st.before)
           (Each-weaker (λ (m : Message). m.arrival < until) (λ m. m.arrival < length rows') (λ m k. omega arith) inbox fit.until_then)),
       ap (λ k. core_messages s core trace (core_run s core trace steps (mail ++ inbox) (k - from))) (sym now) ∙ mid.messages,

@@ -6,7 +6,8 @@
 --     read_of entry outstanding, without_read entry outstanding      the Read of a number among those that wait; the others
 --     IsTakenOut entry old taken new      the Read of a number is taken out of those that wait
 --     HasRoom access credits      one credit more of this kind can be counted
---     IsCreditedAt place access old new      one credit more is held for one channel, and for the others what was
+--     IsCreditedAt channel access old new      one credit more is held for one channel, and for the others what was
+--     IsSpentAt channel access old new      one credit less is held for it, and for the others what was
 use Rattle.std.specs.Prelude.{◌≡◌, ℕ, ◌+◌, ◌^◌, ◌<◌, ◌==◌, not, List, ◌++◌, find, filter, slice_get, Option, Some, if◌then◌else◌}
 use Rattle.sim_base.specs.declared.config.Config.{Config}
 use Rattle.sim_base.specs.declared.history.CoreStep.{CoreStep}
@@ -17,7 +18,7 @@ use Rattle.cpu_trace.specs.declared.entries.MemoryEntry.{MemoryEntry}
 use Rattle.statistics.specs.Cores.{core_joined, core_times}
 use Rattle.statistics.specs.declared.cores.CoreStats.{CoreStats}
 use Rattle.statistics.specs.declared.final_state.Credits.{Credits}
-use Rattle.core_window.specs.OneCycle.{cycle_counts, more_credit, credits_of_kind, reads_issued, requests_issued}
+use Rattle.core_window.specs.OneCycle.{cycle_counts, more_credit, credits_of_kind, reads_issued, requests_issued, less_credit}
 use Rattle.core_window.specs.Steady.{steady_counts}
 use Rattle.core_window.specs.declared.outstanding.OutstandingRead.{OutstandingRead}
 
@@ -61,10 +62,16 @@ counted_reply stats waited = record stats { replies = stats.replies + 1; read_la
 abbrev pub HasRoom : Access → Credits → Type 0
 HasRoom access credits = credits_of_kind access credits + 1 < 2 ^ 64
 
--- One credit more is held for the channel at a place, and for each other channel what was. It has to be counted only
--- where there is room.
+-- One credit more is held for a channel, and for each other one what was. It has to be counted only where there is
+-- room.
 abbrev pub IsCreditedAt : ℕ → Access → List Credits → List Credits → Type 0
-IsCreditedAt place access old new =
-    (channel : ℕ) (c : Credits) → slice_get old channel ≡ Some c
-    → (place ≡ channel → HasRoom access c)
-    → slice_get new channel ≡ Some (if place == channel then more_credit access c else c)
+IsCreditedAt channel access old new =
+    (other : ℕ) (c : Credits) → slice_get old other ≡ Some c
+    → (channel ≡ other → HasRoom access c)
+    → slice_get new other ≡ Some (if channel == other then more_credit access c else c)
+
+-- one credit less is held for a channel, and for each other one what was
+abbrev pub IsSpentAt : ℕ → Access → List Credits → List Credits → Type 0
+IsSpentAt channel access old new =
+    (other : ℕ) (c : Credits) → slice_get old other ≡ Some c
+    → slice_get new other ≡ Some (if channel == other then less_credit access c else c)

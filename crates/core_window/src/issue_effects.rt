@@ -1,6 +1,6 @@
 //! What an entry that issues changes.
 
-ghost use Rattle.std.specs.Prelude.{◌≡◌, ℕ, ◌^◌, ◌<◌, ◌==◌, length, slice_get, Some, IfOk, OnOk, if◌then◌else◌};
+ghost use Rattle.std.specs.Prelude.{◌≡◌, ℕ, ◌^◌, ◌<◌, length, slice_get, Some, IfOk, OnOk};
 ghost use Rattle.sim_base.specs.History.{request};
 ghost use Rattle.std.specs.Option.{IfSome};
 ghost use Rattle.sim_base.specs.Config.{latency, request_link};
@@ -8,8 +8,8 @@ ghost use Rattle.sim_base.specs.Places.{place_of};
 ghost use Rattle.sim_base.specs.declared.config.Config.{Config};
 ghost use Rattle.core_window.specs.Ahead.{IsPlaced};
 ghost use Rattle.core_window.specs.Latencies.{request_latencies, KnowsLatencies};
-ghost use Rattle.core_window.specs.Counting.{SendsFor};
-ghost use Rattle.core_window.specs.OneCycle.{credit_after, less_credit};
+ghost use Rattle.core_window.specs.Counting.{SendsFor, IsSpentAt};
+ghost use Rattle.core_window.specs.OneCycle.{credit_after};
 ghost use Rattle.core_window.specs.Waiting.{WaitsFor};
 ghost use Rattle.statistics.specs.declared.final_state.Credits.{Credits};
 
@@ -43,12 +43,11 @@ pub fn wait_for(
 }
 
 /// A credit of a channel is spent.
-fn spend_at(credits: &mut [Credits], place: u32, access: Access)
-    requires { place < length credits.old }
-    ensures { (channel : ℕ) (c : Credits) → slice_get credits.old channel ≡ Some c
-        → slice_get credits.new channel ≡ Some (if place == channel then less_credit access c else c) }
+fn spend_at(credits: &mut [Credits], channel: u32, access: Access)
+    requires { channel < length credits.old }
+    ensures { IsSpentAt channel access credits.old credits.new }
 {
-    take_credit(&mut credits[place as usize], access);
+    take_credit(&mut credits[channel as usize], access);
 }
 
 /// The entry that issues, which lies at this place, spends a credit.

@@ -37,11 +37,11 @@ pub fn take_credit(credits: &mut Credits, access: Access)
 }
 
 /// One credit more for a channel.
-pub fn add_credit_at(credits: &mut [Credits], place: usize, access: Access)
-    requires { place < length credits.old }
-    ensures { IsCreditedAt place access credits.old credits.new }
+pub fn add_credit_at(credits: &mut [Credits], channel: usize, access: Access)
+    requires { channel < length credits.old }
+    ensures { IsCreditedAt channel access credits.old credits.new }
 {
-    add_credit(&mut credits[place], access);
+    add_credit(&mut credits[channel], access);
 }
 
 /// Counts a reply, and how long it was waited for.

@@ -3,7 +3,7 @@
 ghost use Rattle.std.specs.Prelude.{◌≡◌, ◌<◌, [], IfOk};
 ghost use Rattle.crew.specs.Rule.{put_view};
 
-use crate::rule::{BoardName, Seat, TaskQueue};
+use crate::rule::{BoardName, BoardPass, TaskQueue};
 use crate::seats::{Board, PutSeat};
 use std::alloc::{AllocError, Global};
 use std::marker::{Model, PhantomData};
@@ -12,7 +12,7 @@ use std::marker::{Model, PhantomData};
 #[derive(Drop)]
 pub struct Blank<T: Drop> {
     queue: TaskQueue<T>,
-    pass: Seat<T>,
+    pass: BoardPass<T>,
 }
 
 impl<T: Drop> Model for Blank<T> {

@@ -24,7 +24,7 @@ pub struct BoardRule;
 pub type TaskQueue<T> = RuledArrayQueue<T, View<T>, BoardRule>;
 
 /// What a seat has of the queue.
-pub type Seat<T> = Pass<T, View<T>>;
+pub type BoardPass<T> = Pass<T, View<T>>;
 
 impl<T> Protocol<T, View<T>> for BoardRule {
     ghost use Rattle.crew.specs.Rule.{Kept, view_of};

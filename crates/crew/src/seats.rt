@@ -4,7 +4,7 @@ ghost use Rattle.std.specs.Prelude.{◌≡◌, ◌+◌, ◌≤◌, [], ◌∷◌
 ghost use Rattle.crew.specs.Rule.{put_view, with_put};
 
 use crate::rule::{
-    Absorb, BoardName, Clear, EmptyPass, Puts, Seat, Settles, SplitTaken, Takes, TaskQueue,
+    Absorb, BoardName, BoardPass, Clear, EmptyPass, Puts, Settles, SplitTaken, Takes, TaskQueue,
 };
 use std::marker::{Model, PhantomData};
 use std::sync::Wait;
@@ -12,7 +12,7 @@ use std::sync::Wait;
 /// The seat that puts. To a contract it is what it has put since the board was cleared last, and what was returned.
 #[derive(Drop)]
 pub struct PutSeat<T, B: BoardName> {
-    pub(crate) pass: Seat<T>,
+    pub(crate) pass: BoardPass<T>,
     pub(crate) name: PhantomData<B>,
 }
 
@@ -30,7 +30,7 @@ impl<T, B: BoardName> Model for PutSeat<T, B> {
 /// A seat that takes. To a contract it is what it has taken.
 #[derive(Drop)]
 pub struct TakeSeat<T, B: BoardName> {
-    pub(crate) pass: Seat<T>,
+    pub(crate) pass: BoardPass<T>,
     pub(crate) name: PhantomData<B>,
 }
 

@@ -1,6 +1,6 @@
 -- What is said of the numbers of a command line.
 --     numbers_text fault cores numbers      the line of a fault, if it is one of these numbers
-use Rattle.std.specs.Prelude.{ℕ, List, [], codes, Option}
+use Rattle.std.specs.Prelude.{ℕ, List, [], ◌++◌, codes, decimal, Option}
 use Rattle.explain.specs.Counts.{count_text}
 use Rattle.explain.specs.declared.numbers.RunNumbers.{RunNumbers}
 use Rattle.sim_base.specs.declared.fault.Fault.{Fault}

@@ -17,7 +17,7 @@ puts-head : (x : Message) (acc ys : List Message) → Each (λ (y : Message). is
 puts-head x acc [] h = refl
 puts-head x acc (y ∷ ys) h = ap (λ z. puts z ys) (cond-false _ _ _ h.0) ∙ puts-head x (put y acc) ys h.1
 
-after_both : (a b y : Message) → is_before b a ≡ false → is_before y b ≡ false → is_before y a ≡ false
+pub after_both : (a b y : Message) → is_before b a ≡ false → is_before y b ≡ false → is_before y a ≡ false
 after_both a b y h k = grind (arith, nat_tests)
 
 -- the first message of the second list goes first, where it is older

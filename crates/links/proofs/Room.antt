@@ -4,7 +4,7 @@ use Rattle.std.specs.Prelude.{fold}
 use Rattle.std.proofs.Math.ListN.{get_or-map}
 use Rattle.std.proofs.Math.Seq.{map-set_same}
 use Rattle.std.proofs.lemmas.Bool.{cases_lt, cond_both}
-use Rattle.std.proofs.lemmas.List.{take_more, map-set, length-map, get_or-set_same, get_or-set_other, length-set}
+use Rattle.std.proofs.lemmas.List.{take_more, map-set, length-map, get_or-set_same, get_or-set_other, length-set, length_push}
 use Rattle.std.proofs.lemmas.List.Sums.{fold_more}
 use Rattle.circular_buffer.specs.Buffer.{Buffer, buffer}
 use Rattle.sim_base.specs.History.{is_before, insert_by_age, by_age}
@@ -38,13 +38,9 @@ get_or-push i b d [] l = absurd (omega arith)
 get_or-push zero b d (r ∷ rings) l = refl
 get_or-push (suc i) b d (r ∷ rings) l = get_or-push i b d rings (omega arith)
 
-length-push : (b : Buffer Message) (rings : List (Buffer Message)) → length (rings ++ b ∷ []) ≡ length rings + 1
-length-push b [] = refl
-length-push b (r ∷ rings) = omega (arith, length-push b rings)
-
 HasRoom-push : (n i more : ℕ) (rings : List (Buffer Message)) → HasRoom rings i more → HasRoom (rings ++ buffer [] n ∷ []) i more
 HasRoom-push n i more rings h = record {
-  exists = omega (arith, h.exists, length-push (buffer [] n) rings);
+  exists = omega (arith, h.exists, length_push rings (buffer [] n));
   room = rw (get_or-push i (buffer [] n) no_ring rings h.exists) h.room;
 }
 

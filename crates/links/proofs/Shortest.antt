@@ -10,7 +10,7 @@ use Rattle.sim_base.specs.declared.overrides.Override.{Override}
 use Rattle.sim_base.specs.Config.{latency}
 use Rattle.sim_base.proofs.Added.{link_below}
 use Rattle.sim_base.proofs.Each.{IfSome-find}
-use Rattle.links.specs.Latencies.{has_usual, least_own_of, least_of_kind}
+use Rattle.links.specs.Latencies.{has_usual, least_own_of, least_of_kind, SomeLinkTakes}
 use Rattle.links.proofs.Overrides.{is_of, is_kind, kind_latency, least_from-each, find_none, latency_free, latency_own, latency_in_range, found_least, usual_link, usual_counts}
 
 -- an override of a link is looked for among those of the link's kind
@@ -151,22 +151,18 @@ least_of-meets s link l =
     let b : least_of_kind s (link % 3) (kind_latency s (link % 3)) ≤ latency s link = meets-at s link l in
     omega arith
 
--- some link has this latency
-abbrev pub Taken : Config → ℕ → Type 0
-Taken s n = (link : ℕ) × (link < 3 * s.cores * s.channels) × (latency s link ≡ n)
-
-min-taken : (s : Config) (a b : ℕ) → Taken s a → Taken s b → Taken s (min a b)
+min-taken : (s : Config) (a b : ℕ) → SomeLinkTakes s a → SomeLinkTakes s b → SomeLinkTakes s (min a b)
 min-taken s a b h k = by (cases_lt a b)
   where
-    by : (a < b) ⊎ (b ≤ a) → Taken s (min a b)
-    by (inl l) = let e : a ≡ min a b = omega arith in subst (Taken s) e h
-    by (inr l) = let e : b ≡ min a b = omega arith in subst (Taken s) e k
+    by : (a < b) ⊎ (b ≤ a) → SomeLinkTakes s (min a b)
+    by (inl l) = let e : a ≡ min a b = omega arith in subst (SomeLinkTakes s) e h
+    by (inr l) = let e : b ≡ min a b = omega arith in subst (SomeLinkTakes s) e k
 
-kind-taken : (s : Config) (kind : ℕ) → kind < 3 → Taken s (least_of_kind s kind (kind_latency s kind))
+kind-taken : (s : Config) (kind : ℕ) → kind < 3 → SomeLinkTakes s (least_of_kind s kind (kind_latency s kind))
 kind-taken s kind k = let w = least-attained s kind k in (w.0, w.1.0, w.2)
 
 -- some link has the least latency
-pub least_of-attained : (s : Config) → Taken s (least_of s)
+pub least_of-attained : (s : Config) → SomeLinkTakes s (least_of s)
 least_of-attained s = min-taken s _ _ (min-taken s _ _ (kind-taken s 0 (omega arith)) (kind-taken s 1 (omega arith))) (kind-taken s 2 (omega arith))
 
 pub least_of-positive : (s : Config) → 1 ≤ least_of s

@@ -4,8 +4,7 @@ use Rattle.std.specs.Prelude.{filter, insert, slice_get}
 use Rattle.std.specs.Option.{option_map_or}
 use Rattle.std.specs.List.{take_while, AllByRecursion as Each}
 use Rattle.std.proofs.lemmas.Bool.{cond-true, cond-false, le-ltb, ltb-false}
-use Rattle.std.proofs.lemmas.List.{get_or_default, get_or-set_other, set-set}
-use Rattle.std.proofs.lemmas.Bool.Decides.{nat_tests}
+use Rattle.std.proofs.lemmas.List.{get_or_default, get_or-set_other, set-set, length_push}
 use Rattle.std.proofs.lemmas.List.Sums.{take_while-cons}
 use Rattle.std.specs.Result.{IsOk, OnOk}
 use Rattle.sim_base.specs.History.{is_before, insert_by_age, by_age}
@@ -13,17 +12,15 @@ use Rattle.sim_base.specs.declared.message.Message.{Message}
 use Rattle.sim_base.proofs.Arrived.{put, fold-puts, not_before_le}
 use Rattle.sim_base.proofs.Ordered.{Each-weaker, Sorted}
 use Rattle.links.specs.InFlight.{arrives_before}
-use Rattle.links.specs.Rings.{arrives_later, is_younger_last, IsSunk}
+use Rattle.links.specs.Rings.{arrives_later, is_younger_last, IsInserted}
 use Rattle.links.proofs.Ages.{in_order-Sorted}
+use Rattle.links.proofs.Merging.{after_both}
 
 -- ---- putting a message in, from the back
 pub Each-at : {X : Type 0} (P : X → Type 0) (xs : List X) (k : ℕ) (d : X) → Each P xs → k < length xs → P (get_or xs k d)
 Each-at P [] k d h l = absurd (omega arith)
 Each-at P (x ∷ xs) zero d h l = h.0
 Each-at P (x ∷ xs) (suc k) d h l = Each-at P xs k d h.1 (omega arith)
-
-not_before_first : (m y x : Message) → is_before y x ≡ false → is_before m y ≡ false → is_before m x ≡ false
-not_before_first m y x h k = grind (arith, nat_tests)
 
 -- the messages from a place on are younger than a message
 abbrev pub AreYounger : Message → ℕ → List Message → Type 0
@@ -40,10 +37,6 @@ insert_last m (x ∷ xs) = ap (λ z. x ∷ z) (insert_last m xs)
 pub last_free : (m : Message) (xs : List Message) → set (xs ++ m ∷ []) (length xs) m ≡ insert xs (length xs) m
 last_free m [] = refl
 last_free m (x ∷ xs) = ap (λ z. x ∷ z) (last_free m xs)
-
-pub length_more : (m : Message) (xs : List Message) → length (xs ++ m ∷ []) ≡ length xs + 1
-length_more m [] = refl
-length_more m (x ∷ xs) = omega (arith, length_more m xs)
 
 insert_before : (m d : Message) (q : ℕ) (xs : List Message) → q < length xs → get_or (insert xs (suc q) m) q d ≡ get_or xs q d
 insert_before m d q [] l = absurd (omega arith)
@@ -70,8 +63,8 @@ before_free m y p q xs ys e l h =
     ∙ insert_before m y q xs (omega arith)
 
 -- a younger message moves back into the place that is free, and its own is free
-pub sunk : (m y : Message) (p q : ℕ) (xs ys : List Message) → p ≡ q + 1 → p ≤ length xs → set ys p m ≡ insert xs p m → get_or ys q y ≡ y → set (set ys p y) q m ≡ insert xs q m
-sunk m y p q xs ys e l h g =
+pub inserted : (m y : Message) (p q : ℕ) (xs ys : List Message) → p ≡ q + 1 → p ≤ length xs → set ys p m ≡ insert xs p m → get_or ys q y ≡ y → set (set ys p y) q m ≡ insert xs q m
+inserted m y p q xs ys e l h g =
     let s : p ≡ suc q = omega arith in
     let at : get_or xs q y ≡ y = sym (before_free m y p q xs ys e l h) ∙ g in
     ap (λ z. set z q m) (sym (set-set ys p m y))
@@ -80,9 +73,9 @@ sunk m y p q xs ys e l h g =
     ∙ ap (λ z. set (set (insert xs (suc q) m) (suc q) z) q m) (sym at)
     ∙ insert_moves m y q xs (omega arith)
 
-pub sunk_younger : (m y : Message) (p q : ℕ) (xs ys : List Message) → p ≡ q + 1 → p ≤ length xs → set ys p m ≡ insert xs p m → get_or ys q y ≡ y → is_before m y ≡ true
+pub inserted_younger : (m y : Message) (p q : ℕ) (xs ys : List Message) → p ≡ q + 1 → p ≤ length xs → set ys p m ≡ insert xs p m → get_or ys q y ≡ y → is_before m y ≡ true
     → AreYounger m p xs → AreYounger m q xs
-sunk_younger m y p q xs ys e l h g b k =
+inserted_younger m y p q xs ys e l h g b k =
     let s : p ≡ suc q = omega arith in
     let at : get_or xs q y ≡ y = sym (before_free m y p q xs ys e l h) ∙ g in
     younger_more m y q xs (omega arith) (subst (λ i. AreYounger m i xs) s k) (ap (is_before m) at ∙ b)
@@ -97,14 +90,14 @@ got m y zero (x ∷ xs) h = (omega arith, cc)
 got m y (suc k) (x ∷ xs) h = let rest = got m y k xs h in (omega (arith, rest.0), rest.1)
 
 -- the last message, where it is younger, stands once more behind itself, and its place is free
-pub sunk_last : (m y : Message) (xs : List Message) → slice_get xs (length xs - 1) ≡ Some y → is_before m y ≡ true
+pub inserted_last : (m y : Message) (xs : List Message) → slice_get xs (length xs - 1) ≡ Some y → is_before m y ≡ true
     → (set (xs ++ y ∷ []) (length xs - 1) m ≡ insert xs (length xs - 1) m) × AreYounger m (length xs - 1) xs
-sunk_last m y xs h b =
+inserted_last m y xs h b =
     let at = got m y (length xs - 1) xs h in
     let e : length xs ≡ length xs - 1 + 1 = omega (arith, at.0) in
     let all : length xs ≤ length xs = omega arith in (
-      ap (λ z. set z (length xs - 1) m) (sym (set_last m y xs)) ∙ sunk m y (length xs) (length xs - 1) xs (xs ++ m ∷ []) e all (last_free m xs) at.1,
-      sunk_younger m y (length xs) (length xs - 1) xs (xs ++ m ∷ []) e all (last_free m xs) at.1 b (younger_none m xs),
+      ap (λ z. set z (length xs - 1) m) (sym (set_last m y xs)) ∙ inserted m y (length xs) (length xs - 1) xs (xs ++ m ∷ []) e all (last_free m xs) at.1,
+      inserted_younger m y (length xs) (length xs - 1) xs (xs ++ m ∷ []) e all (last_free m xs) at.1 b (younger_none m xs),
     )
 
 put_younger : (m : Message) (xs : List Message) → AreYounger m 0 xs → put m xs ≡ m ∷ xs
@@ -121,7 +114,7 @@ insert-put_at m (suc i) (x ∷ xs) s l h k =
   where
     first : (j : ℕ) → j ≡ i → is_before m x ≡ false
     first zero e = k 0 (ap suc e)
-    first (suc j) e = not_before_first m (get_or xs j m) x (Each-at _ xs j m s.0 (omega arith)) (k (suc j) (ap suc e))
+    first (suc j) e = after_both x (get_or xs j m) m (Each-at _ xs j m s.0 (omega arith)) (k (suc j) (ap suc e))
 
 -- where no younger one stands before it, the message is in its place
 pub placed : (m : Message) (p : ℕ) (xs ys : List Message) → by_age xs ≡ xs → ys ≡ insert xs p m → p ≤ length xs → AreYounger m p xs
@@ -140,54 +133,54 @@ placed_free m p xs ys s e l h k =
     placed m p xs (set ys p m) s e l h
     (λ q f. ap (is_before m) (get_or-set_other ys p q m m (λ g. absurd (omega (arith, f, g)))) ∙ k q f)
 
--- a message sinks from the back: at its place it would stand by age, but for those before it
+-- a message inserts from the back: at its place it would stand by age, but for those before it
 pub record Sinks (m : Message) (p : ℕ) (old ys : List Message) : Type 0 where
   pub within : p + 1 < length old
   pub length_is : length ys ≡ length old
   pub moved : (ms : List Message) (y : Message) → old ≡ ms ++ y ∷ [] → slice_get ms (length ms - 1) ≡ Some y → is_before m y ≡ true
       → (set ys p m ≡ insert ms p m) × AreYounger m p ms
 
-pub sinks_first : (m : Message) (p : ℕ) (old : List Message) → 2 ≤ length old → p ≡ length old - 2 → Sinks m p old old
-sinks_first m p old some e = record {
+pub inserts_first : (m : Message) (p : ℕ) (old : List Message) → 2 ≤ length old → p ≡ length old - 2 → Sinks m p old old
+inserts_first m p old some e = record {
   within = omega (arith, some, e);
   length_is = refl;
   moved = λ ms y h g b.
-      let at : p ≡ length ms - 1 = omega (arith, e, ap length h, length_more y ms) in
-      let last = sunk_last m y ms g b in (
+      let at : p ≡ length ms - 1 = omega (arith, e, ap length h, length_push ms y) in
+      let last = inserted_last m y ms g b in (
         ap (λ z. set z p m) h ∙ ap (λ i. set (ms ++ y ∷ []) i m) at ∙ last.0 ∙ ap (λ i. insert ms i m) (sym at),
         subst (λ i. AreYounger m i ms) (sym at) last.1,
       );
 }
 
-pub sinks_more : (m x : Message) (p q : ℕ) (old ys : List Message) → p ≡ q + 1 → get_or ys q x ≡ x → is_before m x ≡ true → Sinks m p old ys → Sinks m q old (set ys p x)
-sinks_more m x p q old ys e g b h = record {
+pub inserts_more : (m x : Message) (p q : ℕ) (old ys : List Message) → p ≡ q + 1 → get_or ys q x ≡ x → is_before m x ≡ true → Sinks m p old ys → Sinks m q old (set ys p x)
+inserts_more m x p q old ys e g b h = record {
   within = omega (arith, e, h.within);
   length_is = length-set ys p x ∙ h.length_is;
   moved = λ ms y f last young.
-      let l : p ≤ length ms = omega (arith, h.within, ap length f, length_more y ms) in
+      let l : p ≤ length ms = omega (arith, h.within, ap length f, length_push ms y) in
       let at = h.moved ms y f last young in
-      (sunk m x p q ms ys e l at.0 g, sunk_younger m x p q ms ys e l at.0 g b at.1);
+      (inserted m x p q ms ys e l at.0 g, inserted_younger m x p q ms ys e l at.0 g b at.1);
 }
 
-pub sinks_step : (m d : Message) (p : ℕ) (old ys : List Message) → 0 < p → is_before m (get_or ys (p - 1) m) ≡ true → Sinks m p old ys → Sinks m (p - 1) old (set ys p (get_or ys (p - 1) d))
-sinks_step m d p old ys some b h =
+pub inserts_step : (m d : Message) (p : ℕ) (old ys : List Message) → 0 < p → is_before m (get_or ys (p - 1) m) ≡ true → Sinks m p old ys → Sinks m (p - 1) old (set ys p (get_or ys (p - 1) d))
+inserts_step m d p old ys some b h =
     let l : p - 1 < length ys = omega (arith, h.within, h.length_is) in
-    sinks_more m (get_or ys (p - 1) d) p (p - 1) old ys (omega (arith, some)) (get_or_default ys (p - 1) (get_or ys (p - 1) d) d l)
+    inserts_more m (get_or ys (p - 1) d) p (p - 1) old ys (omega (arith, some)) (get_or_default ys (p - 1) (get_or ys (p - 1) d) d l)
     (ap (is_before m) (get_or_default ys (p - 1) d m l) ∙ b) h
 
-pub sinks_last : (m : Message) (p : ℕ) (old ys : List Message) → Sinks m p old ys → ((q : ℕ) → p ≡ q + 1 → is_before m (get_or ys q m) ≡ false) → IsSunk m old (set ys p m)
-sinks_last m p old ys h none ms y s f last young =
-    let l : p ≤ length ms = omega (arith, h.within, ap length f, length_more y ms) in
+pub inserts_last : (m : Message) (p : ℕ) (old ys : List Message) → Sinks m p old ys → ((q : ℕ) → p ≡ q + 1 → is_before m (get_or ys q m) ≡ false) → IsInserted m old (set ys p m)
+inserts_last m p old ys h none ms y s f last young =
+    let l : p ≤ length ms = omega (arith, h.within, ap length f, length_push ms y) in
     let at = h.moved ms y f last young in
     placed_free m p ms ys s at.0 l at.1 none
 
 -- what a message is put among, once the last of it, which is younger, stands twice
-pub sunk_among : (m y : Message) (old pushed new : List Message) → by_age old ≡ old → slice_get old (length old - 1) ≡ Some y → is_younger_last m old ≡ true
-    → pushed ≡ old ++ y ∷ [] → IsSunk m pushed new → new ≡ insert_by_age old m
-sunk_among m y old pushed new s at young e h = h old y s e at (subst (λ o. option_map_or (is_before m) o false ≡ true) at young)
+pub inserted_among : (m y : Message) (old pushed new : List Message) → by_age old ≡ old → slice_get old (length old - 1) ≡ Some y → is_younger_last m old ≡ true
+    → pushed ≡ old ++ y ∷ [] → IsInserted m pushed new → new ≡ insert_by_age old m
+inserted_among m y old pushed new s at young e h = h old y s e at (subst (λ o. option_map_or (is_before m) o false ≡ true) at young)
 
 pub stands_twice : (y : Message) (old pushed : List Message) → slice_get old (length old - 1) ≡ Some y → pushed ≡ old ++ y ∷ [] → 2 ≤ length pushed
-stands_twice y old pushed at e = omega (arith, (got y y (length old - 1) old at).0, ap length e, length_more y old)
+stands_twice y old pushed at e = omega (arith, (got y y (length old - 1) old at).0, ap length e, length_push old y)
 
 pub where_ok : (P : Type 0) (r : Result (Unit {0}) Message) → IsOk r → OnOk r P → P
 where_ok P (Ok x) e h = h

@@ -36,7 +36,7 @@
 --     IsYoungerBefore ms place m y      the message before a place, and it is younger than another
 --     HasYoungerBefore ms place m      some message stands before the place, and it is younger than another
 --     NoneYoungerBefore ms place m      no younger one stands before the place
---     IsSunk m old new      a message is put among others by age, of which the last was younger and stood twice
+--     IsInserted m old new      a message is put among others by age, of which the last was younger and stood twice
 --     is_younger_last m ms      the last of some messages is younger than another
 --     HasArrived ms place until m      the message at a place, and it arrives before a cycle
 --     HasNotArrived ms place until      no message at the place does
@@ -243,8 +243,8 @@ abbrev pub NoneYoungerBefore : List Message → ℕ → Message → Type 0
 NoneYoungerBefore ms place m = 0 < place → place ≤ length ms → is_before m (slice_index_or ms (place - 1) m) ≡ false
 
 -- others stood by age, of which the last was younger than this message and stood twice; now the message is among them
-abbrev pub IsSunk : Message → List Message → List Message → Type 0
-IsSunk m old new = (ms : List Message) (y : Message) → IsByAge ms → old ≡ ms ++ y ∷ [] → slice_get ms (length ms - 1) ≡ Some y → is_before m y ≡ true
+abbrev pub IsInserted : Message → List Message → List Message → Type 0
+IsInserted m old new = (ms : List Message) (y : Message) → IsByAge ms → old ≡ ms ++ y ∷ [] → slice_get ms (length ms - 1) ≡ Some y → is_before m y ≡ true
     → new ≡ insert_by_age ms m
 
 -- the last of some messages is younger than this one

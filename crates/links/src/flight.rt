@@ -315,7 +315,7 @@ fn sort_by_arrival(alloc: Global, messages: &mut [Message]) -> Result<(), AllocE
     messages.sort_by_key(alloc, |message| message.arrival)
 }
 
-/// Does so where they are many.
+/// Sorts messages by arrival where they are many.
 #[inline(always)]
 fn sort_if_many(alloc: Global, messages: &mut [Message]) -> Result<(), AllocError>
     ensures same { IsPermutation messages.old messages.new }

@@ -5,7 +5,7 @@ ghost use Rattle.std.specs.List.{prefix_len};
 ghost use Rattle.std.specs.Option.{option_map_or};
 ghost use Rattle.sim_base.specs.History.{insert_by_age};
 ghost use Rattle.links.specs.InFlight.{arrives_before, first_arrival};
-ghost use Rattle.links.specs.Rings.{IsByAge, due_of, later_of, head_of, head_from, behind_head, merged_heads, HasSpace, IsYoungerBefore, HasYoungerBefore, NoneYoungerBefore, IsSunk, is_younger_last, HasArrived, HasNotArrived};
+ghost use Rattle.links.specs.Rings.{IsByAge, due_of, later_of, head_of, head_from, behind_head, merged_heads, HasSpace, IsYoungerBefore, HasYoungerBefore, NoneYoungerBefore, IsInserted, is_younger_last, HasArrived, HasNotArrived};
 
 use circular_buffer::HeapCircularBuffer;
 use sim_base::message::{Cycle, Message};
@@ -37,8 +37,8 @@ fn put_into(ring: &mut Ring, place: usize, message: &Message)
     ensures items { ring.new.items ≡ slice_set ring.old.items place message.now }
     ensures capacity { ring.new.capacity ≡ ring.old.capacity }
 {
-    if let Some(slot) = ring.get_mut(place) {
-        *slot = *message;
+    if let Some(held) = ring.get_mut(place) {
+        *held = *message;
     }
 }
 
@@ -67,26 +67,26 @@ fn is_younger_before(messages: &[Message], place: usize, message: &Message) -> b
 
 /// Puts a message among others by age, of which the last is younger and stands twice. Its place is searched for from
 /// the back: each younger one moves back by one place.
-fn sink(messages: &mut [Message], message: &Message)
+fn insert_from_back(messages: &mut [Message], message: &Message)
     requires { 2 ≤ length messages.old }
-    ensures sunk { IsSunk message.now messages.old messages.new }
+    ensures inserted { IsInserted message.now messages.old messages.new }
     ensures length { length messages.new ≡ length messages.old }
 {
     let mut place = messages.len() - 2;
-    'sinking: while is_younger_before(messages, place, message) {
+    'searching: while is_younger_before(messages, place, message) {
         messages[place] = messages[place - 1];
         place -= 1;
     }
     messages[place] = *message;
 }
 
-/// Puts a message among others by age in a ring, as `sink` does in a slice, also where the ring goes on at the beginning
-/// of its block.
+/// Puts a message among others by age in a ring, as `insert_from_back` does in a slice, also where the ring goes on at
+/// the beginning of its block.
 #[cold]
 #[inline(never)]
-fn sink_wrapped(ring: &mut Ring, message: &Message)
+fn insert_wrapped(ring: &mut Ring, message: &Message)
     requires { 2 ≤ length ring.old.items }
-    ensures items { IsSunk message.now ring.old.items ring.new.items }
+    ensures items { IsInserted message.now ring.old.items ring.new.items }
     ensures capacity { ring.new.capacity ≡ ring.old.capacity }
 {
     let mut place = ring.len() - 2;
@@ -120,9 +120,9 @@ fn put_among(ring: &mut Ring, message: &Message)
     // there is room, so it is not refused
     let _room = ring.try_push_back(last);
     if lie_side_by_side(ring) {
-        sink(ring.make_contiguous(), message);
+        insert_from_back(ring.make_contiguous(), message);
     } else {
-        sink_wrapped(ring, message);
+        insert_wrapped(ring, message);
     }
 }
 

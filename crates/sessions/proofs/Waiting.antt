@@ -20,6 +20,7 @@ use Rattle.sim_base.specs.declared.command.Command.{Command}
 use Rattle.sim_base.specs.declared.command.IssuedCommand.{IssuedCommand}
 use Rattle.sim_base.specs.declared.message.Message.{Message}
 use Rattle.sim_base.specs.declared.message.Request.{Request}
+use Rattle.sim_base.proofs.Lists.{length-filter-le}
 use Rattle.statistics.proofs.ChannelCounts.{issued_now}
 use Rattle.channel_step.specs.Past.{requests_of}
 use Rattle.channel_step.proofs.Requests.{requests-append, ArrivedBefore}
@@ -45,14 +46,6 @@ filter-fewer p q (r ∷ rs) h = by (p r) (q r) h.0 (filter-fewer p q rs h.1)
     by true false k l = absurd (let e = k refl in cc)
     by false true k l = omega arith
     by false false k l = l
-
-filter-most : (p : Request → Bool) (rs : List Request) → length (filter p rs) ≤ length rs
-filter-most p [] = omega arith
-filter-most p (r ∷ rs) = by (p r) (filter-most p rs)
-  where
-    by : (a : Bool) → length (filter p rs) ≤ length rs → length (cond a (r ∷ filter p rs) (filter p rs)) ≤ length (r ∷ rs)
-    by true l = omega arith
-    by false l = omega arith
 
 -- what waits after a longer history waited before
 waited : (history more : List IssuedCommand) (until later : ℕ) (r : Request) → r.arrival < until → is_queued (history ++ more) later r ≡ true → is_queued history until r ≡ true
@@ -82,7 +75,7 @@ waits-left s channel steps mail inbox n later h =
     let old : length (filter p (requests_of mail)) ≤ length (filter (is_queued history (length steps)) (requests_of mail)) =
     filter-fewer p (is_queued history (length steps)) (requests_of mail)
     (Each-weaker (ArrivedBefore (length steps)) (λ (r : Request). p r ≡ true → is_queued history (length steps) r ≡ true) (λ r l. waited history more.0 (length steps) later r l) (requests_of mail) h) in
-    let new : length (filter p (requests_of inbox)) ≤ length inbox = let a = filter-most p (requests_of inbox) in let b = requests-few inbox in omega arith in
+    let new : length (filter p (requests_of inbox)) ≤ length inbox = let a = length-filter-le p (requests_of inbox) in let b = requests-few inbox in omega arith in
     let sum : length (filter (is_queued (issued_commands channel (channel_run s channel steps all n)) later) (requests_of all)) ≡ length (filter p (requests_of mail)) + length (filter p (requests_of inbox)) =
     ap length parts ∙ length-append (filter p (requests_of mail)) (filter p (requests_of inbox)) in
     omega arith

@@ -14,6 +14,7 @@ use Rattle.shards.specs.Phases.{PhaseView, shard_count, name_of, job_of, jobs_of
 use Rattle.shards.specs.declared.job.JobName.{JobName}
 use Rattle.sim_base.specs.declared.fault.MergeFault.TheVariants.{Missing}
 use Rattle.sim_base.proofs.Lists.{find-none, length-map_below}
+use Rattle.std.proofs.lemmas.Bool.{false≢true}
 use Rattle.shards.proofs.Placing.{same_name-self, same_name-is, name-place, place-among, fault-none, first-none_yet, first-end}
 
 -- 1 for a name that is this one
@@ -23,9 +24,6 @@ one name n = cond (same_name n name) 1 0
 -- how often a name stands in a list
 abbrev times : JobName → List JobName → ℕ
 times name names = sum_by (one name) names
-
-differ : false ≡ true → ⊥
-differ e = cc
 
 nowhere : (name : JobName) (f : ℕ → JobName) (a n : ℕ) → ((i : ℕ) → a ≤ i → same_name (f i) name ≡ false) → times name (map f (range_with_len a n)) ≡ 0
 nowhere name f a zero h = refl
@@ -59,7 +57,7 @@ once name f apart a (suc n) = by (same_name (f a) name) refl (once name f apart 
 
 -- a name that is among others stands there
 stands : (name : JobName) (names : List JobName) → is_among names name ≡ true → 1 ≤ times name names
-stands name [] e = absurd (differ e)
+stands name [] e = absurd (false≢true e)
 stands name (n ∷ names) e = by (same_name n name) refl (stands name names)
   where
     by : (b : Bool) → same_name n name ≡ b → (is_among names name ≡ true → 1 ≤ times name names) → 1 ≤ times name (n ∷ names)

@@ -9,7 +9,7 @@ use crate::job::{Job, JobName};
 use crate::merging::{Outline, Phase, PhaseSpan, no_results};
 use crate::shard::Shard;
 use crate::sharded::ShardedSim;
-use crate::split::{Standing, joined};
+use crate::split::{Standing, rejoined};
 use sim_base::message::{Cycle, Message};
 use std::alloc::{AllocError, Global};
 use std::mem;
@@ -100,7 +100,7 @@ pub fn plan(sim: ShardedSim, alloc: Global, limit: Cycle) -> Result<Planned, All
             at: limit,
         };
         let shards = settled(alloc, &standing, shards, inbound)?;
-        return Ok(Planned::AtLimit(joined(alloc, standing, shards, number)?));
+        return Ok(Planned::AtLimit(rejoined(alloc, standing, shards, number)?));
     }
     let span = PhaseSpan {
         number,

@@ -286,7 +286,7 @@ fn join_all(
 }
 
 /// The simulator that shards were split from, at the cycle where they stand.
-pub(crate) fn joined(
+pub(crate) fn rejoined(
     alloc: Global,
     standing: Standing,
     shards: Vec<Box<Shard>>,

@@ -142,7 +142,7 @@ struct LapLengths {
 }
 
 impl LapLengths {
-    /// Those of the first lap of a run.
+    /// The lengths of the first lap of a run.
     fn first(sharing: Sharing) -> LapLengths {
         let first = sharing.first_lap.max(1);
         LapLengths {
@@ -158,7 +158,7 @@ impl LapLengths {
         }
     }
 
-    /// Those of the lap behind one that was run so. Where less is in flight for a while, as in a refresh, the caller
+    /// The lengths of the lap behind one that was run so. Where less is in flight for a while, as in a refresh, the caller
     /// soon looks again whether the workers are to go on.
     fn after(self, by: LapBy, sharing: Sharing) -> LapLengths {
         match by {

@@ -13,7 +13,7 @@ use Rattle.sim_base.specs.declared.trace.Entry.{Entry}
 use Rattle.sim_base.specs.History.{below, commands}
 use Rattle.sim_base.specs.Machine.{run}
 use Rattle.sim_base.proofs.Ordered.{Each-weaker}
-use Rattle.sim_base.proofs.Lists.{filter-both, filter-each}
+use Rattle.sim_base.proofs.Lists.{filter-both, filter-each, filter-none}
 use Rattle.statistics.proofs.Lists.{map_below_more}
 use Rattle.command_table.specs.Tables.{IsRising, rows_in, HaveSameCycles, table_of}
 use Rattle.command_table.proofs.Rising.{rising-pairs, by_cycle-is}
@@ -46,10 +46,6 @@ record Falls (p q r : IssuedCommand → Bool) : Type 0 where
   first : (x : IssuedCommand) → p x ≡ true → (q x ≡ false) × (r x ≡ true)
   second : (x : IssuedCommand) → p x ≡ false → q x ≡ r x
   apart : (x y : IssuedCommand) → q x ≡ true → stands_before x y ≡ true → p y ≡ false
-
-filter-none : (p : IssuedCommand → Bool) (xs : List IssuedCommand) → Each (λ x. p x ≡ false) xs → filter p xs ≡ []
-filter-none p [] h = refl
-filter-none p (x ∷ xs) h = cond-false _ _ _ h.0 ∙ filter-none p xs h.1
 
 -- those of the first and then those of the second are those of either
 both-kinds : (p q r : IssuedCommand → Bool) → Falls p q r → (xs : List IssuedCommand) → Ordered xs → filter p xs ++ filter q xs ≡ filter r xs

@@ -23,7 +23,7 @@ fn has_finished(machine: &Machine, place: usize, part: &UnitState) -> bool
     }
 }
 
-/// Whether each unit has. It looks at none after the first that has not.
+/// Whether each unit has finished its work. It looks at none after the first that has not.
 pub(crate) fn all_finished(machine: &Machine, parts: &[UnitState]) -> bool
     requires count { length parts.now ≡ unit_count machine.now.config }
     ensures { (now : ℕ) → StandAt machine.now now parts.now

@@ -273,9 +273,9 @@ impl Sim {
     }
 
     /// The statistics of the cycles that are over, and the state in which they left the machine.
-    fn told(&self, alloc: Global) -> Result<(Stats, FinalState), AllocError>
-        ensures stats { IfOk result (λ told. told.0 ≡ stats_now self.entry.now) }
-        ensures last { IfOk result (λ told. told.1 ≡ last_now self.entry.now) }
+    fn stats_and_state(&self, alloc: Global) -> Result<(Stats, FinalState), AllocError>
+        ensures stats { IfOk result (λ found. found.0 ≡ stats_now self.entry.now) }
+        ensures last { IfOk result (λ found. found.1 ≡ last_now self.entry.now) }
     {
         let stats = self.stats(alloc)?;
         let last = self.final_state(alloc)?;
@@ -310,7 +310,7 @@ impl Sim {
         ensures { IfOk result (λ outcome. outcome ≡ outcome_now tables self) }
     {
         let ranks = self.machine.config.ranks;
-        let (stats, last) = self.told(alloc)?;
+        let (stats, last) = self.stats_and_state(alloc)?;
         let (commands, requests) = self.into_tables(alloc, tables)?;
         Ok(Outcome {
             tables,

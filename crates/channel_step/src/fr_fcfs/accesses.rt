@@ -47,7 +47,7 @@ fn favoured_access(draining: bool) -> Access
     }
 }
 
-/// The other of the two.
+/// The other access: to write for to read, and to read for to write.
 #[inline(always)]
 fn other_access(access: Access) -> Access
     ensures { result ≡ other_access access }

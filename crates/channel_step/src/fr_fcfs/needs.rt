@@ -71,7 +71,7 @@ pub fn refresh_command(bank_candidates: &BankCandidates, rank: u32, groups: u32)
     }
 }
 
-/// From which cycle on that may be issued.
+/// From which cycle on the command that a rank needs before its refresh may be issued.
 #[inline(never)]
 pub(crate) fn refresh_ready(
     bank_candidates: &BankCandidates,

@@ -10,7 +10,7 @@ use Rattle.sim_base.specs.declared.message.Message.{Message}
 use Rattle.sim_base.specs.declared.message.Unit.TheVariants.{Core}
 use Rattle.sim_base.specs.declared.trace.Entry.{Entry}
 use Rattle.sim_base.proofs.Arrived.{arrived, not_before_le}
-use Rattle.sim_base.proofs.Each.{Each-append}
+use Rattle.sim_base.proofs.Each.{Each-append, Each-both}
 use Rattle.sim_base.proofs.Ordered.{Each-weaker, Sorted}
 use Rattle.sim_base.proofs.Same.{step-same}
 use Rattle.sim_base.proofs.Spans.{length-run, inbox-sorted}
@@ -74,10 +74,6 @@ sooner-split (x ∷ xs) ys m h = (at-split (λ (n : Message). x.arrival ≤ n.ar
 -- what holds of each message to a core
 abbrev IsAnswer : Config → List (List Entry) → ℕ → ℕ → Message → Type 0
 IsAnswer s traces n core m = FitsCore s core m.link m.payload × AnswersRead (trace_of traces core) (core_steps_of s traces n core) m
-
-Each-both : (P Q : Message → Type 0) (ms : List Message) → Each P ms → Each Q ms → Each (λ m. P m × Q m) ms
-Each-both P Q [] h k = tt
-Each-both P Q (m ∷ ms) h k = ((h.0, k.0), Each-both P Q ms h.1 k.1)
 
 all-answer : (s : Config) (traces : List (List Entry)) (n core : ℕ) → core < s.cores → Each (IsAnswer s traces n core) (inbox s traces (run s traces n) (Core core))
 all-answer s traces n core k =

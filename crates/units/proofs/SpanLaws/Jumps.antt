@@ -28,7 +28,7 @@ use Rattle.units.specs.SpanLaws.Mail.{mail_before, mail_in}
 use Rattle.units.specs.SpanLaws.Quiet.{IsSilent}
 use Rattle.units.specs.SpanLaws.Units.{Exists}
 use Rattle.units.proofs.SpanLaws.Silent.{none-part}
-use Rattle.units.proofs.SpanLaws.Later.{IsOfMachine, IsReceived, messages-received}
+use Rattle.units.proofs.SpanLaws.Later.{IsReceived, messages-received}
 use Rattle.units.specs.SpanLaws.FlightInTurns.{is_request, flight_of, left_by_channels, left_by_cores, ChannelsTakeTheirs, CoresTakeTheirs, LaterStays}
 use Rattle.units.specs.SpanLaws.Sent.{requests_sent, answers_sent, RequestsTravelFor, AnswersTakeFor}
 use Rattle.units.specs.SpanLaws.Turns.{MayBeLeft, IsInTurns, IsLowered, TurnsBegin, TurnsJump, ChannelsIdle, CoresIdle}
@@ -85,10 +85,6 @@ each-fails p (m ∷ ms) h = go (p m) refl h (each-fails p ms)
     go true e k rest = cc
     go false e k rest = (e, rest k)
 
-of-machine : (s : Config) (u : MachineUnit) → IsOfMachine s u → Exists s u
-of-machine s (Core core) h = h
-of-machine s (Channel channel) h = h
-
 -- what is due at no unit of the machine does not arrive in the span
 none-within : (s : Config) (from until : ℕ) (ms : List Message) → Each (IsReceived s) ms
     → ((u : MachineUnit) → Exists s u → Each (λ (m : Message). due_at s u from until m ≡ false) ms)
@@ -96,7 +92,7 @@ none-within : (s : Config) (from until : ℕ) (ms : List Message) → Each (IsRe
 none-within s from until [] h k = tt
 none-within s from until (m ∷ ms) h k =
     let u = receiver s m.link in
-    let here : due_at s u from until m ≡ false = (k u (of-machine s u h.0)).0 in
+    let here : due_at s u from until m ≡ false = (k u h.0).0 in
     (ap (λ b. b && (leb from m.arrival && ltb m.arrival until)) (sym (is_unit-own u)) ∙ here, none-within s from until ms h.1 (λ v e. (k v e).1))
 
 same-later : (from until arrival : ℕ) → from ≤ until → (leb from arrival && ltb arrival until) ≡ false → leb until arrival ≡ leb from arrival
@@ -270,7 +266,7 @@ kept-ones s units from until mine (m ∷ ms) h r k =
     (λ late. (
       kept-is s units from until m
           ∙ stays-one (has_unit units (receiver s m.link)) (mine m) (leb from m.arrival) (ltb m.arrival until) h.0 late
-          (λ f. ap (λ b. b && (leb from m.arrival && ltb m.arrival until)) (sym (is_unit-own (receiver s m.link))) ∙ (k (receiver s m.link) (of-machine s (receiver s m.link) r.0) f).0),
+          (λ f. ap (λ b. b && (leb from m.arrival && ltb m.arrival until)) (sym (is_unit-own (receiver s m.link))) ∙ (k (receiver s m.link) r.0 f).0),
       rest,
     ))
     (λ late. rest)

@@ -13,8 +13,7 @@ use Rattle.sim_base.specs.Sends.{channel_sends}
 use Rattle.sim_base.specs.declared.command.Command.{Command}
 use Rattle.sim_base.specs.declared.command.Command.TheVariants.{Act, Rd, Wr, Pre, Prea, Ref}
 use Rattle.sim_base.specs.declared.message.Message.{Message}
-use Rattle.sim_base.specs.declared.message.Unit.{Unit as MachineUnit}
-use Rattle.sim_base.specs.declared.message.Unit.TheVariants.{Core, Channel}
+use Rattle.sim_base.specs.declared.message.Unit.TheVariants.{Channel}
 use Rattle.sim_base.specs.declared.trace.Entry.{Entry}
 use Rattle.sim_base.specs.declared.trace.Entry.TheVariants.{Plain, Read, Write}
 use Rattle.sim_base.proofs.Added.{ServesCoreBelow}
@@ -22,6 +21,7 @@ use Rattle.sim_base.proofs.Arrived.{NotBefore}
 use Rattle.sim_base.proofs.Each.{Each-append}
 use Rattle.sim_base.proofs.Served.{choice-below, inbox-below}
 use Rattle.sim_base.proofs.Spans.{step_of_channel-next}
+use Rattle.units.specs.SpanLaws.Units.{Exists}
 use Rattle.laws.specs.Commands.{channel_steps_of}
 use Rattle.laws.proofs.Legal.{chosen}
 use Rattle.laws.proofs.Receivers.{receiver_request, receiver_reply, receiver_credit, place_in}
@@ -53,27 +53,22 @@ grows-again u old mid all next g e h =
 pub grows-late : (u : ℕ) (old all more : List Message) → GrowsLate u old all → all ≡ old ++ more → NotBefore u more
 grows-late u old all more g e = subst (NotBefore u) (append_cancel_left old g.more more (sym g.is_more ∙ e)) g.late
 
--- a unit of the machine
-abbrev pub IsOfMachine : Config → MachineUnit → Type 0
-IsOfMachine s (Core core) = core < s.cores
-IsOfMachine s (Channel channel) = channel < s.channels
-
 -- a message goes to a unit of the machine
 abbrev pub IsReceived : Config → Message → Type 0
-IsReceived s m = IsOfMachine s (receiver s m.link)
+IsReceived s m = Exists s (receiver s m.link)
 
 request-received : (s : Config) (core cycle entry : ℕ) (e : Entry) → IfSome (request_of s core cycle entry e) (IsReceived s)
 unfolding request
 request-received s core cycle entry Plain = tt
-request-received s core cycle entry (Read address) = subst (IsOfMachine s) (sym (receiver_request s core (place_of s address).channel (place_in s address))) (place_in s address)
-request-received s core cycle entry (Write address) = subst (IsOfMachine s) (sym (receiver_request s core (place_of s address).channel (place_in s address))) (place_in s address)
+request-received s core cycle entry (Read address) = subst (Exists s) (sym (receiver_request s core (place_of s address).channel (place_in s address))) (place_in s address)
+request-received s core cycle entry (Write address) = subst (Exists s) (sym (receiver_request s core (place_of s address).channel (place_in s address))) (place_in s address)
 
 command-received : (s : Config) (channel cycle : ℕ) → channel < s.channels → (o : Option Command) → IfSome o (ServesCoreBelow s.cores) → Each (IsReceived s) (messages_at s channel cycle o)
 unfolding messages_of reply credit
 command-received s channel cycle l None h = tt
 command-received s channel cycle l (Some (Rd bank row column source)) h =
-    (subst (IsOfMachine s) (sym (receiver_reply s source.core channel l)) h, (subst (IsOfMachine s) (sym (receiver_credit s source.core channel l)) h, tt))
-command-received s channel cycle l (Some (Wr bank row column source)) h = (subst (IsOfMachine s) (sym (receiver_credit s source.core channel l)) h, tt)
+    (subst (Exists s) (sym (receiver_reply s source.core channel l)) h, (subst (Exists s) (sym (receiver_credit s source.core channel l)) h, tt))
+command-received s channel cycle l (Some (Wr bank row column source)) h = (subst (Exists s) (sym (receiver_credit s source.core channel l)) h, tt)
 command-received s channel cycle l (Some (Act bank row source)) h = tt
 command-received s channel cycle l (Some (Pre bank source)) h = tt
 command-received s channel cycle l (Some (Prea rank)) h = tt

@@ -16,8 +16,8 @@ use Rattle.channel_step.specs.Queued.{with_arrivals}
 use Rattle.channel_step.specs.Channels.{IsInCycle}
 use Rattle.channel_step.specs.declared.channel.Channel.{Channel}
 use Rattle.channel_step.proofs.Fits.{due_count}
-use Rattle.channel_step.proofs.Foreseen.{ahead-from}
-use Rattle.channel_step.proofs.Stepping.{due_count-is, admit-room, arrived-stands, arrived-in_banks, arrived-places, log-before, log-after, ahead-for}
+use Rattle.channel_step.proofs.Foreseen.{next_command-from}
+use Rattle.channel_step.proofs.Stepping.{due_count-is, admit-room, arrived-stands, arrived-in_banks, arrived-places, log-before, log-after, next_command-for}
 use Rattle.channel_step.proofs.channel.Channel.arrive.Goals as goal
 
 pub make_room-requires : goal.make_room-requires
@@ -60,16 +60,16 @@ reconsider-requires-clause-places c =
     subst (λ n. All (IsInBanks n) (all_requests q.log)) (sym h.banks_stand.ranks)
     (arrived-places y (past_of p.s p.channel p.steps p.mail) inbox c.args.now c.requires.until q h p.at p.fit joined)
 
-pub reconsider-requires-clause-ahead : goal.reconsider-requires-clause-ahead
-reconsider-requires-clause-ahead c =
+pub reconsider-requires-clause-next_command : goal.reconsider-requires-clause-next_command
+reconsider-requires-clause-next_command c =
     let inbox = c.args.inbox.now in
     let y = c.make_room.new.self in
     let q = c.admit.new.queue in
     let p = c.requires.can_run in
     let h = c.make_room.ensures.stands p.s p.channel p.steps p.mail p.stands in
     let older = c.len-older.ensures.value ∙ ap (λ (v : LogView). length v.log) c.log.ensures in
-    ahead-for p.s (issued_commands p.channel p.steps) c.len-older.result (rank_count y.banks) y.queue q y.cycle y.ahead h.banks_stand.ranks
-    (log-before y (requests_of (take c.due_count-due.result inbox)) c.len-older.result q older c.admit.ensures) (ahead-from _ _ _ _ _ h.foresees)
+    next_command-for p.s (issued_commands p.channel p.steps) c.len-older.result (rank_count y.banks) y.queue q y.cycle y.next_command h.banks_stand.ranks
+    (log-before y (requests_of (take c.due_count-due.result inbox)) c.len-older.result q older c.admit.ensures) (next_command-from _ _ _ _ _ h.foresees)
 
 pub returns-clause-in_cycle : goal.returns-clause-in_cycle
 returns-clause-in_cycle c s channel steps mail stands until at l f =
@@ -89,10 +89,10 @@ returns-clause-in_cycle c s channel steps mail stands until at l f =
     (subst (λ l. CandidatesStandFor y.bank_candidates l rows) before h.candidates_stand) in
     let new = subst (λ l. CandidatesStandFor c.on_arrival.new.self l rows) shown (c.on_arrival.ensures.stands rows old) in
     let high = sym (ap (λ (v : QueueView). v.high) c.admit.ensures ∙ h.made_for.high_is) in
-    let known = c.reconsider.ensures.ahead s history y.queue (record { banks_stand = h.banks_stand; candidates_stand = new; high_is = high; earlier_is = before }) (ahead-from _ _ _ _ _ h.foresees) in
+    let known = c.reconsider.ensures.next_command s history y.queue (record { banks_stand = h.banks_stand; candidates_stand = new; high_is = high; earlier_is = before }) (next_command-from _ _ _ _ _ h.foresees) in
     subst (λ k. IsInCycle c.reconsider.new.self (past_of s channel steps (mail ++ take k inbox))) (sym due)
     (subst (λ (z : Channel). IsInCycle z (past_of s channel steps (mail ++ take (due_count inbox c.args.now) inbox))) (sym c.reconsider.ensures.rest)
-    (arrived-stands y (past_of s channel steps mail) inbox c.args.now until q c.on_arrival.new.self c.reconsider.new.self.ahead h at l f joined c.on_arrival.ensures.banks new known))
+    (arrived-stands y (past_of s channel steps mail) inbox c.args.now until q c.on_arrival.new.self c.reconsider.new.self.next_command h at l f joined c.on_arrival.ensures.banks new known))
 
 pub admit-requires-clause-room : goal.admit-requires-clause-room
 admit-requires-clause-room c = omega (arith, c.make_room.ensures.room, length-take c.due_count-due.result c.args.inbox.now)

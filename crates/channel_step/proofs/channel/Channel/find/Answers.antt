@@ -1,8 +1,8 @@
 use Rattle.std.proofs.Common.{◌≡◌, Some, None, ap, subst, ◌∙◌, arith}
 use Rattle.std.specs.Prelude.{is_some}
 use Rattle.channel_step.specs.FrFcfs.Choices.{HasPlace}
-use Rattle.channel_step.specs.Channels.{IsAhead}
-use Rattle.channel_step.specs.declared.ahead.Ahead.TheVariants.{Known}
+use Rattle.channel_step.specs.Channels.{IsNextCommand}
+use Rattle.channel_step.specs.declared.next_command.NextCommand.TheVariants.{Known}
 use Rattle.channel_step.proofs.Foreseen.{needs}
 use Rattle.channel_step.proofs.channel.Channel.find.Goals as goal
 
@@ -23,7 +23,7 @@ returns-in-Known-None c s history stand known l =
     let x = c.args.self.now in
     let i = c.in-Known-None in
     let is : i.field-0 ≡ None = rw i.is at i.field-0-is in
-    let none = subst (IsAhead s history x.queue x.cycle) (i.is ∙ ap Known is) known in
+    let none = subst (IsNextCommand s history x.queue x.cycle) (i.is ∙ ap Known is) known in
     (λ t k. none t (omega arith), tt)
 
 pub returns-in-Known-Some : goal.returns-in-Known-Some
@@ -31,7 +31,7 @@ returns-in-Known-Some c s history stand known l =
     let x = c.args.self.now in
     let i = c.in-Known-Some in
     let is : i.field-0 ≡ Some (i.cycle, i.choice) = rw i.is at i.field-0-is in
-    let then = subst (IsAhead s history x.queue x.cycle) (i.is ∙ ap Known is) known in (
+    let then = subst (IsNextCommand s history x.queue x.cycle) (i.is ∙ ap Known is) known in (
       record {
         from_now = c.if-now-cycle.true;
         then_is = then.then_is;

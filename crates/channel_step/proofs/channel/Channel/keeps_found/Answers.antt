@@ -2,9 +2,9 @@ use Rattle.std.proofs.Common.{◌≡◌, Some, sym, ap, subst}
 use Rattle.std.specs.Option.{IfSome}
 use Rattle.bank_ready.specs.Stands.{rank_count}
 use Rattle.channel_step.specs.FrFcfs.Choices.{IsFor}
-use Rattle.channel_step.specs.Channels.{IsAhead}
-use Rattle.channel_step.specs.declared.ahead.Ahead.TheVariants.{Known}
-use Rattle.channel_step.proofs.Foreseen.{ahead-kept}
+use Rattle.channel_step.specs.Channels.{IsNextCommand}
+use Rattle.channel_step.specs.declared.next_command.NextCommand.TheVariants.{Known}
+use Rattle.channel_step.proofs.Foreseen.{next_command-kept}
 use Rattle.channel_step.proofs.channel.Channel.keeps_found.Goals as goal
 
 pub stays-requires-clause-choice : goal.stays-requires-clause-choice
@@ -18,7 +18,7 @@ returns-in-Some c s history earlier keeps more known =
     let choice = c.in-Some.next.1 in
     let x = c.args.self.now in
     let found_is : Known c.args.found ≡ Known (Some (cycle, choice)) = ap Known c.in-Some.is in
-    subst (IsAhead s history x.queue x.cycle) (sym found_is)
-    (ahead-kept s history earlier x.queue c.args.older x.cycle cycle choice more.earlier_is
+    subst (IsNextCommand s history x.queue x.cycle) (sym found_is)
+    (next_command-kept s history earlier x.queue c.args.older x.cycle cycle choice more.earlier_is
     (λ command needs. c.stays.ensures keeps s history more.banks_stand more.candidates_stand more.high_is earlier command more.earlier_is needs)
-    (subst (IsAhead s history earlier x.cycle) found_is known))
+    (subst (IsNextCommand s history earlier x.cycle) found_is known))

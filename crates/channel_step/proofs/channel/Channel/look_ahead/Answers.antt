@@ -2,7 +2,7 @@ use Rattle.std.proofs.Common.{sym, ◌∙◌, arith}
 use Rattle.sim_base.specs.History.{issued_commands}
 use Rattle.channel_step.specs.Past.{past_of}
 use Rattle.channel_step.proofs.Starting.{at-in_banks, at-stand}
-use Rattle.channel_step.proofs.Foreseen.{ahead-from, kept-stands}
+use Rattle.channel_step.proofs.Foreseen.{next_command-from, kept-stands}
 use Rattle.channel_step.proofs.channel.Channel.look_ahead.Goals as goal
 
 pub find-requires-clause-places : goal.find-requires-clause-places
@@ -15,4 +15,4 @@ pub returns : goal.returns
 returns c s channel steps mail h at =
     let x = c.args.self.now in
     kept-stands x (past_of s channel steps mail) c.args.from c.find.result h (sym at ∙ sym h.cycle_is)
-    (c.find.ensures s (issued_commands channel steps) (at-stand x (past_of s channel steps mail) h) (ahead-from _ _ _ _ _ h.foresees) (omega (arith, h.cycle_is, at)))
+    (c.find.ensures s (issued_commands channel steps) (at-stand x (past_of s channel steps mail) h) (next_command-from _ _ _ _ _ h.foresees) (omega (arith, h.cycle_is, at)))

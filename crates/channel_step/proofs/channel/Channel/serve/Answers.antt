@@ -13,12 +13,11 @@ use Rattle.queue.specs.Candidates.{bank_at}
 use Rattle.queue.specs.Stands.{bank_count, StandsFor as CandidatesStandFor}
 use Rattle.channel_step.specs.FrFcfs.Requests.{IsInBanks}
 use Rattle.channel_step.specs.Past.{commands_after}
-use Rattle.channel_step.specs.Queued.{request_at, served_now}
+use Rattle.channel_step.specs.Queued.{request_at, served_now, kept_rows}
 use Rattle.channel_step.specs.Runs.{with_more}
 use Rattle.channel_step.specs.Readied.{IsReadied}
 use Rattle.channel_step.proofs.Places.{banks-below}
 use Rattle.channel_step.proofs.Readying.{served-readied}
-use Rattle.channel_step.proofs.Serving.{rows_in}
 use Rattle.channel_step.proofs.channel.Channel.serve.Goals as goal
 
 pub on_service-requires-clause-banks : goal.on_service-requires-clause-banks
@@ -52,7 +51,7 @@ returns c past h chosen =
     (sym (ap (λ (a : Arrived). not a.activated) left))
     (subst (λ (q : QueueView). IsReadied (record x { queue = q; bank_candidates = c.on_service.new.self; served = c.keep_served.new.kept }) past (column_command r) hit) (sym c.serve-unblocked.ensures.log)
     (served-readied x past place c.on_service.new.self c.keep_served.new.kept h c.requires.within c.requires.waits chosen c.on_service.ensures.banks stands
-    (c.in_ok-keep_served.ensures ∙ ap (λ (a : Arrived). with_more (rows_in x.served) (served_now x.number x.cycle a.request (not a.activated) ∷ [])) left)))
+    (c.in_ok-keep_served.ensures ∙ ap (λ (a : Arrived). with_more (kept_rows x.served) (served_now x.number x.cycle a.request (not a.activated) ∷ [])) left)))
 
 pub serve-unblocked-requires-clause-within : goal.serve-unblocked-requires-clause-within
 serve-unblocked-requires-clause-within c = c.requires.within

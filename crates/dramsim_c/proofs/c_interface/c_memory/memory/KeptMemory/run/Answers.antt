@@ -5,8 +5,7 @@ use Rattle.sessions.specs.declared.channel_session.fault.SessionFault.TheVariant
 use Rattle.sessions.specs.declared.memory_session.memory.MemorySession.{MemorySession}
 use Rattle.dramsim_c.specs.CInterface.Kept.{IsCallAnswer}
 use Rattle.dramsim_c.specs.declared.c_interface.fault.CallFault.TheVariants as call
-use Rattle.dramsim_c.proofs.CInterface.Keeping.{well-open, well-put, passed, refused, lent-well}
-use Rattle.dramsim_c.proofs.CInterface.CMemoryKeeping.{put-in, lent, lent-same}
+use Rattle.dramsim_c.proofs.CInterface.Keeping.{well-open, well-put, passed, refused, lent-well, put-back, lent-fit, lent-is}
 use Rattle.dramsim_c.proofs.c_interface.c_memory.memory.KeptMemory.run.Goals as goal
 
 pub run-requires : goal.run-requires
@@ -16,8 +15,8 @@ run-requires c =
 
 pub returns-in-Ok-clause-done : goal.returns-in-Ok-clause-done
 returns-in-Ok-clause-done c pasts h =
-    put-in (λ x. IsMemory x pasts) c.put.new.self.handle.value _ c.put.ensures.memory
-    ((c.in-Ok.ensures {u = tt}).done pasts (lent (λ x. IsMemory x pasts) c.args.self.now.handle.value c.in-Some.memory.value c.deref_mut.result.now (c.in-Some.ensures {u = tt}).memory c.deref_mut.ensures.value h))
+    put-back (λ x. IsMemory x pasts) c.put.new.self.handle.value _ c.put.ensures.memory
+    ((c.in-Ok.ensures {u = tt}).done pasts (lent-fit (λ x. IsMemory x pasts) c.args.self.now.handle.value c.in-Some.memory.value c.deref_mut.result.now (c.in-Some.ensures {u = tt}).memory c.deref_mut.ensures.value h))
 
 pub returns-in-Ok-clause-well : goal.returns-in-Ok-clause-well
 returns-in-Ok-clause-well c =
@@ -25,46 +24,46 @@ returns-in-Ok-clause-well c =
 
 pub returns-in-Ok-clause-answer : goal.returns-in-Ok-clause-answer
 returns-in-Ok-clause-answer c m is =
-    let same : c.deref_mut.result.now ≡ m = lent-same c.args.self.now.handle.value c.in-Some.memory.value c.deref_mut.result.now m (c.in-Some.ensures {u = tt}).memory c.deref_mut.ensures.value is in
+    let same : c.deref_mut.result.now ≡ m = lent-is c.args.self.now.handle.value c.in-Some.memory.value c.deref_mut.result.now m (c.in-Some.ensures {u = tt}).memory c.deref_mut.ensures.value is in
     passed (end_refusal m.cycle c.args.until) tt
     (subst (λ (x : MemorySession). IsAnswer {A = Unit {0}} (end_refusal x.cycle c.args.until) (Ok tt)) same (c.in-Ok.ensures {u = tt}).answer)
 
 pub returns-in-Ok-clause-config : goal.returns-in-Ok-clause-config
 returns-in-Ok-clause-config c s of other =
-    put-in (λ (x : MemorySession). x.config ≡ s) c.put.new.self.handle.value _ c.put.ensures.memory
+    put-back (λ (x : MemorySession). x.config ≡ s) c.put.new.self.handle.value _ c.put.ensures.memory
     ((c.in-Ok.ensures {u = tt}).config
-    ∙ lent (λ (x : MemorySession). x.config ≡ s) c.args.self.now.handle.value c.in-Some.memory.value c.deref_mut.result.now (c.in-Some.ensures {u = tt}).memory c.deref_mut.ensures.value of)
+    ∙ lent-fit (λ (x : MemorySession). x.config ≡ s) c.args.self.now.handle.value c.in-Some.memory.value c.deref_mut.result.now (c.in-Some.ensures {u = tt}).memory c.deref_mut.ensures.value of)
 
 pub returns-in-Err-clause-answer : goal.returns-in-Err-clause-answer
 returns-in-Err-clause-answer c m is =
-    let same : c.deref_mut.result.now ≡ m = lent-same c.args.self.now.handle.value c.in-Some.memory.value c.deref_mut.result.now m (c.in-Some.ensures {u = tt}).memory c.deref_mut.ensures.value is in
+    let same : c.deref_mut.result.now ≡ m = lent-is c.args.self.now.handle.value c.in-Some.memory.value c.deref_mut.result.now m (c.in-Some.ensures {u = tt}).memory c.deref_mut.ensures.value is in
     refused (end_refusal m.cycle c.args.until) c.in-Err.fault
     (subst (λ (x : MemorySession). IsAnswer {A = Unit {0}} (end_refusal x.cycle c.args.until) (Err c.in-Err.fault)) same (c.in-Err.ensures {u = tt}).answer)
 
 pub returns-in-Err-clause-left : goal.returns-in-Err-clause-left
 returns-in-Err-clause-left c pasts h other =
     let same : c.run.new.self ≡ c.deref_mut.result.now = (c.in-Err.ensures {u = tt}).same (λ e. other (ap call.Session e)) in
-    put-in (λ x. IsMemory x pasts) c.put-in-Err.new.self.handle.value _ c.put-in-Err.ensures.memory
+    put-back (λ x. IsMemory x pasts) c.put-in-Err.new.self.handle.value _ c.put-in-Err.ensures.memory
     (subst (λ x. IsMemory x pasts) (sym same)
-    (lent (λ x. IsMemory x pasts) c.args.self.now.handle.value c.in-Some.memory.value c.deref_mut.result.now (c.in-Some.ensures {u = tt}).memory c.deref_mut.ensures.value h))
+    (lent-fit (λ x. IsMemory x pasts) c.args.self.now.handle.value c.in-Some.memory.value c.deref_mut.result.now (c.in-Some.ensures {u = tt}).memory c.deref_mut.ensures.value h))
 
 pub returns-in-Err-clause-stays : goal.returns-in-Err-clause-stays
 returns-in-Err-clause-stays c cycle h other =
     let same : c.run.new.self ≡ c.deref_mut.result.now = (c.in-Err.ensures {u = tt}).same (λ e. other (ap call.Session e)) in
-    put-in (λ (x : MemorySession). x.cycle ≡ cycle) c.put-in-Err.new.self.handle.value _ c.put-in-Err.ensures.memory
+    put-back (λ (x : MemorySession). x.cycle ≡ cycle) c.put-in-Err.new.self.handle.value _ c.put-in-Err.ensures.memory
     (subst (λ (x : MemorySession). x.cycle ≡ cycle) (sym same)
-    (lent (λ (x : MemorySession). x.cycle ≡ cycle) c.args.self.now.handle.value c.in-Some.memory.value c.deref_mut.result.now (c.in-Some.ensures {u = tt}).memory c.deref_mut.ensures.value h))
+    (lent-fit (λ (x : MemorySession). x.cycle ≡ cycle) c.args.self.now.handle.value c.in-Some.memory.value c.deref_mut.result.now (c.in-Some.ensures {u = tt}).memory c.deref_mut.ensures.value h))
 
 pub returns-in-Err-clause-config : goal.returns-in-Err-clause-config
 returns-in-Err-clause-config c s of other =
-    put-in (λ (x : MemorySession). x.config ≡ s) c.put-in-Err.new.self.handle.value _ c.put-in-Err.ensures.memory
+    put-back (λ (x : MemorySession). x.config ≡ s) c.put-in-Err.new.self.handle.value _ c.put-in-Err.ensures.memory
     ((c.in-Err.ensures {u = tt}).config
-    ∙ lent (λ (x : MemorySession). x.config ≡ s) c.args.self.now.handle.value c.in-Some.memory.value c.deref_mut.result.now (c.in-Some.ensures {u = tt}).memory c.deref_mut.ensures.value of)
+    ∙ lent-fit (λ (x : MemorySession). x.config ≡ s) c.args.self.now.handle.value c.in-Some.memory.value c.deref_mut.result.now (c.in-Some.ensures {u = tt}).memory c.deref_mut.ensures.value of)
 
 pub returns-in-Err-Memory-clause-answer : goal.returns-in-Err-Memory-clause-answer
 returns-in-Err-Memory-clause-answer c m is =
     let fault = c.in-Err-Memory.field-0 in
-    let same : c.deref_mut.result.now ≡ m = lent-same c.args.self.now.handle.value c.in-Some.memory.value c.deref_mut.result.now m (c.in-Some.ensures {u = tt}).memory c.deref_mut.ensures.value is in
+    let same : c.deref_mut.result.now ≡ m = lent-is c.args.self.now.handle.value c.in-Some.memory.value c.deref_mut.result.now m (c.in-Some.ensures {u = tt}).memory c.deref_mut.ensures.value is in
     subst (λ e. IsCallAnswer {A = Unit {0}} (end_refusal m.cycle c.args.until) (Err (call.Session e))) c.in-Err-Memory.field-0-is
     (refused (end_refusal m.cycle c.args.until) fault (subst (λ (x : MemorySession). IsAnswer {A = Unit {0}} (end_refusal x.cycle c.args.until) (Err fault)) same (c.in-Err-Memory.ensures {u = tt}).answer))
 

@@ -1,6 +1,6 @@
 use Rattle.std.proofs.Common.{◌≡◌}
 use Rattle.links.proofs.Steps.{Sinks}
-use Rattle.links.proofs.rings.sink_wrapped.Given as goal
+use Rattle.links.proofs.rings.insert_wrapped.Given as goal
 
 abbrev pub invariant-loop-younger : goal.invariant-loop-younger
 invariant-loop-younger l = record {

@@ -5,7 +5,7 @@ use sim_base::message::Cycle;
 
 /// The next command that a channel issues, if nothing arrives.
 #[derive(Clone, Copy)]
-pub(crate) enum Ahead {
+pub(crate) enum NextCommand {
     /// It has not been looked for since a request arrived or a command was issued.
     Unknown,
     /// The cycle in which one is issued, and that command; None if none is.

@@ -1,6 +1,6 @@
 use Rattle.std.specs.Arc.{arc_value}
 use Rattle.shards.proofs.Splitting.{shards-early}
-use Rattle.shards.proofs.split.joined.Goals as goal
+use Rattle.shards.proofs.split.rejoined.Goals as goal
 
 pub invariant_of-result : goal.invariant_of-result
 invariant_of-result c =
